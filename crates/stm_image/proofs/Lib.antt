@@ -1,0 +1,12 @@
+pub mod Canonical
+pub mod Cutting
+pub mod Digits
+pub mod Every
+pub mod Examples
+pub mod Holding
+pub mod Printing
+pub mod Reading
+pub mod Scanning
+pub mod Sets
+pub mod Upper
+pub mod Verdicts

@@ -1,0 +1,12 @@
+use Rattle.std.proofs.Common.{sym, ◌∙◌, arith}
+use Rattle.std.proofs.lemmas.List.Sums.{prefix_len_is}
+use Rattle.hex.specs.Hex.{is_hex_digit}
+use Rattle.stm_image.proofs.scan.leading_digits.Goals as goal
+
+pub returns-then-not-is_digit-clause-value : goal.returns-then-not-is_digit-clause-value
+returns-then-not-is_digit-clause-value c =
+    sym (prefix_len_is is_hex_digit c.args.text.now c.loop-i.i 0 (omega arith) c.loop-i.invariant (λ lt. sym c.is_digit.ensures ∙ c.if-not-is_digit.true))
+
+pub returns-clause-value : goal.returns-clause-value
+returns-clause-value c =
+    sym (prefix_len_is is_hex_digit c.args.text.now _ 0 (omega arith) (λ k lt. c.loop-i.invariant k (omega arith)) (λ lt. absurd (omega arith)))

@@ -1,0 +1,9 @@
+pub mod Canon
+pub mod Held
+pub mod Pairs
+pub mod Parts
+pub mod Reads
+pub mod Record
+pub mod Scanned
+pub mod Sorting
+pub mod Text
