@@ -1,0 +1,189 @@
+-- Each byte fed to a harmless device ends its exchange by a refusal, or brings that nearer.
+use Rattle.std.proofs.Common.{lit≤, lit<, ◌≡◌, ℕ, ◌+◌, ◌-◌, ◌<◌, ◌≤◌, ◌⊎◌, inl, inr, ⊎_elim, cond, ◌||◌, eqb, List, [], ◌∷◌, ◌++◌, length, drop, refl, sym, ap, ◌∙◌, subst, arith, Option, Some, None}
+use Rattle.std.proofs.lemmas.Bool.{cond_both, eq-eqb, ne_eqb, cases_lt, cases_eq}
+use Rattle.std.proofs.lemmas.List.{append-nil, length_push, take-append-le, take_all, length-append, length-take}
+use Rattle.stm_wire.specs.Chip.{ChipData}
+use Rattle.stm_wire.specs.declared.verdict.Verdict.{Verdict}
+use Rattle.stm_wire.specs.declared.verdict.Verdict.TheVariants.{Done, Refused, Loose}
+use Rattle.stm_wire.specs.Exchange.{IsOpen, verdict, number_of}
+use Rattle.stm_wire.specs.Reply.{ack, nack, reply_to, step_reply, answer, commands_answer, id_answer, read_answer}
+use Rattle.stm_wire.specs.Device.{Device, Phase, Connected, Gone, Takes, Receives, Feeds, IsDevice, IsOpenPhase, phase_after, reply_of}
+use Rattle.stm_wire.specs.Harmless.{IsListening, Feed, Harmless}
+use Rattle.stm_wire.proofs.Mild.{no_pair}
+use Rattle.stm_wire.specs.Settling.{awaited}
+use Rattle.stm_wire.proofs.Bound.{IsBytes, by_recursion, open_short}
+
+pub awaited_most : (byte : ℕ) (rest : List ℕ) → awaited byte rest ≤ 131047
+awaited_most byte [] = lit≤ tt
+awaited_most byte (c ∷ []) = cond_both (eqb c byte) 1 131047 (λ n. n ≤ 131047) (λ _. lit≤ tt) (λ _. lit≤ tt)
+awaited_most byte (c ∷ x ∷ rest) = omega arith
+
+pub awaited_some : (byte : ℕ) (rest : List ℕ) → 1 ≤ awaited byte rest
+awaited_some byte [] = lit≤ tt
+awaited_some byte (c ∷ []) = cond_both (eqb c byte) 1 131047 (λ n. 1 ≤ n) (λ _. lit≤ tt) (λ _. lit≤ tt)
+awaited_some byte (c ∷ x ∷ rest) = omega arith
+
+pub open_more : (chip : ChipData) (codes rest : List ℕ) (byte : ℕ) → IsOpen chip codes rest → verdict chip codes (rest ++ byte ∷ []) ≡ None → IsOpen chip codes (rest ++ byte ∷ [])
+open_more chip codes rest byte o e n = ⊎_elim
+    (λ (lt : n < length rest + 1). let le : n ≤ length rest = omega arith in rw take-append-le (o n))
+    (λ (ge : length rest + 1 ≤ n). let all = take_all n (rest ++ byte ∷ []) (omega (arith, length_push rest byte)) in rw all e)
+    (cases_lt n (length rest + 1))
+
+pub bytes_more : (rest : List ℕ) (byte : ℕ) → IsBytes rest → byte < 256 → IsBytes (rest ++ byte ∷ [])
+bytes_more [] byte by small = (small, tt)
+bytes_more (x ∷ rest) byte by small = (by.0, bytes_more rest byte by.1 small)
+
+refused_pair : (chip : ChipData) (codes : List ℕ) (c byte : ℕ) → c ≡ byte → verdict chip codes (c ∷ byte ∷ []) ≡ Some Refused
+refused_pair chip codes c byte e = rw (e, no_pair byte) refl
+
+-- an open list is longer by the byte
+falls_open : (chip : ChipData) (codes : List ℕ) (byte : ℕ) (rest : List ℕ) → IsBytes (rest ++ byte ∷ []) → IsOpen chip codes (rest ++ byte ∷ []) →
+    verdict chip codes (rest ++ byte ∷ []) ≡ None → awaited byte (rest ++ byte ∷ []) < awaited byte rest
+falls_open chip codes byte [] by o e = rw (eq-eqb byte byte refl) (lit< tt)
+falls_open chip codes byte (c ∷ []) by o e = ⊎_elim
+    (λ same. absurd (let h = sym (refused_pair chip codes c byte same) ∙ e in cc))
+    (λ other. rw (ne_eqb c byte other) (lit< tt)) (cases_eq c byte)
+falls_open chip codes byte (c ∷ x ∷ rest) by o e =
+    let h = open_short chip codes (c ∷ x ∷ rest ++ byte ∷ []) by o in let l = length_push rest byte in omega arith
+
+-- a done one ends an exchange of more than one byte, unless these are a pair
+falls_done : (chip : ChipData) (codes : List ℕ) (byte : ℕ) (rest : List ℕ) → verdict chip codes (rest ++ byte ∷ []) ≡ Some Done → 2 < awaited byte rest
+falls_done chip codes byte [] e = absurd (let h : None ≡ Some Done = e in cc)
+falls_done chip codes byte (c ∷ []) e = ⊎_elim
+    (λ same. absurd (let h = sym (refused_pair chip codes c byte same) ∙ e in cc))
+    (λ other. rw (ne_eqb c byte other) (lit< tt)) (cases_eq c byte)
+falls_done chip codes byte (c ∷ x ∷ rest) e = omega arith
+
+-- the reply on an open list
+step_cases : (bytes : List ℕ) → (step_reply bytes ≡ []) ⊎ (step_reply bytes ≡ ack ∷ [])
+step_cases (c ∷ x ∷ []) = inr refl
+step_cases (c ∷ x ∷ a ∷ b ∷ d ∷ e ∷ y ∷ []) = cond_both (eqb c 0x11 || eqb c 0x31) (ack ∷ []) [] (λ r. (r ≡ []) ⊎ (r ≡ ack ∷ [])) (λ _. inr refl) (λ _. inl refl)
+step_cases _ = inl refl
+
+-- what the exchange that is open may still add to the bytes owed, above one for each byte fed
+abbrev pub due : ℕ → List ℕ → ℕ
+due byte [] = 0
+due byte (c ∷ []) = cond (eqb c byte) 0 259
+due byte (c ∷ x ∷ rest) = 259
+
+due_open : (chip : ChipData) (codes : List ℕ) (byte : ℕ) (rest : List ℕ) → verdict chip codes (rest ++ byte ∷ []) ≡ None → due byte (rest ++ byte ∷ []) ≤ due byte rest
+due_open chip codes byte [] e = rw (eq-eqb byte byte refl) (lit≤ tt)
+due_open chip codes byte (c ∷ []) e = ⊎_elim
+    (λ same. absurd (let h = sym (refused_pair chip codes c byte same) ∙ e in cc))
+    (λ other. rw (ne_eqb c byte other) (lit≤ tt)) (cases_eq c byte)
+due_open chip codes byte (c ∷ x ∷ rest) e = lit≤ tt
+
+due_done : (chip : ChipData) (codes : List ℕ) (byte : ℕ) (rest : List ℕ) → verdict chip codes (rest ++ byte ∷ []) ≡ Some Done → due byte rest ≡ 259
+due_done chip codes byte [] e = absurd (let h : None ≡ Some Done = e in cc)
+due_done chip codes byte (c ∷ []) e = ⊎_elim
+    (λ same. absurd (let h = sym (refused_pair chip codes c byte same) ∙ e in cc))
+    (λ other. rw (ne_eqb c byte other) refl) (cases_eq c byte)
+due_done chip codes byte (c ∷ x ∷ rest) e = refl
+
+read_small : (chip : ChipData) (flash bytes : List ℕ) → IsBytes bytes → length (read_answer chip flash bytes) ≤ 258
+read_small chip flash (a ∷ b ∷ c ∷ d ∷ x ∷ n ∷ rest) by = let l = length-take (n + 1) (drop (number_of a b c d - chip.base) flash) in let small = by.1.1.1.1.1.0 in omega arith
+read_small chip flash _ by = lit≤ tt
+
+answer_small : (d : Device) → IsDevice d → (bytes : List ℕ) → IsBytes bytes → length (answer d.chip d.version d.codes d.flash bytes) ≤ 258
+answer_small d is (c ∷ x ∷ rest) by =
+    let P : List ℕ → Type 0 = λ r. length r ≤ 258 in
+    let count = is.count in
+    cond_both (eqb c 0x00) (commands_answer d.version d.codes) _ P (λ _. let l = length-append (length d.codes ∷ d.version ∷ d.codes) (ack ∷ []) in omega arith)
+    (λ _. cond_both (eqb c 0x02) (id_answer d.chip) _ P (λ _. lit≤ tt)
+    (λ _. cond_both (eqb c 0x11) (read_answer d.chip d.flash rest) [] P (λ _. read_small d.chip d.flash rest by.1.1) (λ _. lit≤ tt)))
+answer_small d is _ by = lit≤ tt
+
+pub step_small : (bytes : List ℕ) → length (step_reply bytes) ≤ 1
+step_small bytes = ⊎_elim (λ none. rw none (lit≤ tt)) (λ one. rw one (lit≤ tt)) (step_cases bytes)
+
+-- at most one byte more is owed than what was due allows
+owes_open : (byte : ℕ) (rest : List ℕ) (old : Device) → verdict old.chip old.codes (rest ++ byte ∷ []) ≡ None →
+    length (old.owed ++ reply_of old (rest ++ byte ∷ [])) + due byte (rest ++ byte ∷ []) ≤ length old.owed + due byte rest + 1
+owes_open byte rest old v =
+    let bytes = rest ++ byte ∷ [] in
+    let r : reply_of old bytes ≡ step_reply bytes = ap (λ w. reply_to w old.chip old.version old.codes old.flash bytes) v in
+    let len = length-append old.owed (step_reply bytes) in
+    let one = step_small bytes in
+    let less = due_open old.chip old.codes byte rest v in
+    rw r (omega arith)
+
+owes_done : (byte : ℕ) (rest : List ℕ) (old : Device) → IsDevice old → IsBytes rest → byte < 256 → verdict old.chip old.codes (rest ++ byte ∷ []) ≡ Some Done →
+    length (old.owed ++ reply_of old (rest ++ byte ∷ [])) ≤ length old.owed + due byte rest + 1
+owes_done byte rest old is by small v =
+    let bytes = rest ++ byte ∷ [] in
+    let a = answer old.chip old.version old.codes old.flash bytes in
+    let r : reply_of old bytes ≡ ack ∷ a = ap (λ w. reply_to w old.chip old.version old.codes old.flash bytes) v in
+    let len = length-append old.owed (ack ∷ a) in
+    let few = answer_small old is bytes (bytes_more rest byte by small) in
+    let whole = due_done old.chip old.codes byte rest v in
+    rw r (omega arith)
+
+-- the byte was refused: the exchange is over
+pub record Refuses (old new : Device) : Type 0 where
+  pub is : new ≡ record old { owed = old.owed ++ nack ∷ []; phase = Connected [] }
+
+-- the byte was taken, and nothing is owed for it, or what begins with an acknowledgement
+pub record Advances (byte : ℕ) (rest : List ℕ) (old new : Device) : Type 0 where
+  pub left : List ℕ
+  pub phase : new.phase ≡ Connected left
+  pub nearer : awaited byte left < awaited byte rest
+  pub owes : length new.owed + due byte left ≤ length old.owed + due byte rest + 1
+  pub reply : (new.owed ≡ old.owed) ⊎ ((more : List ℕ) × (new.owed ≡ old.owed ++ ack ∷ more))
+
+advances_open : (byte : ℕ) (rest : List ℕ) (old new : Device) → IsBytes rest → byte < 256 → IsOpen old.chip old.codes rest →
+    verdict old.chip old.codes (rest ++ byte ∷ []) ≡ None → Takes old (rest ++ byte ∷ []) None new → Advances byte rest old new
+advances_open byte rest old new by small o v e =
+    let bytes = rest ++ byte ∷ [] in
+    let all = bytes_more rest byte by small in
+    let replies : reply_of old bytes ≡ step_reply bytes = ap (λ w. reply_to w old.chip old.version old.codes old.flash bytes) v in
+    subst (Advances byte rest old) (sym e) (record {
+      left = bytes;
+      phase = refl;
+      nearer = falls_open old.chip old.codes byte rest all (open_more old.chip old.codes rest byte o v) v;
+      owes = owes_open byte rest old v;
+      reply = ⊎_elim (λ none. inl (ap (λ r. old.owed ++ r) (replies ∙ none) ∙ append-nil old.owed)) (λ one. inr ([], ap (λ r. old.owed ++ r) (replies ∙ one))) (step_cases bytes);
+    })
+
+-- a device that leaves, or of which nothing is promised, isn't harmless
+not_gone : (byte : ℕ) (pages : List ℕ) (old new : Device) → Harmless old byte pages → Feeds byte old new → new.phase ≡ Gone → ⊥
+not_gone byte pages old new h f e = subst IsListening e (h.each (Feed ∷ []) new (new, f, refl)).phase
+
+stays : (bytes : List ℕ) → (phase_after bytes ≡ Connected []) ⊎ (phase_after bytes ≡ Gone)
+stays [] = inl refl
+stays (c ∷ rest) = cond_both (eqb c 0x21) Gone (Connected []) (λ p. (p ≡ Connected []) ⊎ (p ≡ Gone)) (λ _. inr refl) (λ _. inl refl)
+
+pub fed : (byte : ℕ) (pages rest : List ℕ) (old new : Device) → IsDevice old → old.phase ≡ Connected rest → byte < 256 → Harmless old byte pages → Feeds byte old new →
+    Refuses old new ⊎ Advances byte rest old new
+fed byte pages rest old new is at small h f = go (verdict old.chip old.codes bytes) refl (subst (λ (p : Phase). Receives old p byte new) at f.receives)
+  where
+    bytes : List ℕ
+    bytes = rest ++ byte ∷ []
+
+    open' : IsOpen old.chip old.codes rest
+    open' = (subst (IsOpenPhase old.chip old.codes) at is.phase).0
+
+    by : IsBytes rest
+    by = by_recursion rest (subst (IsOpenPhase old.chip old.codes) at is.phase).1
+
+    gone : Device
+    gone = record old { owed = old.owed ++ reply_of old bytes; phase = Gone }
+
+    go : (v : Option Verdict) → verdict old.chip old.codes bytes ≡ v → Takes old bytes v new → Refuses old new ⊎ Advances byte rest old new
+    go None v t = inr (advances_open byte rest old new by small open' v t)
+    go (Some Refused) v t = inl (record { is = t ∙ ap (λ r. record old { owed = old.owed ++ r; phase = Connected [] }) (ap (λ w. reply_to w old.chip old.version old.codes old.flash bytes) v) })
+    go (Some Done) v (flash, effect, e) = ⊎_elim
+        (λ here. inr (record {
+          left = [];
+          phase = ap (λ (x : Device). x.phase) e ∙ here;
+          nearer = falls_done old.chip old.codes byte rest v;
+          owes = (let all = ap (λ (x : Device). length x.owed) e in let few = owes_done byte rest old is by small v in omega arith);
+          reply = inr (answer old.chip old.version old.codes old.flash bytes, ap (λ (x : Device). x.owed) e ∙ ap (λ w. old.owed ++ reply_to w old.chip old.version old.codes old.flash bytes) v);
+        }))
+        (λ left. absurd (not_gone byte pages old new h f (ap (λ (x : Device). x.phase) e ∙ left)))
+        (stays bytes)
+    go (Some Loose) v t = absurd (not_gone byte pages old gone h
+        (record {
+          receives = subst (λ (p : Phase). Receives old p byte gone) (sym at) (subst (λ w. Takes old bytes w gone) (sym v)
+              (record { chip = refl; version = refl; codes = refl; same_length = refl; flash = is.flash; phase = tt; owed = λ p. refl }));
+        })
+        refl)

@@ -1,0 +1,128 @@
+-- How long an open list of bytes can be.
+use Rattle.std.proofs.Common.{◌≡◌, ◌≢◌, ℕ, suc, ◌+◌, ◌*◌, ◌<◌, ◌≤◌, ⊎_elim, Bool, true, false, cond, ◌&&◌, eqb, leb, List, [], ◌∷◌, ◌++◌, length, get_or, take, refl, sym, ◌∙◌, arith, Option, Some, None}
+use Rattle.std.specs.List.{All, AllByRecursion}
+use Rattle.std.proofs.lemmas.List.Elements.{All-tail}
+use Rattle.std.proofs.lemmas.Bool.{eq-eqb, leb-false, cases_lt}
+use Rattle.std.proofs.lemmas.List.{length-take-le}
+use Rattle.stm_wire.specs.Chip.{ChipData, is_inside, fits_inside}
+use Rattle.stm_wire.specs.declared.verdict.Verdict.{Verdict}
+use Rattle.stm_wire.specs.declared.verdict.Verdict.TheVariants.{Done, Refused, Loose}
+use Rattle.stm_wire.specs.Exchange.{IsOpen, complement, at_end, done_if, after_address, read_verdict, write_verdict, all_verdict, erase_verdict, pages_verdict, extended_verdict, command_verdict, is_listed, all_exist, xor, number_of, pair_of, pairs_of}
+
+-- each is a byte
+abbrev pub IsBytes : List ℕ → Type 0
+IsBytes bytes = AllByRecursion (λ byte. byte < 256) bytes
+
+pub by_recursion : (bytes : List ℕ) → All (λ byte. byte < 256) bytes → IsBytes bytes
+by_recursion [] all = tt
+by_recursion (x ∷ bytes) all = (all 0 0 (omega arith), by_recursion bytes (All-tail (λ byte. byte < 256) x bytes all))
+
+-- a list at no beginning of which f has a verdict has at most n bytes
+abbrev Opens : (List ℕ → Option Verdict) → ℕ → List ℕ → Type 0
+Opens f n ys = ((j : ℕ) → f (take j ys) ≡ None) → length ys ≤ n
+
+some≢none : (v : Verdict) → Some v ≢ None
+some≢none v e = cc
+
+-- a verdict at the end of a list is one of its beginning without bytes
+opens_end : (v : Verdict) (n : ℕ) (ys : List ℕ) → Opens (at_end v) n ys
+opens_end v n ys none = absurd (some≢none v (none 0))
+
+-- the same of a verdict for each length
+abbrev Never : (ℕ → Option Verdict) → ℕ → List ℕ → Type 0
+Never f n ys = ((j : ℕ) → f j ≡ None) → length ys ≤ n
+
+never_cond : (t : Bool) (f g : ℕ → Option Verdict) (n : ℕ) (ys : List ℕ) → Never f n ys → Never g n ys → Never (λ j. cond t (f j) (g j)) n ys
+never_cond true f g n ys a b = a
+never_cond false f g n ys a b = b
+
+opens_more : (f : List ℕ → Option Verdict) (m n : ℕ) (ys : List ℕ) → m ≤ n → Opens f m ys → Opens f n ys
+opens_more f m n ys le o none = let h = o none in omega arith
+
+opens_address : (chip : ChipData) (next : ℕ → List ℕ → Option Verdict) (n : ℕ) → ((a : ℕ) (ys : List ℕ) → IsBytes ys → Opens (next a) n ys) →
+    (ys : List ℕ) → IsBytes ys → Opens (after_address chip next) (5 + n) ys
+opens_address chip next n f (a ∷ b ∷ c ∷ d ∷ x ∷ ys) by = λ none.
+    let h : length ys ≤ n =
+    never_cond (eqb x (xor (a ∷ b ∷ c ∷ d ∷ [])) && is_inside chip (number_of a b c d)) _ _ n ys
+    (f (number_of a b c d) ys by.1.1.1.1.1) (opens_end Refused n ys) (λ j. none (suc (suc (suc (suc (suc j))))))
+    in omega arith
+opens_address chip next n f _ by = λ none. omega arith
+
+opens_read : (chip : ChipData) (a : ℕ) (ys : List ℕ) → IsBytes ys → Opens (read_verdict chip a) 1 ys
+opens_read chip a (n ∷ x ∷ ys) by = λ none. absurd (some≢none (done_if (eqb x (complement n) && fits_inside chip a (n + 1))) (none 2))
+opens_read chip a _ by = λ none. omega arith
+
+-- a test of the length that the list of this length passes
+exact : (v : Verdict) (n : ℕ) (ys : List ℕ) → length ys ≡ n → cond (eqb (length ys) n) (Some v) None ≢ None
+exact v n ys e none = some≢none v (sym (yes (eqb (length ys) n) (eq-eqb (length ys) n e)) ∙ none)
+  where
+    yes : (t : Bool) → t ≡ true → cond t (Some v) None ≡ Some v
+    yes t e = rw e refl
+
+opens_write : (chip : ChipData) (a : ℕ) (ys : List ℕ) → IsBytes ys → Opens (write_verdict chip a) 258 ys
+opens_write chip a [] by = λ none. omega arith
+opens_write chip a (n ∷ ys) by = λ none. ⊎_elim (λ lt. omega arith) (λ le.
+    let part = take (n + 2) ys in
+    absurd (exact (done_if (eqb (get_or part (n + 1) 0) (xor (n ∷ take (n + 1) part)) && fits_inside chip a (n + 1))) (n + 2) part (length-take-le (n + 2) ys le) (none (suc (n + 2)))))
+    (cases_lt (length ys) (n + 2))
+
+opens_all : (n : ℕ) (ys : List ℕ) → Opens all_verdict n ys
+opens_all n [] = λ none. omega arith
+opens_all n (x ∷ ys) = λ none. absurd (some≢none (done_if (eqb x 0)) (none 1))
+
+opens_list : (chip : ChipData) (n : ℕ) (ys : List ℕ) → n < 256 →
+    Opens (λ zs. cond (eqb (length zs) (n + 2)) (Some (done_if (eqb (get_or zs (n + 1) 0) (xor (n ∷ take (n + 1) zs)) && all_exist chip (take (n + 1) zs)))) None) 257 ys
+opens_list chip n ys small = λ none. ⊎_elim (λ lt. omega arith) (λ le.
+    let part = take (n + 2) ys in
+    absurd (exact (done_if (eqb (get_or part (n + 1) 0) (xor (n ∷ take (n + 1) part)) && all_exist chip (take (n + 1) part))) (n + 2) part (length-take-le (n + 2) ys le) (none (n + 2))))
+    (cases_lt (length ys) (n + 2))
+
+opens_erase : (chip : ChipData) (ys : List ℕ) → IsBytes ys → Opens (erase_verdict chip) 258 ys
+opens_erase chip [] by = λ none. omega arith
+opens_erase chip (n ∷ ys) by = λ none.
+    let h : length ys ≤ 257 = never_cond (eqb n 0xFF) _ _ 257 ys (opens_all 257 ys) (opens_list chip n ys by.0) (λ j. none (suc j)) in omega arith
+
+opens_pages : (chip : ChipData) (count : List ℕ) (size n : ℕ) (ys : List ℕ) → size ≤ n → Opens (pages_verdict chip count size) n ys
+opens_pages chip count size n ys le = λ none. ⊎_elim (λ lt. omega arith) (λ long.
+    let part = take (size + 1) ys in
+    absurd (exact (done_if (eqb (get_or part size 0) (xor (count ++ take size part)) && all_exist chip (pairs_of (take size part)))) (size + 1) part (length-take-le (size + 1) ys long) (none (size + 1))))
+    (cases_lt (length ys) (size + 1))
+
+opens_loose : (n : ℕ) (ys : List ℕ) → Opens (λ zs. cond (eqb (length zs) 1) (Some Loose) None) n ys
+opens_loose n [] = λ none. omega arith
+opens_loose n (y ∷ ys) = λ none. absurd (some≢none Loose (none 1))
+
+-- the longest has a count of two bytes, 65,520 numbers of two, and waits for its check
+abbrev pub longest : ℕ
+longest = 131042
+
+opens_extended : (chip : ChipData) (ys : List ℕ) → IsBytes ys → Opens (extended_verdict chip) longest ys
+opens_extended chip (h ∷ l ∷ ys) by = λ none.
+    let n = pair_of h l in
+    let h : length ys ≤ 131040 =
+    never_cond (eqb n 0xFFFF) _ _ 131040 ys (opens_all 131040 ys) (rest (leb 0xFFF0 n) (leb-false 0xFFF0 n)) (λ j. none (suc (suc j)))
+    in omega arith
+  where
+    rest : (t : Bool) → (t ≡ false → pair_of h l < 0xFFF0) → Opens (λ zs. cond t (cond (eqb (length zs) 1) (Some Loose) None) (pages_verdict chip (h ∷ l ∷ []) (2 * (pair_of h l + 1)) zs)) 131040 ys
+    rest true few = opens_loose 131040 ys
+    rest false few = let lt = few refl in opens_pages chip (h ∷ l ∷ []) (2 * (pair_of h l + 1)) 131040 ys (omega arith)
+opens_extended chip _ by = λ none. omega arith
+
+opens_command : (chip : ChipData) (c : ℕ) (ys : List ℕ) → IsBytes ys → Opens (command_verdict chip c) longest ys
+opens_command chip c ys by =
+    never_cond (eqb c 0x00) _ _ longest ys (opens_end Done longest ys)
+    (never_cond (eqb c 0x02) _ _ longest ys (opens_end Done longest ys)
+    (never_cond (eqb c 0x11) _ _ longest ys (opens_more (after_address chip (read_verdict chip)) 6 longest ys (omega arith) (opens_address chip (read_verdict chip) 1 (opens_read chip) ys by))
+    (never_cond (eqb c 0x21) _ _ longest ys (opens_more (after_address chip (λ a zs. at_end Done zs)) 5 longest ys (omega arith) (opens_address chip (λ a zs. at_end Done zs) 0 (λ a zs b. opens_end Done 0 zs) ys by))
+    (never_cond (eqb c 0x31) _ _ longest ys (opens_more (after_address chip (write_verdict chip)) 263 longest ys (omega arith) (opens_address chip (write_verdict chip) 258 (opens_write chip) ys by))
+    (never_cond (eqb c 0x43) _ _ longest ys (opens_more (erase_verdict chip) 258 longest ys (omega arith) (opens_erase chip ys by))
+    (never_cond (eqb c 0x44) _ _ longest ys (opens_extended chip ys by) (opens_end Loose longest ys)))))))
+
+pub open_short : (chip : ChipData) (codes bytes : List ℕ) → IsBytes bytes → IsOpen chip codes bytes → length bytes ≤ 131044
+open_short chip codes [] by = λ open'. omega arith
+open_short chip codes (c ∷ []) by = λ open'. omega arith
+open_short chip codes (c ∷ x ∷ ys) by = λ open'.
+    let h : length ys ≤ longest =
+    never_cond (eqb x (complement c) && is_listed codes c) _ _ longest ys
+    (opens_command chip c ys by.1.1) (opens_end Refused longest ys) (λ j. open' (suc (suc j)))
+    in omega arith

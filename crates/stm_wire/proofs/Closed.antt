@@ -1,0 +1,98 @@
+-- A harmless device stays so: when the byte is fed, when it is reset, and whatever it owes.
+use Rattle.std.proofs.Common.{◌≡◌, ℕ, Bool, true, false, cond, eqb, List, [], ◌∷◌, ◌++◌, refl, sym, ap, ◌∙◌, subst, Option, Some, None}
+use Rattle.std.proofs.lemmas.Bool.{cond_both}
+use Rattle.stm_wire.specs.Chip.{ChipData}
+use Rattle.stm_wire.specs.declared.verdict.Verdict.{Verdict}
+use Rattle.stm_wire.specs.declared.verdict.Verdict.TheVariants.{Done, Refused, Loose}
+use Rattle.stm_wire.specs.Exchange.{verdict}
+use Rattle.stm_wire.specs.Reply.{ack}
+use Rattle.stm_wire.specs.Device.{Device, Phase, Fresh, Connected, Gone, Takes, Receives, Feeds, LosesOwed, reset, phase_after, reply_of}
+use Rattle.stm_wire.specs.Harmless.{SameOutside, IsListening, Event, Feed, Reset, Reaches, Harmless}
+
+chip_taken : (old new : Device) (bytes : List ℕ) (v : Option Verdict) → Takes old bytes v new → new.chip ≡ old.chip
+chip_taken old new bytes None e = ap (λ (x : Device). x.chip) e
+chip_taken old new bytes (Some Refused) e = ap (λ (x : Device). x.chip) e
+chip_taken old new bytes (Some Done) (flash, effect, e) = ap (λ (x : Device). x.chip) e
+chip_taken old new bytes (Some Loose) l = l.chip
+
+chip_received : (byte : ℕ) (old new : Device) (phase : Phase) → Receives old phase byte new → new.chip ≡ old.chip
+chip_received byte old new Fresh e = ap (λ (x : Device). x.chip) e ∙ cond_both (eqb byte 0x7F) (record old { owed = old.owed ++ ack ∷ []; phase = Connected [] }) old (λ (x : Device). x.chip ≡ old.chip) (λ _. refl) (λ _. refl)
+chip_received byte old new (Connected rest) r = chip_taken old new (rest ++ byte ∷ []) (verdict old.chip old.codes (rest ++ byte ∷ [])) r
+chip_received byte old new Gone e = ap (λ (x : Device). x.chip) e
+
+pub same_chip : (byte : ℕ) (old new : Device) → Feeds byte old new → new.chip ≡ old.chip
+same_chip byte old new f = chip_received byte old new old.phase f.receives
+
+-- two flashes that agree with a third outside the pages
+from_first : (chip : ChipData) (pages : List ℕ) (first second third : List ℕ) → SameOutside chip pages first second → SameOutside chip pages first third → SameOutside chip pages second third
+from_first chip pages first second third s t = record {
+  same_length = t.same_length ∙ sym s.same_length;
+  elsewhere = λ n here out. t.elsewhere n here out ∙ sym (s.elsewhere n here out);
+}
+
+pub harmless_fed : (byte : ℕ) (pages : List ℕ) (old new : Device) → Harmless old byte pages → Feeds byte old new → Harmless new byte pages
+harmless_fed byte pages old new h f = record {
+  each = λ events last reaches.
+      let now = h.each (Feed ∷ []) new (new, f, refl) in
+      let then' = h.each (Feed ∷ events) last (new, f, reaches) in
+      record {
+        phase = then'.phase;
+        flash = subst (λ (c : ChipData). SameOutside c pages new.flash last.flash) (sym (same_chip byte old new f)) (from_first old.chip pages old.flash new.flash last.flash now.flash then'.flash);
+      };
+}
+
+pub unharmed_fed : (byte : ℕ) (pages : List ℕ) (old new : Device) → Harmless old byte pages → Feeds byte old new → SameOutside old.chip pages old.flash new.flash
+unharmed_fed byte pages old new h f = (h.each (Feed ∷ []) new (new, f, refl)).flash
+
+pub harmless_reset : (byte : ℕ) (pages : List ℕ) (d : Device) → Harmless d byte pages → Harmless (reset d) byte pages
+harmless_reset byte pages d h = record {
+  each = λ events last reaches. let u = h.each (Reset ∷ events) last reaches in record { phase = u.phase; flash = u.flash };
+}
+
+-- what is owed changes nothing else
+record Alike (d new : Device) : Type 0 where
+  owed : List ℕ
+  is : new ≡ record d { owed = owed }
+
+taken_alike : (d new : Device) (o : List ℕ) (bytes : List ℕ) (v : Option Verdict) → Takes (record d { owed = o }) bytes v new → (new' : Device) × Takes d bytes v new' × Alike new' new
+taken_alike d new o bytes None e = (record d { owed = d.owed ++ reply_of d bytes; phase = Connected bytes }, refl, record { owed = o ++ reply_of d bytes; is = e })
+taken_alike d new o bytes (Some Refused) e = (record d { owed = d.owed ++ reply_of d bytes; phase = Connected [] }, refl, record { owed = o ++ reply_of d bytes; is = e })
+taken_alike d new o bytes (Some Done) (flash, effect, e) =
+    (record d { flash = flash; owed = d.owed ++ reply_of d bytes; phase = phase_after bytes }, (flash, effect, refl), record { owed = o ++ reply_of d bytes; is = e })
+taken_alike d new o bytes (Some Loose) l = (
+  record new { owed = d.owed ++ reply_of d bytes },
+  record { chip = l.chip; version = l.version; codes = l.codes; same_length = l.same_length; flash = l.flash; phase = l.phase; owed = λ p. refl },
+  record { owed = new.owed; is = refl },
+)
+
+received_alike : (byte : ℕ) (d new : Device) (o : List ℕ) (phase : Phase) → Receives (record d { owed = o }) phase byte new → (new' : Device) × Receives d phase byte new' × Alike new' new
+received_alike byte d new o Fresh e = go (eqb byte 0x7F) e
+  where
+    go : (t : Bool) → new ≡ cond t (record d { owed = o ++ ack ∷ []; phase = Connected [] }) (record d { owed = o }) →
+        (new' : Device) × (new' ≡ cond t (record d { owed = d.owed ++ ack ∷ []; phase = Connected [] }) d) × Alike new' new
+    go true e = (record d { owed = d.owed ++ ack ∷ []; phase = Connected [] }, refl, record { owed = o ++ ack ∷ []; is = e })
+    go false e = (d, refl, record { owed = o; is = e })
+received_alike byte d new o (Connected rest) r = taken_alike d new o (rest ++ byte ∷ []) (verdict d.chip d.codes (rest ++ byte ∷ [])) r
+received_alike byte d new o Gone e = (d, refl, record { owed = o; is = e })
+
+reaches_alike : (byte : ℕ) (events : List Event) (d new : Device) (o : List ℕ) → Reaches byte events (record d { owed = o }) new → (new' : Device) × Reaches byte events d new' × Alike new' new
+reaches_alike byte [] d new o e = (d, refl, record { owed = o; is = e })
+reaches_alike byte (Feed ∷ events) d new o (mid, f, r) =
+    let (mid', f', a) = received_alike byte d mid o d.phase f.receives in
+    let (new', r', b) = reaches_alike byte events mid' new a.owed (subst (λ (x : Device). Reaches byte events x new) a.is r) in
+    (new', (mid', record { receives = f' }, r'), b)
+reaches_alike byte (Reset ∷ events) d new o r = (new, r, record { owed = new.owed; is = refl })
+
+pub harmless_owed : (byte : ℕ) (pages : List ℕ) (d : Device) (o : List ℕ) → Harmless d byte pages → Harmless (record d { owed = o }) byte pages
+harmless_owed byte pages d o h = record {
+  each = λ events new reaches.
+      let (new', r, a) = reaches_alike byte events d new o reaches in
+      let u = h.each events new' r in
+      record {
+        phase = subst (λ (x : Device). IsListening x.phase) (sym a.is) u.phase;
+        flash = subst (λ (x : Device). SameOutside d.chip pages d.flash x.flash) (sym a.is) u.flash;
+      };
+}
+
+pub harmless_loses : (byte : ℕ) (pages : List ℕ) (d new : Device) → Harmless d byte pages → LosesOwed d new → Harmless new byte pages
+harmless_loses byte pages d new h (n, e) = subst (λ (x : Device). Harmless x byte pages) (sym e) (harmless_owed byte pages d _ h)

@@ -1,0 +1,180 @@
+-- The loop of settling: what holds before each byte, and what the byte leaves.
+use Rattle.std.proofs.Common.{lit≤, ◌≡◌, ℕ, suc, ◌<◌, ◌≤◌, ◌⊎◌, inl, inr, ⊎_elim, Bool, true, false, cond, eqb, List, [], ◌∷◌, ◌++◌, length, drop, refl, sym, ap, ◌∙◌, subst, arith, Some}
+use Rattle.std.proofs.lemmas.Bool.{cond_both, eq-eqb, eqb-true}
+use Rattle.std.proofs.lemmas.List.{length-drop, drop_all}
+use Rattle.stm_wire.specs.Chip.{ChipData}
+use Rattle.stm_wire.specs.declared.verdict.Verdict.TheVariants.{Refused}
+use Rattle.stm_wire.specs.Exchange.{verdict}
+use Rattle.stm_wire.specs.Reply.{ack, nack, reply_to}
+use Rattle.stm_wire.specs.Device.{Device, Phase, Fresh, Connected, Gone, Takes, Receives, Feeds, LosesOwed, IsDevice, IsSettled}
+use Rattle.stm_wire.specs.Harmless.{SameOutside, IsListening, Harmless}
+use Rattle.stm_wire.specs.Settling.{IsSettling, IsWithin, IsGoing, with_nothing_owed}
+use Rattle.stm_wire.proofs.Flash.{same_flash, then_same}
+use Rattle.stm_wire.proofs.Mild.{harmless, mild_empty, no_pair}
+use Rattle.stm_wire.proofs.Awaited.{awaited_most, awaited_some, due, fed, Refuses, Advances}
+use Rattle.stm_wire.proofs.Closed.{same_chip, harmless_fed, unharmed_fed, harmless_owed, harmless_loses}
+
+-- what settling keeps is kept when owed bytes are lost
+pub settling_loses : (byte : ℕ) (pages : List ℕ) (start d new : Device) → IsSettling byte pages start d → LosesOwed d new → IsSettling byte pages start new
+settling_loses byte pages start d new s (n, e) = record {
+  same_chip = ap (λ (x : Device). x.chip) e ∙ s.same_chip;
+  harmless = harmless_loses byte pages d new s.harmless (n, e);
+  flash = subst (λ (x : Device). SameOutside start.chip pages start.flash x.flash) (sym e) s.flash;
+  owed = (let few = s.owed in let l = ap (λ (x : Device). length x.owed) e in let k = length-drop n d.owed in omega arith);
+}
+
+-- and when the byte is fed, where what is owed then stays small
+pub settling_fed : (byte : ℕ) (pages : List ℕ) (start d new : Device) → IsSettling byte pages start d → Feeds byte d new → length new.owed ≤ 4096 → IsSettling byte pages start new
+settling_fed byte pages start d new s f few = record {
+  same_chip = same_chip byte d new f ∙ s.same_chip;
+  harmless = harmless_fed byte pages d new s.harmless f;
+  flash = then_same start.chip pages start.flash d.flash new.flash s.flash (subst (λ (c : ChipData). SameOutside c pages d.flash new.flash) s.same_chip (unharmed_fed byte pages d new s.harmless f));
+  owed = few;
+}
+
+-- the reply says no
+pub record IsOver (d : Device) : Type 0 where
+  pub reply : d.owed ≡ nack ∷ []
+  pub settled : IsSettled (with_nothing_owed d)
+
+-- nothing, or first an acknowledgement
+abbrev pub IsNoRefusal : Device → Type 0
+IsNoRefusal d = (d.owed ≡ []) ⊎ ((more : List ℕ) × (d.owed ≡ ack ∷ more))
+
+due_most : (byte : ℕ) (rest : List ℕ) → due byte rest ≤ 259
+due_most byte [] = lit≤ tt
+due_most byte (c ∷ []) = cond_both (eqb c byte) 0 259 (λ n. n ≤ 259) (λ _. lit≤ tt) (λ _. lit≤ tt)
+due_most byte (c ∷ x ∷ rest) = lit≤ tt
+
+-- one byte of the loop
+pub record Steps (byte : ℕ) (pages : List ℕ) (start : Device) (left : ℕ) (new : Device) : Type 0 where
+  pub settling : IsSettling byte pages start new
+  pub owes : length new.owed ≤ 260
+  pub outcome : IsOver new ⊎ (IsNoRefusal new × IsGoing byte pages start left (with_nothing_owed new))
+
+steps : (byte : ℕ) (pages : List ℕ) (start : Device) (left : ℕ) (d new : Device) (phase : Phase) → IsDevice d → byte < 256 → IsSettling byte pages start d → d.owed ≡ [] →
+    d.phase ≡ phase → IsWithin byte (suc left) phase → Feeds byte d new → Steps byte pages start left new
+steps byte pages start left d new Fresh is small s quiet at w f = go (eqb byte 0x7F) refl (subst (λ (p : Phase). Receives d p byte new) at f.receives)
+  where
+    go : (t : Bool) → eqb byte 0x7F ≡ t → new ≡ cond t (record d { owed = d.owed ++ ack ∷ []; phase = Connected [] }) d → Steps byte pages start left new
+    go true t e =
+        let owed : new.owed ≡ ack ∷ [] = ap (λ (x : Device). x.owed) e ∙ ap (λ o. o ++ ack ∷ []) quiet in
+        let few : length new.owed ≤ 260 = rw owed (lit≤ tt) in
+        let now = settling_fed byte pages start d new s f (omega arith) in
+        let three = w (eqb-true byte 0x7F t) in
+        record {
+          settling = now;
+          owes = few;
+          outcome = inr (
+            inr ([], owed),
+            record {
+              settling = settling_loses byte pages start new (with_nothing_owed new) now (1, ap (λ o. record new { owed = drop 1 o }) (sym owed));
+              quiet = refl;
+              within = subst (IsWithin byte left) (sym (ap (λ (x : Device). x.phase) e)) (omega arith);
+            },
+          );
+        }
+    go false t e =
+        let owed : new.owed ≡ [] = ap (λ (x : Device). x.owed) e ∙ quiet in
+        let few : length new.owed ≤ 260 = rw owed (lit≤ tt) in
+        let now = settling_fed byte pages start d new s f (omega arith) in
+        record {
+          settling = now;
+          owes = few;
+          outcome = inr (
+            inl owed,
+            record {
+              settling = settling_loses byte pages start new (with_nothing_owed new) now (1, ap (λ o. record new { owed = drop 1 o }) (sym owed));
+              quiet = refl;
+              within = subst (IsWithin byte left) (sym (ap (λ (x : Device). x.phase) e ∙ at)) (λ same. absurd (let h = sym (eq-eqb byte 0x7F same) ∙ t in cc));
+            },
+          );
+        }
+steps byte pages start left d new (Connected rest) is small s quiet at w f = ⊎_elim over on (fed byte pages rest d new is at small s.harmless f)
+  where
+    over : Refuses d new → Steps byte pages start left new
+    over r =
+        let owed : new.owed ≡ nack ∷ [] = ap (λ (x : Device). x.owed) r.is ∙ ap (λ o. o ++ nack ∷ []) quiet in
+        let few : length new.owed ≤ 260 = rw owed (lit≤ tt) in
+        record {
+          settling = settling_fed byte pages start d new s f (omega arith);
+          owes = few;
+          outcome = inl (record { reply = owed; settled = record { phase = ap (λ (x : Device). x.phase) r.is; owed = refl } });
+        }
+
+    on : Advances byte rest d new → Steps byte pages start left new
+    on a =
+        let none : length d.owed ≡ 0 = ap length quiet in
+        let most = due_most byte rest in
+        let owes = a.owes in
+        let nearer = a.nearer in
+        let awaits = w in
+        let few : length new.owed ≤ 260 = omega arith in
+        let now = settling_fed byte pages start d new s f (omega arith) in
+        record {
+          settling = now;
+          owes = few;
+          outcome = inr (
+            ⊎_elim (λ e. inl (e ∙ quiet)) (λ (m : (more : List ℕ) × (new.owed ≡ d.owed ++ ack ∷ more)). inr (m.0, m.1 ∙ ap (λ o. o ++ ack ∷ m.0) quiet)) a.reply,
+            record {
+              settling = settling_loses byte pages start new (with_nothing_owed new) now (length new.owed, ap (λ o. record new { owed = o }) (sym (drop_all (length new.owed) new.owed (omega arith))));
+              quiet = refl;
+              within = subst (IsWithin byte left) (sym a.phase) (omega arith);
+            },
+          );
+        }
+steps byte pages start left d new Gone is small s quiet at w f = absurd w
+
+pub step : (byte : ℕ) (pages : List ℕ) (start : Device) (left : ℕ) (d new : Device) → IsDevice d → byte < 256 → IsGoing byte pages start (suc left) d → Feeds byte d new → Steps byte pages start left new
+step byte pages start left d new is small g f = steps byte pages start left d new d.phase is small g.settling g.quiet refl g.within f
+
+-- from a harmless device that owes nothing, with enough bytes to come
+pub going : (byte : ℕ) (pages : List ℕ) (d : Device) (left : ℕ) → 131047 ≤ left → Harmless d byte pages → length d.owed ≤ 4096 →
+    IsGoing byte pages d left (with_nothing_owed d)
+going byte pages d left many h few = record {
+  settling = record { same_chip = refl; harmless = harmless_owed byte pages d [] h; flash = same_flash d.chip pages d.flash d.flash refl; owed = lit≤ tt };
+  quiet = refl;
+  within = within d.phase refl;
+}
+  where
+    within : (p : Phase) → d.phase ≡ p → IsWithin byte left p
+    within Fresh e = λ same. omega arith
+    within (Connected rest) e = let m = awaited_most byte rest in omega arith
+    within Gone e = subst IsListening e (h.each [] d refl).phase
+
+-- after the last byte
+pub fresh_at_last : (byte : ℕ) (pages : List ℕ) (start d : Device) → IsGoing byte pages start 0 d → d.phase ≡ Fresh
+fresh_at_last byte pages start d g = go d.phase refl g.within
+  where
+    go : (p : Phase) → d.phase ≡ p → IsWithin byte 0 p → d.phase ≡ Fresh
+    go Fresh e w = e
+    go (Connected rest) e w = absurd (let some = awaited_some byte rest in let none = w in omega arith)
+    go Gone e w = absurd w
+
+-- 7F connects a fresh device
+pub connects : (d new : Device) → d.phase ≡ Fresh → Feeds 0x7F d new → new ≡ record d { owed = d.owed ++ ack ∷ []; phase = Connected [] }
+connects d new at f = subst (λ (p : Phase). Receives d p 0x7F new) at f.receives
+
+pub settling_connects : (byte : ℕ) (pages : List ℕ) (start d new : Device) → IsDevice d → IsSettling byte pages start d → d.phase ≡ Fresh → d.owed ≡ [] → Feeds 0x7F d new → IsSettling byte pages start new
+settling_connects byte pages start d new is s at quiet f =
+    let next : Device = record d { owed = d.owed ++ ack ∷ []; phase = Connected [] } in
+    let few : length next.owed ≤ 4096 = rw quiet (lit≤ tt) in
+    subst (IsSettling byte pages start) (sym (connects d new at f)) (record {
+      same_chip = s.same_chip;
+      harmless = harmless byte pages next is.size (mild_empty d.chip d.codes byte pages);
+      flash = s.flash;
+      owed = few;
+    })
+
+-- then the byte is quiet
+pub waits : (byte : ℕ) (d new : Device) → d.phase ≡ Connected [] → Feeds byte d new → new ≡ record d { owed = d.owed ++ []; phase = Connected (byte ∷ []) }
+waits byte d new at f = subst (λ (p : Phase). Receives d p byte new) at f.receives
+
+-- and once more it is refused
+pub refuses : (byte : ℕ) (d new : Device) → d.phase ≡ Connected (byte ∷ []) → Feeds byte d new → new ≡ record d { owed = d.owed ++ nack ∷ []; phase = Connected [] }
+refuses byte d new at f =
+    let bytes = byte ∷ byte ∷ [] in
+    let v : verdict d.chip d.codes bytes ≡ Some Refused = rw (no_pair byte) refl in
+    let t : Takes d bytes (verdict d.chip d.codes bytes) new = subst (λ (p : Phase). Receives d p byte new) at f.receives in
+    let u : Takes d bytes (Some Refused) new = subst (λ w. Takes d bytes w new) v t in
+    u ∙ ap (λ r. record d { owed = d.owed ++ r; phase = Connected [] }) (ap (λ w. reply_to w d.chip d.version d.codes d.flash bytes) v)

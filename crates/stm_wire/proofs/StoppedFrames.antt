@@ -1,0 +1,202 @@
+-- The frames of a session are open all along and done at their last byte, so that a stop in them leaves a harmless device.
+use Rattle.std.proofs.Common.{◌≡◌, ℕ, ◌+◌, ◌-◌, ◌/◌, ◌%◌, ◌<◌, ◌≤◌, Bool, true, false, ◌&&◌, ◌==◌, List, [], ◌∷◌, ◌++◌, length, take, drop, get_or, Option, Some, None, IsTrue, lit≤, refl, sym, ap, ap₂, ◌∙◌, subst, arith, eq-eqb, ne_eqb, lt-ltb, inl, inr, if◌then◌else◌, length-append, length-take}
+use Rattle.std.proofs.Math.Seq.{take-append_seam, get_or-append_seam}
+use Rattle.std.specs.List.{Contains}
+use Rattle.stm_wire.specs.declared.intent.Intent.{Intent}
+use Rattle.stm_wire.specs.declared.intent.Intent.TheVariants.{Erase, Program}
+use Rattle.stm_wire.specs.declared.chip.EraseKind.{EraseKind}
+use Rattle.stm_wire.specs.declared.chip.EraseKind.TheVariants.{Page, Extended}
+use Rattle.stm_wire.specs.declared.verdict.Verdict.{Verdict}
+use Rattle.stm_wire.specs.declared.verdict.Verdict.TheVariants.{Done}
+use Rattle.stm_wire.specs.Chip.{ChipData, page_count, fits_inside, is_inside}
+use Rattle.stm_wire.specs.Exchange.{done_if, read_verdict, write_verdict, complement, number_of, xor, pair_of}
+use Rattle.stm_wire.specs.Device.{Device, IsDevice, IsSettled, ListsKind}
+use Rattle.stm_wire.specs.Frames.{command, with_checksum, address_bytes, erase_frame}
+use Rattle.stm_wire.specs.Intents.{settling_byte, intended_pages}
+use Rattle.stm_wire.specs.Moments.{PartlyFed}
+use Rattle.stm_wire.specs.Stopped.{IsQuestion, get, get_id, read, asks, erases, writes, IsStoppedSafely, SendingIsHarmless, AskingChangesNothing}
+use Rattle.stm_wire.proofs.Steps.{OpenAlong}
+use Rattle.stm_wire.proofs.Address.{verdict-listed, command-waits, after_address-right, addressed, address-waits}
+use Rattle.stm_wire.proofs.Writing.{data-waits}
+use Rattle.stm_wire.proofs.Reading.{fits-inside}
+use Rattle.stm_wire.proofs.Mild.{Mild}
+use Rattle.stm_wire.proofs.Stopped.{fewer, fewer_outside, erasable, one_erasable, mild_get_frame, mild_id_frame, mild_read_frame, mild_erase_frame, mild_write_frame}
+use Rattle.stm_wire.proofs.Pages.{page_inside, same_all}
+use Rattle.stm_wire.proofs.Stops.{IsWhole, along-append, stopped_safely}
+
+module _ (d : Device) (is : IsDevice d) where
+  get_whole : IsWhole d (0x00 ∷ []) 0xFF
+  get_whole = record {
+    along = (refl, tt);
+    done = verdict-listed d.chip d.codes 0x00 [] is.get;
+    few = omega (arith, is.count, length-append d.codes (0x79 ∷ []));
+  }
+
+  id_whole : IsWhole d (0x02 ∷ []) 0xFD
+  id_whole = record { along = (refl, tt); done = verdict-listed d.chip d.codes 0x02 [] is.get_id; few = lit≤ tt }
+
+  module _ (address size : ℕ) (some : 1 ≤ size) (most : size ≤ 256) (fits : IsTrue (fits_inside d.chip address size)) where
+    inside : IsTrue (is_inside d.chip address)
+    inside = fits-inside d.chip address size some fits
+
+    to_address : OpenAlong d.chip d.codes [] (command 0x11 ++ with_checksum (address_bytes address))
+    to_address = along-append d.chip d.codes [] (command 0x11) (with_checksum (address_bytes address)) (command-waits d.chip d.codes 0x11 is.read refl)
+        (address-waits d.chip d.codes 0x11 address is.read (addressed d.chip 0x11 (inl refl)) inside)
+
+    read_whole : IsWhole d (command 0x11 ++ with_checksum (address_bytes address) ++ (size - 1) ∷ []) (complement (size - 1))
+    read_whole =
+        let e : (size - 1) + 1 ≡ size = omega arith in
+        let P : ℕ → Type 0 = λ n. Some (done_if (complement (size - 1) == complement (size - 1) && fits_inside d.chip address n)) ≡ Some Done in
+        let choose : Bool → Bool → Option Verdict = λ x y. Some (done_if (x && y)) in
+        record {
+          along = along-append d.chip d.codes [] (command 0x11 ++ with_checksum (address_bytes address)) ((size - 1) ∷ []) to_address
+              (verdict-listed d.chip d.codes 0x11 (with_checksum (address_bytes address) ++ (size - 1) ∷ []) is.read ∙ after_address-right d.chip (read_verdict d.chip) address ((size - 1) ∷ []) inside, tt);
+          done = verdict-listed d.chip d.codes 0x11 (with_checksum (address_bytes address) ++ (size - 1) ∷ complement (size - 1) ∷ []) is.read
+              ∙ after_address-right d.chip (read_verdict d.chip) address ((size - 1) ∷ complement (size - 1) ∷ []) inside
+              ∙ subst P (sym e) (ap₂ choose (eq-eqb (complement (size - 1)) (complement (size - 1)) refl) fits);
+          few = omega (arith, e, length-take ((size - 1) + 1) (drop (number_of (address / 16777216) (address / 65536 % 256) (address / 256 % 256) (address % 256) - d.chip.base) d.flash));
+        }
+
+  module _ (address : ℕ) (sent : List ℕ) (some : 1 ≤ length sent) (most : length sent ≤ 256) (fits : IsTrue (fits_inside d.chip address (length sent))) where
+    is_in : IsTrue (is_inside d.chip address)
+    is_in = fits-inside d.chip address (length sent) some fits
+
+    abbrev count : ℕ
+    count = length sent - 1
+
+    counts : count + 1 ≡ length sent
+    counts = omega arith
+
+    count_waits : write_verdict d.chip address (count ∷ []) ≡ None
+    count_waits = no (length {A = ℕ} [] == count + 2) (ne_eqb 0 (count + 2) (λ e. omega (arith, e)))
+      where
+        no : (b : Bool) → b ≡ false → (if b then Some (done_if (get_or {A = ℕ} [] (count + 1) 0 == xor (count ∷ take (count + 1) []) && fits_inside d.chip address (count + 1))) else None) ≡ None
+        no b e = rw e refl
+
+    write_along : OpenAlong d.chip d.codes [] (command 0x31 ++ with_checksum (address_bytes address) ++ count ∷ sent)
+    write_along =
+        let head = command 0x31 ++ with_checksum (address_bytes address) in
+        along-append d.chip d.codes [] (head ++ count ∷ []) sent
+        (along-append d.chip d.codes [] head (count ∷ [])
+        (along-append d.chip d.codes [] (command 0x31) (with_checksum (address_bytes address)) (command-waits d.chip d.codes 0x31 is.write refl)
+        (address-waits d.chip d.codes 0x31 address is.write (addressed d.chip 0x31 (inr refl)) is_in))
+        (verdict-listed d.chip d.codes 0x31 (with_checksum (address_bytes address) ++ count ∷ []) is.write ∙ after_address-right d.chip (write_verdict d.chip) address (count ∷ []) is_in ∙ count_waits, tt))
+        (data-waits d.chip d.codes address count is.write is_in [] sent (omega (arith, counts)))
+
+    abbrev check : ℕ
+    check = xor (count ∷ sent)
+
+    write_done : write_verdict d.chip address (count ∷ (sent ++ check ∷ [])) ≡ Some Done
+    write_done =
+        let whole : length (sent ++ check ∷ []) ≡ count + 2 = omega (arith, length-append sent (check ∷ []), counts) in
+        let data' : take (count + 1) (sent ++ check ∷ []) ≡ sent = ap (λ n. take n (sent ++ check ∷ [])) counts ∙ take-append_seam sent (check ∷ []) in
+        let last : get_or (sent ++ check ∷ []) (count + 1) 0 ≡ check = ap (λ n. get_or (sent ++ check ∷ []) n 0) counts ∙ get_or-append_seam sent check [] 0 in
+        let choose : Bool → ℕ → List ℕ → ℕ → Option Verdict = λ b l xs n. if b then Some (done_if (l == xor (count ∷ xs) && fits_inside d.chip address n)) else None in
+        let tests : Bool → Bool → Option Verdict = λ x y. Some (done_if (x && y)) in
+        ap (λ b. choose b (get_or (sent ++ check ∷ []) (count + 1) 0) (take (count + 1) (sent ++ check ∷ [])) (count + 1)) (eq-eqb (length (sent ++ check ∷ [])) (count + 2) whole)
+        ∙ ap₂ (λ l xs. choose true l xs (count + 1)) last data' ∙ ap (λ n. choose true check sent n) counts ∙ ap₂ tests (eq-eqb check check refl) fits
+
+    write_whole : IsWhole d (command 0x31 ++ with_checksum (address_bytes address) ++ count ∷ sent) check
+    write_whole = record {
+      along = write_along;
+      done = verdict-listed d.chip d.codes 0x31 (with_checksum (address_bytes address) ++ count ∷ (sent ++ check ∷ [])) is.write
+          ∙ after_address-right d.chip (write_verdict d.chip) address (count ∷ (sent ++ check ∷ [])) is_in ∙ write_done;
+      few = omega (arith, most);
+    }
+
+-- an erase of one page, all but its last byte
+abbrev erase_body : EraseKind → ℕ → List ℕ
+erase_body Page N = command 0x43 ++ 0 ∷ N ∷ []
+erase_body Extended N = command 0x44 ++ 0 ∷ 0 ∷ N / 256 ∷ N % 256 ∷ []
+
+abbrev erase_check : EraseKind → ℕ → ℕ
+erase_check Page N = xor (0 ∷ N ∷ [])
+erase_check Extended N = xor (0 ∷ 0 ∷ N / 256 ∷ N % 256 ∷ [])
+
+erase_whole : (d : Device) (kind : EraseKind) (N : ℕ) → ListsKind kind d.codes → N < page_count d.chip → IsWhole d (erase_body kind N) (erase_check kind N)
+erase_whole d Page N lists here =
+    let listed = lists.0 in
+    let choose : Bool → Bool → Option Verdict = λ x y. Some (done_if (x && (y && true))) in
+    record {
+      along = (refl, (verdict-listed d.chip d.codes 0x43 [] listed, (verdict-listed d.chip d.codes 0x43 (0 ∷ []) listed, (verdict-listed d.chip d.codes 0x43 (0 ∷ N ∷ []) listed, tt))));
+      done = verdict-listed d.chip d.codes 0x43 (0 ∷ N ∷ erase_check Page N ∷ []) listed
+          ∙ ap₂ choose (eq-eqb (erase_check Page N) (erase_check Page N) refl) (lt-ltb N (page_count d.chip) here);
+      few = lit≤ tt;
+    }
+erase_whole d Extended N lists here =
+    let listed = lists.0 in
+    let high = N / 256 in
+    let low = N % 256 in
+    let same : pair_of high low ≡ N = omega arith in
+    let choose : Bool → Bool → Option Verdict = λ x y. Some (done_if (x && (y && true))) in
+    record {
+      along = (
+        refl,
+        (
+          verdict-listed d.chip d.codes 0x44 [] listed,
+          (
+            verdict-listed d.chip d.codes 0x44 (0 ∷ []) listed,
+            (
+              verdict-listed d.chip d.codes 0x44 (0 ∷ 0 ∷ []) listed,
+              (verdict-listed d.chip d.codes 0x44 (0 ∷ 0 ∷ high ∷ []) listed, (verdict-listed d.chip d.codes 0x44 (0 ∷ 0 ∷ high ∷ low ∷ []) listed, tt)),
+            ),
+          ),
+        ),
+      );
+      done = verdict-listed d.chip d.codes 0x44 (0 ∷ 0 ∷ high ∷ low ∷ erase_check Extended N ∷ []) listed
+          ∙ ap₂ choose (eq-eqb (erase_check Extended N) (erase_check Extended N) refl) (lt-ltb (pair_of high low) (page_count d.chip) (subst (λ n. n < page_count d.chip) (sym same) here));
+      few = lit≤ tt;
+    }
+
+frame_of : (kind : EraseKind) (N : ℕ) → erase_body kind N ++ erase_check kind N ∷ [] ≡ erase_frame kind N
+frame_of Page N = refl
+frame_of Extended N = refl
+
+-- a stop in a frame which is that of a whole body
+safely : (old d : Device) (byte : ℕ) (pages : List ℕ) (frame : List ℕ) (body : List ℕ) (last : ℕ) → IsDevice old → IsSettled old → IsWhole old body last → frame ≡ body ++ last ∷ []
+    → ((j : ℕ) → Mild old.chip old.codes byte pages (take j (body ++ last ∷ []))) → PartlyFed frame old d → IsStoppedSafely old byte pages d
+safely old d byte pages frame body last is settled whole e mild fed =
+    stopped_safely old body last is settled whole byte pages mild d (subst (λ (f : List ℕ). PartlyFed f old d) e fed)
+
+question_safely : (old d : Device) (byte : ℕ) (pages : List ℕ) (frame : List ℕ) → IsDevice old → IsSettled old → IsQuestion old.chip frame → PartlyFed frame old d → IsStoppedSafely old byte pages d
+question_safely old d byte pages frame is settled (get e) fed =
+    safely old d byte pages frame (0x00 ∷ []) 0xFF is settled (get_whole old is) e (mild_get_frame old.chip old.codes byte pages) fed
+question_safely old d byte pages frame is settled (get_id e) fed =
+    safely old d byte pages frame (0x02 ∷ []) 0xFD is settled (id_whole old is) e (mild_id_frame old.chip old.codes byte pages) fed
+question_safely old d byte pages frame is settled (read address size some most fits e) fed =
+    safely old d byte pages frame (command 0x11 ++ with_checksum (address_bytes address) ++ (size - 1) ∷ []) (complement (size - 1)) is settled (read_whole old is address size some most fits) e
+    (mild_read_frame old.chip old.codes byte pages address size) fed
+
+pub asking_changes_nothing : AskingChangesNothing
+asking_changes_nothing old d byte frame is settled question fed =
+    let s = question_safely old d byte [] frame is settled question fed in
+    (s, same_all old.chip old.flash d.flash is.size s.flash)
+
+erase_safely : (old d : Device) (N : ℕ) (frame : List ℕ) → IsDevice old → IsSettled old → N < page_count old.chip → frame ≡ erase_frame old.chip.kind N → PartlyFed frame old d → IsStoppedSafely old N (N ∷ []) d
+erase_safely old d N frame is settled here e fed =
+    let most = is.chip.last_page in
+    let small : N < 256 = omega arith in
+    let kind = old.chip.kind in
+    let pages = erasable kind N in
+    let s = safely old d N pages frame (erase_body kind N) (erase_check kind N) is settled (erase_whole old kind N is.erase here) (e ∙ sym (frame_of kind N))
+    (λ j. subst (λ (f : List ℕ). Mild old.chip old.codes N pages (take j f)) (sym (frame_of kind N)) (mild_erase_frame old.chip old.codes kind N small j)) fed in
+    let one : (n : ℕ) → n < page_count old.chip → Contains pages n → Contains (N ∷ []) n = λ n le c. one_erasable kind N n (omega (arith, most, le)) c in
+    record {
+      same_chip = s.same_chip;
+      same_version = s.same_version;
+      same_codes = s.same_codes;
+      harmless = fewer d N (N ∷ []) pages (λ n le c. one n (subst (λ (chip : ChipData). n < page_count chip) s.same_chip le) c) s.harmless;
+      flash = fewer_outside old.chip (N ∷ []) pages old.flash d.flash one s.flash;
+      owed = s.owed;
+    }
+
+under : (old d : Device) (i j : Option Intent) → i ≡ j → IsStoppedSafely old (settling_byte j) (intended_pages j) d → IsStoppedSafely old (settling_byte i) (intended_pages i) d
+under old d i j e s = subst (λ (x : Option Intent). IsStoppedSafely old (settling_byte x) (intended_pages x) d) (sym e) s
+
+pub sending_is_harmless : SendingIsHarmless
+sending_is_harmless old d intent frame is settled (asks question) fed = question_safely old d (settling_byte intent) (intended_pages intent) frame is settled question fed
+sending_is_harmless old d intent frame is settled (erases page i here e) fed = under old d intent (Some (Erase page)) i (erase_safely old d page frame is settled here e fed)
+sending_is_harmless old d intent frame is settled (writes page address sent i some most within e) fed =
+    under old d intent (Some (Program page)) i
+    (safely old d 2 (page ∷ []) frame (command 0x31 ++ with_checksum (address_bytes address) ++ (length sent - 1) ∷ sent) (xor ((length sent - 1) ∷ sent)) is settled
+    (write_whole old is address sent some most (page_inside old.chip page address (length sent) within)) e (mild_write_frame old.chip old.codes page address sent some within) fed)

@@ -1,0 +1,118 @@
+-- A frame that is open all along and done at its last byte: what a stop at any of its bytes leaves.
+use Rattle.std.proofs.Common.{◌≡◌, ⊎_elim, ℕ, zero, suc, ◌+◌, ◌<◌, ◌≤◌, List, [], ◌∷◌, ◌++◌, length, take, Some, refl, sym, ap, ap₂, ◌∙◌, subst, arith, append_assoc}
+use Rattle.std.proofs.lemmas.Bool.{cases_lt}
+use Rattle.std.proofs.lemmas.List.{append-nil, take-append-le, take_all, length-append, length-take, length-drop}
+use Rattle.stm_wire.specs.Chip.{ChipData}
+use Rattle.stm_wire.specs.declared.verdict.Verdict.TheVariants.{Done}
+use Rattle.stm_wire.specs.Exchange.{verdict}
+use Rattle.stm_wire.specs.Effect.{change_of}
+use Rattle.stm_wire.specs.Reply.{ack, answer, step_reply}
+use Rattle.stm_wire.specs.Device.{Device, Phase, Connected, Fed, Feeds, IsDevice, IsSettled, phase_after}
+use Rattle.stm_wire.specs.Harmless.{SameOutside}
+use Rattle.stm_wire.specs.Moments.{PartlyFed}
+use Rattle.stm_wire.specs.Command.{with_rest}
+use Rattle.stm_wire.specs.Stopped.{IsStoppedSafely}
+use Rattle.stm_wire.proofs.Flash.{same_flash, effect_within}
+use Rattle.stm_wire.proofs.Mild.{Fits, FitsAll, Mild, Tame, harmless, mild_empty}
+use Rattle.stm_wire.proofs.Closed.{harmless_loses}
+use Rattle.stm_wire.proofs.Awaited.{step_small}
+use Rattle.stm_wire.proofs.Feeding.{Fed-split}
+use Rattle.stm_wire.proofs.Steps.{OpenAlong, IsDone, replies_along, fed-along, feeds-done}
+
+pub along-append : (chip : ChipData) (codes rest xs ys : List ℕ) → OpenAlong chip codes rest xs → OpenAlong chip codes (rest ++ xs) ys → OpenAlong chip codes rest (xs ++ ys)
+along-append chip codes rest [] ys a b = subst (λ (r : List ℕ). OpenAlong chip codes r ys) (append-nil rest) b
+along-append chip codes rest (x ∷ xs) ys a b =
+    (a.0, along-append chip codes (rest ++ x ∷ []) xs ys a.1 (subst (λ (r : List ℕ). OpenAlong chip codes r ys) (sym (append_assoc rest (x ∷ []) xs)) b))
+
+along-take : (chip : ChipData) (codes rest xs : List ℕ) (n : ℕ) → OpenAlong chip codes rest xs → OpenAlong chip codes rest (take n xs)
+along-take chip codes rest xs zero a = tt
+along-take chip codes rest [] (suc n) a = tt
+along-take chip codes rest (x ∷ xs) (suc n) a = (a.0, along-take chip codes (rest ++ x ∷ []) xs n a.1)
+
+replies-few : (rest bytes : List ℕ) → length (replies_along rest bytes) ≤ length bytes
+replies-few rest [] = omega arith
+replies-few rest (x ∷ bytes) =
+    let first = step_reply (rest ++ x ∷ []) in
+    let more = replies_along (rest ++ x ∷ []) bytes in
+    omega (arith, length-append first more, step_small (rest ++ x ∷ []), replies-few (rest ++ x ∷ []) bytes)
+
+-- open along its body, done at its last byte
+pub record IsWhole (d : Device) (body : List ℕ) (last : ℕ) : Type 0 where
+  pub along : OpenAlong d.chip d.codes [] body
+  pub done : verdict d.chip d.codes (body ++ last ∷ []) ≡ Some Done
+  pub few : length body + (1 + length (answer d.chip d.version d.codes d.flash (body ++ last ∷ []))) ≤ 4096
+
+module _ (old : Device) (body : List ℕ) (last : ℕ) (is : IsDevice old) (settled : IsSettled old) (whole : IsWhole old body last) where
+  here : old ≡ with_rest [] old
+  here = ap₂ (λ (p : Phase) (xs : List ℕ). let r : Device = record old { owed = xs; phase = p } in r) settled.phase settled.owed
+
+  -- within the frame
+  within : (n : ℕ) (mid : Device) → n ≤ length body → Fed (take n (body ++ last ∷ [])) old mid
+      → mid ≡ record old { owed = replies_along [] (take n body); phase = Connected (take n body) }
+  within n mid le f =
+      let same = take-append-le n body (last ∷ []) le in
+      let g : Fed (take n body) old mid = subst (λ (xs : List ℕ). Fed xs old mid) same f in
+      fed-along (take n body) [] [] old mid (along-take old.chip old.codes [] body n whole.along) (subst (λ (x : Device). Fed (take n body) x mid) here g)
+
+  -- at its end
+  at_end : (mid : Device) → Fed (body ++ last ∷ []) old mid → IsDone (record old { owed = replies_along [] body; phase = Connected body }) (body ++ last ∷ []) mid
+  at_end mid f =
+      let parts = Fed-split body (last ∷ []) old mid f in
+      let first = fed-along body [] [] old parts.0 whole.along (subst (λ (x : Device). Fed body x parts.0) here parts.1) in
+      let one : Feeds last parts.0 mid = subst (λ (x : Device). Feeds last parts.0 x) (sym parts.2.2) parts.2.1 in
+      feeds-done last body (record old { owed = replies_along [] body; phase = Connected body }) mid refl whole.done (subst (λ (x : Device). Feeds last x mid) first one)
+
+  module _ (byte : ℕ) (pages : List ℕ) (mild : (j : ℕ) → Mild old.chip old.codes byte pages (take j (body ++ last ∷ []))) where
+    within_safely : (n : ℕ) (mid : Device) → n ≤ length body → Fed (take n (body ++ last ∷ [])) old mid → IsStoppedSafely old byte pages mid
+    within_safely n mid le f =
+        let next : Device = record old { owed = replies_along [] (take n body); phase = Connected (take n body) } in
+        let m : Mild old.chip old.codes byte pages (take n body) = subst (Mild old.chip old.codes byte pages) (take-append-le n body (last ∷ []) le) (mild n) in
+        subst (IsStoppedSafely old byte pages) (sym (within n mid le f)) (record {
+          same_chip = refl;
+          same_version = refl;
+          same_codes = refl;
+          harmless = harmless byte pages next is.size m;
+          flash = same_flash old.chip pages old.flash old.flash refl;
+          owed = omega (arith, replies-few [] (take n body), length-take n body, whole.few);
+        })
+
+    fits : Fits old.chip pages (body ++ last ∷ []) (Some Done)
+    fits =
+        let frame = body ++ last ∷ [] in
+        let m : FitsAll old.chip old.codes pages (take (length frame) frame ++ []) = mild (length frame) zero in
+        let same : take (length frame) frame ++ [] ≡ frame = append-nil (take (length frame) frame) ∙ take_all (length frame) frame (omega arith) in
+        subst (Fits old.chip pages frame) whole.done (subst (FitsAll old.chip old.codes pages) same m)
+
+    done_safely : (mid : Device) → Fed (body ++ last ∷ []) old mid → IsStoppedSafely old byte pages mid
+    done_safely mid f =
+        let frame = body ++ last ∷ [] in
+        let done = at_end mid f in
+        let reply = ack ∷ answer old.chip old.version old.codes old.flash frame in
+        let next : Device = record old { flash = done.0; owed = replies_along [] body ++ reply; phase = phase_after frame } in
+        let changed = effect_within old.chip pages (change_of frame) old.flash done.0 is.size fits.1 done.1 in
+        subst (IsStoppedSafely old byte pages) (sym done.2) (record {
+          same_chip = refl;
+          same_version = refl;
+          same_codes = refl;
+          harmless = harmless byte pages next (changed.same_length ∙ is.size) (subst (Tame old.chip old.codes byte pages) (sym fits.0) (mild_empty old.chip old.codes byte pages));
+          flash = changed;
+          owed = omega (arith, replies-few [] body, length-append (replies_along [] body) reply, whole.few);
+        })
+
+    fed_safely : (n : ℕ) (mid : Device) → Fed (take n (body ++ last ∷ [])) old mid → IsStoppedSafely old byte pages mid
+    fed_safely n mid f = ⊎_elim
+        (λ (lt : n < length body + 1). within_safely n mid (omega arith) f)
+        (λ (ge : length body + 1 ≤ n). done_safely mid (subst (λ (xs : List ℕ). Fed xs old mid) (take_all n (body ++ last ∷ []) (omega (arith, length-append body (last ∷ [])))) f))
+        (cases_lt n (length body + 1))
+
+    pub stopped_safely : (d : Device) → PartlyFed (body ++ last ∷ []) old d → IsStoppedSafely old byte pages d
+    stopped_safely d (n, (mid, f, (k, e))) =
+        let s = fed_safely n mid f in
+        record {
+          same_chip = ap (λ (x : Device). x.chip) e ∙ s.same_chip;
+          same_version = ap (λ (x : Device). x.version) e ∙ s.same_version;
+          same_codes = ap (λ (x : Device). x.codes) e ∙ s.same_codes;
+          harmless = harmless_loses byte pages mid d s.harmless (k, e);
+          flash = subst (λ (x : Device). SameOutside old.chip pages old.flash x.flash) (sym e) s.flash;
+          owed = (let l = ap (λ (x : Device). length x.owed) e in let few = s.owed in let m = length-drop k mid.owed in omega arith);
+        }

@@ -1,0 +1,299 @@
+-- Runs of puts and gets join, on any line.
+use Rattle.std.proofs.Common.{◌≡◌, ◌≢◌, ⊎_elim, ℕ, zero, suc, ◌+◌, ◌*◌, ◌-◌, ◌≤◌, min, List, [], ◌∷◌, ◌++◌, length, take, replicate, Option, Some, None, Result, Ok, Err, IfErr, IsErrAnd, refl, sym, ◌∙◌, ap, subst, arith, append_assoc, append-nil, take_all}
+use Rattle.std.proofs.Math.Seq.{take-append-add}
+use Rattle.std.proofs.lemmas.List.{take_min, take-append-le, length-append}
+use Rattle.stm_wire.specs.declared.rig.RigCall.{RigCall}
+use Rattle.stm_wire.specs.declared.rig.RigCall.TheVariants.{Put, Get, Append, Fetch}
+use Rattle.stm_wire.specs.declared.fault.RigFault.{RigFault}
+use Rattle.stm_wire.specs.declared.fault.WireFault.{WireFault}
+use Rattle.stm_wire.specs.declared.fault.WireFault.TheVariants.{Line, Quiet}
+use Rattle.stm_wire.specs.Reply.{nack}
+use Rattle.stm_wire.specs.Rig.{RigState, Rises, HasCause, Records}
+use Rattle.stm_wire.specs.Dialogue.{GoesOn, puts_of, AreLineCalls}
+use Rattle.stm_wire.specs.SentList.{settling_run}
+use Rattle.stm_wire.specs.Settling.{Talks, PutsAll, PutsPart, HasAskedAll, EndsRefused, HasLineCause, IsNotQuiet, Speaks}
+use Rattle.stm_wire.proofs.Turns.{GoesOn-append, GoesOn-weaker}
+use Rattle.stm_wire.proofs.Holding.{on_fault}
+
+puts_of-append : (xs ys : List RigCall) → puts_of (xs ++ ys) ≡ puts_of xs ++ puts_of ys
+puts_of-append [] ys = refl
+puts_of-append (Put byte ∷ xs) ys = ap (λ zs. byte ∷ zs) (puts_of-append xs ys)
+puts_of-append (Get answer ∷ xs) ys = puts_of-append xs ys
+puts_of-append (Append n ∷ xs) ys = puts_of-append xs ys
+puts_of-append (Fetch ∷ xs) ys = puts_of-append xs ys
+
+line-append : (xs ys : List RigCall) → AreLineCalls xs → AreLineCalls ys → AreLineCalls (xs ++ ys)
+line-append [] ys a b = b
+line-append (Put byte ∷ xs) ys a b = line-append xs ys a b
+line-append (Get answer ∷ xs) ys a b = line-append xs ys a b
+line-append (Append n ∷ xs) ys a b = absurd a
+line-append (Fetch ∷ xs) ys a b = absurd a
+
+talks_then : (P Q R : List ℕ → Type 0) (m n : ℕ) (xs ys : List RigCall) → ((us vs : List ℕ) → P us → Q vs → R (us ++ vs)) → Talks P m xs → Talks Q n ys → Talks R (m + n) (xs ++ ys)
+talks_then P Q R m n xs ys join p q = record {
+  line = line-append xs ys p.line q.line;
+  puts = subst R (sym (puts_of-append xs ys)) (join (puts_of xs) (puts_of ys) p.puts q.puts);
+  few = omega (arith, length-append xs ys, p.few, q.few);
+}
+
+talks_more : (P R : List ℕ → Type 0) (m n : ℕ) (xs : List RigCall) → m ≤ n → ((us : List ℕ) → P us → R us) → Talks P m xs → Talks R n xs
+talks_more P R m n xs le f p = record { line = p.line; puts = f (puts_of xs) p.puts; few = omega (arith, p.few) }
+
+pub all_then : (xs ys : List ℕ) (m n : ℕ) (a b c : Option (List RigCall)) → GoesOn (PutsAll xs m) a b → GoesOn (PutsAll ys n) b c → GoesOn (PutsAll (xs ++ ys) (m + n)) a c
+all_then xs ys m n a b c p q = GoesOn-append (PutsAll xs m) (PutsAll ys n) (PutsAll (xs ++ ys) (m + n)) a b c p q (λ us vs u v.
+    talks_then (λ us. us ≡ xs) (λ vs. vs ≡ ys) (λ ws. ws ≡ xs ++ ys) m n us vs (λ s t e f. ap (λ z. z ++ t) e ∙ ap (λ z. xs ++ z) f) u v)
+
+pub part_then : (xs ys : List ℕ) (m n : ℕ) (a b c : Option (List RigCall)) → GoesOn (PutsAll xs m) a b → GoesOn (PutsPart ys n) b c → GoesOn (PutsPart (xs ++ ys) (m + n)) a c
+part_then xs ys m n a b c p q = GoesOn-append (PutsAll xs m) (PutsPart ys n) (PutsPart (xs ++ ys) (m + n)) a b c p q (λ us vs u v.
+    talks_then (λ us. us ≡ xs) (λ vs. (k : ℕ) × (vs ≡ take k ys)) (λ ws. (k : ℕ) × (ws ≡ take k (xs ++ ys))) m n us vs
+    (λ s t e f. (length xs + f.0, ap (λ z. z ++ t) e ∙ ap (λ z. xs ++ z) f.1 ∙ sym (take-append-add xs ys f.0))) u v)
+
+-- a beginning is one of a longer list
+begins-longer : (k : ℕ) (xs ys : List ℕ) → (n : ℕ) × (take k xs ≡ take n (xs ++ ys))
+begins-longer k xs ys =
+    let n = min k (length xs) in
+    let le : n ≤ length xs = omega arith in
+    (n, sym (take-append-le n xs ys le ∙ take_min k xs))
+
+pub part_more : (xs ys : List ℕ) (m n : ℕ) (a b : Option (List RigCall)) → m ≤ n → GoesOn (PutsPart xs m) a b → GoesOn (PutsPart (xs ++ ys) n) a b
+part_more xs ys m n a b le p = GoesOn-weaker (PutsPart xs m) (PutsPart (xs ++ ys) n) a b p (λ us u.
+    talks_more (λ us. (k : ℕ) × (us ≡ take k xs)) (λ us. (k : ℕ) × (us ≡ take k (xs ++ ys))) m n us le
+    (λ s e. let b = begins-longer e.0 xs ys in (b.0, e.1 ∙ b.1)) u)
+
+pub all_more : (xs : List ℕ) (m n : ℕ) (a b : Option (List RigCall)) → m ≤ n → GoesOn (PutsAll xs m) a b → GoesOn (PutsAll xs n) a b
+all_more xs m n a b le p = GoesOn-weaker (PutsAll xs m) (PutsAll xs n) a b p (λ us u. talks_more (λ us. us ≡ xs) (λ us. us ≡ xs) m n us le (λ s e. e) u)
+
+-- the whole is a beginning
+pub all_part : (xs : List ℕ) (m : ℕ) (a b : Option (List RigCall)) → GoesOn (PutsAll xs m) a b → GoesOn (PutsPart xs m) a b
+all_part xs m a b p = GoesOn-weaker (PutsAll xs m) (PutsPart xs m) a b p (λ us u.
+    talks_more (λ us. us ≡ xs) (λ us. (k : ℕ) × (us ≡ take k xs)) m m us (omega arith) (λ s e. (length xs, e ∙ sym (take_all (length xs) xs (omega arith)))) u)
+
+-- nothing but Ok so far
+pub record Went (bytes : List ℕ) (most : ℕ) (a b : RigState) : Type 0 where
+  pub line : b.line_failures ≡ a.line_failures
+  pub journal : b.journal_failures ≡ a.journal_failures
+  pub all : GoesOn (PutsAll bytes most) a.calls b.calls
+
+-- a call of the line failed
+pub record Failed (bytes : List ℕ) (most : ℕ) (a b : RigState) : Type 0 where
+  pub later : a.line_failures ≤ b.line_failures
+  pub rises : Rises a.line_failures b.line_failures
+  pub journal : b.journal_failures ≡ a.journal_failures
+  pub part : GoesOn (PutsPart bytes most) a.calls b.calls
+
+goes_nowhere : (P : List RigCall → Type 0) (o : Option (List RigCall)) → P [] → GoesOn P o o
+goes_nowhere P None p = refl
+goes_nowhere P (Some past) p = ([], ap (λ zs. Some zs) (sym (append-nil past)), p)
+
+pub went_nowhere : (a : RigState) → Went [] 0 a a
+went_nowhere a = record { line = refl; journal = refl; all = goes_nowhere (PutsAll [] 0) a.calls (record { line = tt; puts = refl; few = omega arith }) }
+
+-- the call of an Ok stands in the record
+pub recorded_ok : {T : Type 0} (call : RigCall) (u : T) (x y : Option (List RigCall)) → Records call (Ok u) x y → GoesOn (λ calls. calls ≡ call ∷ []) x y
+recorded_ok call u None y r = r
+recorded_ok call u (Some past) y r = (call ∷ [], r, refl)
+
+recorded_err : (T : Type 0) (call : RigCall) (e : RigFault) (P : List RigCall → Type 0) (x y : Option (List RigCall)) → P [] → P (call ∷ []) → Records {T = T} call (Err e) x y → GoesOn P x y
+recorded_err T call e P None y none one r = r
+recorded_err T call e P (Some past) y none one r = ⊎_elim (λ in_it. (call ∷ [], in_it, one)) (λ not_in_it. ([], not_in_it ∙ ap (λ zs. Some zs) (sym (append-nil past)), none)) r
+
+pub went_put : {T : Type 0} (byte : ℕ) (u : T) (a b : RigState) → HasCause {T = T} a.line_failures b.line_failures (Ok u) → b.journal_failures ≡ a.journal_failures → Records {T = T} (Put byte) (Ok u) a.calls b.calls → Went (byte ∷ []) 1 a b
+went_put byte u a b cause journal recorded = record {
+  line = cause.done;
+  journal = journal;
+  all = GoesOn-weaker (λ calls. calls ≡ Put byte ∷ []) (PutsAll (byte ∷ []) 1) a.calls b.calls (recorded_ok (Put byte) u a.calls b.calls recorded)
+      (λ calls e. subst (PutsAll (byte ∷ []) 1) (sym e) (record { line = tt; puts = refl; few = omega arith }));
+}
+
+pub failed_put : (T : Type 0) (byte : ℕ) (e : RigFault) (a b : RigState) → HasCause {T = T} a.line_failures b.line_failures (Err e) → b.journal_failures ≡ a.journal_failures → Records {T = T} (Put byte) (Err e) a.calls b.calls → Failed (byte ∷ []) 1 a b
+failed_put T byte e a b cause journal recorded = record {
+  later = cause.later;
+  rises = cause.failed;
+  journal = journal;
+  part = recorded_err T (Put byte) e (PutsPart (byte ∷ []) 1) a.calls b.calls (record { line = tt; puts = (0, refl); few = omega arith }) (record { line = tt; puts = (1, refl); few = omega arith }) recorded;
+}
+
+pub went_get : (answer : Option ℕ) (a b : RigState) → HasCause {T = Option ℕ} a.line_failures b.line_failures (Ok answer) → b.journal_failures ≡ a.journal_failures → Records {T = Option ℕ} (Get answer) (Ok answer) a.calls b.calls → Went [] 1 a b
+went_get answer a b cause journal recorded = record {
+  line = cause.done;
+  journal = journal;
+  all = GoesOn-weaker (λ calls. calls ≡ Get answer ∷ []) (PutsAll [] 1) a.calls b.calls (recorded_ok (Get answer) answer a.calls b.calls recorded)
+      (λ calls e. subst (PutsAll [] 1) (sym e) (record { line = tt; puts = refl; few = omega arith }));
+}
+
+pub failed_get : (e : RigFault) (a b : RigState) → HasCause {T = Option ℕ} a.line_failures b.line_failures (Err e) → b.journal_failures ≡ a.journal_failures → Records {T = Option ℕ} (Get None) (Err e) a.calls b.calls → Failed [] 1 a b
+failed_get e a b cause journal recorded = record {
+  later = cause.later;
+  rises = cause.failed;
+  journal = journal;
+  part = recorded_err (Option ℕ) (Get None) e (PutsPart [] 1) a.calls b.calls (record { line = tt; puts = (0, refl); few = omega arith }) (record { line = tt; puts = (0, refl); few = omega arith }) recorded;
+}
+
+pub went_then : (xs ys : List ℕ) (m n : ℕ) (a b c : RigState) → Went xs m a b → Went ys n b c → Went (xs ++ ys) (m + n) a c
+went_then xs ys m n a b c p q = record { line = q.line ∙ p.line; journal = q.journal ∙ p.journal; all = all_then xs ys m n a.calls b.calls c.calls p.all q.all }
+
+pub failed_then : (xs ys : List ℕ) (m n : ℕ) (a b c : RigState) → Went xs m a b → Failed ys n b c → Failed (xs ++ ys) (m + n) a c
+failed_then xs ys m n a b c p q = record {
+  later = omega (arith, p.line, q.later);
+  rises = subst (λ k. Rises k c.line_failures) p.line q.rises;
+  journal = q.journal ∙ p.journal;
+  part = part_then xs ys m n a.calls b.calls c.calls p.all q.part;
+}
+
+pub went_up : (xs : List ℕ) (m n : ℕ) (a b : RigState) → m ≤ n → Went xs m a b → Went xs n a b
+went_up xs m n a b le p = record { line = p.line; journal = p.journal; all = all_more xs m n a.calls b.calls le p.all }
+
+-- so a part of settling ends: with Ok,
+pub speaks_ok : {T : Type 0} (bytes : List ℕ) (most : ℕ) (u : T) (a b : RigState) → Went bytes most a b → Speaks bytes most (Ok u) a b
+speaks_ok bytes most u a b p = record {
+  cause = record { later = omega (arith, p.line); done = p.line; failed = tt; journal_count = p.journal };
+  part = all_part bytes most a.calls b.calls p.all;
+  whole = p.all;
+}
+
+-- with a fault of the line,
+pub speaks_line : {T : Type 0} (xs ys : List ℕ) (m n : ℕ) (r : Result T WireFault) (a b : RigState) → m ≤ n → Failed xs m a b → IsErrAnd r (λ fault. fault ≡ Line) → Speaks (xs ++ ys) n r a b
+speaks_line xs ys m n (Ok u) a b le p e = absurd e
+speaks_line xs ys m n (Err fault) a b le p e = record {
+  cause = record { later = p.later; done = tt; failed = λ _. p.rises; journal_count = p.journal };
+  part = part_more xs ys m n a.calls b.calls le p.part;
+  whole = tt;
+}
+
+-- with another fault,
+pub speaks_other : {T : Type 0} (xs ys : List ℕ) (m n : ℕ) (fault : WireFault) (a b : RigState) → m ≤ n → fault ≢ Line → Went xs m a b → Speaks {T = T} (xs ++ ys) n (Err fault) a b
+speaks_other xs ys m n fault a b le other p = record {
+  cause = record { later = omega (arith, p.line); done = tt; failed = λ e. absurd (other e); journal_count = p.journal };
+  part = part_more xs ys m n a.calls b.calls le (all_part xs m a.calls b.calls p.all);
+  whole = tt;
+}
+
+-- or as its last part ends
+pub speaks_then : {T : Type 0} (xs ys : List ℕ) (m n : ℕ) (r : Result T WireFault) (a b c : RigState) → Went xs m a b → Speaks ys n r b c → Speaks (xs ++ ys) (m + n) r a c
+speaks_then xs ys m n (Ok u) a b c p q = record {
+  cause = record { later = omega (arith, p.line, q.cause.later); done = q.cause.done ∙ p.line; failed = tt; journal_count = q.cause.journal_count ∙ p.journal };
+  part = part_then xs ys m n a.calls b.calls c.calls p.all q.part;
+  whole = all_then xs ys m n a.calls b.calls c.calls p.all q.whole;
+}
+speaks_then xs ys m n (Err fault) a b c p q = record {
+  cause = record {
+    later = omega (arith, p.line, q.cause.later);
+    done = tt;
+    failed = λ e. subst (λ k. Rises k c.line_failures) p.line (q.cause.failed e);
+    journal_count = q.cause.journal_count ∙ p.journal;
+  };
+  part = part_then xs ys m n a.calls b.calls c.calls p.all q.part;
+  whole = tt;
+}
+
+-- a fault is handed on
+pub speaks_fault : {T U : Type 0} (xs ys : List ℕ) (m n : ℕ) (fault : WireFault) (r : Result U WireFault) (a b : RigState) → m ≤ n → IsErrAnd r (λ e. e ≡ fault) → Speaks {T = T} xs m (Err fault) a b → Speaks (xs ++ ys) n r a b
+speaks_fault xs ys m n fault (Ok u) a b le e p = absurd e
+speaks_fault xs ys m n fault (Err f) a b le e p = record {
+  cause = record { later = p.cause.later; done = tt; failed = λ g. p.cause.failed (sym e ∙ g); journal_count = p.cause.journal_count };
+  part = part_more xs ys m n a.calls b.calls le p.part;
+  whole = tt;
+}
+
+-- what a part did that ended with Ok
+pub speaks_went : {T : Type 0} (bytes : List ℕ) (most : ℕ) (u : T) (a b : RigState) → Speaks bytes most (Ok u) a b → Went bytes most a b
+speaks_went bytes most u a b p = record { line = p.cause.done; journal = p.cause.journal_count; all = p.whole }
+
+-- one copy more
+replicate-more : (k x : ℕ) → replicate k x ++ x ∷ [] ≡ replicate (suc k) x
+replicate-more zero x = refl
+replicate-more (suc k) x = ap (λ xs. x ∷ xs) (replicate-more k x)
+
+pub went_more : (byte sent : ℕ) (a b c : RigState) → Went (replicate sent byte) (4099 * sent) a b → Went (byte ∷ []) 4099 b c → Went (replicate (sent + 1) byte) (4099 * (sent + 1)) a c
+went_more byte sent a b c p q =
+    let both = went_then (replicate sent byte) (byte ∷ []) (4099 * sent) 4099 a b c p q in
+    let one : suc sent ≡ sent + 1 = omega arith in
+    let same : replicate sent byte ++ byte ∷ [] ≡ replicate (sent + 1) byte = replicate-more sent byte ∙ ap (λ k. replicate k byte) one in
+    let count : 4099 * sent + 4099 ≡ 4099 * (sent + 1) = omega arith in
+    subst (λ n. Went (replicate (sent + 1) byte) n a c) count (subst (λ xs. Went xs (4099 * sent + 4099) a c) same both)
+
+-- A refusal: the byte, and NACK first
+pub refused_by : (byte : ℕ) (a b c : Option (List RigCall)) → GoesOn (λ calls. calls ≡ Put byte ∷ []) a b → GoesOn (λ calls. calls ≡ Get (Some nack) ∷ []) b c → GoesOn (EndsRefused byte) a c
+refused_by byte a b c p q = GoesOn-append (λ calls. calls ≡ Put byte ∷ []) (λ calls. calls ≡ Get (Some nack) ∷ []) (EndsRefused byte) a b c p q
+    (λ us vs u v. record { before = []; after = []; is = ap (λ z. z ++ vs) u ∙ ap (λ z. Put byte ∷ z) v; last = refl })
+
+pub refused_then : (byte most : ℕ) (a b c : Option (List RigCall)) → GoesOn (EndsRefused byte) a b → GoesOn (PutsAll [] most) b c → GoesOn (EndsRefused byte) a c
+refused_then byte most a b c p q = GoesOn-append (EndsRefused byte) (PutsAll [] most) (EndsRefused byte) a b c p q
+    (λ us vs u v. record {
+      before = u.before;
+      after = u.after ++ vs;
+      is = ap (λ z. z ++ vs) u.is ∙ append_assoc u.before (Put byte ∷ Get (Some nack) ∷ u.after) vs;
+      last = puts_of-append u.after vs ∙ ap (λ z. z ++ puts_of vs) u.last ∙ v.puts;
+    })
+
+pub refused_after : (P : List RigCall → Type 0) (byte : ℕ) (a b c : Option (List RigCall)) → GoesOn P a b → GoesOn (EndsRefused byte) b c → GoesOn (EndsRefused byte) a c
+refused_after P byte a b c p q = GoesOn-append P (EndsRefused byte) (EndsRefused byte) a b c p q
+    (λ us vs u v. record { before = us ++ v.before; after = v.after; is = ap (λ z. us ++ z) v.is ∙ sym (append_assoc us v.before (Put byte ∷ Get (Some nack) ∷ v.after)); last = v.last })
+
+pub refused_calls : {T : Type 0} (byte first : ℕ) (u : T) (answer : Option ℕ) (a b c : Option (List RigCall)) → answer ≡ Some first → first ≡ nack → Records {T = T} (Put byte) (Ok u) a b → Records {T = Option ℕ} (Get answer) (Ok answer) b c → GoesOn (EndsRefused byte) a c
+refused_calls byte first u answer a b c e is_nack put got =
+    refused_by byte a b c (recorded_ok (Put byte) u a b put)
+    (GoesOn-weaker (λ calls. calls ≡ Get answer ∷ []) (λ calls. calls ≡ Get (Some nack) ∷ []) b c (recorded_ok (Get answer) answer b c got)
+    (λ calls f. f ∙ ap (λ (o : Option ℕ). Get o ∷ []) (e ∙ ap (λ n. Some n) is_nack)))
+
+-- the byte put, and an answer taken
+pub went_both : {T : Type 0} (byte : ℕ) (u : T) (answer : Option ℕ) (a b c : RigState) → HasCause {T = T} a.line_failures b.line_failures (Ok u) → b.journal_failures ≡ a.journal_failures → Records {T = T} (Put byte) (Ok u) a.calls b.calls
+    → HasCause {T = Option ℕ} b.line_failures c.line_failures (Ok answer) → c.journal_failures ≡ b.journal_failures → Records {T = Option ℕ} (Get answer) (Ok answer) b.calls c.calls → Went (byte ∷ []) 2 a c
+went_both byte u answer a b c cause journal recorded cause' journal' recorded' =
+    went_then (byte ∷ []) [] 1 1 a b c (went_put byte u a b cause journal recorded) (went_get answer b c cause' journal' recorded')
+
+pub cause_then : {T : Type 0} (xs : List ℕ) (m : ℕ) (r : Result T WireFault) (a b c : RigState) → Went xs m a b → HasLineCause r b c → HasLineCause r a c
+cause_then xs m (Ok u) a b c p q = record { later = omega (arith, p.line, q.later); done = q.done ∙ p.line; failed = tt; journal_count = q.journal_count ∙ p.journal }
+cause_then xs m (Err fault) a b c p q = record {
+  later = omega (arith, p.line, q.later);
+  done = tt;
+  failed = λ e. subst (λ k. Rises k c.line_failures) p.line (q.failed e);
+  journal_count = q.journal_count ∙ p.journal;
+}
+
+pub part_up : (xs : List ℕ) (m n : ℕ) (a b : Option (List RigCall)) → m ≤ n → GoesOn (PutsPart xs m) a b → GoesOn (PutsPart xs n) a b
+part_up xs m n a b le p = GoesOn-weaker (PutsPart xs m) (PutsPart xs n) a b p (λ us u. talks_more (λ us. (k : ℕ) × (us ≡ take k xs)) (λ us. (k : ℕ) × (us ≡ take k xs)) m n us le (λ s e. e) u)
+
+replicate-add : (m n x : ℕ) → replicate (m + n) x ≡ replicate m x ++ replicate n x
+replicate-add zero n x = ap (λ k. replicate k x) (omega arith)
+replicate-add (suc m) n x =
+    let e : suc m + n ≡ suc (m + n) = omega arith in
+    ap (λ k. replicate k x) e ∙ ap (λ xs. x ∷ xs) (replicate-add m n x)
+
+-- some of the copies are a beginning of settling
+pub part_run : (byte limit sent m n : ℕ) (a b : Option (List RigCall)) → sent ≤ limit → m ≤ n → GoesOn (PutsPart (replicate sent byte) m) a b → GoesOn (PutsPart (settling_run byte limit) n) a b
+part_run byte limit sent m n a b le le' p =
+    let rest = 0x7F ∷ byte ∷ byte ∷ [] in
+    let e : sent + (limit - sent) ≡ limit = omega arith in
+    let same : replicate sent byte ++ (replicate (limit - sent) byte ++ rest) ≡ settling_run byte limit =
+    sym (append_assoc (replicate sent byte) (replicate (limit - sent) byte) rest) ∙ ap (λ xs. xs ++ rest) (sym (replicate-add sent (limit - sent) byte) ∙ ap (λ k. replicate k byte) e) in
+    subst (λ xs. GoesOn (PutsPart xs n) a b) same (part_more (replicate sent byte) (replicate (limit - sent) byte ++ rest) m n a b le' p)
+
+-- one byte more, whose sending failed
+pub speaks_more : {T : Type 0} (byte sent : ℕ) (r : Result T WireFault) (a b c : RigState) → Went (replicate sent byte) (4099 * sent) a b → Speaks (byte ∷ []) 4099 r b c → Speaks (replicate (sent + 1) byte) (4099 * (sent + 1)) r a c
+speaks_more byte sent r a b c p q =
+    let both = speaks_then (replicate sent byte) (byte ∷ []) (4099 * sent) 4099 r a b c p q in
+    let one : suc sent ≡ sent + 1 = omega arith in
+    let same : replicate sent byte ++ byte ∷ [] ≡ replicate (sent + 1) byte = replicate-more sent byte ∙ ap (λ k. replicate k byte) one in
+    let count : 4099 * sent + 4099 ≡ 4099 * (sent + 1) = omega arith in
+    subst (λ n. Speaks (replicate (sent + 1) byte) n r a c) count (subst (λ xs. Speaks xs (4099 * sent + 4099) r a c) same both)
+
+-- a fault is handed on
+pub cause_fault : {T U : Type 0} (fault : WireFault) (r : Result U WireFault) (a b : RigState) → IsErrAnd r (λ e. e ≡ fault) → HasLineCause {T = T} (Err fault) a b → HasLineCause r a b
+cause_fault fault (Ok u) a b e p = absurd e
+cause_fault fault (Err f) a b e p = record { later = p.later; done = tt; failed = λ g. p.failed (sym e ∙ g); journal_count = p.journal_count }
+
+pub never_quiet : {T : Type 0} (P : Type 0) (r : Result T WireFault) → IsNotQuiet r → IfErr r (λ fault. fault ≡ Quiet → P)
+never_quiet P (Ok u) n = tt
+never_quiet P (Err fault) n = λ e. absurd (n e)
+
+pub never_fault : {T : Type 0} (P : Type 0) (fault : WireFault) (r : Result T WireFault) → IsErrAnd r (λ e. e ≡ fault) → fault ≢ Quiet → IfErr r (λ f. f ≡ Quiet → P)
+never_fault P fault r e n = on_fault (λ f. f ≡ Quiet → P) r fault e (λ q. absurd (n q))
+
+-- all of the limit, and 7F, which stayed without a reply
+pub asked_all : (byte limit m n : ℕ) (a b c : Option (List RigCall)) → GoesOn (PutsAll (replicate limit byte) m) a b → GoesOn (PutsAll (0x7F ∷ []) n) b c → GoesOn (HasAskedAll byte limit) a c
+asked_all byte limit m n a b c p q = GoesOn-weaker (PutsAll (replicate limit byte ++ 0x7F ∷ []) (m + n)) (HasAskedAll byte limit) a c (all_then (replicate limit byte) (0x7F ∷ []) m n a b c p q) (λ us u. u.puts)
+
+pub asked_after : (byte limit m : ℕ) (a b c : Option (List RigCall)) → GoesOn (PutsAll [] m) a b → GoesOn (HasAskedAll byte limit) b c → GoesOn (HasAskedAll byte limit) a c
+asked_after byte limit m a b c p q = GoesOn-append (PutsAll [] m) (HasAskedAll byte limit) (HasAskedAll byte limit) a b c p q
+    (λ us vs u v. puts_of-append us vs ∙ ap (λ z. z ++ puts_of vs) u.puts ∙ v)

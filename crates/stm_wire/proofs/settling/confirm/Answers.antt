@@ -1,0 +1,83 @@
+use Rattle.std.proofs.Common.{rules, ℕ, [], ◌∷◌, ◌∙◌, ap, lit≤, subst, Option}
+use Rattle.std.proofs.lemmas.Result.{on_ok_weaker}
+use Rattle.stm_wire.specs.Rig.{GetsFirst}
+use Rattle.stm_wire.specs.Reply.{nack}
+use Rattle.stm_wire.specs.Device.{Device, Connected}
+use Rattle.stm_wire.specs.Settling.{with_nothing_owed}
+use Rattle.stm_wire.proofs.Keeping.{keeps_get, keeps_then, keeps_known, here, taken_one, confirmed}
+use Rattle.stm_wire.proofs.Talking.{failed_put, speaks_line, speaks_then, went_both, refused_calls, refused_then}
+use Rattle.stm_wire.proofs.settling.confirm.Goals as goal
+
+pub returns-in_err-put-clause-honest : goal.returns-in_err-put-clause-honest
+returns-in_err-put-clause-honest g c h pages start s at quiet =
+    let V = g.R.Rig.view in
+    let a = V c.args.rig.now in
+    let b = V c.put.new.self in
+    let target = let r : Device = record a.device { owed = nack ∷ []; phase = Connected [] } in r in
+    let one = keeps_known c.args.byte pages start c.put.result a b target (g.met.R.Rig.model c.args.rig.now h) s (λ d f. confirmed c.args.byte a.device d at quiet f) (lit≤ tt) (c.put.ensures.honest h) in
+    record { keeps = one; ok = search rules; fails = search rules }
+
+pub returns-in_err-get-clause-honest : goal.returns-in_err-get-clause-honest
+returns-in_err-get-clause-honest g c h pages start s at quiet =
+    let V = g.R.Rig.view in
+    let a = V c.args.rig.now in
+    let b = V c.put.new.self in
+    let target = let r : Device = record a.device { owed = nack ∷ []; phase = Connected [] } in r in
+    let one = keeps_known c.args.byte pages start c.put.result a b target (g.met.R.Rig.model c.args.rig.now h) s (λ d f. confirmed c.args.byte a.device d at quiet f) (lit≤ tt) (c.put.ensures.honest h) in
+    let p = (c.in_ok-put.ensures.honest h).ok.0 in
+    let is = confirmed c.args.byte a.device b.device at quiet p in
+    let mb = g.met.R.Rig.model c.put.new.self one.honest in
+    let sb = (here c.args.byte pages start a b mb one).1 in
+    record {
+      keeps = keeps_then c.args.byte pages start a b (V c.get.new.self) mb one (keeps_get c.args.byte pages start c.get.result b (V c.get.new.self) mb sb (c.get.ensures.honest one.honest));
+      ok = search rules;
+      fails = search rules;
+    }
+
+pub returns-in-Some-eq31-clause-honest : goal.returns-in-Some-eq31-clause-honest
+returns-in-Some-eq31-clause-honest g c h pages start s at quiet =
+    let V = g.R.Rig.view in
+    let a = V c.args.rig.now in
+    let b = V c.put.new.self in
+    let target = let r : Device = record a.device { owed = nack ∷ []; phase = Connected [] } in r in
+    let one = keeps_known c.args.byte pages start c.put.result a b target (g.met.R.Rig.model c.args.rig.now h) s (λ d f. confirmed c.args.byte a.device d at quiet f) (lit≤ tt) (c.put.ensures.honest h) in
+    let p = (c.in_ok-put.ensures.honest h).ok.0 in
+    let is = confirmed c.args.byte a.device b.device at quiet p in
+    let mb = g.met.R.Rig.model c.put.new.self one.honest in
+    let sb = (here c.args.byte pages start a b mb one).1 in
+    let d = V c.get.new.self in
+    let two = keeps_then c.args.byte pages start a b d mb one (keeps_get c.args.byte pages start c.get.result b d mb sb (c.get.ensures.honest one.honest)) in
+    let md = g.met.R.Rig.model c.get.new.self two.honest in
+    let got = taken_one nack b.device d.device (ap (λ (x : Device). x.owed) is) c.in-Some-eq31.field-0 (subst (λ (o : Option ℕ). GetsFirst o b.device d.device) c.in-Some-eq31.is (c.in_ok-get.ensures.honest one.honest).ok) in
+    let e = got.1 ∙ ap with_nothing_owed is in
+    let l = c.expect_quiet.ensures.honest two.honest c.args.byte pages start (here c.args.byte pages start a d md two).1 (ap (λ (x : Device). x.owed) e) in
+    record {
+      keeps = keeps_then c.args.byte pages start a d (V c.expect_quiet.new.rig) md two l.keeps;
+      ok = on_ok_weaker c.expect_quiet.result (λ f. f ∙ e) l.ok;
+      fails = l.fails;
+    }
+
+pub returns-in_err-put-clause-speaks : goal.returns-in_err-put-clause-speaks
+returns-in_err-put-clause-speaks g c =
+    let V = g.R.Rig.view in
+    let e = c.in_err-put.ensures in
+    let byte = c.args.byte in
+    speaks_line (byte ∷ []) [] 1 3 c.from_residual.result (V c.args.rig.now) (V c.put.new.self) (lit≤ tt) (failed_put (Unit {0}) byte c.in_err-put.field-0.0 (V c.args.rig.now) (V c.put.new.self) e.cause e.journal_count e.recorded) c.from_residual.ensures.1
+
+pub returns-in-Some-eq31-clause-speaks : goal.returns-in-Some-eq31-clause-speaks
+returns-in-Some-eq31-clause-speaks g c =
+    let V = g.R.Rig.view in
+    let e = c.in_ok-put.ensures in
+    let f = c.in_ok-get.ensures in
+    let byte = c.args.byte in
+    let u : Unit {0} = tt in
+    speaks_then (byte ∷ []) [] 2 1 c.expect_quiet.result (V c.args.rig.now) (V c.get.new.self) (V c.expect_quiet.new.rig)
+    (went_both byte u c.in_ok-get.field-0 (V c.args.rig.now) (V c.put.new.self) (V c.get.new.self) e.cause e.journal_count e.recorded f.cause f.journal_count f.recorded) c.expect_quiet.ensures.speaks
+
+pub returns-in-Some-eq31-clause-refused : goal.returns-in-Some-eq31-clause-refused
+returns-in-Some-eq31-clause-refused g c =
+    let V = g.R.Rig.view in
+    let byte = c.args.byte in
+    let u : Unit {0} = tt in
+    let ends = refused_calls byte c.in-Some-eq31.field-0 u c.in_ok-get.field-0 (V c.args.rig.now).calls (V c.put.new.self).calls (V c.get.new.self).calls c.in-Some-eq31.is c.in-Some-eq31.field-0-test c.in_ok-put.ensures.recorded c.in_ok-get.ensures.recorded in
+    on_ok_weaker c.expect_quiet.result (λ w. refused_then byte 1 (V c.args.rig.now).calls (V c.get.new.self).calls (V c.expect_quiet.new.rig).calls ends w) c.expect_quiet.ensures.speaks.whole

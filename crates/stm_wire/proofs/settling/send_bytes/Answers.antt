@@ -1,0 +1,170 @@
+use Rattle.std.proofs.Common.{rules, ◌≡◌, ◌+◌, ◌-◌, ◌*◌, arith, subst, Result, Err, Bool, ℕ, [], ◌∷◌, replicate}
+use Rattle.stm_wire.specs.declared.fault.WireFault.{WireFault}
+use Rattle.stm_wire.specs.Dialogue.{GoesOn}
+use Rattle.stm_wire.specs.SentList.{settling_run}
+use Rattle.stm_wire.specs.Settling.{PutsAll, PutsPart, HasAskedAll}
+use Rattle.stm_wire.proofs.Holding.{if_err_weaker}
+use Rattle.stm_wire.proofs.Talking.{went_nowhere, all_part, part_run, speaks_more, cause_fault, never_fault, asked_all}
+use Rattle.std.proofs.lemmas.Bool.{MatchBool-at_true, MatchBool-at_false}
+use Rattle.std.proofs.lemmas.Result.{on_ok_weaker}
+use Rattle.stm_wire.specs.Device.{IsSettled}
+use Rattle.stm_wire.specs.Settling.{IsGoing}
+use Rattle.stm_wire.proofs.Going.{fresh_at_last}
+use Rattle.stm_wire.proofs.Keeping.{keeps_start, keeps_then, going_begin, going_next, going_last, settled_waiting}
+use Rattle.stm_wire.specs.declared.fault.WireFault.TheVariants.{Quiet}
+use Rattle.stm_wire.proofs.Talking.{went_more, speaks_ok, speaks_then, speaks_went, refused_after}
+use Rattle.stm_wire.proofs.settling.send_bytes.Goals as goal
+
+pub loop-sent-init : goal.loop-sent-init
+loop-sent-init g c =
+    let V = g.R.Rig.view in
+    record {
+      went = went_nowhere (V c.args.rig.now);
+      honest = λ h pages start going. (
+        keeps_start c.args.byte pages start (V c.args.rig.now) (g.met.R.Rig.model c.args.rig.now h) h going.settling,
+        going_begin c.args.byte c.args.limit pages start (V c.args.rig.now).device going,
+      );
+    }
+
+pub returns-in_err-send_once-clause-honest : goal.returns-in_err-send_once-clause-honest
+returns-in_err-send_once-clause-honest g c h pages start going =
+    let V = g.R.Rig.view in
+    let a = V c.args.rig.now in
+    let b = V c.loop-sent.rig in
+    let i = c.loop-sent.invariant.honest h pages start going in
+    let mb = g.met.R.Rig.model c.loop-sent.rig i.0.honest in
+    let rest = c.args.limit - (c.loop-sent._sent + 1) in
+    let next = going_next c.args.byte c.args.limit c.loop-sent._sent pages start b.device c.loop-sent-test.true i.1 in
+    let d = V c.send_once.new.rig in
+    let once = c.in_err-send_once.ensures.once i.0.honest pages start rest next in
+    let line = once.fails in
+    record { keeps = keeps_then c.args.byte pages start a b d mb i.0 once.keeps; ok = search rules; fails = search (rules, line) }
+
+pub returns-then-branch-clause-honest : goal.returns-then-branch-clause-honest
+returns-then-branch-clause-honest g c h pages start going =
+    let V = g.R.Rig.view in
+    let a = V c.args.rig.now in
+    let b = V c.loop-sent.rig in
+    let i = c.loop-sent.invariant.honest h pages start going in
+    let mb = g.met.R.Rig.model c.loop-sent.rig i.0.honest in
+    let rest = c.args.limit - (c.loop-sent._sent + 1) in
+    let next = going_next c.args.byte c.args.limit c.loop-sent._sent pages start b.device c.loop-sent-test.true i.1 in
+    let d = V c.send_once.new.rig in
+    let once = c.in_ok-send_once.ensures.once i.0.honest pages start rest next in
+    record {
+      keeps = keeps_then c.args.byte pages start a b d mb i.0 once.keeps;
+      ok = MatchBool-at_true (IsSettled d.device) (IsGoing c.args.byte pages start rest d.device) c.if-branch.true once.ok;
+      fails = search rules;
+    }
+
+pub loop-sent-preserved : goal.loop-sent-preserved
+loop-sent-preserved g c =
+    record {
+      went = (let V = g.R.Rig.view in
+          went_more c.args.byte c.loop-sent._sent (V c.args.rig.now) (V c.loop-sent.rig) (V c.send_once.new.rig) c.loop-sent.invariant.went
+          (speaks_went (c.args.byte ∷ []) 4099 c.in_ok-send_once.field-0 (V c.loop-sent.rig) (V c.send_once.new.rig) c.in_ok-send_once.ensures.speaks));
+      honest = λ h pages start going.
+          let V = g.R.Rig.view in
+          let a = V c.args.rig.now in
+          let b = V c.loop-sent.rig in
+          let i = c.loop-sent.invariant.honest h pages start going in
+          let mb = g.met.R.Rig.model c.loop-sent.rig i.0.honest in
+          let rest = c.args.limit - (c.loop-sent._sent + 1) in
+          let next = going_next c.args.byte c.args.limit c.loop-sent._sent pages start b.device c.loop-sent-test.true i.1 in
+          let d = V c.send_once.new.rig in
+          let once = c.in_ok-send_once.ensures.once i.0.honest pages start rest next in (
+            keeps_then c.args.byte pages start a b d mb i.0 once.keeps,
+            MatchBool-at_false (IsSettled d.device) (IsGoing c.args.byte pages start rest d.device) c.if-branch.false once.ok,
+          );
+    }
+
+pub returns-clause-honest : goal.returns-clause-honest
+returns-clause-honest g c h pages start going =
+    let V = g.R.Rig.view in
+    let a = V c.args.rig.now in
+    let b = V c.loop-sent.rig in
+    let i = c.loop-sent.invariant.honest h pages start going in
+    let mb = g.met.R.Rig.model c.loop-sent.rig i.0.honest in
+    let last = going_last c.args.byte c.args.limit c.loop-sent._sent pages start b.device c.loop-sent-test.false i.1 in
+    let e = V c.reconnect.new.rig in
+    let l = c.reconnect.ensures.honest i.0.honest pages start last.settling (fresh_at_last c.args.byte pages start b.device last) last.quiet in
+    record {
+      keeps = keeps_then c.args.byte pages start a b e mb i.0 l.keeps;
+      ok = on_ok_weaker c.reconnect.result (λ f. settled_waiting b.device e.device f) l.ok;
+      fails = l.fails;
+    }
+
+pub returns-in_err-send_once-clause-cause : goal.returns-in_err-send_once-clause-cause
+returns-in_err-send_once-clause-cause g c =
+    let V = g.R.Rig.view in
+    let fault = c.in_err-send_once.field-0.0 in
+    let failed : Result Bool WireFault = Err fault in
+    let s = speaks_more c.args.byte c.loop-sent._sent failed (V c.args.rig.now) (V c.loop-sent.rig) (V c.send_once.new.rig) c.loop-sent.invariant.went c.in_err-send_once.ensures.speaks in
+    cause_fault {T = Bool} fault c.from_residual.result (V c.args.rig.now) (V c.send_once.new.rig) c.from_residual.ensures.1 s.cause
+
+pub returns-in_err-send_once-clause-calls : goal.returns-in_err-send_once-clause-calls
+returns-in_err-send_once-clause-calls g c =
+    let V = g.R.Rig.view in
+    let n = c.loop-sent._sent in
+    let fault = c.in_err-send_once.field-0.0 in
+    let failed : Result Bool WireFault = Err fault in
+    let s = speaks_more c.args.byte n failed (V c.args.rig.now) (V c.loop-sent.rig) (V c.send_once.new.rig) c.loop-sent.invariant.went c.in_err-send_once.ensures.speaks in
+    part_run c.args.byte c.args.limit (n + 1) (4099 * (n + 1)) (4099 * c.args.limit + 7) (V c.args.rig.now).calls (V c.send_once.new.rig).calls (omega (arith, c.loop-sent-test.true)) (omega (arith, c.loop-sent-test.true)) s.part
+
+pub returns-in_err-send_once-clause-quiet : goal.returns-in_err-send_once-clause-quiet
+returns-in_err-send_once-clause-quiet g c =
+    let V = g.R.Rig.view in
+    never_fault (GoesOn (HasAskedAll c.args.byte c.args.limit) (V c.args.rig.now).calls (V c.send_once.new.rig).calls) c.in_err-send_once.field-0.0 c.from_residual.result c.from_residual.ensures.1 c.in_err-send_once.ensures.loud
+
+pub returns-then-branch-clause-cause : goal.returns-then-branch-clause-cause
+returns-then-branch-clause-cause g c =
+    let V = g.R.Rig.view in
+    let n = c.loop-sent._sent in
+    let u : Unit {0} = tt in
+    let w = went_more c.args.byte n (V c.args.rig.now) (V c.loop-sent.rig) (V c.send_once.new.rig) c.loop-sent.invariant.went
+    (speaks_went (c.args.byte ∷ []) 4099 c.in_ok-send_once.field-0 (V c.loop-sent.rig) (V c.send_once.new.rig) c.in_ok-send_once.ensures.speaks) in
+    (speaks_ok (replicate (n + 1) c.args.byte) (4099 * (n + 1)) u (V c.args.rig.now) (V c.send_once.new.rig) w).cause
+
+pub returns-then-branch-clause-calls : goal.returns-then-branch-clause-calls
+returns-then-branch-clause-calls g c =
+    let V = g.R.Rig.view in
+    let n = c.loop-sent._sent in
+    let w = went_more c.args.byte n (V c.args.rig.now) (V c.loop-sent.rig) (V c.send_once.new.rig) c.loop-sent.invariant.went
+    (speaks_went (c.args.byte ∷ []) 4099 c.in_ok-send_once.field-0 (V c.loop-sent.rig) (V c.send_once.new.rig) c.in_ok-send_once.ensures.speaks) in
+    part_run c.args.byte c.args.limit (n + 1) (4099 * (n + 1)) (4099 * c.args.limit + 7) (V c.args.rig.now).calls (V c.send_once.new.rig).calls (omega (arith, c.loop-sent-test.true)) (omega (arith, c.loop-sent-test.true))
+    (all_part (replicate (n + 1) c.args.byte) (4099 * (n + 1)) (V c.args.rig.now).calls (V c.send_once.new.rig).calls w.all)
+
+pub returns-then-branch-clause-refused : goal.returns-then-branch-clause-refused
+returns-then-branch-clause-refused g c =
+    let V = g.R.Rig.view in
+    let n = c.loop-sent._sent in
+    refused_after (PutsAll (replicate n c.args.byte) (4099 * n)) c.args.byte (V c.args.rig.now).calls (V c.loop-sent.rig).calls (V c.send_once.new.rig).calls c.loop-sent.invariant.went.all (c.in_ok-send_once.ensures.refused c.if-branch.true)
+
+pub returns-clause-cause : goal.returns-clause-cause
+returns-clause-cause g c =
+    let V = g.R.Rig.view in
+    let n = c.loop-sent._sent in
+    (speaks_then (replicate n c.args.byte) (0x7F ∷ c.args.byte ∷ c.args.byte ∷ []) (4099 * n) 7 c.reconnect.result (V c.args.rig.now) (V c.loop-sent.rig) (V c.reconnect.new.rig) c.loop-sent.invariant.went c.reconnect.ensures.speaks).cause
+
+pub returns-clause-calls : goal.returns-clause-calls
+returns-clause-calls g c =
+    let V = g.R.Rig.view in
+    let n = c.loop-sent._sent in
+    let all : n ≡ c.args.limit = omega (arith, c.loop-sent-test.false, c.loop-sent.auto) in
+    let P : ℕ → Type 0 = λ k. GoesOn (PutsPart (settling_run c.args.byte k) (4099 * k + 7)) (V c.args.rig.now).calls (V c.reconnect.new.rig).calls in
+    subst P all (speaks_then (replicate n c.args.byte) (0x7F ∷ c.args.byte ∷ c.args.byte ∷ []) (4099 * n) 7 c.reconnect.result (V c.args.rig.now) (V c.loop-sent.rig) (V c.reconnect.new.rig) c.loop-sent.invariant.went c.reconnect.ensures.speaks).part
+
+pub returns-clause-quiet : goal.returns-clause-quiet
+returns-clause-quiet g c =
+    let V = g.R.Rig.view in
+    let n = c.loop-sent._sent in
+    let all : n ≡ c.args.limit = omega (arith, c.loop-sent-test.false, c.loop-sent.auto) in
+    let P : ℕ → Type 0 = λ k. GoesOn (HasAskedAll c.args.byte k) (V c.args.rig.now).calls (V c.reconnect.new.rig).calls in
+    if_err_weaker (λ fault. fault ≡ Quiet → GoesOn (PutsAll (0x7F ∷ []) 2) (V c.loop-sent.rig).calls (V c.reconnect.new.rig).calls) (λ fault. fault ≡ Quiet → P c.args.limit) c.reconnect.result
+    (λ fault quiet e. subst P all (asked_all c.args.byte n (4099 * n) 2 (V c.args.rig.now).calls (V c.loop-sent.rig).calls (V c.reconnect.new.rig).calls c.loop-sent.invariant.went.all (quiet e))) c.reconnect.ensures.quiet
+
+pub returns-clause-refused : goal.returns-clause-refused
+returns-clause-refused g c =
+    let V = g.R.Rig.view in
+    let n = c.loop-sent._sent in
+    on_ok_weaker c.reconnect.result (λ w. refused_after (PutsAll (replicate n c.args.byte) (4099 * n)) c.args.byte (V c.args.rig.now).calls (V c.loop-sent.rig).calls (V c.reconnect.new.rig).calls c.loop-sent.invariant.went.all w) c.reconnect.ensures.refused

@@ -1,0 +1,11 @@
+use Rattle.std.proofs.Common.{List, ℕ, sym, subst}
+use Rattle.stm_wire.specs.Effect.{change_of}
+use Rattle.stm_wire.specs.Simulator.{Fits, simulator_codes}
+use Rattle.stm_wire.specs.Simulated.{done-change-fits}
+use Rattle.stm_wire.proofs.simulator.finish_done.Goals as goal
+
+pub change_flash-requires-clause-fits : goal.change_flash-requires-clause-fits
+change_flash-requires-clause-fits c =
+    let chip = c.args.chip.now in
+    let P : List ℕ → Type 0 = λ bytes. Fits chip (change_of bytes) in
+    subst P (sym c.deref-3.ensures.value) (done-change-fits chip (simulator_codes chip.kind) c.args.rest.now.items c.requires.done)

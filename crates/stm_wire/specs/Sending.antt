@@ -1,0 +1,36 @@
+-- What a run of calls that holds a dialogue does to a Rig, honest or not.
+use Rattle.std.specs.Prelude.{◌≡◌, ℕ, ◌≤◌, List}
+use Rattle.stm_wire.specs.declared.fault.WireFault.{WireFault}
+use Rattle.stm_wire.specs.declared.fault.WireFault.TheVariants.{Line}
+use Rattle.stm_wire.specs.Rig.{RigState, Rises}
+use Rattle.stm_wire.specs.Moments.{LeavesOnly, FedAndTaken, PartlyFed, LeftBySending}
+use Rattle.stm_wire.specs.Dialogue.{Turn, calls_of, IsBrokenOff, Adds, GoesOn}
+
+-- an honest Rig was sent these bytes
+pub record SentHonestly (bytes : List ℕ) (old new : RigState) : Type 0 where
+  pub honest : new.is_honest
+  pub journal : new.journal ≡ old.journal
+  pub fed : FedAndTaken bytes old.device new.device
+  pub moments : LeavesOnly (LeftBySending bytes old) old new
+
+-- or a beginning of them
+pub record PartSentHonestly (bytes : List ℕ) (old new : RigState) : Type 0 where
+  pub honest : new.is_honest
+  pub journal : new.journal ≡ old.journal
+  pub fed : PartlyFed bytes old.device new.device
+  pub moments : LeavesOnly (LeftBySending bytes old) old new
+
+-- The dialogue was held to its end, and these are the bytes that it sends.
+pub record Holds (bytes : List ℕ) (turns : List Turn) (old new : RigState) : Type 0 where
+  pub recorded : Adds (calls_of turns) old.calls new.calls
+  pub line_count : new.line_failures ≡ old.line_failures
+  pub journal_count : new.journal_failures ≡ old.journal_failures
+  pub honestly : old.is_honest → SentHonestly bytes old new
+
+-- It was broken off with this fault.
+pub record BreaksOff (fault : WireFault) (bytes : List ℕ) (turns : List Turn) (old new : RigState) : Type 0 where
+  pub recorded : GoesOn (IsBrokenOff fault turns) old.calls new.calls
+  pub line_count : old.line_failures ≤ new.line_failures
+  pub line_cause : fault ≡ Line → Rises old.line_failures new.line_failures
+  pub journal_count : new.journal_failures ≡ old.journal_failures
+  pub honestly : old.is_honest → PartSentHonestly bytes old new

@@ -1,0 +1,123 @@
+-- What settling does to a Rig: on any line, and on one that follows the model.
+use Rattle.std.specs.Prelude.{◌≡◌, ◌≢◌, ℕ, ◌+◌, ◌-◌, ◌*◌, ◌≤◌, ◌==◌, if◌then◌else◌, List, [], ◌∷◌, ◌++◌, length, take, replicate, Bool, Some, Result, IfOk, OnOk, IfErr, MatchBool}
+use Rattle.stm_wire.specs.declared.fault.WireFault.{WireFault}
+use Rattle.stm_wire.specs.declared.fault.WireFault.TheVariants.{Line, Quiet}
+use Rattle.stm_wire.specs.declared.rig.RigCall.{RigCall}
+use Rattle.stm_wire.specs.declared.rig.RigCall.TheVariants.{Put, Get}
+use Rattle.stm_wire.specs.Reply.{nack}
+use Rattle.stm_wire.specs.Device.{Device, Phase, Fresh, Connected, Gone, IsSettled}
+use Rattle.stm_wire.specs.Harmless.{SameOutside, Harmless}
+use Rattle.stm_wire.specs.Rig.{RigState, Rises}
+use Rattle.stm_wire.specs.Moments.{LeavesOnly}
+use Rattle.stm_wire.specs.Dialogue.{GoesOn, puts_of, AreLineCalls}
+use Rattle.stm_wire.specs.SentList.{IsSettlingRun}
+use Rattle.stm_wire.specs.Command.{IsOkOrLine}
+
+-- On any line:
+
+-- puts and gets alone, at most so many; what they put has P
+pub record Talks (P : List ℕ → Type 0) (most : ℕ) (calls : List RigCall) : Type 0 where
+  pub line : AreLineCalls calls
+  pub puts : P (puts_of calls)
+  pub few : length calls ≤ most
+
+-- these bytes are put
+abbrev pub PutsAll : List ℕ → ℕ → List RigCall → Type 0
+PutsAll bytes most calls = Talks (λ puts. puts ≡ bytes) most calls
+
+-- or a beginning of them
+abbrev pub PutsPart : List ℕ → ℕ → List RigCall → Type 0
+PutsPart bytes most calls = Talks (λ puts. (n : ℕ) × (puts ≡ take n bytes)) most calls
+
+-- what settling puts, and how many calls it makes
+abbrev pub SettlesWithin : ℕ → ℕ → List RigCall → Type 0
+SettlesWithin byte limit calls = Talks (IsSettlingRun byte limit) (4100 * (limit + 4)) calls
+
+-- all bytes of the limit were put, and 7F
+abbrev pub HasAskedAll : ℕ → ℕ → List RigCall → Type 0
+HasAskedAll byte limit calls = puts_of calls ≡ replicate limit byte ++ 0x7F ∷ []
+
+-- the last byte put was this one, and the first byte that came after it says no
+pub record EndsRefused (byte : ℕ) (calls : List RigCall) : Type 0 where
+  pub before : List RigCall
+  pub after : List RigCall
+  pub is : calls ≡ before ++ Put byte ∷ Get (Some nack) ∷ after
+  pub last : puts_of after ≡ []
+
+-- A fault of the line is answered only where its count rose, and at Ok the count is as it was. That of the journal
+-- always is.
+pub record HasLineCause {T : Type 0} (result : Result T WireFault) (old new : RigState) : Type 0 where
+  pub later : old.line_failures ≤ new.line_failures
+  pub done : OnOk result (new.line_failures ≡ old.line_failures)
+  pub failed : IfErr result (λ fault. fault ≡ Line → Rises old.line_failures new.line_failures)
+  pub journal_count : new.journal_failures ≡ old.journal_failures
+
+abbrev pub IsNotQuiet : {T : Type 0} → Result T WireFault → Type 0
+IsNotQuiet result = IfErr result (λ fault. fault ≢ Quiet)
+
+-- a part of settling that puts these bytes
+pub record Speaks {T : Type 0} (bytes : List ℕ) (most : ℕ) (result : Result T WireFault)
+    (old new : RigState) : Type 0 where
+  pub cause : HasLineCause result old new
+  pub part : GoesOn (PutsPart bytes most) old.calls new.calls
+  pub whole : OnOk result (GoesOn (PutsAll bytes most) old.calls new.calls)
+
+-- On a line that follows the model:
+
+-- how many of the byte at most, until a refusal
+abbrev pub awaited : ℕ → List ℕ → ℕ
+awaited byte [] = 2
+awaited byte (c ∷ []) = if c == byte then 1 else 131047
+awaited byte (c ∷ x ∷ rest) = 3 + (131045 - length (c ∷ x ∷ rest))
+
+-- with left bytes to come, one of them is refused, or the device is fresh all along
+abbrev pub IsWithin : ℕ → ℕ → Phase → Type 0
+IsWithin byte left Fresh = byte ≡ 0x7F → 3 ≤ left
+IsWithin byte left (Connected rest) = awaited byte rest ≤ left
+IsWithin byte left Gone = ⊥
+
+-- the device is as harmless as at the start, with the start's flash outside the pages, and owes little
+pub record IsSettling (byte : ℕ) (pages : List ℕ) (start d : Device) : Type 0 where
+  pub same_chip : d.chip ≡ start.chip
+  pub harmless : Harmless d byte pages
+  pub flash : SameOutside start.chip pages start.flash d.flash
+  pub owed : length d.owed ≤ 4096
+
+-- before a byte: nothing is owed
+pub record IsGoing (byte : ℕ) (pages : List ℕ) (start : Device) (left : ℕ) (d : Device) : Type 0 where
+  pub settling : IsSettling byte pages start d
+  pub quiet : d.owed ≡ []
+  pub within : IsWithin byte left d.phase
+
+abbrev pub with_nothing_owed : Device → Device
+with_nothing_owed d = record d { owed = [] }
+
+abbrev pub LeftBySettling : ℕ → List ℕ → Device → List ℕ → Device → List ℕ → Type 0
+LeftBySettling byte pages start kept d journal = (journal ≡ kept) × IsSettling byte pages start d
+
+-- at each moment from old to new
+pub record KeepsSettling (byte : ℕ) (pages : List ℕ) (start : Device) (old new : RigState) : Type 0 where
+  pub honest : new.is_honest
+  pub journal : new.journal ≡ old.journal
+  pub moments : LeavesOnly (LeftBySettling byte pages start old.journal) old new
+
+-- what one byte of settling does, and whether it was refused
+pub record SendsOnce (byte : ℕ) (pages : List ℕ) (start : Device) (left : ℕ) (result : Result Bool WireFault)
+    (old new : RigState) : Type 0 where
+  pub keeps : KeepsSettling byte pages start old new
+  pub ok : IfOk result (λ refused. MatchBool refused (IsSettled new.device) (IsGoing byte pages start left new.device))
+  pub fails : IsOkOrLine result
+
+-- what settling does
+pub record Settles {T : Type 0} (byte : ℕ) (pages : List ℕ) (start : Device) (result : Result T WireFault)
+    (old new : RigState) : Type 0 where
+  pub keeps : KeepsSettling byte pages start old new
+  pub ok : OnOk result (IsSettled new.device)
+  pub fails : IsOkOrLine result
+
+-- it keeps what settling keeps, and at the end the device is this one
+pub record LeadsTo {T : Type 0} (byte : ℕ) (pages : List ℕ) (start : Device) (result : Result T WireFault)
+    (old new : RigState) (target : Device) : Type 0 where
+  pub keeps : KeepsSettling byte pages start old new
+  pub ok : OnOk result (new.device ≡ target)
+  pub fails : IsOkOrLine result

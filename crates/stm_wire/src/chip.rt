@@ -1,0 +1,179 @@
+// A chip: its number, where its flash begins, and the sizes of the flash's pages.
+ghost use Rattle.std.specs.Prelude.{◌≡◌, ◌+◌, ◌^◌, ◌<◌, ◌≤◌, ◌↔◌, IsTrue, sum, All};
+ghost use Rattle.std.specs.Option.{SomeIff};
+ghost use Rattle.stm_wire.specs.Chip.{ChipData, chip_of, IsChip, IsPageSize, page_count, page_size, page_offset, page_limit, flash_size};
+
+use std::alloc::AllocError;
+use std::marker::Model;
+
+/// The code of the command that erases pages.
+#[derive(Clone, Copy, Debug, PartialEq, Eq)]
+pub enum EraseKind {
+    /// 43: pages by one byte.
+    Page,
+    /// 44: pages by two bytes.
+    Extended,
+}
+
+/// How many bytes a flash may have.
+const FLASH_LIMIT: u32 = 2097152;
+
+/// How many pages a chip of this kind may have.
+fn page_limit(_kind: EraseKind) -> usize
+    ensures { result ≡ page_limit _kind }
+{
+    256
+}
+
+/// Whether each of these is the size of a page: a multiple of 256 bytes, and not none.
+fn are_page_sizes(sizes: &[u32]) -> bool
+    ensures { IsTrue result ↔ All IsPageSize sizes.now }
+{
+    sizes.iter().all(|size| *size >= 256 && *size % 256 == 0)
+}
+
+/// How many bytes these pages have, or None where those are more than a flash may have.
+fn flash_size_of(sizes: &[u32]) -> Option<u32>
+    ensures { SomeIff result (sum sizes.now ≤ FLASH_LIMIT) (sum sizes.now) }
+{
+    let mut total = 0;
+    for size in sizes {
+        if *size > FLASH_LIMIT - total {
+            return None;
+        }
+        total += *size;
+    }
+    Some(total)
+}
+
+/// How many bytes these pages have.
+fn size_of(sizes: &[u32]) -> u32
+    requires { sum sizes.now < 2 ^ 32 }
+    ensures { result ≡ sum sizes.now }
+{
+    sizes.iter().sum()
+}
+
+/// One of the chips whose bootloader and flash this workspace knows: at most 256 pages, each a multiple of 256 bytes,
+/// 2 MiB at most in all.
+#[derive(Debug, Drop)]
+pub struct Chip {
+    id: u16,
+    base: u32,
+    sizes: Vec<u32>,
+    /// The sum of the sizes, since the flash's end is asked for with each address.
+    total: u32,
+    kind: EraseKind,
+}
+
+impl Model for Chip {
+    ghost Value = { ChipData };
+
+    ghost view = { λ c. chip_of c.id c.base c.sizes.items c.kind };
+
+    ghost invariant = { λ c. IsChip (chip_of c.id c.base c.sizes.items c.kind) × (c.total ≡ sum c.sizes.items) };
+}
+
+impl Chip {
+    /// A chip of these values, or None where one of its limits is broken.
+    ///
+    /// `base` is the address of the flash's first byte, `sizes` has the bytes of each page from there on.
+    pub fn new(id: u16, base: u32, sizes: Vec<u32>, kind: EraseKind) -> Option<Chip>
+        ensures { let chip = chip_of id base sizes.items kind in SomeIff result (IsChip chip) chip }
+    {
+        if sizes.is_empty() || sizes.len() > page_limit(kind) {
+            return None;
+        }
+        if base < 0x0100_0000 || base % 256 != 0 {
+            return None;
+        }
+        if !are_page_sizes(&sizes) {
+            return None;
+        }
+        let total = flash_size_of(&sizes)?;
+        if u64::from(base) + u64::from(total) > 0x1_0000_0000 {
+            return None;
+        }
+        Some(Chip {
+            id,
+            base,
+            sizes,
+            total,
+            kind,
+        })
+    }
+
+    pub fn id(&self) -> u16
+        ensures { result ≡ self.now.id }
+    {
+        self.id
+    }
+
+    /// The address of the flash's first byte.
+    pub fn base(&self) -> u32
+        ensures { result ≡ self.now.base }
+    {
+        self.base
+    }
+
+    pub fn kind(&self) -> EraseKind
+        ensures { result ≡ self.now.kind }
+    {
+        self.kind
+    }
+
+    pub fn pages(&self) -> u16
+        ensures { result ≡ page_count self.now }
+    {
+        self.sizes.len() as u16
+    }
+
+    /// The address of the first byte of page `n`. It walks the pages before it.
+    #[tactic(auto, using(crate::proofs::ChipLimits::offset_within, crate::proofs::ChipLimits::page_within))]
+    pub fn page_start(&self, n: u16) -> u32
+        requires { n < page_count self.now }
+        ensures address { result ≡ self.now.base + page_offset self.now n }
+        ensures inside { result + page_size self.now n ≤ self.now.base + flash_size self.now }
+    {
+        self.base + size_of(&self.sizes[..usize::from(n)])
+    }
+
+    /// How many bytes page `n` has.
+    pub fn page_size(&self, n: u16) -> u32
+        requires { n < page_count self.now }
+        ensures bytes { result ≡ page_size self.now n }
+        ensures blocks { IsPageSize result }
+    {
+        self.sizes[usize::from(n)]
+    }
+
+    /// How many bytes the flash has.
+    pub fn flash_size(&self) -> u32
+        ensures size { result ≡ flash_size self.now }
+        ensures limits { IsChip self.now }
+    {
+        self.total
+    }
+
+    /// A law, which does nothing: each chip keeps the limits, so it has no more pages than its kind allows.
+    pub fn keeps_limits(&self)
+        ensures chip { IsChip self.now }
+        ensures pages { page_count self.now ≤ page_limit self.now.kind }
+    {
+        let _chip = &self.sizes;
+    }
+}
+
+impl Clone for Chip {
+    ghost is_clone = { λ chip clone. clone ≡ chip };
+
+    fn clone(&self) -> Result<Self, AllocError> {
+        Ok(Chip {
+            id: self.id,
+            base: self.base,
+            sizes: self.sizes.clone()?,
+            total: self.total,
+            kind: self.kind,
+        })
+    }
+}

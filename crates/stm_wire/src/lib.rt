@@ -1,0 +1,49 @@
+//! The line to the bootloader of an STM32: its chip, its frames, and what a device makes of them (ST AN3155).
+#![tactic(auto)]
+
+mod bytes;
+mod chip;
+mod dialogue;
+mod erase_memory;
+mod fault;
+mod get_command;
+mod get_id_command;
+mod go_command;
+mod harmless;
+mod intent;
+mod memory_rig;
+mod past;
+mod plan;
+mod protection;
+mod read_memory;
+mod rig;
+mod settling;
+mod simulator;
+mod stop;
+#[cfg(test)]
+mod stopped_devices;
+#[cfg(test)]
+mod unmodelled;
+mod verdict;
+mod write_memory;
+
+pub use chip::{Chip, EraseKind};
+pub use erase_memory::erase_page;
+pub use fault::{RigFault, WireFault};
+pub use get_command::{Commands, get_commands};
+pub use get_id_command::get_id;
+pub use go_command::go;
+pub use harmless::{
+    harmless_is_kept, pages_are_the_flash, sending_is_harmless, stopped_is_harmless,
+};
+pub use intent::{Intent, settling_byte};
+pub use memory_rig::MemoryRig;
+pub use past::PastStep;
+pub use plan::{Plan, Stop};
+pub use protection::{Protection, protect};
+pub use read_memory::read;
+pub use rig::{Patience, Rig, RigCall};
+pub use settling::settle;
+pub use simulator::Stage;
+pub use verdict::Verdict;
+pub use write_memory::program;

@@ -1,0 +1,163 @@
+// A Rig in memory: a simulator, a journal, and a record of all calls.
+ghost use Rattle.std.specs.Prelude.{◌≡◌, ◌↔◌, ℕ, ◌-◌, ◌^◌, ◌≤◌, [], List, length, IsSome, IfSome, IsTrue, MatchOption};
+ghost use Rattle.std.specs.Option.{option_map};
+ghost use Rattle.stm_wire.specs.Chip.{flash_size};
+ghost use Rattle.stm_wire.specs.Device.{Connected, Gone, reset};
+ghost use Rattle.stm_wire.specs.Simulator.{device_of};
+ghost use Rattle.stm_wire.specs.Memory.{MemoryData, IsMemory, rig_state, memory_of, fresh_memory, begins};
+
+mod call;
+#[cfg(test)]
+mod commands;
+mod fault;
+mod record;
+mod rig;
+#[cfg(test)]
+mod tests;
+
+use crate::simulator::{Simulator, Stage};
+use crate::{Chip, PastStep, Plan, RigCall, Stop};
+use std::alloc::Global;
+use std::marker::Model;
+
+/// A simulator and a journal in memory, which follow the model. It keeps a record of all calls, and what each of them did,
+/// so that it can tell what a stop at any moment may have left. Stops and failures can be planned.
+///
+/// A step is one byte put, one byte got, or one journal byte appended; a quiet get is none. A call that finds no memory
+/// fails; where there is no memory for its entry in the record either, it isn't there.
+#[derive(Drop)]
+pub struct MemoryRig {
+    alloc: Global,
+    simulator: Simulator,
+    journal: Vec<u8>,
+    line_failures: u64,
+    journal_failures: u64,
+    calls: Vec<RigCall>,
+    plan: Plan,
+    /// The flash at first, where a put may have changed it since.
+    first: Option<Vec<u8>>,
+    begun: usize,
+    start: usize,
+    past: Vec<PastStep>,
+}
+
+impl Model for MemoryRig {
+    ghost Value = { MemoryData };
+
+    ghost view = { λ m. memory_of m.simulator m.journal.items m.line_failures m.journal_failures m.calls.items m.plan (option_map (λ v. v.items) m.first) m.begun m.start m.past.items };
+
+    ghost invariant = { λ m. IsMemory (memory_of m.simulator m.journal.items m.line_failures m.journal_failures m.calls.items m.plan (option_map (λ v. v.items) m.first) m.begun m.start m.past.items) };
+}
+
+impl MemoryRig {
+    /// A fresh device with this flash, owing nothing, and this journal; None where the flash has not the chip's length.
+    pub fn new(alloc: Global, chip: Chip, flash: Vec<u8>, journal: Vec<u8>) -> Option<MemoryRig>
+        ensures fits { IsSome result ↔ (length flash.items ≡ flash_size chip) }
+        ensures starts { IfSome result (λ rig. rig ≡ fresh_memory chip flash.items journal.items) }
+        ensures honest { IfSome result (λ rig. (rig_state rig).is_honest) }
+    {
+        if flash.len() != chip.flash_size() as usize {
+            return None;
+        }
+        let begun = journal.len();
+        Some(MemoryRig {
+            alloc,
+            simulator: Simulator::new(alloc, chip, flash),
+            journal,
+            line_failures: 0,
+            journal_failures: 0,
+            calls: Vec::new(alloc),
+            plan: Plan {
+                stop: Stop::Never,
+                put_fails: 0,
+                get_fails: 0,
+                append_fails: 0,
+            },
+            first: None,
+            begun,
+            start: 0,
+            past: Vec::new(alloc),
+        })
+    }
+
+    /// The flash's bytes, from the chip's base on.
+    pub fn flash(&self) -> &[u8]
+        ensures { result.now ≡ self.now.device.flash }
+    {
+        self.simulator.flash()
+    }
+
+    /// The journal's bytes, never more than 2^63 - 1.
+    pub fn journal(&self) -> &[u8]
+        ensures bytes { result.now ≡ self.now.journal }
+        ensures limit { length result.now ≤ 2 ^ 63 - 1 }
+    {
+        &self.journal
+    }
+
+    /// The bytes that came since the last verdict; None where the device is not connected.
+    pub fn rest(&self) -> Option<&[u8]>
+        ensures { MatchOption result ((rest : List ℕ) → self.now.device.phase ≡ Connected rest → ⊥) (λ rest. self.now.device.phase ≡ Connected rest.now) }
+    {
+        self.simulator.rest()
+    }
+
+    /// Whether the device left the bootloader.
+    pub fn is_gone(&self) -> bool
+        ensures { IsTrue result ↔ (self.now.device.phase ≡ Gone) }
+    {
+        self.simulator.is_gone()
+    }
+
+    /// All calls so far, in order.
+    pub fn calls(&self) -> &[RigCall]
+        ensures { result.now ≡ self.now.calls }
+    {
+        &self.calls
+    }
+
+    /// Resets the device: it is fresh, with the same flash, and owes nothing.
+    pub fn reset(&mut self)
+        ensures reset { self.new ≡ begins (reset self.old.device) self.old }
+        ensures honest { (rig_state self.old).is_honest → (rig_state self.new).is_honest }
+    {
+        self.simulator.reset();
+        self.first = None;
+        self.begun = self.journal.len();
+        self.start = self.calls.len();
+        self.past.clear();
+    }
+
+    /// Stops after so many steps from now: the next one isn't done, and it and all later calls answer `Stopped`.
+    /// An earlier stop is lifted.
+    pub fn stop_after(&mut self, steps: u64)
+        ensures plan { self.new ≡ record self.old { plan = record self.old.plan { stop = Stop.After steps } } }
+        ensures honest { (rig_state self.old).is_honest → (rig_state self.new).is_honest }
+    {
+        self.plan.stop = Stop::After(steps);
+    }
+
+    /// Makes the `k`th put from now fail once, with its byte not fed; 0: none. A stopped put isn't counted.
+    pub fn fail_put(&mut self, k: u64)
+        ensures plan { self.new ≡ record self.old { plan = record self.old.plan { put_fails = k } } }
+        ensures honest { (rig_state self.old).is_honest → (rig_state self.new).is_honest }
+    {
+        self.plan.put_fails = k;
+    }
+
+    /// Makes the `k`th get from now fail once, quiet ones counted, with no byte lost; 0: none. A stopped get isn't counted.
+    pub fn fail_get(&mut self, k: u64)
+        ensures plan { self.new ≡ record self.old { plan = record self.old.plan { get_fails = k } } }
+        ensures honest { (rig_state self.old).is_honest → (rig_state self.new).is_honest }
+    {
+        self.plan.get_fails = k;
+    }
+
+    /// Makes the `k`th append from now fail once, with nothing added; 0: none. A stopped append isn't counted.
+    pub fn fail_append(&mut self, k: u64)
+        ensures plan { self.new ≡ record self.old { plan = record self.old.plan { append_fails = k } } }
+        ensures honest { (rig_state self.old).is_honest → (rig_state self.new).is_honest }
+    {
+        self.plan.append_fails = k;
+    }
+}

@@ -1,0 +1,100 @@
+// What a call of a Rig in memory does, where it isn't stopped and doesn't fail, with its entry in the record.
+ghost use Rattle.std.specs.Prelude.{◌≡◌, ◌⊎◌, ℕ, ◌+◌, ◌-◌, ◌^◌, ◌<◌, ◌≤◌, ◌++◌, ◌∷◌, [], Some, length, OnOk, OnErr, IfOk, vec_len};
+ghost use Rattle.std.specs.Vec.{vec_capacity};
+ghost use Rattle.std.specs.Option.{option_map};
+ghost use Rattle.stm_wire.specs.Simulator.{simulated_device};
+ghost use Rattle.stm_wire.specs.Memory.{first_flash, with_call, with_append, Fails, GetsFrom};
+
+use crate::memory_rig::MemoryRig;
+use crate::{PastStep, RigCall};
+use std::alloc::{AllocError, Global};
+
+/// Makes room for one entry.
+fn reserve_entry(calls: &mut Vec<RigCall>, past: &mut Vec<PastStep>) -> Result<(), AllocError>
+    ensures calls { calls.new.items ≡ calls.old.items }
+    ensures past { past.new.items ≡ past.old.items }
+    ensures room { OnOk result ((vec_len calls.new < vec_capacity calls.new) × (vec_len past.new < vec_capacity past.new)) }
+{
+    calls.reserve(1)?;
+    past.reserve(1)
+}
+
+/// Keeps the flash as it was at first.
+fn keep_first(alloc: Global, first: &mut Option<Vec<u8>>, flash: &[u8]) -> Result<(), AllocError>
+    ensures ok { OnOk result (option_map (λ v. v.items) first.new ≡ Some (first_flash (option_map (λ v. v.items) first.old) flash.now)) }
+    ensures err { OnErr result (first.new ≡ first.old) }
+{
+    if first.is_none() {
+        *first = Some(Vec::from_slice(alloc, flash)?);
+    }
+    Ok(())
+}
+
+impl MemoryRig {
+    /// Adds the entry of a call that did nothing, where there is memory for it.
+    pub(super) fn add_failed(&mut self, call: RigCall)
+        ensures { Fails call self.old self.new }
+    {
+        if reserve_entry(&mut self.calls, &mut self.past).is_ok() {
+            self.calls.push_reserved(call);
+            self.past.push_reserved(PastStep::Nothing);
+        }
+    }
+
+    /// Feeds a byte to the device, or changes nothing.
+    pub(super) fn try_put(&mut self, byte: u8) -> Result<(), AllocError>
+        ensures ok { OnOk result (self.new ≡ with_call (RigCall.Put byte) (PastStep.Fed byte) (simulated_device byte self.old.device) self.old) }
+        ensures err { OnErr result (self.new ≡ self.old) }
+    {
+        reserve_entry(&mut self.calls, &mut self.past)?;
+        keep_first(self.alloc, &mut self.first, self.simulator.flash())?;
+        self.simulator.feed(byte)?;
+        self.calls.push_reserved(RigCall::Put(byte));
+        self.past.push_reserved(PastStep::Fed(byte));
+        Ok(())
+    }
+
+    /// Takes the first byte owed, or changes nothing.
+    pub(super) fn try_get(&mut self) -> Result<Option<u8>, AllocError>
+        ensures ok { IfOk result (λ answer. GetsFrom answer self.old self.new) }
+        ensures err { OnErr result (self.new ≡ self.old) }
+    {
+        reserve_entry(&mut self.calls, &mut self.past)?;
+        match self.simulator.take() {
+            Some(byte) => {
+                self.calls.push_reserved(RigCall::Get(Some(byte)));
+                self.past.push_reserved(PastStep::Taken);
+                Ok(Some(byte))
+            }
+            None => {
+                self.calls.push_reserved(RigCall::Get(None));
+                self.past.push_reserved(PastStep::Nothing);
+                Ok(None)
+            }
+        }
+    }
+
+    /// Adds bytes to the journal, of so many that were handed in, or changes nothing.
+    pub(super) fn try_append(&mut self, bytes: &[u8], handed_in: u64) -> Result<(), AllocError>
+        ensures ok { OnOk result (self.new ≡ with_append handed_in bytes.now self.old) }
+        ensures err { OnErr result (self.new ≡ self.old) }
+        ensures limit { length self.new.journal ≤ 2 ^ 63 - 1 }
+    {
+        reserve_entry(&mut self.calls, &mut self.past)?;
+        self.journal.extend_from_slice(bytes)?;
+        self.calls.push_reserved(RigCall::Append(handed_in));
+        self.past.push_reserved(PastStep::Added(bytes.len() as u64));
+        Ok(())
+    }
+
+    /// Adds the entry of a fetch, or changes nothing.
+    pub(super) fn try_fetch(&mut self) -> Result<(), AllocError>
+        ensures ok { OnOk result (self.new ≡ with_call RigCall.Fetch PastStep.Nothing self.old.device self.old) }
+        ensures err { OnErr result (self.new ≡ self.old) }
+    {
+        reserve_entry(&mut self.calls, &mut self.past)?;
+        self.calls.push_reserved(RigCall::Fetch);
+        self.past.push_reserved(PastStep::Nothing);
+        Ok(())
+    }
+}

@@ -1,0 +1,181 @@
+// Settling: ending whatever exchange a stopped host began, without harm.
+ghost use Rattle.std.specs.Prelude.{◌≡◌, ◌≤◌, ◌+◌, ◌*◌, ℕ, suc, List, length, OnOk, IfOk, IfErr, IsTrue, [], ◌∷◌};
+ghost use Rattle.stm_wire.specs.Command.{IsOkOrLine, with_rest};
+ghost use Rattle.stm_wire.specs.declared.fault.WireFault.TheVariants.{Quiet};
+ghost use Rattle.stm_wire.specs.Device.{Device, Phase, Fresh, Connected};
+ghost use Rattle.stm_wire.specs.Dialogue.{GoesOn};
+ghost use Rattle.stm_wire.specs.Harmless.{Harmless};
+ghost use Rattle.stm_wire.specs.SentList.{settling_run};
+ghost use Rattle.stm_wire.specs.Settling.{IsSettling, IsGoing, with_nothing_owed, KeepsSettling, LeadsTo, SendsOnce, Settles};
+ghost use Rattle.stm_wire.specs.Settling.{PutsAll, PutsPart, SettlesWithin, HasAskedAll, EndsRefused, HasLineCause, IsNotQuiet, Speaks};
+
+use crate::dialogue::{ACK, NACK};
+use crate::{Patience, Rig, WireFault};
+
+/// The byte that a device fresh from reset waits for (AN3155, section 2).
+const CONNECT: u8 = 0x7F;
+
+/// Takes bytes until it is quiet.
+fn drain<R: Rig>(rig: &mut R) -> Result<(), WireFault>
+    ensures speaks { Speaks [] 4097 result (R.view rig.old) (R.view rig.new) }
+    ensures loud { IsNotQuiet result }
+    ensures keeps { (R.view rig.old).is_honest → (byte : ℕ) (pages : List ℕ) (start : Device)
+        → IsSettling byte pages start (R.view rig.old).device
+        → KeepsSettling byte pages start (R.view rig.old) (R.view rig.new) }
+    ensures empty { (R.view rig.old).is_honest
+        → OnOk result ((R.view rig.new).device ≡ with_nothing_owed (R.view rig.old).device) }
+    ensures fails { (R.view rig.old).is_honest → length (R.view rig.old).device.owed ≤ 4096 → IsOkOrLine result }
+{
+    for _taken in 0..4097_u32 {
+        if rig.get(Patience::Brief)?.is_none() {
+            return Ok(());
+        }
+    }
+    Err(WireFault::Garbled)
+}
+
+/// Sends the byte once, and answers whether it was refused.
+fn send_once<R: Rig>(rig: &mut R, byte: u8) -> Result<bool, WireFault>
+    ensures speaks { Speaks (byte ∷ []) 4099 result (R.view rig.old) (R.view rig.new) }
+    ensures loud { IsNotQuiet result }
+    ensures refused { IfOk result (λ refused. IsTrue refused
+        → GoesOn (EndsRefused byte) (R.view rig.old).calls (R.view rig.new).calls) }
+    ensures once { (R.view rig.old).is_honest → (pages : List ℕ) (start : Device) (left : ℕ)
+        → IsGoing byte pages start (suc left) (R.view rig.old).device
+        → SendsOnce byte pages start left result (R.view rig.old) (R.view rig.new) }
+{
+    rig.put(byte)?;
+    match rig.get(Patience::Brief)? {
+        None => Ok(false),
+        Some(first) => {
+            drain(rig)?;
+            Ok(first == NACK)
+        }
+    }
+}
+
+/// Nothing comes.
+fn expect_quiet<R: Rig>(rig: &mut R) -> Result<(), WireFault>
+    ensures speaks { Speaks [] 1 result (R.view rig.old) (R.view rig.new) }
+    ensures loud { IsNotQuiet result }
+    ensures honest { (R.view rig.old).is_honest → (byte : ℕ) (pages : List ℕ) (start : Device)
+        → IsSettling byte pages start (R.view rig.old).device → (R.view rig.old).device.owed ≡ []
+        → LeadsTo byte pages start result (R.view rig.old) (R.view rig.new) (R.view rig.old).device }
+{
+    match rig.get(Patience::Brief)? {
+        None => Ok(()),
+        Some(_) => Err(WireFault::Garbled),
+    }
+}
+
+/// Connects a fresh device.
+fn connect<R: Rig>(rig: &mut R) -> Result<(), WireFault>
+    ensures speaks { Speaks (0x7F ∷ []) 2 result (R.view rig.old) (R.view rig.new) }
+    ensures quiet { IfErr result (λ fault. fault ≡ Quiet
+        → GoesOn (PutsAll (0x7F ∷ []) 2) (R.view rig.old).calls (R.view rig.new).calls) }
+    ensures honest { (R.view rig.old).is_honest → (byte : ℕ) (pages : List ℕ) (start : Device)
+        → IsSettling byte pages start (R.view rig.old).device
+        → (R.view rig.old).device.phase ≡ Fresh → (R.view rig.old).device.owed ≡ []
+        → LeadsTo byte pages start result (R.view rig.old) (R.view rig.new) (with_rest [] (R.view rig.old).device) }
+{
+    rig.put(CONNECT)?;
+    match rig.get(Patience::Long)? {
+        Some(ACK) => Ok(()),
+        Some(_) => Err(WireFault::Garbled),
+        None => Err(WireFault::Quiet),
+    }
+}
+
+/// Sends the byte to a connected device, which then waits for the other byte of a pair.
+fn probe<R: Rig>(rig: &mut R, byte: u8) -> Result<(), WireFault>
+    ensures speaks { Speaks (byte ∷ []) 2 result (R.view rig.old) (R.view rig.new) }
+    ensures loud { IsNotQuiet result }
+    ensures honest { (R.view rig.old).is_honest → (pages : List ℕ) (start : Device)
+        → IsSettling byte pages start (R.view rig.old).device
+        → (R.view rig.old).device.phase ≡ Connected [] → (R.view rig.old).device.owed ≡ []
+        → LeadsTo byte pages start result (R.view rig.old) (R.view rig.new) (with_rest (byte ∷ []) (R.view rig.old).device) }
+{
+    rig.put(byte)?;
+    expect_quiet(rig)
+}
+
+/// Sends the byte again, which makes no pair.
+fn confirm<R: Rig>(rig: &mut R, byte: u8) -> Result<(), WireFault>
+    ensures speaks { Speaks (byte ∷ []) 3 result (R.view rig.old) (R.view rig.new) }
+    ensures loud { IsNotQuiet result }
+    ensures refused { OnOk result (GoesOn (EndsRefused byte) (R.view rig.old).calls (R.view rig.new).calls) }
+    ensures honest { (R.view rig.old).is_honest → (pages : List ℕ) (start : Device)
+        → IsSettling byte pages start (R.view rig.old).device
+        → (R.view rig.old).device.phase ≡ Connected (byte ∷ []) → (R.view rig.old).device.owed ≡ []
+        → LeadsTo byte pages start result (R.view rig.old) (R.view rig.new) (with_rest [] (R.view rig.old).device) }
+{
+    rig.put(byte)?;
+    match rig.get(Patience::Brief)? {
+        Some(NACK) => expect_quiet(rig),
+        _ => Err(WireFault::Garbled),
+    }
+}
+
+/// Connects a device that has ignored the byte, and ends what the byte then begins.
+fn reconnect<R: Rig>(rig: &mut R, byte: u8) -> Result<(), WireFault>
+    ensures speaks { Speaks (0x7F ∷ byte ∷ byte ∷ []) 7 result (R.view rig.old) (R.view rig.new) }
+    ensures quiet { IfErr result (λ fault. fault ≡ Quiet
+        → GoesOn (PutsAll (0x7F ∷ []) 2) (R.view rig.old).calls (R.view rig.new).calls) }
+    ensures refused { OnOk result (GoesOn (EndsRefused byte) (R.view rig.old).calls (R.view rig.new).calls) }
+    ensures honest { (R.view rig.old).is_honest → (pages : List ℕ) (start : Device)
+        → IsSettling byte pages start (R.view rig.old).device
+        → (R.view rig.old).device.phase ≡ Fresh → (R.view rig.old).device.owed ≡ []
+        → LeadsTo byte pages start result (R.view rig.old) (R.view rig.new) (with_rest [] (R.view rig.old).device) }
+{
+    connect(rig)?;
+    probe(rig, byte)?;
+    confirm(rig, byte)
+}
+
+/// Sends the byte until it is refused, from a device that owes nothing.
+fn send_bytes<R: Rig>(rig: &mut R, byte: u8, limit: u32) -> Result<(), WireFault>
+    ensures cause { HasLineCause result (R.view rig.old) (R.view rig.new) }
+    ensures calls { GoesOn (PutsPart (settling_run byte limit) (4099 * limit + 7))
+        (R.view rig.old).calls (R.view rig.new).calls }
+    ensures quiet { IfErr result (λ fault. fault ≡ Quiet
+        → GoesOn (HasAskedAll byte limit) (R.view rig.old).calls (R.view rig.new).calls) }
+    ensures refused { OnOk result (GoesOn (EndsRefused byte) (R.view rig.old).calls (R.view rig.new).calls) }
+    ensures honest { (R.view rig.old).is_honest → (pages : List ℕ) (start : Device)
+        → IsGoing byte pages start limit (R.view rig.old).device
+        → Settles byte pages start result (R.view rig.old) (R.view rig.new) }
+{
+    for _sent in 0..limit {
+        if send_once(rig, byte)? {
+            return Ok(());
+        }
+    }
+    reconnect(rig, byte)
+}
+
+/// Brings a device to the end of whatever exchange a stopped host began, by sending it this byte until it refuses.
+///
+/// It first takes what is still owed, 4,096 bytes at most. Then it sends the byte up to `limit` times, and is done where
+/// the first byte of a reply is NACK. A device that has refused none of them is fresh from reset or gone: it is sent 7F,
+/// and where it answers ACK, the byte twice, of which the second has to be refused.
+///
+/// On any line that keeps a record, what it puts is a beginning of the byte `limit` times, 7F, and the byte twice. On one
+/// that follows the model, from a device that is harmless for the byte and some pages and owes at most 4,096 bytes, each
+/// moment leaves such a device, with the same flash outside these pages and the same journal; with a limit of 131,047 or
+/// more it answers Ok, and the device is then settled, or `Line`.
+///
+/// # Errors
+/// `Line` where a call of the Rig failed, `Quiet` where 7F stayed without an answer, `Garbled` where more bytes were owed,
+/// or another byte came than step by step is due.
+pub fn settle<R: Rig>(rig: &mut R, byte: u8, limit: u32) -> Result<(), WireFault>
+    ensures cause { HasLineCause result (R.view rig.old) (R.view rig.new) }
+    ensures calls { GoesOn (SettlesWithin byte limit) (R.view rig.old).calls (R.view rig.new).calls }
+    ensures quiet { IfErr result (λ fault. fault ≡ Quiet
+        → GoesOn (HasAskedAll byte limit) (R.view rig.old).calls (R.view rig.new).calls) }
+    ensures refused { OnOk result (GoesOn (EndsRefused byte) (R.view rig.old).calls (R.view rig.new).calls) }
+    ensures honest { (R.view rig.old).is_honest → 131047 ≤ limit → (pages : List ℕ)
+        → Harmless (R.view rig.old).device byte pages → length (R.view rig.old).device.owed ≤ 4096
+        → Settles byte pages (R.view rig.old).device result (R.view rig.old) (R.view rig.new) }
+{
+    drain(rig)?;
+    send_bytes(rig, byte, limit)
+}

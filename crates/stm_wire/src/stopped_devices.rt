@@ -1,0 +1,210 @@
+// Devices that a stopped host left in the middle of an exchange, and how settling ends it.
+use crate::{Chip, EraseKind, Intent, MemoryRig, Rig, RigCall, WireFault, settle, settling_byte};
+use std::alloc::Global;
+
+/// The kind of chip, as far as settling tells chips apart.
+#[derive(Clone, Copy)]
+struct Make {
+    id: u16,
+    pages: usize,
+    page_size: u32,
+    kind: EraseKind,
+}
+
+/// 32 pages of 1,024 bytes.
+const LOW_DENSITY: Make = Make {
+    id: 0x412,
+    pages: 32,
+    page_size: 1024,
+    kind: EraseKind::Page,
+};
+
+/// 128 pages of 1,024 bytes.
+const MEDIUM_DENSITY: Make = Make {
+    id: 0x410,
+    pages: 128,
+    page_size: 1024,
+    kind: EraseKind::Page,
+};
+
+/// 256 pages of 2,048 bytes.
+const HIGH_DENSITY: Make = Make {
+    id: 0x414,
+    pages: 256,
+    page_size: 2048,
+    kind: EraseKind::Page,
+};
+
+/// 256 pages of 256 bytes, erased by the extended command.
+const EXTENDED: Make = Make {
+    id: 0xA01,
+    pages: 256,
+    page_size: 256,
+    kind: EraseKind::Extended,
+};
+
+/// A connected device with this byte in each place of its flash, to which these bytes came.
+fn stopped(alloc: Global, make: Make, fill: u8, bytes: &[u8]) -> Option<MemoryRig> {
+    let sizes = vec![in alloc; make.page_size; make.pages].ok()?;
+    let chip = Chip::new(make.id, 0x0800_0000, sizes, make.kind)?;
+    let size = chip.flash_size() as usize;
+    let flash = vec![in alloc; fill; size].ok()?;
+    let mut rig = MemoryRig::new(alloc, chip, flash, Vec::new(alloc))?;
+    rig.put(0x7F).ok()?;
+    for byte in bytes {
+        rig.put(*byte).ok()?;
+    }
+    Some(rig)
+}
+
+/// How many bytes settling put after the first `before` calls, or None where the replies to them are not these: after
+/// so many bytes, this one.
+fn puts_with_replies(calls: &[RigCall], before: usize, replies: &[(u32, u8)]) -> Option<u32> {
+    let mut puts = 0_u32;
+    let mut due = replies.iter();
+    for call in calls.iter().skip(before) {
+        match call {
+            RigCall::Put(_) => puts = puts.saturating_add(1),
+            RigCall::Get(Some(byte)) => {
+                // What comes before the first byte was owed.
+                if puts > 0 && due.next() != Some(&(puts, *byte)) {
+                    return None;
+                }
+            }
+            _ => {}
+        }
+    }
+    if due.next().is_none() {
+        Some(puts)
+    } else {
+        None
+    }
+}
+
+/// Settles the device with the byte, and answers as settling does, with its puts.
+fn settled(
+    rig: &mut MemoryRig,
+    byte: u8,
+    replies: &[(u32, u8)],
+) -> (Result<(), WireFault>, Option<u32>) {
+    let before = rig.calls().len();
+    let answer = settle(rig, byte, 131_072);
+    (answer, puts_with_replies(rig.calls(), before, replies))
+}
+
+/// Whether the flash has the one byte in each place from `from` to `to`, and else the other.
+fn is_changed(rig: &MemoryRig, from: usize, to: usize, inside: u8, outside: u8) -> bool {
+    rig.flash().iter().enumerate().all(|(place, byte)| *byte
+        == if from <= place && place < to {
+            inside
+        } else {
+            outside
+        })
+}
+
+#[test]
+fn a_read_is_ended(rt: HostRuntime) {
+    let mut rig = stopped(rt.alloc(), LOW_DENSITY, 0x00, &[0x11, 0xEE]).expect(&rt, "a device");
+    assert_eq!(rt; settled(&mut rig, 0x7F, &[(5, 0x1F)]), (Ok(()), Some(5)));
+    assert!(rt; is_changed(&rig, 0, 0, 0xFF, 0x00));
+}
+
+#[test]
+fn an_erase_of_page_0_is_completed(rt: HostRuntime) {
+    let mut rig = stopped(rt.alloc(), LOW_DENSITY, 0x00, &[0x43, 0xBC]).expect(&rt, "a device");
+    assert_eq!(rt;
+        settled(&mut rig, 0x00, &[(3, 0x79), (5, 0x1F)]),
+        (Ok(()), Some(5))
+    );
+    assert!(rt; is_changed(&rig, 0, 1024, 0xFF, 0x00));
+}
+
+// The example of docs/SETTLING.md.
+#[test]
+fn an_erase_of_page_5_is_completed(rt: HostRuntime) {
+    let mut rig = stopped(rt.alloc(), LOW_DENSITY, 0x00, &[0x43, 0xBC]).expect(&rt, "a device");
+    let byte = settling_byte(Some(Intent::Erase(5)));
+    assert_eq!(rt;
+        settled(&mut rig, byte, &[(8, 0x79), (10, 0x1F)]),
+        (Ok(()), Some(10))
+    );
+    assert!(rt; is_changed(&rig, 5 * 1024, 6 * 1024, 0xFF, 0x00));
+}
+
+#[test]
+fn the_last_page_is_not_all_pages(rt: HostRuntime) {
+    let mut rig = stopped(rt.alloc(), HIGH_DENSITY, 0x00, &[0x43, 0xBC]).expect(&rt, "a device");
+    assert_eq!(rt; settled(&mut rig, 0xFF, &[(2, 0x1F)]), (Ok(()), Some(2)));
+    assert!(rt; is_changed(&rig, 0, 0, 0xFF, 0x00));
+}
+
+#[test]
+fn an_extended_count_is_filled(rt: HostRuntime) {
+    let mut rig = stopped(rt.alloc(), EXTENDED, 0x00, &[0x44, 0xBB, 0x00]).expect(&rt, "a device");
+    assert_eq!(rt;
+        settled(&mut rig, 0xFF, &[(514, 0x1F)]),
+        (Ok(()), Some(514))
+    );
+    assert!(rt; is_changed(&rig, 0, 0, 0xFF, 0x00));
+}
+
+#[test]
+fn the_longest_lists_are_filled(rt: HostRuntime) {
+    let mut rig = stopped(rt.alloc(), EXTENDED, 0x00, &[0x44, 0xBB]).expect(&rt, "a device");
+    assert_eq!(rt;
+        settled(&mut rig, 0xFE, &[(130_561, 0x1F)]),
+        (Ok(()), Some(130_561))
+    );
+    assert!(rt; is_changed(&rig, 0, 0, 0xFF, 0x00));
+}
+
+#[test]
+fn a_write_is_completed_in_its_page(rt: HostRuntime) {
+    let bytes = [
+        0x31, 0xCE, 0x08, 0x00, 0x08, 0x00, 0x00, 0x03, 0x01, 0x02, 0x00,
+    ];
+    let mut rig = stopped(rt.alloc(), MEDIUM_DENSITY, 0xFF, &bytes).expect(&rt, "a device");
+    let byte = settling_byte(Some(Intent::Program(2)));
+    assert_eq!(rt;
+        settled(&mut rig, byte, &[(2, 0x79), (4, 0x1F)]),
+        (Ok(()), Some(4))
+    );
+    assert_eq!(rt;
+        rig.flash().get(0x800..0x804),
+        Some(&[0x01, 0x02, 0x00, 0x02][..])
+    );
+}
+
+#[test]
+fn a_device_that_is_gone_stays_quiet(rt: HostRuntime) {
+    let mut rig = stopped(
+        rt.alloc(),
+        LOW_DENSITY,
+        0x00,
+        &[0x21, 0xDE, 0x08, 0x00, 0x00, 0x00, 0x08],
+    )
+    .expect(&rt, "a device");
+    assert_eq!(rt;
+        settled(&mut rig, 0x7F, &[]),
+        (Err(WireFault::Quiet), Some(131_073))
+    );
+    assert!(rt; is_changed(&rig, 0, 0, 0xFF, 0x00));
+}
+
+// The device was reset when three bytes of its settling were sent: it ignores all others, and is connected at the end.
+#[test]
+fn a_reset_device_is_connected(rt: HostRuntime) {
+    let mut rig = stopped(
+        rt.alloc(),
+        LOW_DENSITY,
+        0x00,
+        &[0x43, 0xBC, 0x05, 0x05, 0x05],
+    )
+    .expect(&rt, "a device");
+    rig.reset();
+    assert_eq!(rt;
+        settled(&mut rig, 0x05, &[(131_073, 0x79), (131_075, 0x1F)]),
+        (Ok(()), Some(131_075))
+    );
+    assert!(rt; is_changed(&rig, 0, 0, 0xFF, 0x00));
+}
