@@ -1,0 +1,5 @@
+pub mod Documents
+pub mod Paging
+pub mod Programming
+pub mod Runs
+pub mod Touching

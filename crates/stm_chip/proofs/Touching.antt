@@ -1,0 +1,78 @@
+-- Where an image lies, by its next places.
+use Rattle.std.proofs.Common.{◌≡◌, ◌↔◌, inl, inr, ℕ, ◌+◌, ◌-◌, ◌<◌, ◌≤◌, false, nat_lt, List, [], ◌∷◌, ◌++◌, get_or, Option, Some, None, Contains, IsTrue, MatchOption, is_some, refl, sym, subst, arith}
+use Rattle.std.proofs.lemmas.Bool.{cases_eq}
+use Rattle.std.proofs.lemmas.Bool.Decides.{nat_tests}
+use Rattle.std.proofs.lemmas.List.Elements.{Contains-append_left, Contains-get_or, Contains-push, Contains-push_cases}
+use Rattle.std.proofs.lemmas.List.Quantifiers.{all_pairs_push}
+use Rattle.stm_image.specs.Pairs.{Pairs, IsNext, HasNone}
+use Rattle.stm_wire.specs.Chip.{ChipData, page_count, page_offset, page_size}
+use Rattle.stm_chip.specs.Touch.{AreTouched, HasBefore, HasFrom, TouchedBelow, Touches}
+
+less_test : (a b : ℕ) → IsTrue (nat_lt a b) → a < b
+less_test a b h = grind (arith, nat_tests)
+
+less_passes : (a b : ℕ) → a < b → IsTrue (nat_lt a b)
+less_passes a b h = grind (arith, nat_tests)
+
+-- the least of all places tells whether one lies before an address
+pub before_least : (image : Pairs) (address : ℕ) (p : ℕ × ℕ) → IsNext image 0 p → IsTrue (nat_lt p.0 address) ↔ HasBefore image address
+before_least image address p next = (
+  λ t. record { pair = p; held = next.held; before = less_test p.0 address t },
+  λ h. less_passes p.0 address (omega (arith, next.least h.pair h.held (omega arith), h.before)),
+)
+
+pub before_none : (image : Pairs) (address : ℕ) → HasNone image 0 → IsTrue false ↔ HasBefore image address
+before_none image address none = (λ t. cc, λ h. absurd (omega (arith, none h.pair h.held)))
+
+-- a place at an address or after it is found
+pub from_found : (image : Pairs) (address : ℕ) (found : Option (ℕ × ℕ)) → MatchOption found (HasNone image address) (IsNext image address) → IsTrue (is_some found) ↔ HasFrom image address
+from_found image address None none = (λ t. cc, λ h. absurd (omega (arith, none h.pair h.held, h.from)))
+from_found image address (Some p) next = (λ t. record { pair = p; held = next.held; from = next.after }, λ h. refl)
+
+-- the next place from a page's start on tells whether the page is touched
+module _ (chip : ChipData) (image : Pairs) (n start : ℕ) (page : n < page_count chip) (start_is : start ≡ chip.base + page_offset chip n) where
+  pub touches_next : (p : ℕ × ℕ) (size : ℕ) → size ≡ page_size chip n → IsNext image start p → IsTrue (nat_lt (p.0 - start) size) ↔ Touches chip image n
+  touches_next p size size_is next = (
+    λ t. let less : p.0 - start < size = less_test (p.0 - start) size t in
+        record { pair = p; held = next.held; page = page; from = omega (arith, next.after, start_is); to = omega (arith, next.after, start_is, size_is, less) },
+    λ h. let first : p.0 ≤ h.pair.0 = next.least h.pair h.held (omega (arith, h.from, start_is)) in
+        less_passes (p.0 - start) size (omega (arith, next.after, first, h.to, h.from, start_is, size_is)),
+  )
+
+  pub touches_none : HasNone image start → IsTrue false ↔ Touches chip image n
+  touches_none none = (λ t. cc, λ h. absurd (omega (arith, none h.pair h.held, h.from, start_is)))
+
+-- one page more
+module _ (chip : ChipData) (image : Pairs) (n : ℕ) (pages : List ℕ) (below : TouchedBelow chip image n pages) where
+  pub touched_more : Touches chip image n → TouchedBelow chip image (n + 1) (pages ++ n ∷ [])
+  touched_more touches =
+      record {
+        rising = all_pairs_push (λ a b. a < b) pages n below.rising (λ k d h. ((below.each (get_or pages k d)).0 (Contains-get_or pages k d h)).0);
+        each = λ m. (
+          λ held. elim (Contains-push_cases pages n m held) [
+            | inl old ↦ let both = (below.each m).0 old in (omega (arith, both.0), both.1)
+            | inr same ↦ (omega (arith, same), subst (Touches chip image) same touches)
+          ],
+          λ both. elim (cases_eq m n) [
+            | inl same ↦ let P : ℕ → Type 0 = λ k. Contains (pages ++ n ∷ []) k in subst P (sym same) (Contains-push pages n)
+            | inr other ↦ Contains-append_left pages (n ∷ []) m ((below.each m).1 (omega (arith, both.0, other), both.1))
+          ],
+        );
+      }
+
+  pub touched_same : ¬ Touches chip image n → TouchedBelow chip image (n + 1) pages
+  touched_same untouched =
+      record {
+        rising = below.rising;
+        each = λ m. (
+          λ held. let both = (below.each m).0 held in (omega (arith, both.0), both.1),
+          λ both. elim (cases_eq m n) [
+            | inl same ↦ absurd (untouched (subst (Touches chip image) same both.1))
+            | inr other ↦ (below.each m).1 (omega (arith, both.0, other), both.1)
+          ],
+        );
+      }
+
+  pub touched_all : page_count chip ≤ n → AreTouched chip image pages
+  touched_all all =
+      record { rising = below.rising; each = λ m. (λ held. ((below.each m).0 held).1, λ touches. (below.each m).1 (omega (arith, touches.page), touches)) }

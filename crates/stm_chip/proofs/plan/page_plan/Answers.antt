@@ -1,0 +1,9 @@
+-- What the frames give is what the page is to hold.
+use Rattle.std.proofs.Common.{length}
+use Rattle.stm_chip.specs.Plan.{erased_byte}
+use Rattle.stm_chip.proofs.Programming.{written_all}
+use Rattle.stm_chip.proofs.plan.page_plan.Goals as goal
+
+pub returns-clause-gives_new : goal.returns-clause-gives_new
+returns-clause-gives_new c =
+    rw c.in_ok-frames.ensures (written_all erased_byte c.args.new.now (length c.args.old.now) c.requires.blocks c.requires.lengths)

@@ -1,0 +1,4 @@
+pub mod Document
+pub mod Entry
+pub mod Plan
+pub mod Touch

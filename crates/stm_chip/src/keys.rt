@@ -1,0 +1,116 @@
+// The four keys of an entry, of whatever worth their values are.
+ghost use Rattle.std.specs.Prelude.{ℤ, ◌≡◌, IfOk, option_and_then, option_map, vec_items, codes};
+ghost use Rattle.toml.specs.Data.{as_array, as_integer, as_str, at, get};
+ghost use Rattle.toml.specs.View.{array_view, view};
+ghost use Rattle.stm_chip.specs.Entry.{run_of, runs_of, keys_of, keys_with};
+
+use std::alloc::{AllocError, Global};
+use toml::Value;
+
+/// The values of a chip's keys.
+#[derive(Drop)]
+pub(crate) struct EntryKeys<'a> {
+    pub(crate) id: i64,
+    pub(crate) base: i64,
+    /// How many pages, and of how many bytes.
+    pub(crate) runs: Vec<(i64, i64)>,
+    pub(crate) erase: &'a str,
+}
+
+/// The whole number at a key.
+fn whole(entry: &Value, key: &str) -> Option<i64>
+    ensures { result ≡ option_and_then as_integer (get key.now (view entry.now)) }
+{
+    match entry.get(key) {
+        Some(value) => value.as_integer(),
+        None => None,
+    }
+}
+
+/// The text at a key.
+fn text<'a>(entry: &'a Value, key: &str) -> Option<&'a str>
+    ensures { option_map (λ s. s.now) result ≡ option_and_then as_str (get key.now (view entry.now)) }
+{
+    match entry.get(key) {
+        Some(value) => value.as_str(),
+        None => None,
+    }
+}
+
+/// The whole number at a place of an array.
+fn whole_at(run: &Value, place: usize) -> Option<i64>
+    ensures { result ≡ option_and_then as_integer (at place (view run.now)) }
+{
+    match run.get(place) {
+        Some(value) => value.as_integer(),
+        None => None,
+    }
+}
+
+/// The run that an array of two whole numbers is.
+fn read_run(run: &Value) -> Option<(i64, i64)>
+    ensures { result ≡ run_of (view run.now) }
+{
+    match (whole_at(run, 0), whole_at(run, 1), run.get(2usize)) {
+        (Some(count), Some(size), None) => Some((count, size)),
+        _ => None,
+    }
+}
+
+/// The runs of an array, or None where an item is something else.
+fn read_runs(alloc: Global, array: &Vec<Value>) -> Result<Option<Vec<(i64, i64)>>, AllocError>
+    ensures { IfOk result (λ runs. option_map vec_items runs ≡ runs_of (array_view array.now)) }
+{
+    let mut runs = Vec::new(alloc);
+    for value in array {
+        match read_run(value) {
+            Some(run) => runs.push(run)?,
+            None => return Ok(None),
+        }
+    }
+    Ok(Some(runs))
+}
+
+/// The array at a key.
+fn array<'a>(entry: &'a Value, key: &str) -> Option<&'a Vec<Value>>
+    ensures { option_map (λ items. array_view items.now) result ≡ option_and_then as_array (get key.now (view entry.now)) }
+{
+    match entry.get(key) {
+        Some(value) => value.as_array(),
+        None => None,
+    }
+}
+
+/// The runs at the key `pages`.
+fn read_pages(alloc: Global, entry: &Value) -> Result<Option<Vec<(i64, i64)>>, AllocError>
+    ensures { IfOk result (λ runs. option_map vec_items runs ≡ option_and_then runs_of (option_and_then as_array (get (codes "pages") (view entry.now)))) }
+{
+    match array(entry, "pages") {
+        Some(items) => read_runs(alloc, items),
+        None => Ok(None),
+    }
+}
+
+/// The keys of an entry, or None where one is absent or of another kind.
+pub(crate) fn read_keys<'a>(
+    alloc: Global,
+    entry: &'a Value,
+) -> Result<Option<EntryKeys<'a>>, AllocError>
+    ensures { IfOk result (λ keys. option_map (λ k. keys_with k.id k.base k.runs.items k.erase.now) keys ≡ keys_of (view entry.now)) }
+{
+    let runs = read_pages(alloc, entry)?;
+    match (
+        whole(entry, "id"),
+        whole(entry, "base"),
+        runs,
+        text(entry, "erase"),
+    ) {
+        (Some(id), Some(base), Some(runs), Some(erase)) => Ok(Some(EntryKeys {
+            id,
+            base,
+            runs,
+            erase,
+        })),
+        _ => Ok(None),
+    }
+}

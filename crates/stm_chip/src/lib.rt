@@ -1,0 +1,17 @@
+//! The chips that a table names, and the plan by which a page of flash is written.
+#![tactic(auto)]
+
+mod entry;
+mod fault;
+mod keys;
+mod plan;
+mod table;
+mod touch;
+
+pub use fault::{PlanFault, TableFault};
+pub use plan::{Frame, PagePlan, page_plan};
+pub use table::{Table, read_table};
+pub use touch::touched;
+
+#[cfg(test)]
+mod tests;

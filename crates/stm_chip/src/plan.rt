@@ -1,0 +1,96 @@
+// How a page of flash comes to hold new bytes.
+ghost use Rattle.std.specs.Prelude.{◌≡◌, ◌↔◌, ◌^◌, ◌+◌, ◌*◌, ◌/◌, ◌%◌, ◌<◌, ◌≤◌, ◌++◌, length, IfOk, IsOkUnless, Ok, option_to_list};
+ghost use Rattle.stm_chip.specs.Plan.{IsPlan, erased_byte, frame_of, frames_of, planned, used_length};
+
+use crate::PlanFault;
+use std::alloc::{AllocError, Global};
+
+/// What an erased place of flash holds.
+const ERASED: u8 = 0xFF;
+
+/// How many bytes a frame carries at most, and a block has.
+const BLOCK: usize = 256;
+
+/// Bytes that are written by one command: `length` of them, from `offset` of their page on.
+#[derive(Clone, Copy, Debug, PartialEq, Eq)]
+pub struct Frame {
+    /// Where it begins, in bytes from the page's start; a multiple of 256.
+    pub offset: u32,
+    /// How many bytes it carries: 4 to 256, a multiple of 4.
+    pub length: u16,
+}
+
+/// How a page comes to hold new bytes.
+#[derive(Debug, Drop)]
+pub enum PagePlan {
+    /// It holds them already.
+    Same,
+    /// It is erased, and then these frames of the new bytes are written, by rising offset.
+    Erase(Vec<Frame>),
+}
+
+/// How many bytes of a block there are up to its last that isn't the erased one.
+fn used_length(block: &[u8]) -> usize
+    ensures used { result ≡ used_length erased_byte block.now }
+    ensures within { result ≤ length block.now }
+{
+    let mut used = 0;
+    for (place, byte) in block.iter().enumerate() {
+        if *byte != ERASED {
+            used = place + 1;
+        }
+    }
+    used
+}
+
+/// The frame of a block at this offset; None where each byte is the erased one.
+fn frame_of(offset: u32, block: &[u8]) -> Option<Frame>
+    requires { length block.now ≡ 256 }
+    ensures { option_to_list result ≡ frame_of erased_byte offset block.now }
+{
+    let used = used_length(block);
+    if used == 0 {
+        return None;
+    }
+    Some(Frame {
+        offset,
+        length: used.div_ceil(4) as u16 * 4,
+    })
+}
+
+/// The frames of a page's blocks.
+fn frames_of(alloc: Global, page: &[u8]) -> Result<Vec<Frame>, AllocError>
+    requires blocks { length page.now % 256 ≡ 0 }
+    requires size { length page.now ≤ 2 ^ 32 }
+    ensures { IfOk result (λ frames. frames.items ≡ frames_of erased_byte page.now (length page.now / 256)) }
+{
+    let mut frames = Vec::new(alloc);
+    for n in 0..page.len() / BLOCK {
+        let offset = BLOCK * n;
+        if let Some(frame) = frame_of(offset as u32, &page[offset..offset + BLOCK]) {
+            frames.push(frame)?;
+        }
+    }
+    Ok(frames)
+}
+
+/// The plan that makes a page of bytes `old` one of bytes `new`.
+///
+/// Each block of 256 bytes, from the page's start, has a frame, cut after its last byte that isn't FF and rounded up
+/// to a multiple of 4 bytes; a block of FF alone has none, since an erased page holds FF.
+pub fn page_plan(alloc: Global, old: &[u8], new: &[u8]) -> Result<PagePlan, PlanFault>
+    requires lengths { length old.now ≡ length new.now }
+    requires blocks { length new.now % 256 ≡ 0 }
+    requires size { length new.now ≤ 2 ^ 32 }
+    ensures same { (result ≡ Ok PagePlan.Same) ↔ (old.now ≡ new.now) }
+    ensures plan { IfOk result (IsPlan erased_byte old.now new.now) }
+    // The frames, written over an erased page, give the new page.
+    ensures gives_new { IfOk result (λ plan. planned erased_byte old.now new.now plan ≡ new.now) }
+    ensures memory { IsOkUnless result PlanFault.Memory }
+{
+    if old == new {
+        return Ok(PagePlan::Same);
+    }
+    let frames = frames_of(alloc, new)?;
+    Ok(PagePlan::Erase(frames))
+}

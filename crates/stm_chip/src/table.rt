@@ -1,0 +1,129 @@
+// A table of chips, as its text names them.
+ghost use Rattle.std.specs.Prelude.{◌≡◌, ◌≢◌, ◌+◌, List, length, All, Contains, IfOk, IfErr, MatchOption, MatchResult, Some, option_map, option_and_then, codes, IsTrue, IsSome, ◌↔◌};
+ghost use Rattle.toml.specs.View.{table_view, view, array_view};
+ghost use Rattle.toml.specs.Data.{Data, as_array, as_table, get_member};
+ghost use Rattle.stm_wire.specs.Chip.{ChipData};
+ghost use Rattle.stm_chip.specs.Document.{IsTableOf, IsFaultOf, IsDocument, HasEntries, data_of, IsNextChip, IsNewId, HaveOwnIds, IsChipWith, IsFlaw, HasFlaw, Reads};
+
+use crate::TableFault;
+use crate::entry::chip_of;
+use crate::keys::read_keys;
+use std::alloc::Global;
+use std::marker::Model;
+use stm_wire::Chip;
+use toml::Value;
+
+/// The chips of a table, in its order. No two have one id.
+#[derive(Debug, Drop)]
+pub struct Table {
+    chips: Vec<Chip>,
+}
+
+impl Model for Table {
+    ghost Value = { List ChipData };
+
+    ghost view = { λ t. t.chips.items };
+
+    ghost invariant = { λ t. HaveOwnIds t.chips.items };
+}
+
+impl Table {
+    /// The chip with this id, or None.
+    pub fn find(&self, id: u16) -> Option<&Chip>
+        ensures { MatchOption result (IsNewId self.now id) (λ chip. IsChipWith self.now id chip.now) }
+    {
+        first_with(&self.chips, id)
+    }
+}
+
+/// The first of these chips with this id.
+fn first_with(chips: &[Chip], id: u16) -> Option<&Chip>
+    ensures { MatchOption result (IsNewId chips.now id) (λ chip. (chip.now.id ≡ id) × Contains chips.now chip.now) }
+{
+    chips.iter().find(|chip| chip.id() == id)
+}
+
+/// The tree of a text.
+fn read_document(alloc: Global, text: &[u8]) -> Result<toml::Table, TableFault>
+    ensures { MatchResult result (λ document. IsDocument text.now (table_view document)) (IsFaultOf text.now) }
+{
+    match toml::table_from_slice(alloc, text) {
+        Ok(document) => Ok(document),
+        Err(e) if e.is_memory() => Err(TableFault::Memory),
+        Err(_) => Err(TableFault::Syntax),
+    }
+}
+
+/// The array at the key `chip`.
+fn chip_array(document: &toml::Table) -> Option<&Vec<Value>>
+    ensures { option_map (λ items. array_view items.now) result
+        ≡ option_and_then as_array (get_member (codes "chip") (table_view document.now)) }
+{
+    match document.get("chip") {
+        Some(value) => value.as_array(),
+        None => None,
+    }
+}
+
+/// Whether each of these is a table.
+fn are_tables(items: &[Value]) -> bool
+    ensures { IsTrue result ↔ All (λ item. IsSome (as_table (view item))) items.now }
+{
+    items.iter().all(|item| item.is_table())
+}
+
+/// The tables at the key `chip`, or None where something else stands there.
+fn entries(document: &toml::Table) -> Option<&Vec<Value>>
+    ensures { MatchOption result ((entries : List Data) → ¬ HasEntries (table_view document.now) entries)
+        (λ items. HasEntries (table_view document.now) (data_of items.now)) }
+{
+    match chip_array(document) {
+        Some(items) => { if are_tables(items) { Some(items) } else { None } }
+        None => None,
+    }
+}
+
+/// The chip of entry `n`, which stands after those of `chips`.
+fn read_entry(alloc: Global, n: u64, entry: &Value, chips: &[Chip]) -> Result<Chip, TableFault>
+    ensures { MatchResult result (IsNextChip chips.now (view entry.now)) (IsFlaw n chips.now (view entry.now)) }
+{
+    let Some(keys) = read_keys(alloc, entry)? else {
+        return Err(TableFault::Missing(n));
+    };
+    let Some(chip) = chip_of(alloc, &keys)? else {
+        return Err(TableFault::Limit(n));
+    };
+    if chips.iter().any(|earlier| earlier.id() == chip.id()) {
+        return Err(TableFault::TwiceId(n));
+    }
+    Ok(chip)
+}
+
+/// The chips of these entries.
+fn read_entries(alloc: Global, entries: &Vec<Value>) -> Result<Vec<Chip>, TableFault>
+    ensures { MatchResult result (λ chips. Reads (data_of entries.now) chips.items) (HasFlaw (data_of entries.now)) }
+{
+    let mut chips = Vec::new(alloc);
+    for entry in entries {
+        let n = chips.len() as u64 + 1;
+        let chip = read_entry(alloc, n, entry, &chips)?;
+        chips.push(chip)?;
+    }
+    Ok(chips)
+}
+
+/// The table of a text in TOML 1.0: the chips of the tables at its key `chip`, in order.
+///
+/// Each has the keys `id` and `base` (whole numbers), `pages` (an array of arrays of two whole numbers: how many
+/// pages, of how many bytes) and `erase` (`"page"` or `"extended"`); further keys are ignored. The first faulty
+/// entry decides, and in it first what is missing, then a broken limit, then an id that came before.
+pub fn read_table(alloc: Global, text: &[u8]) -> Result<Table, TableFault>
+    ensures { MatchResult result (IsTableOf text.now) (IsFaultOf text.now) }
+{
+    let document = read_document(alloc, text)?;
+    let Some(entries) = entries(&document) else {
+        return Err(TableFault::Missing(0));
+    };
+    let chips = read_entries(alloc, entries)?;
+    Ok(Table { chips })
+}

@@ -1,0 +1,4 @@
+mod chips;
+mod plans;
+mod tables;
+mod touches;
