@@ -1,0 +1,70 @@
+-- From bytes added to entries added.
+use Rattle.std.proofs.Common.{◌≤◌, ℕ, ◌-◌, ◌^◌, List, ◌++◌, length, Result, Ok, Err, refl, sym, subst, append-nil}
+use Rattle.stm_wire.specs.Device.{Device, LosesOwed}
+use Rattle.stm_wire.specs.Rig.{RigState, IsModel, LeftByAppend}
+use Rattle.stm_wire.specs.MomentLaws.{started}
+use Rattle.stm_journal.specs.declared.entry.Entry.{Entry}
+use Rattle.stm_journal.specs.declared.fault.JournalFault.{JournalFault}
+use Rattle.stm_journal.specs.declared.fault.JournalFault.TheVariants.{OtherDevice, Memory}
+use Rattle.stm_journal.specs.Journals.{Loaded, IsLoaded, added_bytes, past_mark, loaded_after, Prepares}
+use Rattle.stm_journal.specs.Calls.{AddsBytes, Appends}
+use Rattle.stm_journal.proofs.Ties.{AllAllowed, IsLoaded-after}
+
+nothing-added : (bytes : List ℕ) (a : RigState) (d : Device) → LosesOwed a.device d → LeftByAppend bytes a d a.journal
+nothing-added bytes a d lost = ((0, sym (append-nil a.journal)), lost)
+
+-- nothing was called
+pub AddsBytes-memory : {T : Type 0} (bytes : List ℕ) (a : RigState) → IsModel a → a.is_honest → AddsBytes {T = T} bytes a a (Err Memory)
+AddsBytes-memory bytes a model honest =
+    record {
+      honest = honest;
+      moments = started (LeftByAppend bytes a) a model (nothing-added bytes a);
+      added = tt;
+      same_device = tt;
+      fails = (refl, refl);
+    }
+
+pub AddsBytes-other : {T : Type 0} (bytes : List ℕ) (a : RigState) → IsModel a → a.is_honest → AddsBytes {T = T} bytes a a (Err OtherDevice)
+AddsBytes-other bytes a model honest =
+    record {
+      honest = honest;
+      moments = started (LeftByAppend bytes a) a model (nothing-added bytes a);
+      added = tt;
+      same_device = tt;
+      fails = (refl, refl);
+    }
+
+pub Appends-memory : {T : Type 0} (entries : List Entry) (l l2 : Loaded) (a : RigState) → IsModel a → a.is_honest → Appends {T = T} entries l l2 a a (Err Memory)
+Appends-memory entries l l2 a model honest = record { bytes = AddsBytes-memory (added_bytes l.is_torn entries) a model honest; loaded = tt }
+
+pub Appends-other : {T : Type 0} (entries : List Entry) (l l2 : Loaded) (a : RigState) → IsModel a → a.is_honest → Appends {T = T} entries l l2 a a (Err OtherDevice)
+Appends-other entries l l2 a model honest = record { bytes = AddsBytes-other (added_bytes l.is_torn entries) a model honest; loaded = tt }
+
+pub Appends-added : {T : Type 0} (entries : List Entry) (l l2 : Loaded) (bytes : List ℕ) (a b : RigState) (result : Result T JournalFault) → IsModel b
+    → Prepares entries l l2 bytes → IsLoaded l a.journal → AllAllowed entries (past_mark l) → AddsBytes bytes a b result → Appends entries l l2 a b result
+Appends-added entries l l2 bytes a b (Ok x) model prepares tied may adds =
+    let A : List ℕ → Type 0 = λ xs. AddsBytes xs a b (Ok x) in
+    let adds2 : AddsBytes (added_bytes l.is_torn entries) a b (Ok x) = subst A prepares.text adds in
+    let J : List ℕ → Type 0 = λ xs. length xs ≤ 2 ^ 63 - 1 in
+    let after : IsLoaded (loaded_after entries l) (a.journal ++ added_bytes l.is_torn entries) = IsLoaded-after entries l a.journal tied may (subst J adds2.added model.journal) in
+    let B : List ℕ → Type 0 = λ xs. IsLoaded l2 xs in
+    let L : Loaded → Type 0 = λ x. IsLoaded x (a.journal ++ added_bytes l.is_torn entries) in
+    record { bytes = adds2; loaded = subst B (sym adds2.added) (subst L (sym prepares.after) after) }
+Appends-added {T} entries l l2 bytes a b (Err e) model prepares tied may adds =
+    let A : List ℕ → Type 0 = λ xs. AddsBytes {T = T} xs a b (Err e) in
+    record { bytes = subst A prepares.text adds; loaded = tt }
+
+-- with another answer
+pub Appends-ok : {S T : Type 0} (x : S) (y : T) (entries : List Entry) (l l2 : Loaded) (a b : RigState) → Appends entries l l2 a b (Ok x) → Appends entries l l2 a b (Ok y)
+Appends-ok x y entries l l2 a b is =
+    record {
+      bytes = record { honest = is.bytes.honest; moments = is.bytes.moments; added = is.bytes.added; same_device = is.bytes.same_device; fails = tt };
+      loaded = is.loaded;
+    }
+
+pub Appends-err : {S T : Type 0} (e : JournalFault) (entries : List Entry) (l l2 : Loaded) (a b : RigState) → Appends {T = S} entries l l2 a b (Err e) → Appends {T = T} entries l l2 a b (Err e)
+Appends-err e entries l l2 a b is =
+    record {
+      bytes = record { honest = is.bytes.honest; moments = is.bytes.moments; added = tt; same_device = tt; fails = is.bytes.fails };
+      loaded = tt;
+    }

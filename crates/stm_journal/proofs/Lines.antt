@@ -1,0 +1,126 @@
+-- A printed line reads back as its entry, is one line, and isn't void.
+use Rattle.std.proofs.Common.{◌≡◌, ◌≤◌, ℕ, zero, suc, ◌+◌, ◌*◌, ◌/◌, ◌%◌, ◌-◌, Bool, true, false, ◌==◌, ◌&&◌, List, [], ◌∷◌, ◌++◌, length, take, drop, codes, decimal, Option, Some, refl, sym, ◌∙◌, ap, arith, length-append, option_map}
+use Rattle.std.specs.Prelude.{option_and_then}
+use Rattle.std.specs.List.{list_all}
+use Rattle.std.proofs.lemmas.Bool.{true≢false}
+use Rattle.std.proofs.lemmas.Bool.Decides.{nat_tests}
+use Rattle.hex.specs.Hex.{encode_upper, IsBytes}
+use Rattle.stm_journal.specs.declared.entry.Entry.{Entry}
+use Rattle.stm_journal.specs.declared.entry.Entry.TheVariants.{Names, Opens, Keeps, Erases, Programs, Ends, Undoes}
+use Rattle.stm_journal.specs.Text.{is_void}
+use Rattle.stm_journal.specs.Entries.{entry_of, line_of, number_of, number_of_pair, hex_bytes_of, page_at, page_of_fields}
+use Rattle.stm_journal.specs.Journals.{IsPrintable}
+use Rattle.stm_journal.proofs.Texts.{HasNoLF, HasNoLF-append}
+use Rattle.stm_journal.proofs.Numbers.{number_of-decimal}
+use Rattle.stm_journal.proofs.Digits.{is_no_bang, hex_bytes_of-encode, plain-encode, plain-decimal, HasNoLF-plain, no_bang-plain, no_bang-append, position-space}
+
+pub drop-front : (xs ys : List ℕ) → drop (length xs) (xs ++ ys) ≡ ys
+drop-front [] ys = refl
+drop-front (x ∷ xs) ys = drop-front xs ys
+
+take-front : (xs ys : List ℕ) → take (length xs) (xs ++ ys) ≡ xs
+take-front [] ys = refl
+take-front (x ∷ xs) ys = ap (λ (zs : List ℕ). x ∷ zs) (take-front xs ys)
+
+drop-field : (xs ys : List ℕ) → drop (length xs + 1) (xs ++ 32 ∷ ys) ≡ ys
+drop-field xs ys =
+    let e : length xs + 1 ≡ length (xs ++ 32 ∷ []) = sym (length-append xs (32 ∷ [])) in
+    rw e (rw (regroup xs ys) (drop-front (xs ++ 32 ∷ []) ys))
+  where
+    regroup : (us vs : List ℕ) → us ++ 32 ∷ vs ≡ (us ++ 32 ∷ []) ++ vs
+    regroup [] vs = refl
+    regroup (u ∷ us) vs = ap (λ (zs : List ℕ). u ∷ zs) (regroup us vs)
+
+pair-bytes : (id : ℕ) → id ≤ 65535 → IsBytes (id / 256 ∷ id % 256 ∷ [])
+pair-bytes id within zero = omega arith
+pair-bytes id within (suc zero) = omega arith
+pair-bytes id within (suc (suc i)) = omega arith
+
+-- a printed line says its entry
+pub entry_of-line : (e : Entry) → IsPrintable e → entry_of (line_of e) ≡ Some e
+entry_of-line (Names version id) is =
+    let bytes : List ℕ = id / 256 ∷ id % 256 ∷ [] in
+    let whole : id / 256 * 256 + id % 256 ≡ id = omega arith in
+    ap (λ (o : Option (List ℕ)). option_map (λ i. Names 1 i) (option_and_then number_of_pair o)) (hex_bytes_of-encode bytes (omega arith) (pair-bytes id is.1))
+    ∙ ap (λ (i : ℕ). Some (Names 1 i)) whole ∙ ap (λ (v : ℕ). Some (Names v id)) (sym is.0)
+entry_of-line (Opens k) is = ap (λ (o : Option ℕ). option_map (λ n. Opens n) o) (number_of-decimal k is)
+entry_of-line (Keeps n bytes) is =
+    let ds : List ℕ = decimal n in
+    let hex : List ℕ = encode_upper bytes in
+    let rest : List ℕ = ds ++ 32 ∷ hex in
+    ap (λ (o : Option ℕ). page_at rest o) (position-space ds hex (plain-decimal n is.0))
+    ∙ ap (λ (xs : List ℕ). page_of_fields (number_of xs) (hex_bytes_of (drop (length ds + 1) rest))) (take-front ds (32 ∷ hex))
+    ∙ ap (λ (xs : List ℕ). page_of_fields (number_of ds) (hex_bytes_of xs)) (drop-field ds hex)
+    ∙ ap (λ (o : Option ℕ). page_of_fields o (hex_bytes_of hex)) (number_of-decimal n is.0)
+    ∙ ap (λ (o : Option (List ℕ)). page_of_fields (Some n) o) (hex_bytes_of-encode bytes is.1.0 is.1.1)
+entry_of-line (Erases n) is = ap (λ (o : Option ℕ). option_map (λ k. Erases k) o) (number_of-decimal n is)
+entry_of-line (Programs n) is = ap (λ (o : Option ℕ). option_map (λ k. Programs k) o) (number_of-decimal n is)
+entry_of-line (Ends k) is = ap (λ (o : Option ℕ). option_map (λ n. Ends n) o) (number_of-decimal k is)
+entry_of-line (Undoes k) is = ap (λ (o : Option ℕ). option_map (λ n. Undoes n) o) (number_of-decimal k is)
+
+numbered-noLF : (word : List ℕ) (n : ℕ) → HasNoLF word → n ≤ 65535 → HasNoLF (word ++ decimal n)
+numbered-noLF word n h is = HasNoLF-append word (decimal n) h (HasNoLF-plain (decimal n) (plain-decimal n is))
+
+-- a printed line has no LF
+pub HasNoLF-line : (e : Entry) → IsPrintable e → HasNoLF (line_of e)
+HasNoLF-line (Names version id) is =
+    let bytes : List ℕ = id / 256 ∷ id % 256 ∷ [] in
+    HasNoLF-append (codes "stmjournal 1 ") (encode_upper bytes) (refl, (refl, (refl, (refl, (refl, (refl, (refl, (refl, (refl, (refl, (refl, (refl, (refl, tt))))))))))))) (HasNoLF-plain (encode_upper bytes) (plain-encode bytes (pair-bytes id is.1)))
+HasNoLF-line (Opens k) is = numbered-noLF (codes "open ") k (refl, (refl, (refl, (refl, (refl, tt))))) is
+HasNoLF-line (Keeps n bytes) is =
+    HasNoLF-append (codes "page ") (decimal n ++ 32 ∷ encode_upper bytes) (refl, (refl, (refl, (refl, (refl, tt)))))
+    (HasNoLF-append (decimal n) (32 ∷ encode_upper bytes) (HasNoLF-plain (decimal n) (plain-decimal n is.0)) (refl, HasNoLF-plain (encode_upper bytes) (plain-encode bytes is.1.1)))
+HasNoLF-line (Erases n) is = numbered-noLF (codes "erase ") n (refl, (refl, (refl, (refl, (refl, (refl, tt)))))) is
+HasNoLF-line (Programs n) is = numbered-noLF (codes "program ") n (refl, (refl, (refl, (refl, (refl, (refl, (refl, (refl, tt)))))))) is
+HasNoLF-line (Ends k) is = numbered-noLF (codes "end ") k (refl, (refl, (refl, (refl, tt)))) is
+HasNoLF-line (Undoes k) is = numbered-noLF (codes "undone ") k (refl, (refl, (refl, (refl, (refl, (refl, (refl, tt))))))) is
+
+numbered-no_bang : (word : List ℕ) (n : ℕ) → list_all is_no_bang word ≡ true → n ≤ 65535 → list_all is_no_bang (word ++ decimal n) ≡ true
+numbered-no_bang word n h is = no_bang-append word (decimal n) h (no_bang-plain (decimal n) (plain-decimal n is))
+
+no_bang-line : (e : Entry) → IsPrintable e → list_all is_no_bang (line_of e) ≡ true
+no_bang-line (Names version id) is =
+    let bytes : List ℕ = id / 256 ∷ id % 256 ∷ [] in
+    no_bang-append (codes "stmjournal 1 ") (encode_upper bytes) refl (no_bang-plain (encode_upper bytes) (plain-encode bytes (pair-bytes id is.1)))
+no_bang-line (Opens k) is = numbered-no_bang (codes "open ") k refl is
+no_bang-line (Keeps n bytes) is =
+    no_bang-append (codes "page ") (decimal n ++ 32 ∷ encode_upper bytes) refl
+    (no_bang-append (decimal n) (32 ∷ encode_upper bytes) (no_bang-plain (decimal n) (plain-decimal n is.0)) (no_bang-plain (encode_upper bytes) (plain-encode bytes is.1.1)))
+no_bang-line (Erases n) is = numbered-no_bang (codes "erase ") n refl is
+no_bang-line (Programs n) is = numbered-no_bang (codes "program ") n refl is
+no_bang-line (Ends k) is = numbered-no_bang (codes "end ") k refl is
+no_bang-line (Undoes k) is = numbered-no_bang (codes "undone ") k refl is
+
+second-true : (a b : Bool) → (a && b) ≡ true → b ≡ true
+second-true true b e = e
+second-true false b e = absurd (true≢false (sym e))
+
+no_bang-drop : (k : ℕ) (xs : List ℕ) → list_all is_no_bang xs ≡ true → list_all is_no_bang (drop k xs) ≡ true
+no_bang-drop zero xs h = h
+no_bang-drop (suc k) [] h = refl
+no_bang-drop (suc k) (x ∷ xs) h = no_bang-drop k xs (second-true (is_no_bang x) (list_all is_no_bang xs) h)
+
+first-true : (a b : Bool) → (a && b) ≡ true → a ≡ true
+first-true true b e = refl
+first-true false b e = e
+
+other-byte : (y : ℕ) → is_no_bang y ≡ true → (33 == y) ≡ false
+other-byte y h = grind (arith, nat_tests)
+
+unlike : (y : ℕ) (c : Bool) → is_no_bang y ≡ true → ((33 == y) && c) ≡ false
+unlike y c h = ap (λ (v : Bool). v && c) (other-byte y h)
+
+ends-none : (xs zs : List ℕ) → list_all is_no_bang zs ≡ true → drop (length xs - 1) xs ≡ zs → is_void xs ≡ false
+ends-none xs [] h e = rw e refl
+ends-none xs (z ∷ zs) h e = rw e (unlike z _ (first-true (is_no_bang z) (list_all is_no_bang zs) h))
+
+-- a printed line isn't void
+pub is_void-printed : (e : Entry) → IsPrintable e → is_void (line_of e) ≡ false
+is_void-printed e is = ends-none (line_of e) (drop (length (line_of e) - 1) (line_of e)) (no_bang-drop (length (line_of e) - 1) (line_of e) (no_bang-line e is)) refl
+
+-- `!` makes a line void
+pub is_void-marked : (xs : List ℕ) → is_void (xs ++ 33 ∷ []) ≡ true
+is_void-marked xs =
+    let len : length (xs ++ 33 ∷ []) - 1 ≡ length xs = omega (arith, length-append xs (33 ∷ [])) in
+    let last : drop (length (xs ++ 33 ∷ []) - 1) (xs ++ 33 ∷ []) ≡ 33 ∷ [] = rw len (drop-front xs (33 ∷ [])) in
+    rw last refl

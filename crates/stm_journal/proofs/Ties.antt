@@ -1,0 +1,131 @@
+-- A journal in memory stays tied to the bytes when entries are added to both.
+use Rattle.std.proofs.Common.{◌≡◌, ◌≤◌, ℕ, suc, ◌+◌, ◌-◌, ◌^◌, Bool, true, false, nat_lt, if◌then◌else◌, List, [], ◌∷◌, ◌++◌, length, fold, flat_map, Option, refl, sym, ◌∙◌, ap, ap₂, subst, arith, length-append, append_assoc, append-nil, IsTrue}
+use Rattle.std.proofs.lemmas.Bool.Decides.{nat_tests}
+use Rattle.stm_journal.specs.declared.entry.Entry.{Entry}
+use Rattle.stm_journal.specs.Text.{Text, text_of, is_void}
+use Rattle.stm_journal.specs.Entries.{entry_of, line_of, line_text}
+use Rattle.stm_journal.specs.States.{StateData, allows, after_entry}
+use Rattle.stm_journal.specs.Journals.{good, bad, after_line, after_said, Loaded, IsLoaded, capped, mark, added_bytes, past_mark, past_entry, loaded_after, IsPrintable}
+use Rattle.stm_journal.proofs.Texts.{HasNoLF, text-more-lines}
+use Rattle.stm_journal.proofs.Readings.{journal-line, lines-within}
+use Rattle.stm_journal.proofs.Lines.{entry_of-line, HasNoLF-line, is_void-printed, is_void-marked}
+
+none-longer : (xs : List ℕ) → nat_lt 0 (length xs) ≡ false → xs ≡ []
+none-longer [] h = refl
+none-longer (x ∷ xs) h = absurd (omega (arith, grind-length (length xs) h))
+  where
+    grind-length : (n : ℕ) → nat_lt 0 (suc n) ≡ false → suc n ≡ 0
+    grind-length n g = grind (arith, nat_tests)
+
+-- a journal without a torn tail ends with a whole line
+no-tail : (l : Loaded) (bytes : List ℕ) → IsLoaded l bytes → l.is_torn ≡ false → (text_of bytes).tail ≡ []
+no-tail l bytes is whole = none-longer (text_of bytes).tail (sym is.is_torn ∙ whole)
+
+void-after : (n ends : ℕ) (s : StateData) (line : List ℕ) → is_void line ≡ true → after_line n ends (good s) line ≡ good s
+void-after n ends s line v = ap (λ (b : Bool). if b then good s else after_said n ends s (entry_of line)) v
+
+said-after : (n ends : ℕ) (s : StateData) (e : Entry) → IsPrintable e → IsTrue (allows s e) → after_line n ends (good s) (line_of e) ≡ good (after_entry n ends s e)
+said-after n ends s e is may =
+    ap (λ (b : Bool). if b then good s else after_said n ends s (entry_of (line_of e))) (is_void-printed e is)
+    ∙ ap (λ (o : Option Entry). after_said n ends s o) (entry_of-line e is)
+    ∙ ap (λ (b : Bool). if b then good (after_entry n ends s e) else bad n) may
+
+-- a whole line more, in the text
+abbrev ended : List ℕ → List ℕ → Text
+ended xs t = record { lines = (text_of xs).lines ++ ((text_of xs).tail ++ t) ∷ []; tail = [] }
+
+one-line-more : (xs t : List ℕ) → HasNoLF t → text_of (xs ++ (t ++ 10 ∷ [])) ≡ ended xs t
+one-line-more xs t h = text-more-lines xs t [] h
+
+pub pass-entry : (l : Loaded) (bytes : List ℕ) (e : Entry) → IsLoaded l bytes → l.is_torn ≡ false → IsPrintable e → IsTrue (allows l.state e)
+    → length (bytes ++ line_text e) ≤ 2 ^ 63 - 1 → IsLoaded (past_entry l e) (bytes ++ line_text e)
+pass-entry l bytes e is whole printable may short =
+    let line : List ℕ = line_of e in
+    let text : List ℕ = line ++ 10 ∷ [] in
+    let noLF : HasNoLF line = HasNoLF-line e printable in
+    let size : length (bytes ++ text) ≡ length bytes + (length line + 1) = omega (arith, length-append bytes text, length-append line (10 ∷ [])) in
+    let few : length (text_of bytes).lines ≤ length bytes = lines-within bytes in
+    let count : length (text_of bytes).lines + 1 ≡ capped (l.lines + 1) = omega (arith, is.lines) in
+    let ends : length bytes + length line ≡ capped (l.size + length line) = omega (arith, is.size) in
+    let more : text_of (bytes ++ text) ≡ ended bytes line = one-line-more bytes line noLF in
+    record {
+      state =
+          journal-line bytes line l.state noLF is.state
+          ∙ ap (λ (t : List ℕ). after_line (length (text_of bytes).lines + 1) (length bytes + length line) (good l.state) (t ++ line)) (no-tail l bytes is whole)
+          ∙ ap₂ (λ (n m : ℕ). after_line n m (good l.state) line) count ends
+          ∙ said-after (capped (l.lines + 1)) (capped (l.size + length line)) l.state e printable may;
+      lines = sym count ∙ sym (ap (λ (t : Text). length t.lines) more ∙ length-append (text_of bytes).lines (((text_of bytes).tail ++ line) ∷ []));
+      size = omega (arith, is.size, size);
+      is_torn = sym (ap (λ (t : Text). nat_lt 0 (length t.tail)) more);
+    }
+
+abbrev bang : List ℕ
+bang = 33 ∷ []
+
+pass-bang : (l : Loaded) (bytes : List ℕ) → IsLoaded l bytes → length (bytes ++ (bang ++ 10 ∷ [])) ≤ 2 ^ 63 - 1
+    → IsLoaded (record { state = l.state; lines = capped (l.lines + 1); size = capped (l.size + 2); is_torn = false }) (bytes ++ (bang ++ 10 ∷ []))
+pass-bang l bytes is short =
+    let size : length (bytes ++ (bang ++ 10 ∷ [])) ≡ length bytes + 2 = length-append bytes (bang ++ 10 ∷ []) in
+    let few : length (text_of bytes).lines ≤ length bytes = lines-within bytes in
+    let count : length (text_of bytes).lines + 1 ≡ capped (l.lines + 1) = omega (arith, is.lines) in
+    let more : text_of (bytes ++ (bang ++ 10 ∷ [])) ≡ ended bytes bang = one-line-more bytes bang (refl, tt) in
+    record {
+      state =
+          journal-line bytes bang l.state (refl, tt) is.state
+          ∙ void-after (length (text_of bytes).lines + 1) (length bytes + 1) l.state ((text_of bytes).tail ++ bang) (is_void-marked (text_of bytes).tail);
+      lines = sym count ∙ sym (ap (λ (t : Text). length t.lines) more ∙ length-append (text_of bytes).lines (((text_of bytes).tail ++ bang) ∷ []));
+      size = omega (arith, is.size, size);
+      is_torn = sym (ap (λ (t : Text). nat_lt 0 (length t.tail)) more);
+    }
+
+pass-mark-at : (b : Bool) (l : Loaded) (bytes : List ℕ) → l.is_torn ≡ b → IsLoaded l bytes → length (bytes ++ mark b) ≤ 2 ^ 63 - 1
+    → IsLoaded (if b then record { state = l.state; lines = capped (l.lines + 1); size = capped (l.size + 2); is_torn = false } else l) (bytes ++ mark b)
+pass-mark-at true l bytes torn is short = pass-bang l bytes is short
+pass-mark-at false l bytes torn is short = rw (append-nil bytes) is
+
+pub pass-mark : (l : Loaded) (bytes : List ℕ) → IsLoaded l bytes → length (bytes ++ mark l.is_torn) ≤ 2 ^ 63 - 1 → IsLoaded (past_mark l) (bytes ++ mark l.is_torn)
+pass-mark l bytes is short = pass-mark-at l.is_torn l bytes refl is short
+
+-- entries that may be added one after another
+abbrev pub AllAllowed : List Entry → Loaded → Type 0
+AllAllowed [] l = Unit {0}
+AllAllowed (e ∷ entries) l = IsPrintable e × (IsTrue (allows l.state e) × AllAllowed entries (past_entry l e))
+
+pass-entries : (entries : List Entry) (l : Loaded) (bytes : List ℕ) → IsLoaded l bytes → l.is_torn ≡ false → AllAllowed entries l
+    → length (bytes ++ flat_map line_text entries) ≤ 2 ^ 63 - 1 → IsLoaded (fold past_entry l entries) (bytes ++ flat_map line_text entries)
+pass-entries [] l bytes is whole may short = rw (append-nil bytes) is
+pass-entries (e ∷ entries) l bytes is whole may short =
+    let rest : List ℕ = flat_map line_text entries in
+    let regroup : (bytes ++ line_text e) ++ rest ≡ bytes ++ (line_text e ++ rest) = append_assoc bytes (line_text e) rest in
+    let long : length (bytes ++ (line_text e ++ rest)) ≡ length (bytes ++ line_text e) + length rest = sym (ap (λ (xs : List ℕ). length xs) regroup) ∙ length-append (bytes ++ line_text e) rest in
+    let one : IsLoaded (past_entry l e) (bytes ++ line_text e) = pass-entry l bytes e is whole may.0 may.1.0 (omega (arith, long)) in
+    let B : List ℕ → Type 0 = λ xs. IsLoaded (fold past_entry (past_entry l e) entries) xs in
+    subst B regroup (pass-entries entries (past_entry l e) (bytes ++ line_text e) one refl may.1.1 (omega (arith, long, length-append (bytes ++ line_text e) rest)))
+
+not-torn : (b : Bool) (l : Loaded) → l.is_torn ≡ b → (if b then record { state = l.state; lines = capped (l.lines + 1); size = capped (l.size + 2); is_torn = false } else l).is_torn ≡ false
+not-torn true l e = refl
+not-torn false l e = e
+
+-- the entries of an append
+pub IsLoaded-after : (entries : List Entry) (l : Loaded) (bytes : List ℕ) → IsLoaded l bytes → AllAllowed entries (past_mark l)
+    → length (bytes ++ added_bytes l.is_torn entries) ≤ 2 ^ 63 - 1 → IsLoaded (loaded_after entries l) (bytes ++ added_bytes l.is_torn entries)
+IsLoaded-after entries l bytes is may short =
+    let rest : List ℕ = flat_map line_text entries in
+    let marked : List ℕ = bytes ++ mark l.is_torn in
+    let regroup : marked ++ rest ≡ bytes ++ (mark l.is_torn ++ rest) = append_assoc bytes (mark l.is_torn) rest in
+    let long : length (bytes ++ (mark l.is_torn ++ rest)) ≡ length marked + length rest = sym (ap (λ (xs : List ℕ). length xs) regroup) ∙ length-append marked rest in
+    let B : List ℕ → Type 0 = λ xs. IsLoaded (loaded_after entries l) xs in
+    subst B regroup (pass-entries entries (past_mark l) marked (pass-mark l bytes is (omega (arith, long))) (not-torn l.is_torn l refl) may (omega (arith, long, length-append marked rest)))
+
+mark-state-at : (b : Bool) (l : Loaded) → (if b then record { state = l.state; lines = capped (l.lines + 1); size = capped (l.size + 2); is_torn = false } else l).state ≡ l.state
+mark-state-at true l = refl
+mark-state-at false l = refl
+
+-- a mark leaves the state
+pub mark-state : (l : Loaded) → (past_mark l).state ≡ l.state
+mark-state l = mark-state-at l.is_torn l
+
+pub AllAllowed-one : (e : Entry) (l : Loaded) → IsPrintable e → IsTrue (allows l.state e) → AllAllowed (e ∷ []) (past_mark l)
+AllAllowed-one e l printable may =
+    let S : StateData → Type 0 = λ s. IsTrue (allows s e) in
+    (printable, (subst S (sym (mark-state l)) may, tt))

@@ -1,0 +1,31 @@
+use Rattle.std.proofs.Common.{◌∷◌, [], List, subst, sym, ap, Err, Ok, ℕ, ◌+◌, ◌∙◌}
+use Rattle.std.proofs.lemmas.Result.{err_from_is_err_and}
+use Rattle.stm_journal.specs.declared.entry.Entry.{Entry}
+use Rattle.stm_journal.specs.Journals.{Loaded}
+use Rattle.stm_journal.specs.Calls.{Appends}
+use Rattle.stm_journal.proofs.Appending.{Appends-ok, Appends-err}
+use Rattle.stm_journal.proofs.Rules.{begin-first-of}
+use Rattle.stm_journal.specs.declared.entry.Entry.TheVariants.{Names, Opens}
+use Rattle.stm_journal.proofs.journal.Journal.begin.Goals as goal
+
+pub returns-in_err-add_first-in-None-clause-honest : goal.returns-in_err-add_first-in-None-clause-honest
+returns-in_err-add_first-in-None-clause-honest g c = λ honest tied.
+    let V = g.R.Rig.view in
+    let p = err_from_is_err_and c.from_residual-in_err-add_first-in-None.result c.from_residual-in_err-add_first-in-None.ensures.1 in
+    let l = c.args.self.now in
+    let l2 = c.add_first.new.self in
+    let a = V c.args.rig.now in
+    let b = V c.add_first.new.rig in
+    let E : List Entry → Type 0 = λ entries. Appends {T = ℕ} entries l l2 a b (Err c.in_err-add_first-in-None.field-0.0) in
+    rw (p.1, p.2) (subst E (sym (begin-first-of c.args.id c.self.inside.state l.state (ap (λ (x : Loaded). x.state) c.self.view_is) c.depth-k.ensures.sound (sym c.header.ensures ∙ c.in-None.is)))
+    (Appends-err c.in_err-add_first-in-None.field-0.0 (Names 1 c.args.id ∷ Opens 1 ∷ []) l l2 a b (c.in_err-add_first-in-None.ensures.honest honest tied)))
+
+pub returns-in_ok-add_first-in-None-clause-honest : goal.returns-in_ok-add_first-in-None-clause-honest
+returns-in_ok-add_first-in-None-clause-honest g c = λ honest tied.
+    let V = g.R.Rig.view in
+    let l = c.args.self.now in
+    let l2 = c.add_first.new.self in
+    let a = V c.args.rig.now in
+    let b = V c.add_first.new.rig in
+    let E : List Entry → Type 0 = λ entries. Appends {T = ℕ} entries l l2 a b (Ok (c.depth-k.result + 1)) in
+    subst E (sym (begin-first-of c.args.id c.self.inside.state l.state (ap (λ (x : Loaded). x.state) c.self.view_is) c.depth-k.ensures.sound (sym c.header.ensures ∙ c.in-None.is))) (Appends-ok tt (c.depth-k.result + 1) (Names 1 c.args.id ∷ Opens 1 ∷ []) l l2 a b (c.in_ok-add_first-in-None.ensures.honest honest tied))

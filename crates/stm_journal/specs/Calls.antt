@@ -1,0 +1,88 @@
+-- What the calls of a journal do to the Rig's journal, its device, its counts and its record.
+use Rattle.std.specs.Prelude.{◌≡◌, ◌⊎◌, ℕ, ◌≤◌, List, [], ◌∷◌, ◌++◌, Result, Ok, Err, OnOk, IfOk, IfErr}
+use Rattle.stm_wire.specs.declared.rig.RigCall.{RigCall}
+use Rattle.stm_wire.specs.declared.rig.RigCall.TheVariants.{Put, Get, Append, Fetch}
+use Rattle.stm_wire.specs.Device.{Device, LosesOwed}
+use Rattle.stm_wire.specs.Rig.{RigState, Rises, LeftByAppend, LeftByGet}
+use Rattle.stm_wire.specs.Moments.{LeavesOnly}
+use Rattle.stm_journal.specs.declared.entry.Entry.{Entry}
+use Rattle.stm_journal.specs.declared.fault.JournalFault.{JournalFault}
+use Rattle.stm_journal.specs.declared.fault.JournalFault.TheVariants.{File, Bad, OtherDevice, Memory}
+use Rattle.stm_journal.specs.Journals.{Loaded, IsLoaded, added_bytes, journal_of, bad}
+
+-- the fault of a file comes only where the count of such failures rose
+abbrev pub RisesFor : ℕ → ℕ → JournalFault → Type 0
+RisesFor before now File = Rises before now
+RisesFor before now (Bad line) = Unit {0}
+RisesFor before now OtherDevice = Unit {0}
+RisesFor before now Memory = Unit {0}
+
+-- on any Rig: the counts
+pub record HasJournalCause {T : Type 0} (old new : RigState) (result : Result T JournalFault) : Type 0 where
+  pub later : old.journal_failures ≤ new.journal_failures
+  pub done : OnOk result (new.journal_failures ≡ old.journal_failures)
+  pub failed : IfErr result (RisesFor old.journal_failures new.journal_failures)
+  pub line_count : new.line_failures ≡ old.line_failures
+
+-- one append of so many bytes; a call that failed may have made none
+abbrev pub AppendsOnce : {T : Type 0} → ℕ → Result T JournalFault → List RigCall → Type 0
+AppendsOnce n (Ok x) calls = calls ≡ Append n ∷ []
+AppendsOnce n (Err e) calls = (calls ≡ []) ⊎ (calls ≡ Append n ∷ [])
+
+abbrev pub AreFetches : List RigCall → Type 0
+AreFetches [] = Unit {0}
+AreFetches (Put byte ∷ calls) = ⊥
+AreFetches (Get answer ∷ calls) = ⊥
+AreFetches (Append n ∷ calls) = ⊥
+AreFetches (Fetch ∷ calls) = AreFetches calls
+
+-- after a fault of the file a beginning of the bytes is added, and after any other nothing
+abbrev pub LeftByFault : List ℕ → RigState → RigState → JournalFault → Type 0
+LeftByFault bytes old new File = LeftByAppend bytes old new.device new.journal
+LeftByFault bytes old new (Bad line) = (new.journal ≡ old.journal) × (new.device ≡ old.device)
+LeftByFault bytes old new OtherDevice = (new.journal ≡ old.journal) × (new.device ≡ old.device)
+LeftByFault bytes old new Memory = (new.journal ≡ old.journal) × (new.device ≡ old.device)
+
+-- These bytes are added at the end of an honest Rig's journal, all at Ok, a beginning of them at any moment and after a
+-- fault of the file, none after another fault.
+pub record AddsBytes {T : Type 0} (bytes : List ℕ) (old new : RigState) (result : Result T JournalFault) : Type 0 where
+  pub honest : new.is_honest
+  pub moments : LeavesOnly (LeftByAppend bytes old) old new
+  pub added : OnOk result (new.journal ≡ old.journal ++ bytes)
+  pub same_device : OnOk result (new.device ≡ old.device)
+  pub fails : IfErr result (LeftByFault bytes old new)
+
+-- The lines of these entries, and what a torn tail asks for before them, are added to the journal that the one in memory
+-- is tied to, and the new one in memory is tied to the result.
+pub record Appends {T : Type 0} (entries : List Entry) (l l2 : Loaded) (old new : RigState) (result : Result T JournalFault) : Type 0 where
+  pub bytes : AddsBytes (added_bytes l.is_torn entries) old new result
+  pub loaded : OnOk result (IsLoaded l2 new.journal)
+
+-- nothing but owed bytes changed, which a stop may lose
+abbrev pub IsUntouched : RigState → Device → List ℕ → Type 0
+IsUntouched old d journal = LeftByGet old d journal
+
+-- the fault says what the bytes come to
+abbrev pub IsFaultOf : List ℕ → JournalFault → Type 0
+IsFaultOf journal File = Unit {0}
+IsFaultOf journal (Bad line) = journal_of journal ≡ bad line
+IsFaultOf journal OtherDevice = ⊥
+IsFaultOf [] Memory = ⊥
+IsFaultOf (byte ∷ journal) Memory = Unit {0}
+
+-- a fault of the file alone may have lost owed bytes
+abbrev pub KeepsDevice : RigState → RigState → JournalFault → Type 0
+KeepsDevice old new File = LosesOwed old.device new.device
+KeepsDevice old new (Bad line) = new.device ≡ old.device
+KeepsDevice old new OtherDevice = new.device ≡ old.device
+KeepsDevice old new Memory = new.device ≡ old.device
+
+-- A load of an honest Rig's journal, of which it changes nothing.
+pub record Loads (old new : RigState) (result : Result Loaded JournalFault) : Type 0 where
+  pub honest : new.is_honest
+  pub moments : LeavesOnly (IsUntouched old) old new
+  pub journal : new.journal ≡ old.journal
+  pub same_device : OnOk result (new.device ≡ old.device)
+  pub kept_device : IfErr result (KeepsDevice old new)
+  pub loaded : IfOk result (λ l. IsLoaded l old.journal)
+  pub faults : IfErr result (IsFaultOf old.journal)

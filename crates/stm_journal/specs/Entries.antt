@@ -1,0 +1,83 @@
+-- What a line of the journal can say.
+use Rattle.std.specs.Prelude.{ℕ, ◌+◌, ◌-◌, ◌*◌, ◌/◌, ◌%◌, Bool, ◌&&◌, ◌||◌, ◌==◌, nat_le, nat_lt, if◌then◌else◌, List, [], ◌∷◌, ◌++◌, length, take, drop, fold, codes, decimal, bytes_eq, Option, Some, None, option_map, option_and_then, position, slice_index}
+use Rattle.std.specs.List.{list_all}
+use Rattle.std.specs.Result.{result_ok}
+use Rattle.hex.specs.Hex.{encode_upper, decode_of}
+use Rattle.stm_journal.specs.declared.entry.Entry.{Entry}
+use Rattle.stm_journal.specs.declared.entry.Entry.TheVariants.{Names, Opens, Keeps, Erases, Programs, Ends, Undoes}
+
+-- the digits of hexadecimal numbers: `0` to `9` and `A` to `F`
+abbrev pub is_upper_digit : ℕ → Bool
+is_upper_digit c = (nat_le 48 c && nat_le c 57) || (nat_le 65 c && nat_le c 70)
+
+-- one digit more, of a number that may be 65,535 at most
+abbrev pub with_digit : Option ℕ → ℕ → Option ℕ
+with_digit None c = None
+with_digit (Some n) c = if (nat_le 48 c && nat_le c 57) && nat_le (n * 10 + (c - 48)) 65535 then Some (n * 10 + (c - 48)) else None
+
+-- a decimal number of at most 65,535: digits without a leading zero, but for `0` itself
+abbrev pub number_of : List ℕ → Option ℕ
+number_of digits = if length digits == 0 || (nat_lt 1 (length digits) && slice_index digits 0 == 48) then None else fold with_digit (Some 0) digits
+
+-- bytes, as upper-case digits in pairs, at least one
+abbrev pub are_upper_digits : List ℕ → Bool
+are_upper_digits digits = nat_lt 0 (length digits) && list_all is_upper_digit digits
+
+abbrev pub hex_bytes_of : List ℕ → Option (List ℕ)
+hex_bytes_of digits = if are_upper_digits digits then result_ok (decode_of digits) else None
+
+-- the number of two bytes
+abbrev pub number_of_pair : List ℕ → Option ℕ
+number_of_pair (high ∷ low ∷ []) = Some (high * 256 + low)
+number_of_pair bytes = None
+
+-- what follows the word, where the line begins with it
+abbrev pub behind : List ℕ → List ℕ → Option (List ℕ)
+behind word line = if bytes_eq (take (length word) line) word then Some (drop (length word) line) else None
+
+-- a page: its number, a space, its bytes
+abbrev pub page_of_fields : Option ℕ → Option (List ℕ) → Option Entry
+page_of_fields (Some n) (Some bytes) = Some (Keeps n bytes)
+page_of_fields (Some n) None = None
+page_of_fields None bytes = None
+
+abbrev pub page_at : List ℕ → Option ℕ → Option Entry
+page_at rest None = None
+page_at rest (Some i) = page_of_fields (number_of (take i rest)) (hex_bytes_of (drop (i + 1) rest))
+
+abbrev pub page_of : List ℕ → Option Entry
+page_of rest = page_at rest (position (λ b. b == 32) rest)
+
+-- the device of a journal of version 1: its id has four digits
+abbrev pub header_of : List ℕ → Option Entry
+header_of rest = option_map (λ id. Names 1 id) (option_and_then number_of_pair (hex_bytes_of rest))
+
+-- what follows one of these words, and else what the other reading says
+abbrev pub worded : List ℕ → (List ℕ → Option Entry) → List ℕ → Option Entry → Option Entry
+worded word said line other = elim (behind word line) as (λ _. Option Entry) [ None ↦ other | Some rest ↦ said rest ]
+
+abbrev pub numbered_entry_of : List ℕ → Option Entry
+numbered_entry_of line =
+    worded (codes "open ") (λ rest. option_map (λ n. Opens n) (number_of rest)) line
+    (worded (codes "erase ") (λ rest. option_map (λ n. Erases n) (number_of rest)) line
+    (worded (codes "program ") (λ rest. option_map (λ n. Programs n) (number_of rest)) line
+    (worded (codes "end ") (λ rest. option_map (λ n. Ends n) (number_of rest)) line
+    (worded (codes "undone ") (λ rest. option_map (λ n. Undoes n) (number_of rest)) line None))))
+
+-- what a whole line says, if it says anything
+abbrev pub entry_of : List ℕ → Option Entry
+entry_of line = worded (codes "page ") page_of line (worded (codes "stmjournal 1 ") header_of line (numbered_entry_of line))
+
+-- the line that says it; of a header, one of version 1
+abbrev pub line_of : Entry → List ℕ
+line_of (Names version id) = codes "stmjournal 1 " ++ encode_upper (id / 256 ∷ id % 256 ∷ [])
+line_of (Opens k) = codes "open " ++ decimal k
+line_of (Keeps n bytes) = codes "page " ++ (decimal n ++ 32 ∷ encode_upper bytes)
+line_of (Erases n) = codes "erase " ++ decimal n
+line_of (Programs n) = codes "program " ++ decimal n
+line_of (Ends k) = codes "end " ++ decimal k
+line_of (Undoes k) = codes "undone " ++ decimal k
+
+-- with the LF that ends it
+abbrev pub line_text : Entry → List ℕ
+line_text e = line_of e ++ 10 ∷ []

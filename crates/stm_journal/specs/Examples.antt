@@ -1,0 +1,71 @@
+-- Journals that the definitions compute.
+use Rattle.std.specs.Prelude.{◌≡◌, ℕ, List, [], ◌∷◌, ◌++◌, codes, Some, None, refl}
+use Rattle.hex.proofs.OnLiterals.{hex_on_literals}
+use Rattle.stm_wire.specs.declared.intent.Intent.TheVariants.{Erase}
+use Rattle.stm_journal.specs.declared.stage.Stage.TheVariants.{Open, Returning}
+use Rattle.stm_journal.specs.Journals.{good, bad, journal_of}
+
+abbrev LF : List ℕ
+LF = 10 ∷ []
+
+abbrev begun : List ℕ
+begun = codes "stmjournal 1 0412" ++ LF ++ codes "open 1" ++ LF
+
+empty : journal_of [] ≡ good (record { header = None; stack = [] })
+empty = refl
+
+void_first : journal_of (codes "x!" ++ LF ++ begun) ≡ good (record { header = Some (record { version = 1; id = 0x412; line = 2 }); stack = record { pages = []; stage = Open None } ∷ [] })
+unfolding hex_on_literals
+void_first = refl
+
+intent_without_page : journal_of (begun ++ codes "erase 0" ++ LF) ≡ bad 3
+unfolding hex_on_literals
+intent_without_page = refl
+
+leading_zero : journal_of (begun ++ codes "page 00 FF" ++ LF) ≡ bad 3
+unfolding hex_on_literals
+leading_zero = refl
+
+lower_case : journal_of (begun ++ codes "page 0 ff" ++ LF) ≡ bad 3
+unfolding hex_on_literals
+lower_case = refl
+
+odd_digits : journal_of (begun ++ codes "page 0 F" ++ LF) ≡ bad 3
+unfolding hex_on_literals
+odd_digits = refl
+
+no_digits : journal_of (begun ++ codes "page 0 " ++ LF) ≡ bad 3
+unfolding hex_on_literals
+no_digits = refl
+
+opened_twice : journal_of (begun ++ codes "end 1" ++ LF ++ codes "open 1" ++ LF) ≡ bad 4
+unfolding hex_on_literals
+opened_twice = refl
+
+abbrev taken_back : List ℕ
+taken_back = begun ++ codes "page 0 00" ++ LF ++ codes "end 1" ++ LF ++ codes "erase 0" ++ LF
+
+returning : journal_of taken_back
+    ≡ good (record { header = Some (record { version = 1; id = 0x412; line = 1 }); stack = record { pages = record { page = 0; bytes = 0 ∷ []; line = 3; at = 32 } ∷ []; stage = Returning (Erase 0) } ∷ [] })
+unfolding hex_on_literals
+returning = refl
+
+undone : journal_of (taken_back ++ codes "undone 1" ++ LF) ≡ good (record { header = Some (record { version = 1; id = 0x412; line = 1 }); stack = [] })
+unfolding hex_on_literals
+undone = refl
+
+wrong_depth : journal_of (codes "stmjournal 1 0412" ++ LF ++ codes "open 2" ++ LF) ≡ bad 2
+unfolding hex_on_literals
+wrong_depth = refl
+
+torn : journal_of (begun ++ codes "page 0 FFFF") ≡ good (record { header = Some (record { version = 1; id = 0x412; line = 1 }); stack = record { pages = []; stage = Open None } ∷ [] })
+unfolding hex_on_literals
+torn = refl
+
+other_version : journal_of (codes "stmjournal 3 0412" ++ LF) ≡ bad 1
+unfolding hex_on_literals
+other_version = refl
+
+great_number : journal_of (begun ++ codes "page 65536 FF" ++ LF) ≡ bad 3
+unfolding hex_on_literals
+great_number = refl

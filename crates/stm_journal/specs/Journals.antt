@@ -1,0 +1,134 @@
+-- What a journal's bytes come to, and how a journal in memory is tied to them.
+use Rattle.std.specs.Prelude.{◌≡◌, ℕ, ◌+◌, ◌-◌, ◌^◌, ◌<◌, ◌≤◌, min, Bool, true, false, nat_lt, if◌then◌else◌, List, [], ◌∷◌, ◌++◌, length, fold, flat_map, Option, Some, None, is_none}
+use Rattle.stm_journal.specs.declared.entry.Entry.{Entry}
+use Rattle.stm_journal.specs.declared.entry.Entry.TheVariants.{Names, Opens, Keeps, Erases, Programs, Ends, Undoes}
+use Rattle.stm_journal.specs.declared.fault.JournalFault.{JournalFault}
+use Rattle.stm_journal.specs.declared.fault.JournalFault.TheVariants.{File, Bad, OtherDevice, Memory}
+use Rattle.hex.specs.Hex.{IsBytes}
+use Rattle.stm_journal.specs.Text.{text_of, is_void}
+use Rattle.stm_journal.specs.Entries.{entry_of, line_of, line_text}
+use Rattle.stm_journal.specs.States.{StateData, empty_state, allows, after_entry, names_other}
+
+-- every line that isn't void is allowed in its place, or the first that isn't has this number
+pub data JournalData : Type 0 where
+  good : StateData → JournalData
+  bad : (line : ℕ) → JournalData
+
+abbrev pub after_said : ℕ → ℕ → StateData → Option Entry → JournalData
+after_said line ends s None = bad line
+after_said line ends s (Some e) = if allows s e then good (after_entry line ends s e) else bad line
+
+-- a void line counts as nothing; any other has to say something that is allowed there; the first bad line decides
+abbrev pub after_line : ℕ → ℕ → JournalData → List ℕ → JournalData
+after_line line ends (bad first) text = bad first
+after_line line ends (good s) text = if is_void text then good s else after_said line ends s (entry_of text)
+
+-- what the lines so far come to, how many they are, and how many bytes they have with their LFs
+pub record Reading : Type 0 where
+  pub lines : ℕ
+  pub size : ℕ
+  pub journal : JournalData
+
+abbrev pub read_line : Reading → List ℕ → Reading
+read_line r text = record { lines = r.lines + 1; size = r.size + length text + 1; journal = after_line (r.lines + 1) (r.size + length text) r.journal text }
+
+abbrev pub start : Reading
+start = record { lines = 0; size = 0; journal = good empty_state }
+
+abbrev pub reading_of : List (List ℕ) → Reading
+reading_of lines = fold read_line start lines
+
+-- what a journal's bytes come to
+abbrev pub journal_of : List ℕ → JournalData
+journal_of bytes = (reading_of (text_of bytes).lines).journal
+
+-- a journal in memory: its state, how many whole lines and how many bytes it has, and whether a torn tail stands
+pub record Loaded : Type 0 where
+  pub state : StateData
+  pub lines : ℕ
+  pub size : ℕ
+  pub is_torn : Bool
+
+-- The tie between a journal in memory and a journal's bytes.
+pub record IsLoaded (l : Loaded) (bytes : List ℕ) : Type 0 where
+  pub state : journal_of bytes ≡ good l.state
+  pub lines : l.lines ≡ length (text_of bytes).lines
+  pub size : l.size ≡ length bytes
+  pub is_torn : l.is_torn ≡ nat_lt 0 (length (text_of bytes).tail)
+
+-- a number that stays at its top; no journal is that long
+abbrev pub capped : ℕ → ℕ
+capped n = min n (2 ^ 64 - 1)
+
+-- `!` and LF make a torn tail a void line
+abbrev pub mark : Bool → List ℕ
+mark torn = if torn then 33 ∷ 10 ∷ [] else []
+
+-- the bytes that an append of these entries adds
+abbrev pub added_bytes : Bool → List Entry → List ℕ
+added_bytes torn entries = mark torn ++ flat_map line_text entries
+
+abbrev pub past_mark : Loaded → Loaded
+past_mark l = if l.is_torn then record { state = l.state; lines = capped (l.lines + 1); size = capped (l.size + 2); is_torn = false } else l
+
+abbrev pub past_entry : Loaded → Entry → Loaded
+past_entry l e =
+    record {
+      state = after_entry (capped (l.lines + 1)) (capped (l.size + length (line_of e))) l.state e;
+      lines = capped (l.lines + 1);
+      size = capped (l.size + (length (line_of e) + 1));
+      is_torn = false;
+    }
+
+-- a journal in memory after entries more
+abbrev pub loaded_after : List Entry → Loaded → Loaded
+loaded_after entries l = fold past_entry (past_mark l) entries
+
+-- what begins a segment: its line, and the header before it where there is none
+abbrev pub begin_entries : ℕ → StateData → List Entry
+begin_entries id s = if is_none s.header then Names 1 id ∷ Opens (length s.stack + 1) ∷ [] else Opens (length s.stack + 1) ∷ []
+
+-- a journal in memory of no lines
+abbrev pub empty_loaded : Loaded
+empty_loaded = record { state = empty_state; lines = 0; size = 0; is_torn = false }
+
+-- an entry whose line reads back: a header is of version 1, numbers are at most 65,535, bytes are bytes, a page has some
+abbrev pub IsPrintable : Entry → Type 0
+IsPrintable (Names version id) = (version ≡ 1) × (id ≤ 65535)
+IsPrintable (Opens k) = k ≤ 65535
+IsPrintable (Keeps n bytes) = (n ≤ 65535) × ((0 < length bytes) × IsBytes bytes)
+IsPrintable (Erases n) = n ≤ 65535
+IsPrintable (Programs n) = n ≤ 65535
+IsPrintable (Ends k) = k ≤ 65535
+IsPrintable (Undoes k) = k ≤ 65535
+
+-- a journal in memory takes a whole line more, at whose LF its bytes so far end
+pub record PassesLine (text : List ℕ) (old new : Loaded) : Type 0 where
+  pub state : after_line (capped (old.lines + 1)) old.size (good old.state) text ≡ good new.state
+  pub lines : new.lines ≡ capped (old.lines + 1)
+  pub size : new.size ≡ capped (old.size + 1)
+
+abbrev pub BadLine : List ℕ → Loaded → JournalFault → Type 0
+BadLine text old File = ⊥
+BadLine text old (Bad line) = after_line (capped (old.lines + 1)) old.size (good old.state) text ≡ bad line
+BadLine text old OtherDevice = ⊥
+BadLine text old Memory = Unit {0}
+
+-- without memory a journal in memory is as it was; of a fault of the file nothing is said, and there is no other
+abbrev pub LeavesLoaded : Loaded → Loaded → JournalFault → Type 0
+LeavesLoaded l l2 File = Unit {0}
+LeavesLoaded l l2 (Bad line) = ⊥
+LeavesLoaded l l2 OtherDevice = ⊥
+LeavesLoaded l l2 Memory = l2 ≡ l
+
+-- the same of a call that begins a segment, which another device's journal refuses
+abbrev pub LeavesUnbegun : ℕ → Loaded → Loaded → JournalFault → Type 0
+LeavesUnbegun id l l2 File = names_other id l.state ≡ false
+LeavesUnbegun id l l2 (Bad line) = ⊥
+LeavesUnbegun id l l2 OtherDevice = (names_other id l.state ≡ true) × (l2 ≡ l)
+LeavesUnbegun id l l2 Memory = (names_other id l.state ≡ false) × (l2 ≡ l)
+
+-- a journal in memory and the bytes of an append that makes it so
+pub record Prepares (entries : List Entry) (l l2 : Loaded) (bytes : List ℕ) : Type 0 where
+  pub text : bytes ≡ added_bytes l.is_torn entries
+  pub after : l2 ≡ loaded_after entries l

@@ -1,0 +1,54 @@
+-- Loading a journal: what of its bytes was read.
+use Rattle.std.specs.Prelude.{◌≡◌, ℕ, ◌<◌, ◌≤◌, List, ◌++◌, length, take, drop, Result, Ok, Err, OnOk, IfOk, OnErr}
+use Rattle.stm_wire.specs.Rig.{RigState}
+use Rattle.stm_wire.specs.Device.{LosesOwed}
+use Rattle.stm_wire.specs.Moments.{LeavesOnly}
+use Rattle.stm_journal.specs.declared.fault.JournalFault.{JournalFault}
+use Rattle.stm_journal.specs.declared.fault.JournalFault.TheVariants.{File, Bad, OtherDevice, Memory}
+use Rattle.stm_journal.specs.Text.{text_of}
+use Rattle.stm_journal.specs.Journals.{Loaded, journal_of, good, bad}
+use Rattle.stm_journal.specs.Calls.{IsUntouched}
+
+-- these bytes were read: their whole lines are good, and this is their torn tail
+pub record IsRead (l : Loaded) (tail : List ℕ) (bytes : List ℕ) : Type 0 where
+  pub state : journal_of bytes ≡ good l.state
+  pub lines : l.lines ≡ length (text_of bytes).lines
+  pub size : l.size ≡ length bytes
+  pub rest : (text_of bytes).tail ≡ tail
+
+-- these bytes have a bad line, whatever follows; or there was no memory
+abbrev pub StopsAt : List ℕ → JournalFault → Type 0
+StopsAt bytes File = ⊥
+StopsAt bytes (Bad line) = (rest : List ℕ) → journal_of (bytes ++ rest) ≡ bad line
+StopsAt bytes OtherDevice = ⊥
+StopsAt bytes Memory = Unit {0}
+
+abbrev pub IsLoadFault : JournalFault → Type 0
+IsLoadFault File = ⊥
+IsLoadFault (Bad line) = Unit {0}
+IsLoadFault OtherDevice = ⊥
+IsLoadFault Memory = Unit {0}
+
+-- the bytes that were read, and these after them
+abbrev pub TakesBytes : {T : Type 0} → List ℕ → List ℕ → Loaded → List ℕ → Result T JournalFault → Type 0
+TakesBytes more bytes l tail (Ok x) = IsRead l tail (bytes ++ more)
+TakesBytes more bytes l tail (Err e) = StopsAt (bytes ++ more) e
+
+-- a fetch of an honest Rig's journal
+pub record Fetches (at : ℕ) (before after : List ℕ) (old new : RigState) (result : Result ℕ JournalFault) : Type 0 where
+  pub honest : new.is_honest
+  pub moments : LeavesOnly (IsUntouched old) old new
+  pub journal : new.journal ≡ old.journal
+  pub same_device : OnOk result (new.device ≡ old.device)
+  pub kept_device : OnErr result (LosesOwed old.device new.device)
+  pub bytes : IfOk result (λ n. take n after ≡ take n (drop at old.journal))
+  pub more : IfOk result (λ n. n ≡ 0 → at < length old.journal → length before ≡ 0)
+
+-- an honest Rig's journal, of which a beginning was read and nothing was changed
+pub record HasRead (l : Loaded) (tail : List ℕ) (old new : RigState) : Type 0 where
+  pub honest : new.is_honest
+  pub journal : new.journal ≡ old.journal
+  pub device : new.device ≡ old.device
+  pub moments : LeavesOnly (IsUntouched old) old new
+  pub read : IsRead l tail (take l.size old.journal)
+  pub within : l.size ≤ length old.journal

@@ -1,0 +1,21 @@
+// What a line of the journal says: public, since the definitions of journals are in these words.
+use crate::PageBytes;
+
+/// What a line of the journal says.
+#[derive(Drop)]
+pub enum Entry {
+    /// `stmjournal V ID`: the journal has this version, and is of the device with this product id.
+    Names(u16, u16),
+    /// `open K`: segment K begins.
+    Opens(u16),
+    /// `page N HEX`: page N held these bytes.
+    Keeps(u16, PageBytes),
+    /// `erase N`: page N is about to be erased.
+    Erases(u16),
+    /// `program N`: page N is about to be written.
+    Programs(u16),
+    /// `end K`: the command of segment K is done.
+    Ends(u16),
+    /// `undone K`: segment K was taken back.
+    Undoes(u16),
+}

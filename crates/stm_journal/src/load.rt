@@ -1,0 +1,123 @@
+// Reading the journal of a Rig.
+ghost use Rattle.std.specs.Prelude.{◌≡◌, ◌⊎◌, ◌+◌, ◌-◌, ◌^◌, ◌<◌, ◌≤◌, ◌∷◌, ◌++◌, [], ℕ, List, Result, OnOk, IfOk, IfErr, length};
+ghost use Rattle.stm_wire.specs.Dialogue.{GoesOn};
+ghost use Rattle.stm_journal.specs.Journals.{Loaded, IsLoaded, capped};
+ghost use Rattle.stm_journal.specs.Loading.{IsRead, IsLoadFault, TakesBytes, Fetches};
+ghost use Rattle.stm_journal.specs.Calls.{HasJournalCause, AreFetches, Loads};
+
+use crate::{Journal, JournalFault};
+use std::alloc::Global;
+use stm_wire::Rig;
+
+/// How many bytes are fetched at once.
+const BUFFER: usize = 4096;
+
+/// A journal of which a beginning was read.
+#[derive(Drop)]
+struct Loader {
+    /// What the whole lines come to.
+    journal: Journal,
+    /// The bytes after the last LF.
+    tail: Vec<u8>,
+}
+
+impl Loader {
+    fn new(alloc: Global) -> Self
+        ensures { IsRead result.journal result.tail.items [] }
+    {
+        Loader {
+            journal: Journal::new(alloc),
+            tail: Vec::new(alloc),
+        }
+    }
+
+    /// Takes the next byte.
+    fn take_byte(&mut self, byte: u8) -> Result<(), JournalFault>
+        ensures size { OnOk result (capped self.new.journal.size ≡ capped (self.old.journal.size + 1)) }
+        ensures answers { IfErr result IsLoadFault }
+        ensures takes { (bytes : List ℕ) → IsRead self.old.journal self.old.tail.items bytes → length bytes < 2 ^ 63
+            → TakesBytes (byte ∷ []) bytes self.new.journal self.new.tail.items result }
+    {
+        if byte == b'\n' {
+            self.journal.pass_line(&self.tail)?;
+            self.tail.clear();
+        } else {
+            if self.tail.push(byte).is_err() {
+                return Err(JournalFault::Memory);
+            }
+            self.journal.pass_byte();
+        }
+        Ok(())
+    }
+
+    /// Takes the next bytes.
+    fn take(&mut self, more: &[u8]) -> Result<(), JournalFault>
+        ensures size { OnOk result (capped self.new.journal.size ≡ capped (self.old.journal.size + length more.now)) }
+        ensures answers { IfErr result IsLoadFault }
+        ensures takes { (bytes : List ℕ) → IsRead self.old.journal self.old.tail.items bytes → length bytes + length more.now < 2 ^ 63
+            → TakesBytes more.now bytes self.new.journal self.new.tail.items result }
+    {
+        for byte in more {
+            self.take_byte(*byte)?;
+        }
+        Ok(())
+    }
+
+    /// The journal, when all bytes were read.
+    fn finish(self) -> Journal
+        ensures { (bytes : List ℕ) → IsRead self.journal self.tail.items bytes → IsLoaded result bytes }
+    {
+        let mut journal = self.journal;
+        journal.set_torn(!self.tail.is_empty());
+        journal
+    }
+}
+
+/// Reads bytes of the journal from a place on, and answers how many.
+fn fetch<R: Rig>(rig: &mut R, at: u64, buf: &mut [u8]) -> Result<usize, JournalFault>
+    ensures within { IfOk result (λ n. n ≤ length buf.old) }
+    ensures last { 2 ^ 63 - 1 ≤ at → IfOk result (λ n. n ≡ 0) }
+    ensures cause { HasJournalCause (R.view rig.old) (R.view rig.new) result }
+    ensures calls { GoesOn AreFetches (R.view rig.old).calls (R.view rig.new).calls }
+    ensures answers { IfErr result (λ e. e ≡ JournalFault.File) }
+    ensures honest { (R.view rig.old).is_honest → Fetches at buf.old buf.new (R.view rig.old) (R.view rig.new) result }
+{
+    match rig.fetch(at, buf) {
+        Ok(n) => Ok(n),
+        Err(_) => Err(JournalFault::File),
+    }
+}
+
+/// Reads the journal through a buffer.
+fn load_by<R: Rig>(alloc: Global, rig: &mut R, buf: &mut [u8]) -> Result<Journal, JournalFault>
+    requires some { 0 < length buf.old }
+    requires few { length buf.old ≤ 65536 }
+    ensures cause { HasJournalCause (R.view rig.old) (R.view rig.new) result }
+    ensures calls { GoesOn AreFetches (R.view rig.old).calls (R.view rig.new).calls }
+    ensures honest { (R.view rig.old).is_honest → Loads (R.view rig.old) (R.view rig.new) result }
+{
+    let mut loader = Loader::new(alloc);
+    loop {
+        let n = fetch(rig, loader.journal.size(), buf)?;
+        if n == 0 {
+            return Ok(loader.finish());
+        }
+        loader.take(&buf[..n])?;
+    }
+}
+
+impl Journal {
+    /// Reads the journal of a Rig, by `fetch` alone.
+    ///
+    /// On an honest Rig the answer is the journal of its bytes, or `Bad` with the number of the first bad line, where they
+    /// have one; `Memory` never comes of an empty journal. `File` comes only where the Rig's count of journal failures
+    /// rose. Nothing is added, and the device is as it was, but for owed bytes that a stop may lose.
+    pub fn load<R: Rig>(alloc: Global, rig: &mut R) -> Result<Journal, JournalFault>
+        ensures cause { HasJournalCause (R.view rig.old) (R.view rig.new) result }
+        ensures calls { GoesOn AreFetches (R.view rig.old).calls (R.view rig.new).calls }
+        ensures honest { (R.view rig.old).is_honest → Loads (R.view rig.old) (R.view rig.new) result }
+    {
+        let mut buf = [0u8; BUFFER];
+        load_by(alloc, rig, &mut buf)
+    }
+}
