@@ -1,0 +1,5 @@
+pub mod Contacts
+pub mod Ranges
+pub mod Runs
+pub mod Subcommands
+pub mod Simple

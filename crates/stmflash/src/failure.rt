@@ -1,0 +1,86 @@
+// Why the program failed, and what it says of it.
+
+use crate::fault::Fault;
+use std::alloc::{AllocError, AllocFailed};
+use std::io;
+use std::io::ErrorKind;
+use stm_chip::TableFault;
+use thiserror::Error;
+
+/// Why the program failed. Names are those that the words gave.
+#[derive(Debug, Drop, Error)]
+pub enum Failure<'a> {
+    /// The session was refused or broken off.
+    #[error("{0}")]
+    Session(Fault),
+    /// The chip table is refused.
+    #[error("{0}")]
+    Table(TableFault),
+    /// There was no memory for what the program keeps.
+    #[error("out of memory")]
+    Memory,
+    /// A file is there and can't be read.
+    #[error("cannot read {0}")]
+    CannotRead(&'a str),
+    /// The file of a simulator's line can't be read.
+    #[error("cannot read {0}.line")]
+    CannotReadLine(&'a str),
+    /// A file can't be written.
+    #[error("cannot write {0}")]
+    CannotWrite(&'a str),
+    /// The file of a simulator's line can't be written.
+    #[error("cannot write {0}.line")]
+    CannotWriteLine(&'a str),
+    /// The flash has another length than the chip's, or the line's file another form.
+    #[error("bad simulator file {0}")]
+    BadSimulatorFile(&'a str),
+    /// The word is no number.
+    #[error("usage: bad number {0}")]
+    BadNumber(&'a str),
+    /// The word names no device.
+    #[error("usage: bad device {0}")]
+    BadDevice(&'a str),
+}
+
+impl<'a> Failure<'a> {
+    /// The program's exit status: 2 for what its words ask, 1 for all else.
+    pub fn status(&self) -> u8 {
+        match self {
+            Failure::BadDevice(_) | Failure::BadNumber(_) => 2,
+            _ => 1,
+        }
+    }
+
+    /// What an error of a file is, where it is named so.
+    pub fn of_file(error: &io::Error, named: Failure<'a>) -> Failure<'a> {
+        if error.kind() == ErrorKind::OutOfMemory {
+            Failure::Memory
+        } else {
+            named
+        }
+    }
+}
+
+impl From<Fault> for Failure<'_> {
+    fn from(fault: Fault) -> Self {
+        Failure::Session(fault)
+    }
+}
+
+impl From<TableFault> for Failure<'_> {
+    fn from(fault: TableFault) -> Self {
+        Failure::Table(fault)
+    }
+}
+
+impl From<AllocError> for Failure<'_> {
+    fn from(_: AllocError) -> Self {
+        Failure::Memory
+    }
+}
+
+impl<T: Drop> From<AllocFailed<T>> for Failure<'_> {
+    fn from(_failed: AllocFailed<T>) -> Self {
+        Failure::Memory
+    }
+}

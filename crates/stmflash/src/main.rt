@@ -1,0 +1,48 @@
+//! Reads the flash of an STM32 through the bootloader in its ROM (ST AN3155), over a simulator of one.
+#![tactic(auto)]
+
+mod command;
+mod contact;
+mod device;
+mod failure;
+mod fault;
+mod number;
+mod program;
+mod reading;
+mod session;
+#[cfg(test)]
+mod session_tests;
+mod simulator_file;
+mod task;
+#[cfg(test)]
+mod tests;
+mod words;
+
+use program::program;
+use std::io::ErrorKind;
+use std::process::ExitCode;
+use std::{env, io};
+
+/// Runs the program on the words that the system hands in.
+fn run(rt: &HostRuntime) -> io::Result<u8> {
+    let given: Vec<String> = env::args(rt)?.collect(rt.alloc())?;
+    let mut words = Vec::new(rt.alloc());
+    for word in &given {
+        words.push(word.as_str())?;
+    }
+    Ok(program(rt, words.as_slice(), &mut rt.stdout(), &mut rt.stderr()))
+}
+
+fn main(rt: HostRuntime) -> ExitCode {
+    match run(&rt) {
+        Ok(status) => ExitCode::from(status),
+        Err(e) if e.kind() == ErrorKind::OutOfMemory => {
+            let _ = rt.eprintln("stmflash: out of memory");
+            ExitCode::from(1)
+        }
+        Err(_) => {
+            let _ = rt.eprintln("stmflash: usage: the words are not text");
+            ExitCode::from(2)
+        }
+    }
+}
