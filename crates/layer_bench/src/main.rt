@@ -1,0 +1,85 @@
+//! Does one job of a layer, so that a script of `bench/` can time it.
+//!
+//! - `touched TABLE ID RAW TIMES` looks up, so many times, the pages of a chip that an image of its whole flash touches.
+//! - `load TABLE ID JOURNAL` loads a journal.
+//!
+//! ID is decimal.
+#![tactic(auto)]
+
+use std::{env, fs, io};
+use stm_chip::{read_table, touched};
+use stm_image::read_raw;
+use stm_journal::Journal;
+use stm_wire::{Chip, MemoryRig};
+
+const USAGE: &str = "usage: touched TABLE ID RAW TIMES or load TABLE ID JOURNAL";
+
+// The chip of a table file that has this number, or `None` once it is told that there is none.
+fn chip_of(rt: &HostRuntime, name: &str, id: &str) -> io::Result<Option<Chip>> {
+    let text = fs::read(rt, name)?;
+    let Ok(table) = read_table(rt.alloc(), text.as_slice()) else {
+        println!(rt; "{name}: no table")?;
+        return Ok(None);
+    };
+    let Ok(id) = id.parse::<u16>() else {
+        println!(rt; "{USAGE}")?;
+        return Ok(None);
+    };
+    match table.find(id) {
+        Some(chip) => Ok(Some(chip.clone()?)),
+        None => {
+            println!(rt; "{name}: no chip {id}")?;
+            Ok(None)
+        }
+    }
+}
+
+// Tells how many pages a raw file touches.
+fn touch(rt: &HostRuntime, chip: &Chip, raw: &str, times: &str) -> io::Result<()> {
+    let bytes = fs::read(rt, raw)?;
+    let Ok(image) = read_raw(rt.alloc(), bytes.as_slice(), chip.base()) else {
+        return println!(rt; "{raw}: no image");
+    };
+    let mut pages = 0;
+    for _time in 0..times.parse::<u32>().unwrap_or(1) {
+        if let Ok(found) = touched(rt.alloc(), chip, &image) {
+            pages = found.len();
+        }
+    }
+    println!(rt; "{pages} pages")
+}
+
+// Tells how many segments a journal has.
+fn load(rt: &HostRuntime, chip: Chip, name: &str) -> io::Result<()> {
+    let journal = fs::read(rt, name)?;
+    let flash = vec![in rt.alloc(); 0xFF; chip.flash_size() as usize]?;
+    let Some(mut rig) = MemoryRig::new(rt.alloc(), chip, flash, journal) else {
+        return Ok(());
+    };
+    match Journal::load(rt.alloc(), &mut rig) {
+        Ok(loaded) => {
+            let depth = loaded.depth();
+            println!(rt; "{depth} segments")
+        }
+        Err(fault) => println!(rt; "{name}: {fault}"),
+    }
+}
+
+fn main(rt: HostRuntime) -> io::Result<()> {
+    let words: Vec<String> = env::args(&rt)?.collect(rt.alloc())?;
+    match words.as_slice() {
+        [_, verb, table, id, raw, times] if verb.as_str() == "touched" => {
+            match chip_of(&rt, table.as_str(), id.as_str())? {
+                Some(chip) => touch(&rt, &chip, raw.as_str(), times.as_str()),
+                None => Ok(()),
+            }
+        }
+        [_, verb, table, id, journal] if verb.as_str() == "load" => {
+            match chip_of(&rt, table.as_str(), id.as_str())? {
+                Some(chip) => load(&rt, chip, journal.as_str()),
+                None => Ok(()),
+            }
+        }
+        _ => println!(rt; "{USAGE}"),
+    }
+}
