@@ -9,19 +9,31 @@ use Rattle.stm_wire.specs.Reply.{ack}
 use Rattle.stm_wire.specs.Device.{Device, Phase, Fresh, Connected, Gone, Takes, Receives, Feeds, LosesOwed, reset, phase_after, reply_of}
 use Rattle.stm_wire.specs.Harmless.{SameOutside, IsListening, Event, Feed, Reset, Reaches, Harmless}
 
-chip_taken : (old new : Device) (bytes : List ℕ) (v : Option Verdict) → Takes old bytes v new → new.chip ≡ old.chip
-chip_taken old new bytes None e = ap (λ (x : Device). x.chip) e
-chip_taken old new bytes (Some Refused) e = ap (λ (x : Device). x.chip) e
-chip_taken old new bytes (Some Done) (flash, effect, e) = ap (λ (x : Device). x.chip) e
-chip_taken old new bytes (Some Loose) l = l.chip
+-- of the same chip, with the same version and codes
+pub record IsSameMake (old new : Device) : Type 0 where
+  pub chip : new.chip ≡ old.chip
+  pub version : new.version ≡ old.version
+  pub codes : new.codes ≡ old.codes
 
-chip_received : (byte : ℕ) (old new : Device) (phase : Phase) → Receives old phase byte new → new.chip ≡ old.chip
-chip_received byte old new Fresh e = ap (λ (x : Device). x.chip) e ∙ cond_both (eqb byte 0x7F) (record old { owed = old.owed ++ ack ∷ []; phase = Connected [] }) old (λ (x : Device). x.chip ≡ old.chip) (λ _. refl) (λ _. refl)
-chip_received byte old new (Connected rest) r = chip_taken old new (rest ++ byte ∷ []) (verdict old.chip old.codes (rest ++ byte ∷ [])) r
-chip_received byte old new Gone e = ap (λ (x : Device). x.chip) e
+make_changed : (old new target : Device) → IsSameMake old target → new ≡ target → IsSameMake old new
+make_changed old new target same e = subst (IsSameMake old) (sym e) same
 
-pub same_chip : (byte : ℕ) (old new : Device) → Feeds byte old new → new.chip ≡ old.chip
-same_chip byte old new f = chip_received byte old new old.phase f.receives
+make_taken : (old new : Device) (bytes : List ℕ) (v : Option Verdict) → Takes old bytes v new → IsSameMake old new
+make_taken old new bytes None e = make_changed old new _ (record { chip = refl; version = refl; codes = refl }) e
+make_taken old new bytes (Some Refused) e = make_changed old new _ (record { chip = refl; version = refl; codes = refl }) e
+make_taken old new bytes (Some Done) (flash, effect, e) = make_changed old new _ (record { chip = refl; version = refl; codes = refl }) e
+make_taken old new bytes (Some Loose) l = record { chip = l.chip; version = l.version; codes = l.codes }
+
+make_received : (byte : ℕ) (old new : Device) (phase : Phase) → Receives old phase byte new → IsSameMake old new
+make_received byte old new Fresh e =
+    let connected : Device = record old { owed = old.owed ++ ack ∷ []; phase = Connected [] } in
+    let same = cond_both (eqb byte 0x7F) connected old (IsSameMake old) (λ _. record { chip = refl; version = refl; codes = refl }) (λ _. record { chip = refl; version = refl; codes = refl }) in
+    make_changed old new (cond (eqb byte 0x7F) connected old) same e
+make_received byte old new (Connected rest) r = make_taken old new (rest ++ byte ∷ []) (verdict old.chip old.codes (rest ++ byte ∷ [])) r
+make_received byte old new Gone e = make_changed old new old (record { chip = refl; version = refl; codes = refl }) e
+
+pub same_make : (byte : ℕ) (old new : Device) → Feeds byte old new → IsSameMake old new
+same_make byte old new f = make_received byte old new old.phase f.receives
 
 -- two flashes that agree with a third outside the pages
 from_first : (chip : ChipData) (pages : List ℕ) (first second third : List ℕ) → SameOutside chip pages first second → SameOutside chip pages first third → SameOutside chip pages second third
@@ -37,7 +49,7 @@ harmless_fed byte pages old new h f = record {
       let then' = h.each (Feed ∷ events) last (new, f, reaches) in
       record {
         phase = then'.phase;
-        flash = subst (λ (c : ChipData). SameOutside c pages new.flash last.flash) (sym (same_chip byte old new f)) (from_first old.chip pages old.flash new.flash last.flash now.flash then'.flash);
+        flash = subst (λ (c : ChipData). SameOutside c pages new.flash last.flash) (sym (same_make byte old new f).chip) (from_first old.chip pages old.flash new.flash last.flash now.flash then'.flash);
       };
 }
 

@@ -12,12 +12,14 @@ use Rattle.stm_wire.specs.Settling.{IsSettling, IsWithin, IsGoing, with_nothing_
 use Rattle.stm_wire.proofs.Flash.{same_flash, then_same}
 use Rattle.stm_wire.proofs.Mild.{harmless, mild_empty, no_pair}
 use Rattle.stm_wire.proofs.Awaited.{awaited_most, awaited_some, due, fed, Refuses, Advances}
-use Rattle.stm_wire.proofs.Closed.{same_chip, harmless_fed, unharmed_fed, harmless_owed, harmless_loses}
+use Rattle.stm_wire.proofs.Closed.{same_make, harmless_fed, unharmed_fed, harmless_owed, harmless_loses}
 
 -- what settling keeps is kept when owed bytes are lost
 pub settling_loses : (byte : ℕ) (pages : List ℕ) (start d new : Device) → IsSettling byte pages start d → LosesOwed d new → IsSettling byte pages start new
 settling_loses byte pages start d new s (n, e) = record {
   same_chip = ap (λ (x : Device). x.chip) e ∙ s.same_chip;
+  same_version = ap (λ (x : Device). x.version) e ∙ s.same_version;
+  same_codes = ap (λ (x : Device). x.codes) e ∙ s.same_codes;
   harmless = harmless_loses byte pages d new s.harmless (n, e);
   flash = subst (λ (x : Device). SameOutside start.chip pages start.flash x.flash) (sym e) s.flash;
   owed = (let few = s.owed in let l = ap (λ (x : Device). length x.owed) e in let k = length-drop n d.owed in omega arith);
@@ -26,7 +28,9 @@ settling_loses byte pages start d new s (n, e) = record {
 -- and when the byte is fed, where what is owed then stays small
 pub settling_fed : (byte : ℕ) (pages : List ℕ) (start d new : Device) → IsSettling byte pages start d → Feeds byte d new → length new.owed ≤ 4096 → IsSettling byte pages start new
 settling_fed byte pages start d new s f few = record {
-  same_chip = same_chip byte d new f ∙ s.same_chip;
+  same_chip = (same_make byte d new f).chip ∙ s.same_chip;
+  same_version = (same_make byte d new f).version ∙ s.same_version;
+  same_codes = (same_make byte d new f).codes ∙ s.same_codes;
   harmless = harmless_fed byte pages d new s.harmless f;
   flash = then_same start.chip pages start.flash d.flash new.flash s.flash (subst (λ (c : ChipData). SameOutside c pages d.flash new.flash) s.same_chip (unharmed_fed byte pages d new s.harmless f));
   owed = few;
@@ -132,7 +136,7 @@ step byte pages start left d new is small g f = steps byte pages start left d ne
 pub going : (byte : ℕ) (pages : List ℕ) (d : Device) (left : ℕ) → 131047 ≤ left → Harmless d byte pages → length d.owed ≤ 4096 →
     IsGoing byte pages d left (with_nothing_owed d)
 going byte pages d left many h few = record {
-  settling = record { same_chip = refl; harmless = harmless_owed byte pages d [] h; flash = same_flash d.chip pages d.flash d.flash refl; owed = lit≤ tt };
+  settling = record { same_chip = refl; same_version = refl; same_codes = refl; harmless = harmless_owed byte pages d [] h; flash = same_flash d.chip pages d.flash d.flash refl; owed = lit≤ tt };
   quiet = refl;
   within = within d.phase refl;
 }
@@ -161,6 +165,8 @@ settling_connects byte pages start d new is s at quiet f =
     let few : length next.owed ≤ 4096 = rw quiet (lit≤ tt) in
     subst (IsSettling byte pages start) (sym (connects d new at f)) (record {
       same_chip = s.same_chip;
+      same_version = s.same_version;
+      same_codes = s.same_codes;
       harmless = harmless byte pages next is.size (mild_empty d.chip d.codes byte pages);
       flash = s.flash;
       owed = few;

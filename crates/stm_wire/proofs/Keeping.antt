@@ -156,7 +156,7 @@ pub not_owed : (first : ℕ) (d new : Device) → d.owed ≡ [] → GetsFirst (S
 not_owed first d new e t = let h = sym e ∙ ap (λ (x : Device). x.owed) t in cc
 
 pub settling_start : (byte : ℕ) (pages : List ℕ) (d : Device) → Harmless d byte pages → length d.owed ≤ 4096 → IsSettling byte pages d d
-settling_start byte pages d h few = record { same_chip = refl; harmless = h; flash = same_flash d.chip pages d.flash d.flash refl; owed = few }
+settling_start byte pages d h few = record { same_chip = refl; same_version = refl; same_codes = refl; harmless = h; flash = same_flash d.chip pages d.flash d.flash refl; owed = few }
 
 pub going_next : (byte limit sent : ℕ) (pages : List ℕ) (start d : Device) → sent < limit → IsGoing byte pages start (limit - sent) d → IsGoing byte pages start (suc (limit - (sent + 1))) d
 going_next byte limit sent pages start d lt g =

@@ -76,9 +76,12 @@ IsWithin byte left Fresh = byte ≡ 0x7F → 3 ≤ left
 IsWithin byte left (Connected rest) = awaited byte rest ≤ left
 IsWithin byte left Gone = ⊥
 
--- the device is as harmless as at the start, with the start's flash outside the pages, and owes little
+-- the device is the start's chip, with its version and codes, as harmless, with its flash outside the pages, and owes
+-- little
 pub record IsSettling (byte : ℕ) (pages : List ℕ) (start d : Device) : Type 0 where
   pub same_chip : d.chip ≡ start.chip
+  pub same_version : d.version ≡ start.version
+  pub same_codes : d.codes ≡ start.codes
   pub harmless : Harmless d byte pages
   pub flash : SameOutside start.chip pages start.flash d.flash
   pub owed : length d.owed ≤ 4096
