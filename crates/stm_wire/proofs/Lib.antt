@@ -20,6 +20,7 @@ mod Plain
 mod Protecting
 mod Reading
 mod Receiving
+mod Refusals
 mod SentLists
 mod Simulating
 mod Steps

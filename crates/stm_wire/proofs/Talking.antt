@@ -7,15 +7,14 @@ use Rattle.stm_wire.specs.declared.rig.RigCall.TheVariants.{Put, Get, Append, Fe
 use Rattle.stm_wire.specs.declared.fault.RigFault.{RigFault}
 use Rattle.stm_wire.specs.declared.fault.WireFault.{WireFault}
 use Rattle.stm_wire.specs.declared.fault.WireFault.TheVariants.{Line, Quiet}
-use Rattle.stm_wire.specs.Reply.{nack}
 use Rattle.stm_wire.specs.Rig.{RigState, Rises, HasCause, Records}
 use Rattle.stm_wire.specs.Dialogue.{GoesOn, puts_of, AreLineCalls}
 use Rattle.stm_wire.specs.SentList.{settling_run}
-use Rattle.stm_wire.specs.Settling.{Talks, PutsAll, PutsPart, HasAskedAll, EndsRefused, HasLineCause, IsNotQuiet, Speaks}
+use Rattle.stm_wire.specs.Settling.{Talks, PutsAll, PutsPart, HasAskedAll, HasLineCause, IsNotQuiet, Speaks}
 use Rattle.stm_wire.proofs.Turns.{GoesOn-append, GoesOn-weaker}
 use Rattle.stm_wire.proofs.Holding.{on_fault}
 
-puts_of-append : (xs ys : List RigCall) → puts_of (xs ++ ys) ≡ puts_of xs ++ puts_of ys
+pub puts_of-append : (xs ys : List RigCall) → puts_of (xs ++ ys) ≡ puts_of xs ++ puts_of ys
 puts_of-append [] ys = refl
 puts_of-append (Put byte ∷ xs) ys = ap (λ zs. byte ∷ zs) (puts_of-append xs ys)
 puts_of-append (Get answer ∷ xs) ys = puts_of-append xs ys
@@ -81,7 +80,7 @@ pub record Failed (bytes : List ℕ) (most : ℕ) (a b : RigState) : Type 0 wher
   pub journal : b.journal_failures ≡ a.journal_failures
   pub part : GoesOn (PutsPart bytes most) a.calls b.calls
 
-goes_nowhere : (P : List RigCall → Type 0) (o : Option (List RigCall)) → P [] → GoesOn P o o
+pub goes_nowhere : (P : List RigCall → Type 0) (o : Option (List RigCall)) → P [] → GoesOn P o o
 goes_nowhere P None p = refl
 goes_nowhere P (Some past) p = ([], ap (λ zs. Some zs) (sym (append-nil past)), p)
 
@@ -211,30 +210,6 @@ went_more byte sent a b c p q =
     let same : replicate sent byte ++ byte ∷ [] ≡ replicate (sent + 1) byte = replicate-more sent byte ∙ ap (λ k. replicate k byte) one in
     let count : 4099 * sent + 4099 ≡ 4099 * (sent + 1) = omega arith in
     subst (λ n. Went (replicate (sent + 1) byte) n a c) count (subst (λ xs. Went xs (4099 * sent + 4099) a c) same both)
-
--- A refusal: the byte, and NACK first
-pub refused_by : (byte : ℕ) (a b c : Option (List RigCall)) → GoesOn (λ calls. calls ≡ Put byte ∷ []) a b → GoesOn (λ calls. calls ≡ Get (Some nack) ∷ []) b c → GoesOn (EndsRefused byte) a c
-refused_by byte a b c p q = GoesOn-append (λ calls. calls ≡ Put byte ∷ []) (λ calls. calls ≡ Get (Some nack) ∷ []) (EndsRefused byte) a b c p q
-    (λ us vs u v. record { before = []; after = []; is = ap (λ z. z ++ vs) u ∙ ap (λ z. Put byte ∷ z) v; last = refl })
-
-pub refused_then : (byte most : ℕ) (a b c : Option (List RigCall)) → GoesOn (EndsRefused byte) a b → GoesOn (PutsAll [] most) b c → GoesOn (EndsRefused byte) a c
-refused_then byte most a b c p q = GoesOn-append (EndsRefused byte) (PutsAll [] most) (EndsRefused byte) a b c p q
-    (λ us vs u v. record {
-      before = u.before;
-      after = u.after ++ vs;
-      is = ap (λ z. z ++ vs) u.is ∙ append_assoc u.before (Put byte ∷ Get (Some nack) ∷ u.after) vs;
-      last = puts_of-append u.after vs ∙ ap (λ z. z ++ puts_of vs) u.last ∙ v.puts;
-    })
-
-pub refused_after : (P : List RigCall → Type 0) (byte : ℕ) (a b c : Option (List RigCall)) → GoesOn P a b → GoesOn (EndsRefused byte) b c → GoesOn (EndsRefused byte) a c
-refused_after P byte a b c p q = GoesOn-append P (EndsRefused byte) (EndsRefused byte) a b c p q
-    (λ us vs u v. record { before = us ++ v.before; after = v.after; is = ap (λ z. us ++ z) v.is ∙ sym (append_assoc us v.before (Put byte ∷ Get (Some nack) ∷ v.after)); last = v.last })
-
-pub refused_calls : {T : Type 0} (byte first : ℕ) (u : T) (answer : Option ℕ) (a b c : Option (List RigCall)) → answer ≡ Some first → first ≡ nack → Records {T = T} (Put byte) (Ok u) a b → Records {T = Option ℕ} (Get answer) (Ok answer) b c → GoesOn (EndsRefused byte) a c
-refused_calls byte first u answer a b c e is_nack put got =
-    refused_by byte a b c (recorded_ok (Put byte) u a b put)
-    (GoesOn-weaker (λ calls. calls ≡ Get answer ∷ []) (λ calls. calls ≡ Get (Some nack) ∷ []) b c (recorded_ok (Get answer) answer b c got)
-    (λ calls f. f ∙ ap (λ (o : Option ℕ). Get o ∷ []) (e ∙ ap (λ n. Some n) is_nack)))
 
 -- the byte put, and an answer taken
 pub went_both : {T : Type 0} (byte : ℕ) (u : T) (answer : Option ℕ) (a b c : RigState) → HasCause {T = T} a.line_failures b.line_failures (Ok u) → b.journal_failures ≡ a.journal_failures → Records {T = T} (Put byte) (Ok u) a.calls b.calls

@@ -1,9 +1,9 @@
 -- What settling does to a Rig: on any line, and on one that follows the model.
-use Rattle.std.specs.Prelude.{◌≡◌, ◌≢◌, ℕ, ◌+◌, ◌-◌, ◌*◌, ◌≤◌, ◌==◌, if◌then◌else◌, List, [], ◌∷◌, ◌++◌, length, take, replicate, Bool, Some, Result, IfOk, OnOk, IfErr, MatchBool}
+use Rattle.std.specs.Prelude.{◌≡◌, ◌≢◌, ℕ, ◌+◌, ◌-◌, ◌*◌, ◌≤◌, ◌==◌, if◌then◌else◌, List, [], ◌∷◌, ◌++◌, length, take, replicate, Bool, Some, None, Result, IfOk, OnOk, IfErr, MatchBool}
 use Rattle.stm_wire.specs.declared.fault.WireFault.{WireFault}
 use Rattle.stm_wire.specs.declared.fault.WireFault.TheVariants.{Line, Quiet}
 use Rattle.stm_wire.specs.declared.rig.RigCall.{RigCall}
-use Rattle.stm_wire.specs.declared.rig.RigCall.TheVariants.{Put, Get}
+use Rattle.stm_wire.specs.declared.rig.RigCall.TheVariants.{Put, Get, Append, Fetch}
 use Rattle.stm_wire.specs.Reply.{nack}
 use Rattle.stm_wire.specs.Device.{Device, Phase, Fresh, Connected, Gone, IsSettled}
 use Rattle.stm_wire.specs.Harmless.{SameOutside, Harmless}
@@ -37,12 +37,33 @@ SettlesWithin byte limit calls = Talks (IsSettlingRun byte limit) (4100 * (limit
 abbrev pub HasAskedAll : ℕ → ℕ → List RigCall → Type 0
 HasAskedAll byte limit calls = puts_of calls ≡ replicate limit byte ++ 0x7F ∷ []
 
--- the last byte put was this one, and the first byte that came after it says no
+-- first comes a get, and it brings no NACK
+abbrev pub HearsNoNack : List RigCall → Type 0
+HearsNoNack [] = ⊥
+HearsNoNack (Put byte ∷ calls) = ⊥
+HearsNoNack (Get answer ∷ calls) = answer ≢ Some nack
+HearsNoNack (Append n ∷ calls) = ⊥
+HearsNoNack (Fetch ∷ calls) = ⊥
+
+-- no byte put was refused: after each came a get next, which brought no NACK
+abbrev pub IsUnrefused : List RigCall → Type 0
+IsUnrefused [] = Unit {0}
+IsUnrefused (Put byte ∷ calls) = HearsNoNack calls × IsUnrefused calls
+IsUnrefused (Get answer ∷ calls) = IsUnrefused calls
+IsUnrefused (Append n ∷ calls) = IsUnrefused calls
+IsUnrefused (Fetch ∷ calls) = IsUnrefused calls
+
+-- the last byte put was this one, and the first byte that came after it says no; before it no byte was refused
 pub record EndsRefused (byte : ℕ) (calls : List RigCall) : Type 0 where
   pub before : List RigCall
   pub after : List RigCall
   pub is : calls ≡ before ++ Put byte ∷ Get (Some nack) ∷ after
   pub last : puts_of after ≡ []
+  pub first : IsUnrefused before
+
+-- one get, which stayed quiet
+abbrev pub IsSilence : List RigCall → Type 0
+IsSilence calls = calls ≡ Get None ∷ []
 
 -- A fault of the line is answered only where its count rose, and at Ok the count is as it was. That of the journal
 -- always is.

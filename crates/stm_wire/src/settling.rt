@@ -1,5 +1,5 @@
 // Settling: ending whatever exchange a stopped host began, without harm.
-ghost use Rattle.std.specs.Prelude.{◌≡◌, ◌≤◌, ◌+◌, ◌*◌, ℕ, suc, List, length, OnOk, IfOk, IfErr, IsTrue, [], ◌∷◌};
+ghost use Rattle.std.specs.Prelude.{◌≡◌, ◌≤◌, ◌+◌, ◌*◌, ℕ, suc, List, length, OnOk, IfOk, IfErr, MatchBool, [], ◌∷◌};
 ghost use Rattle.stm_wire.specs.Command.{IsOkOrLine, with_rest};
 ghost use Rattle.stm_wire.specs.declared.fault.WireFault.TheVariants.{Quiet};
 ghost use Rattle.stm_wire.specs.Device.{Device, Phase, Fresh, Connected};
@@ -7,7 +7,7 @@ ghost use Rattle.stm_wire.specs.Dialogue.{GoesOn};
 ghost use Rattle.stm_wire.specs.Harmless.{Harmless};
 ghost use Rattle.stm_wire.specs.SentList.{settling_run};
 ghost use Rattle.stm_wire.specs.Settling.{IsSettling, IsGoing, with_nothing_owed, KeepsSettling, LeadsTo, SendsOnce, Settles};
-ghost use Rattle.stm_wire.specs.Settling.{PutsAll, PutsPart, SettlesWithin, HasAskedAll, EndsRefused, HasLineCause, IsNotQuiet, Speaks};
+ghost use Rattle.stm_wire.specs.Settling.{PutsAll, PutsPart, SettlesWithin, HasAskedAll, IsUnrefused, EndsRefused, IsSilence, HasLineCause, IsNotQuiet, Speaks};
 
 use crate::dialogue::{ACK, NACK};
 use crate::{Patience, Rig, WireFault};
@@ -38,8 +38,9 @@ fn drain<R: Rig>(rig: &mut R) -> Result<(), WireFault>
 fn send_once<R: Rig>(rig: &mut R, byte: u8) -> Result<bool, WireFault>
     ensures speaks { Speaks (byte ∷ []) 4099 result (R.view rig.old) (R.view rig.new) }
     ensures loud { IsNotQuiet result }
-    ensures refused { IfOk result (λ refused. IsTrue refused
-        → GoesOn (EndsRefused byte) (R.view rig.old).calls (R.view rig.new).calls) }
+    ensures refused { IfOk result (λ refused. MatchBool refused
+        (GoesOn (EndsRefused byte) (R.view rig.old).calls (R.view rig.new).calls)
+        (GoesOn IsUnrefused (R.view rig.old).calls (R.view rig.new).calls)) }
     ensures once { (R.view rig.old).is_honest → (pages : List ℕ) (start : Device) (left : ℕ)
         → IsGoing byte pages start (suc left) (R.view rig.old).device
         → SendsOnce byte pages start left result (R.view rig.old) (R.view rig.new) }
@@ -58,6 +59,7 @@ fn send_once<R: Rig>(rig: &mut R, byte: u8) -> Result<bool, WireFault>
 fn expect_quiet<R: Rig>(rig: &mut R) -> Result<(), WireFault>
     ensures speaks { Speaks [] 1 result (R.view rig.old) (R.view rig.new) }
     ensures loud { IsNotQuiet result }
+    ensures silence { OnOk result (GoesOn IsSilence (R.view rig.old).calls (R.view rig.new).calls) }
     ensures honest { (R.view rig.old).is_honest → (byte : ℕ) (pages : List ℕ) (start : Device)
         → IsSettling byte pages start (R.view rig.old).device → (R.view rig.old).device.owed ≡ []
         → LeadsTo byte pages start result (R.view rig.old) (R.view rig.new) (R.view rig.old).device }
@@ -73,6 +75,7 @@ fn connect<R: Rig>(rig: &mut R) -> Result<(), WireFault>
     ensures speaks { Speaks (0x7F ∷ []) 2 result (R.view rig.old) (R.view rig.new) }
     ensures quiet { IfErr result (λ fault. fault ≡ Quiet
         → GoesOn (PutsAll (0x7F ∷ []) 2) (R.view rig.old).calls (R.view rig.new).calls) }
+    ensures unrefused { OnOk result (GoesOn IsUnrefused (R.view rig.old).calls (R.view rig.new).calls) }
     ensures honest { (R.view rig.old).is_honest → (byte : ℕ) (pages : List ℕ) (start : Device)
         → IsSettling byte pages start (R.view rig.old).device
         → (R.view rig.old).device.phase ≡ Fresh → (R.view rig.old).device.owed ≡ []
@@ -90,6 +93,7 @@ fn connect<R: Rig>(rig: &mut R) -> Result<(), WireFault>
 fn probe<R: Rig>(rig: &mut R, byte: u8) -> Result<(), WireFault>
     ensures speaks { Speaks (byte ∷ []) 2 result (R.view rig.old) (R.view rig.new) }
     ensures loud { IsNotQuiet result }
+    ensures unrefused { OnOk result (GoesOn IsUnrefused (R.view rig.old).calls (R.view rig.new).calls) }
     ensures honest { (R.view rig.old).is_honest → (pages : List ℕ) (start : Device)
         → IsSettling byte pages start (R.view rig.old).device
         → (R.view rig.old).device.phase ≡ Connected [] → (R.view rig.old).device.owed ≡ []
@@ -158,7 +162,8 @@ fn send_bytes<R: Rig>(rig: &mut R, byte: u8, limit: u32) -> Result<(), WireFault
 /// the first byte of a reply is NACK. A device that has refused none of them is fresh from reset or gone: it is sent 7F,
 /// and where it answers ACK, the byte twice, of which the second has to be refused.
 ///
-/// On any line that keeps a record, what it puts is a beginning of the byte `limit` times, 7F, and the byte twice. On one
+/// On any line that keeps a record, what it puts is a beginning of the byte `limit` times, 7F, and the byte twice, and it
+/// answers Ok at the first refusal: no byte before the last one that it put was answered by NACK first. On one
 /// that follows the model, from a device that is harmless for the byte and some pages and owes at most 4,096 bytes, with a
 /// limit of 131,047 or more, each moment leaves such a device, with the same chip, version and codes, the same flash
 /// outside these pages and the same journal; it answers Ok, and the device is then settled, or `Line`.

@@ -5,7 +5,8 @@ use Rattle.stm_wire.specs.Reply.{nack}
 use Rattle.stm_wire.specs.Device.{Device, Connected}
 use Rattle.stm_wire.specs.Settling.{with_nothing_owed}
 use Rattle.stm_wire.proofs.Keeping.{keeps_get, keeps_then, keeps_known, here, taken_one, confirmed}
-use Rattle.stm_wire.proofs.Talking.{failed_put, speaks_line, speaks_then, went_both, refused_calls, refused_then}
+use Rattle.stm_wire.proofs.Talking.{failed_put, speaks_line, speaks_then, went_both}
+use Rattle.stm_wire.proofs.Refusals.{refused_calls, refused_then}
 use Rattle.stm_wire.proofs.settling.confirm.Goals as goal
 
 pub returns-in_err-put-clause-honest : goal.returns-in_err-put-clause-honest

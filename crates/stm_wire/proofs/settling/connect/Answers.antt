@@ -1,4 +1,4 @@
-use Rattle.std.proofs.Common.{rules, ℕ, ◌∙◌, ap, subst, Option, [], ◌∷◌, lit≤}
+use Rattle.std.proofs.Common.{rules, ℕ, ◌∙◌, ap, subst, Option, Some, [], ◌∷◌, lit≤}
 use Rattle.stm_wire.specs.Rig.{GetsFirst}
 use Rattle.stm_wire.specs.Reply.{ack}
 use Rattle.stm_wire.specs.Device.{Device}
@@ -7,6 +7,7 @@ use Rattle.stm_wire.proofs.Keeping.{keeps_get, keeps_then, keeps_put, here, take
 use Rattle.stm_wire.proofs.Going.{settling_connects}
 use Rattle.stm_wire.specs.declared.fault.WireFault.TheVariants.{Garbled, Quiet}
 use Rattle.stm_wire.proofs.Talking.{went_put, failed_put, failed_then, failed_get, speaks_ok, speaks_line, speaks_other, went_both}
+use Rattle.stm_wire.proofs.Refusals.{unrefused_first}
 use Rattle.stm_wire.proofs.settling.connect.Goals as goal
 
 pub returns-in_err-put-clause-honest : goal.returns-in_err-put-clause-honest
@@ -99,3 +100,9 @@ returns-in-None-clause-quiet g c same =
     let f = c.in_ok-get.ensures in
     let u : Unit {0} = tt in
     (went_both 0x7F u c.in_ok-get.field-0 (V c.args.rig.now) (V c.put.new.self) (V c.get.new.self) e.cause e.journal_count e.recorded f.cause f.journal_count f.recorded).all
+
+pub returns-in-Some-eq121-clause-unrefused : goal.returns-in-Some-eq121-clause-unrefused
+returns-in-Some-eq121-clause-unrefused g c =
+    let V = g.R.Rig.view in
+    let u : Unit {0} = tt in
+    unrefused_first 0x7F ack u c.in_ok-get.field-0 (V c.args.rig.now).calls (V c.put.new.self).calls (V c.get.new.self).calls (λ same. cc) (c.in-Some-eq121.is ∙ ap (λ n. Some n) c.in-Some-eq121.field-0-test) c.in_ok-put.ensures.recorded c.in_ok-get.ensures.recorded

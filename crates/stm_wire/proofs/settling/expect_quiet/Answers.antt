@@ -3,6 +3,7 @@ use Rattle.stm_wire.specs.Rig.{GetsFirst}
 use Rattle.stm_wire.proofs.Keeping.{keeps_get, not_owed}
 use Rattle.stm_wire.specs.declared.fault.WireFault.TheVariants.{Garbled}
 use Rattle.stm_wire.proofs.Talking.{went_get, failed_get, speaks_ok, speaks_line, speaks_other}
+use Rattle.stm_wire.proofs.Refusals.{heard_silence}
 use Rattle.stm_wire.proofs.settling.expect_quiet.Goals as goal
 
 pub returns-in_err-get-clause-honest : goal.returns-in_err-get-clause-honest
@@ -47,3 +48,8 @@ returns-in-Some-clause-speaks g c =
     let V = g.R.Rig.view in
     let e = c.in_ok-get.ensures in
     speaks_other [] [] 1 1 Garbled (V c.args.rig.now) (V c.get.new.self) (omega arith) (λ e. cc) (went_get c.in_ok-get.field-0 (V c.args.rig.now) (V c.get.new.self) e.cause e.journal_count e.recorded)
+
+pub returns-in-None-clause-silence : goal.returns-in-None-clause-silence
+returns-in-None-clause-silence g c =
+    let V = g.R.Rig.view in
+    heard_silence c.in_ok-get.field-0 (V c.args.rig.now).calls (V c.get.new.self).calls c.in-None.is c.in_ok-get.ensures.recorded

@@ -4,6 +4,7 @@ use Rattle.stm_wire.specs.Device.{Device}
 use Rattle.stm_wire.specs.Command.{with_rest}
 use Rattle.stm_wire.proofs.Keeping.{keeps_then, keeps_known, here, probed}
 use Rattle.stm_wire.proofs.Talking.{went_put, failed_put, speaks_line, speaks_then}
+use Rattle.stm_wire.proofs.Refusals.{unrefused_silence}
 use Rattle.stm_wire.proofs.settling.probe.Goals as goal
 
 pub returns-in_err-put-clause-honest : goal.returns-in_err-put-clause-honest
@@ -43,3 +44,9 @@ returns-clause-speaks g c =
     let byte = c.args.byte in
     let u : Unit {0} = tt in
     speaks_then (byte ∷ []) [] 1 1 c.expect_quiet.result (V c.args.rig.now) (V c.put.new.self) (V c.expect_quiet.new.rig) (went_put byte u (V c.args.rig.now) (V c.put.new.self) e.cause e.journal_count e.recorded) c.expect_quiet.ensures.speaks
+
+pub returns-clause-unrefused : goal.returns-clause-unrefused
+returns-clause-unrefused g c =
+    let V = g.R.Rig.view in
+    let u : Unit {0} = tt in
+    on_ok_weaker c.expect_quiet.result (λ quiet. unrefused_silence c.args.byte u (V c.args.rig.now).calls (V c.put.new.self).calls (V c.expect_quiet.new.rig).calls c.in_ok-put.ensures.recorded quiet) c.expect_quiet.ensures.silence

@@ -9,7 +9,8 @@ use Rattle.stm_wire.specs.Device.{Device}
 use Rattle.stm_wire.specs.Command.{with_rest}
 use Rattle.stm_wire.proofs.Keeping.{keeps_then, here}
 use Rattle.stm_wire.specs.declared.fault.WireFault.TheVariants.{Quiet}
-use Rattle.stm_wire.proofs.Talking.{went_then, speaks_then, speaks_fault, speaks_went, refused_after}
+use Rattle.stm_wire.proofs.Talking.{went_then, speaks_then, speaks_fault, speaks_went}
+use Rattle.stm_wire.proofs.Refusals.{unrefused_then, refused_after}
 use Rattle.stm_wire.proofs.settling.reconnect.Goals as goal
 
 pub returns-in_err-connect-clause-honest : goal.returns-in_err-connect-clause-honest
@@ -105,10 +106,7 @@ returns-clause-quiet g c =
 pub returns-clause-refused : goal.returns-clause-refused
 returns-clause-refused g c =
     let V = g.R.Rig.view in
-    let byte = c.args.byte in
-    let u : Unit {0} = tt in
-    let a = V c.args.rig.now in
-    let b = V c.connect.new.rig in
-    let d = V c.probe.new.rig in
-    let two = went_then (0x7F ∷ []) (byte ∷ []) 2 2 a b d (speaks_went (0x7F ∷ []) 2 u a b c.in_ok-connect.ensures.speaks) (speaks_went (byte ∷ []) 2 u b d c.in_ok-probe.ensures.speaks) in
-    on_ok_weaker c.confirm.result (λ w. refused_after (PutsAll (0x7F ∷ byte ∷ []) 4) byte a.calls d.calls (V c.confirm.new.rig).calls two.all w) c.confirm.ensures.refused
+    let a = (V c.args.rig.now).calls in
+    let b = (V c.connect.new.rig).calls in
+    let d = (V c.probe.new.rig).calls in
+    on_ok_weaker c.confirm.result (λ w. refused_after c.args.byte a d (V c.confirm.new.rig).calls (unrefused_then a b d c.in_ok-connect.ensures.unrefused c.in_ok-probe.ensures.unrefused) w) c.confirm.ensures.refused

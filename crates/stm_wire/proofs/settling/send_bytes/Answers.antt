@@ -2,7 +2,7 @@ use Rattle.std.proofs.Common.{rules, ◌≡◌, ◌+◌, ◌-◌, ◌*◌, arith
 use Rattle.stm_wire.specs.declared.fault.WireFault.{WireFault}
 use Rattle.stm_wire.specs.Dialogue.{GoesOn}
 use Rattle.stm_wire.specs.SentList.{settling_run}
-use Rattle.stm_wire.specs.Settling.{PutsAll, PutsPart, HasAskedAll}
+use Rattle.stm_wire.specs.Settling.{PutsAll, PutsPart, HasAskedAll, IsUnrefused, EndsRefused}
 use Rattle.stm_wire.proofs.Holding.{if_err_weaker}
 use Rattle.stm_wire.proofs.Talking.{went_nowhere, all_part, part_run, speaks_more, cause_fault, never_fault, asked_all}
 use Rattle.std.proofs.lemmas.Bool.{MatchBool-at_true, MatchBool-at_false}
@@ -12,7 +12,8 @@ use Rattle.stm_wire.specs.Settling.{IsGoing}
 use Rattle.stm_wire.proofs.Going.{fresh_at_last}
 use Rattle.stm_wire.proofs.Keeping.{keeps_start, keeps_then, going_begin, going_next, going_last, settled_waiting}
 use Rattle.stm_wire.specs.declared.fault.WireFault.TheVariants.{Quiet}
-use Rattle.stm_wire.proofs.Talking.{went_more, speaks_ok, speaks_then, speaks_went, refused_after}
+use Rattle.stm_wire.proofs.Talking.{went_more, speaks_ok, speaks_then, speaks_went}
+use Rattle.stm_wire.proofs.Refusals.{unrefused_nowhere, unrefused_then, refused_after}
 use Rattle.stm_wire.proofs.settling.send_bytes.Goals as goal
 
 pub loop-sent-init : goal.loop-sent-init
@@ -20,6 +21,7 @@ loop-sent-init g c =
     let V = g.R.Rig.view in
     record {
       went = went_nowhere (V c.args.rig.now);
+      unrefused = unrefused_nowhere (V c.args.rig.now).calls;
       honest = λ h pages start going. (
         keeps_start c.args.byte pages start (V c.args.rig.now) (g.met.R.Rig.model c.args.rig.now h) h going.settling,
         going_begin c.args.byte c.args.limit pages start (V c.args.rig.now).device going,
@@ -63,6 +65,12 @@ loop-sent-preserved g c =
       went = (let V = g.R.Rig.view in
           went_more c.args.byte c.loop-sent._sent (V c.args.rig.now) (V c.loop-sent.rig) (V c.send_once.new.rig) c.loop-sent.invariant.went
           (speaks_went (c.args.byte ∷ []) 4099 c.in_ok-send_once.field-0 (V c.loop-sent.rig) (V c.send_once.new.rig) c.in_ok-send_once.ensures.speaks));
+      unrefused = (let V = g.R.Rig.view in
+          let a = (V c.args.rig.now).calls in
+          let b = (V c.loop-sent.rig).calls in
+          let d = (V c.send_once.new.rig).calls in
+          unrefused_then a b d c.loop-sent.invariant.unrefused
+          (MatchBool-at_false (GoesOn (EndsRefused c.args.byte) b d) (GoesOn IsUnrefused b d) c.if-branch.false c.in_ok-send_once.ensures.refused));
       honest = λ h pages start going.
           let V = g.R.Rig.view in
           let a = V c.args.rig.now in
@@ -137,8 +145,10 @@ returns-then-branch-clause-calls g c =
 pub returns-then-branch-clause-refused : goal.returns-then-branch-clause-refused
 returns-then-branch-clause-refused g c =
     let V = g.R.Rig.view in
-    let n = c.loop-sent._sent in
-    refused_after (PutsAll (replicate n c.args.byte) (4099 * n)) c.args.byte (V c.args.rig.now).calls (V c.loop-sent.rig).calls (V c.send_once.new.rig).calls c.loop-sent.invariant.went.all (c.in_ok-send_once.ensures.refused c.if-branch.true)
+    let b = (V c.loop-sent.rig).calls in
+    let d = (V c.send_once.new.rig).calls in
+    refused_after c.args.byte (V c.args.rig.now).calls b d c.loop-sent.invariant.unrefused
+    (MatchBool-at_true (GoesOn (EndsRefused c.args.byte) b d) (GoesOn IsUnrefused b d) c.if-branch.true c.in_ok-send_once.ensures.refused)
 
 pub returns-clause-cause : goal.returns-clause-cause
 returns-clause-cause g c =
@@ -166,5 +176,4 @@ returns-clause-quiet g c =
 pub returns-clause-refused : goal.returns-clause-refused
 returns-clause-refused g c =
     let V = g.R.Rig.view in
-    let n = c.loop-sent._sent in
-    on_ok_weaker c.reconnect.result (λ w. refused_after (PutsAll (replicate n c.args.byte) (4099 * n)) c.args.byte (V c.args.rig.now).calls (V c.loop-sent.rig).calls (V c.reconnect.new.rig).calls c.loop-sent.invariant.went.all w) c.reconnect.ensures.refused
+    on_ok_weaker c.reconnect.result (λ w. refused_after c.args.byte (V c.args.rig.now).calls (V c.loop-sent.rig).calls (V c.reconnect.new.rig).calls c.loop-sent.invariant.unrefused w) c.reconnect.ensures.refused

@@ -1,9 +1,10 @@
-use Rattle.std.proofs.Common.{rules, ℕ, subst, Option, Result, Err, [], ◌∷◌, lit≤, false, eqb, eqb-true}
+use Rattle.std.proofs.Common.{rules, ℕ, subst, Option, Result, Err, [], ◌∷◌, lit≤, false, eqb}
 use Rattle.stm_wire.specs.declared.fault.WireFault.{WireFault}
 use Rattle.stm_wire.proofs.Keeping.{keeps_then, keeps_get, here, going_put, once_none, once_some}
 use Rattle.stm_wire.specs.Rig.{GetsFirst}
 use Rattle.stm_wire.proofs.Going.{step}
-use Rattle.stm_wire.proofs.Talking.{went_then, went_up, failed_put, speaks_ok, speaks_line, speaks_then, speaks_fault, speaks_went, went_both, refused_calls, refused_then}
+use Rattle.stm_wire.proofs.Talking.{went_then, went_up, failed_put, speaks_ok, speaks_line, speaks_then, speaks_fault, speaks_went, went_both}
+use Rattle.stm_wire.proofs.Refusals.{unrefused_calls, refused_or_not}
 use Rattle.stm_wire.proofs.settling.send_once.Goals as goal
 
 pub returns-in_err-put-clause-once : goal.returns-in_err-put-clause-once
@@ -139,11 +140,15 @@ returns-in_ok-drain-in-Some-clause-speaks g c =
     speaks_ok (byte ∷ []) 4099 (eqb c.in-Some.first 31) (V c.args.rig.now) (V c.drain.new.rig)
     (went_then (byte ∷ []) [] 2 4097 (V c.args.rig.now) (V c.get.new.self) (V c.drain.new.rig) two (speaks_went [] 4097 u (V c.get.new.self) (V c.drain.new.rig) c.in_ok-drain-in-Some.ensures.speaks))
 
-pub returns-in_ok-drain-in-Some-clause-refused : goal.returns-in_ok-drain-in-Some-clause-refused
-returns-in_ok-drain-in-Some-clause-refused g c is_nack =
+pub returns-in-None-clause-refused : goal.returns-in-None-clause-refused
+returns-in-None-clause-refused g c =
     let V = g.R.Rig.view in
-    let byte = c.args.byte in
     let u : Unit {0} = tt in
-    refused_then byte 4097 (V c.args.rig.now).calls (V c.get.new.self).calls (V c.drain.new.rig).calls
-    (refused_calls byte c.in-Some.first u c.in_ok-get.field-0 (V c.args.rig.now).calls (V c.put.new.self).calls (V c.get.new.self).calls c.in-Some.is (eqb-true c.in-Some.first 31 is_nack) c.in_ok-put.ensures.recorded c.in_ok-get.ensures.recorded)
-    c.in_ok-drain-in-Some.ensures.speaks.whole
+    unrefused_calls c.args.byte u c.in_ok-get.field-0 (V c.args.rig.now).calls (V c.put.new.self).calls (V c.get.new.self).calls (λ same. let none = c.in-None.is in cc) c.in_ok-put.ensures.recorded c.in_ok-get.ensures.recorded
+
+pub returns-in_ok-drain-in-Some-clause-refused : goal.returns-in_ok-drain-in-Some-clause-refused
+returns-in_ok-drain-in-Some-clause-refused g c =
+    let V = g.R.Rig.view in
+    let u : Unit {0} = tt in
+    refused_or_not c.args.byte c.in-Some.first 4097 u c.in_ok-get.field-0 (V c.args.rig.now).calls (V c.put.new.self).calls (V c.get.new.self).calls (V c.drain.new.rig).calls c.in-Some.is
+    c.in_ok-put.ensures.recorded c.in_ok-get.ensures.recorded c.in_ok-drain-in-Some.ensures.speaks.whole

@@ -2,12 +2,13 @@ use Rattle.std.proofs.Common.{◌≡◌, ◌+◌, ◌*◌, arith, []}
 use Rattle.std.proofs.lemmas.Result.{on_ok_weaker}
 use Rattle.stm_wire.specs.Dialogue.{GoesOn}
 use Rattle.stm_wire.specs.SentList.{settling_run}
-use Rattle.stm_wire.specs.Settling.{PutsAll, HasAskedAll}
+use Rattle.stm_wire.specs.Settling.{HasAskedAll}
 use Rattle.stm_wire.proofs.Holding.{if_err_weaker}
 use Rattle.stm_wire.proofs.Talking.{cause_then, cause_fault, part_then, part_up, part_more, never_fault, asked_after}
 use Rattle.stm_wire.proofs.Keeping.{keeps_then, settling_start, going_drained}
 use Rattle.stm_wire.specs.declared.fault.WireFault.TheVariants.{Quiet}
-use Rattle.stm_wire.proofs.Talking.{speaks_went, refused_after}
+use Rattle.stm_wire.proofs.Talking.{speaks_went}
+use Rattle.stm_wire.proofs.Refusals.{unrefused_gets, refused_after}
 use Rattle.stm_wire.proofs.settling.settle.Goals as goal
 
 pub returns-clause-honest : goal.returns-clause-honest
@@ -65,4 +66,4 @@ returns-clause-refused g c =
     let a = (V c.args.rig.now).calls in
     let b = (V c.drain.new.rig).calls in
     let d = (V c.send_bytes.new.rig).calls in
-    on_ok_weaker c.send_bytes.result (λ w. refused_after (PutsAll [] 4097) c.args.byte a b d c.in_ok-drain.ensures.speaks.whole w) c.send_bytes.ensures.refused
+    on_ok_weaker c.send_bytes.result (λ w. refused_after c.args.byte a b d (unrefused_gets 4097 a b c.in_ok-drain.ensures.speaks.whole) w) c.send_bytes.ensures.refused
