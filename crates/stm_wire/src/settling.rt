@@ -163,10 +163,11 @@ fn send_bytes<R: Rig>(rig: &mut R, byte: u8, limit: u32) -> Result<(), WireFault
 /// and where it answers ACK, the byte twice, of which the second has to be refused.
 ///
 /// On any line that keeps a record, what it puts is a beginning of the byte `limit` times, 7F, and the byte twice, and it
-/// answers Ok at the first refusal: no byte before the last one that it put was answered by NACK first. On one
-/// that follows the model, from a device that is harmless for the byte and some pages and owes at most 4,096 bytes, with a
-/// limit of 131,047 or more, each moment leaves such a device, with the same chip, version and codes, the same flash
-/// outside these pages and the same journal; it answers Ok, and the device is then settled, or `Line`.
+/// answers Ok at the first refusal: no byte before the last one that it put was answered by NACK first.
+///
+/// On a line that follows the model, from a device that is harmless for the byte and some pages and owes at most 4,096
+/// bytes, with a limit of 131,047 or more, each moment leaves such a device, with the same chip, version and codes, the same
+/// flash outside these pages and the same journal; it answers Ok, and the device is then settled, or `Line`.
 ///
 /// # Errors
 /// `Line` where a call of the Rig failed, `Quiet` where 7F stayed without an answer, `Garbled` where more bytes were owed,
