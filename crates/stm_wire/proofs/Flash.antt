@@ -1,16 +1,14 @@
 -- A change within some pages leaves every other page as it was.
-use Rattle.std.proofs.Common.{◌≡◌, ◌≢◌, ℕ, suc, ◌+◌, ◌-◌, ◌<◌, ◌≤◌, ◌⊎◌, inl, inr, ⊎_elim, List, [], ◌∷◌, length, get_or, take, drop, replicate, refl, sym, ap, ◌∙◌, subst, arith, rules, sum}
+use Rattle.std.proofs.Common.{◌≡◌, ◌≢◌, ℕ, suc, ◌+◌, ◌-◌, ◌<◌, ◌≤◌, ◌⊎◌, inl, inr, List, [], ◌∷◌, length, get_or, take, drop, replicate, refl, sym, ap, ◌∙◌, subst, arith, rules, sum}
 use Rattle.std.specs.Prelude.{⊤}
 use Rattle.std.specs.List.{Contains}
-use Rattle.std.proofs.lemmas.Bool.{cases_order, cases_lt}
-use Rattle.std.proofs.lemmas.List.Sums.{sum_by_more, sum_by-take-le, sum_by_more_le}
-use Rattle.std.proofs.lemmas.List.{places, same_lists, get_or_past, take-take, length-replicate, length-append, length-take, length-drop}
+use Rattle.std.proofs.lemmas.Bool.{cases_order}
+use Rattle.std.proofs.lemmas.List.Sums.{sum_by_more, sum_by-take-le}
+use Rattle.std.proofs.lemmas.List.{places, same_lists, take-take, length-replicate}
 use Rattle.stm_wire.specs.Chip.{ChipData, flash_size, page_count, page_size, page_offset, page_of, with_bytes, erased_byte}
+use Rattle.stm_wire.specs.PageLaws.{page_within, length-with_bytes}
 use Rattle.stm_wire.specs.Effect.{Change, Nothing, ErasePages, EraseAll, Write, Effect, Stores, erased_pages}
 use Rattle.stm_wire.specs.Harmless.{SameOutside}
-
-pub length-with_bytes : (at : ℕ) (bytes flash : List ℕ) → at + length bytes ≤ length flash → length (with_bytes at bytes flash) ≡ length flash
-length-with_bytes at bytes flash h = simp (length-append, length-take, length-drop) (omega arith)
 
 apart : (at : ℕ) (bytes flash : List ℕ) (s z : ℕ) → at + length bytes ≤ length flash → (s + z ≤ at) ⊎ (at + length bytes ≤ s) →
     take z (drop s (with_bytes at bytes flash)) ≡ take z (drop s flash)
@@ -24,13 +22,6 @@ page_end sizes n p lt here =
     let same : take (n + 1) (take p sizes) ≡ take (n + 1) sizes = take-take (n + 1) p sizes (omega arith) in
     let le2 : sum (take (n + 1) sizes) ≤ sum (take p sizes) = rw same at le in
     omega arith
-
--- and lies in the flash, also one that doesn't exist
-pub page_within : (sizes : List ℕ) (p : ℕ) → sum (take p sizes) + get_or sizes p 0 ≤ sum sizes
-page_within sizes p = ⊎_elim (λ lt. sum_by_more_le (λ x. x) sizes p 0 lt) past (cases_lt p (length sizes))
-  where
-    past : length sizes ≤ p → sum (take p sizes) + get_or sizes p 0 ≤ sum sizes
-    past le = let none = get_or_past sizes p 0 le in let part : sum (take p sizes) ≤ sum sizes = sum_by-take-le (λ x. x) sizes p in omega arith
 
 -- bytes put within page p leave page n as it was
 pub other_page : (chip : ChipData) (flash bytes : List ℕ) (at n p : ℕ) → length flash ≡ flash_size chip →

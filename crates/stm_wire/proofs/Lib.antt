@@ -32,4 +32,3 @@ mod Turns
 mod Verdicts
 mod WriteData
 mod Writing
-pub mod ChipLimits

@@ -1,12 +1,11 @@
 -- The pages of a chip part its flash.
 use Rattle.std.proofs.Common.{◌≡◌, ℕ, suc, ◌+◌, ◌<◌, List, [], ◌∷◌, ◌++◌, length, get_or, take, drop, sum, IsTrue, refl, sym, ap, ap₂, ◌∙◌, arith, drop-drop, take-append-drop}
 use Rattle.std.proofs.lemmas.Bool.Decides.{nat_tests}
-use Rattle.std.proofs.lemmas.List.Sums.{sum_by-cons}
 use Rattle.std.proofs.lemmas.List.{length-drop}
 use Rattle.stm_wire.specs.Chip.{ChipData, flash_size, fits_inside}
+use Rattle.stm_wire.specs.PageLaws.{sum-cons, page_within}
 use Rattle.stm_wire.specs.Harmless.{SameOutside}
 use Rattle.stm_wire.specs.Intents.{InPage}
-use Rattle.stm_wire.proofs.Flash.{page_within}
 
 -- what lies in a page lies in the flash
 pub page_inside : (chip : ChipData) (page address size : ℕ) → InPage chip page address size → IsTrue (fits_inside chip address size)
@@ -15,9 +14,6 @@ page_inside chip page address size within =
     let to = within.ends in
     let inside = page_within chip.sizes page in
     grind (arith, nat_tests)
-
-sum-cons : (x : ℕ) (xs : List ℕ) → sum (x ∷ xs) ≡ x + sum xs
-sum-cons x xs = sum_by-cons (λ n. n) x xs
 
 nothing : (xs : List ℕ) → length xs ≡ 0 → xs ≡ []
 nothing [] e = refl

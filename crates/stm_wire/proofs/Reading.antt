@@ -1,7 +1,8 @@
 -- The end of a read: the count, and the bytes.
 use Rattle.std.proofs.Common.{◌≡◌, inl, ℕ, ◌+◌, ◌-◌, ◌/◌, ◌%◌, ◌≤◌, Bool, ◌&&◌, ◌==◌, List, [], ◌∷◌, ◌++◌, length, take, drop, Option, Some, IsTrue, refl, sym, ◌∙◌, ap, ap₂, subst, arith, eq-eqb, length-take, length-drop}
 use Rattle.std.proofs.lemmas.Bool.Decides.{nat_tests}
-use Rattle.stm_wire.specs.Chip.{ChipData, flash_size, fits_inside, is_inside}
+use Rattle.stm_wire.specs.Chip.{ChipData, fits_inside, is_inside}
+use Rattle.stm_wire.specs.PageLaws.{fits-end}
 use Rattle.stm_wire.specs.declared.verdict.Verdict.{Verdict}
 use Rattle.stm_wire.specs.declared.verdict.Verdict.TheVariants.{Done}
 use Rattle.stm_wire.specs.Exchange.{verdict, complement, number_of, done_if, read_verdict}
@@ -27,9 +28,6 @@ read_bytes address size d = take size (drop (address - d.chip.base) d.flash)
 
 pub fits-inside : (chip : ChipData) (address size : ℕ) → 1 ≤ size → IsTrue (fits_inside chip address size) → IsTrue (is_inside chip address)
 fits-inside chip address size some fits = grind (arith, nat_tests)
-
-pub fits-end : (chip : ChipData) (address size : ℕ) → IsTrue (fits_inside chip address size) → (chip.base ≤ address) × (address + size ≤ chip.base + flash_size chip)
-fits-end chip address size fits = grind (arith, nat_tests)
 
 pub takes-address : (address size : ℕ) (d : Device) → 1 ≤ size → CanRead address size d → TakesAddress 0x11 address d
 takes-address address size d some can = record { settled = can.settled; takes = inl refl; inside = fits-inside d.chip address size some can.inside }

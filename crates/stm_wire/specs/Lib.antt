@@ -1,4 +1,5 @@
 pub mod Chip
+pub mod PageLaws
 pub mod Exchange
 pub mod Effect
 pub mod Reply

@@ -1,13 +1,13 @@
 -- The simulator's choices are the model's.
-use Rattle.std.proofs.Common.{◌||◌, replicate, true≢false, bit_and, ◌≡◌, ℕ, zero, suc, ◌+◌, ◌-◌, ◌*◌, ◌<◌, ◌≤◌, Bool, true, false, ◌&&◌, ◌==◌, if◌then◌else◌, List, [], ◌∷◌, ◌++◌, length, take, drop, All, Option, Some, None, IsTrue, refl, sym, ◌∙◌, ap, subst, arith, get_or, eqb-true, length-take, length-drop, mod-eq_of_lt, suc-le-suc}
+use Rattle.std.proofs.Common.{◌||◌, replicate, true≢false, bit_and, ◌≡◌, ℕ, zero, suc, ◌+◌, ◌-◌, ◌*◌, ◌<◌, Bool, true, false, ◌&&◌, ◌==◌, if◌then◌else◌, List, [], ◌∷◌, ◌++◌, length, take, drop, All, Option, Some, None, IsTrue, refl, sym, ◌∙◌, ap, subst, arith, get_or, eqb-true, length-take, length-drop, mod-eq_of_lt, suc-le-suc}
 use Rattle.std.proofs.lemmas.List.Elements.{All-take, All-append}
-use Rattle.std.proofs.lemmas.Bool.Decides.{nat_tests}
 use Rattle.std.proofs.lemmas.Nat.{and_le_r, and_comm}
 use Rattle.std.proofs.lemmas.Grind.{and_numeral}
 use Rattle.std.proofs.lemmas.List.{length-replicate}
 use Rattle.stm_wire.specs.declared.verdict.Verdict.{Verdict}
 use Rattle.stm_wire.specs.declared.verdict.Verdict.TheVariants.{Done, Refused, Loose}
 use Rattle.stm_wire.specs.Chip.{ChipData, erased_byte, flash_size, fits_inside}
+use Rattle.stm_wire.specs.PageLaws.{fits-end}
 use Rattle.stm_wire.specs.Exchange.{verdict, command_verdict, after_address, write_verdict, at_end, done_if, complement, is_listed, number_of, IsOpen, pair_of, pairs_of, xor}
 use Rattle.stm_wire.specs.Effect.{Change, Nothing, ErasePages, EraseAll, Write, Effect, Stores, change_of, write_change, erase_change, extended_change}
 use Rattle.stm_wire.specs.Device.{Device, Phase, Fresh, Connected, Gone, IsOpenPhase, IsDevice, Feeds, Receives, Takes, IsLoose, is_protection}
@@ -120,9 +120,6 @@ small-change [] s = tt
 small-change (code ∷ []) s = tt
 small-change (code ∷ check ∷ rest) s =
     change-is Small tt tt (λ pages. tt) code check rest (code == 0x31) refl (λ at. small-write rest (λ k e h. s (suc (suc k)) e (omega (arith, h))))
-
-pub fits-end : (chip : ChipData) (address size : ℕ) → IsTrue (fits_inside chip address size) → (chip.base ≤ address) × (address + size ≤ chip.base + flash_size chip)
-fits-end chip address size fits = grind (arith, nat_tests)
 
 -- the simulator's change is one of the device's
 effect : (chip : ChipData) (change : Change) (old : List ℕ) → length old ≡ flash_size chip → Fits chip change → Small change → Effect chip change old (changed_flash chip change old)

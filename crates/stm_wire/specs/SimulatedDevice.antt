@@ -1,34 +1,21 @@
 -- After a byte, the simulator is a device of the model.
-use Rattle.std.proofs.Common.{sum, take_all, length-append, ⊎_elim, ◌⊎◌, inl, inr, ◌||◌, replicate, ◌≡◌, ℕ, zero, suc, ◌+◌, ◌-◌, ◌<◌, ◌≤◌, Bool, true, false, ◌==◌, if◌then◌else◌, List, [], ◌∷◌, ◌++◌, length, take, drop, All, Option, Some, None, refl, ◌∙◌, ap, arith, get_or, length-take, length-drop}
+use Rattle.std.proofs.Common.{take_all, length-append, ⊎_elim, ◌⊎◌, inl, inr, ◌||◌, replicate, ◌≡◌, ℕ, zero, suc, ◌+◌, ◌-◌, ◌<◌, ◌≤◌, Bool, true, false, ◌==◌, if◌then◌else◌, List, [], ◌∷◌, ◌++◌, length, take, drop, All, Option, Some, None, refl, ◌∙◌, ap, arith, length-take, length-drop}
 use Rattle.std.proofs.lemmas.List.Elements.{All-take, All-append, All-drop}
 use Rattle.std.proofs.lemmas.Nat.{and_le_r}
 use Rattle.std.proofs.lemmas.List.{length-replicate, take-append-le}
-use Rattle.std.proofs.lemmas.List.Sums.{sum_by-cons}
 use Rattle.stm_wire.specs.declared.verdict.Verdict.{Verdict}
 use Rattle.stm_wire.specs.declared.verdict.Verdict.TheVariants.{Done, Refused, Loose}
 use Rattle.stm_wire.specs.Chip.{ChipData, erased_byte, flash_size, page_offset, page_size, with_bytes}
+use Rattle.stm_wire.specs.PageLaws.{page_within, length-with_bytes, fits-end}
 use Rattle.stm_wire.specs.Exchange.{verdict, IsOpen}
 use Rattle.stm_wire.specs.Effect.{erased_pages, Change, Nothing, ErasePages, EraseAll, Write, change_of}
 use Rattle.stm_wire.specs.Device.{Device, Phase, Fresh, Connected, Gone, IsOpenPhase, IsDevice, reply_of, phase_after}
 use Rattle.stm_wire.specs.Reply.{ack, nack}
 use Rattle.stm_wire.specs.Simulator.{simulated_device, Fits, common_bits, changed_flash, after_loose, after_verdict, after_byte}
-use Rattle.stm_wire.specs.Simulated.{Small, small-tail, small-change, done-change-fits, fits-end, open-nothing, bytes-erased}
+use Rattle.stm_wire.specs.Simulated.{Small, small-tail, small-change, done-change-fits, open-nothing, bytes-erased}
 
 abbrev pub IsByte : ℕ → Type 0
 IsByte b = b < 256
-
-sum-cons : (x : ℕ) (xs : List ℕ) → sum (x ∷ xs) ≡ x + sum xs
-sum-cons x xs = sum_by-cons (λ n. n) x xs
-
--- each page ends inside the flash
-pub page-fits : (sizes : List ℕ) (n : ℕ) → sum (take n sizes) + get_or sizes n 0 ≤ sum sizes
-page-fits [] zero = omega arith
-page-fits [] (suc n) = omega arith
-page-fits (x ∷ xs) zero = omega (arith, sum-cons x xs)
-page-fits (x ∷ xs) (suc n) = omega (arith, sum-cons x (take n xs), sum-cons x xs, page-fits xs n)
-
-pub length-with_bytes : (at : ℕ) (bytes flash : List ℕ) → at + length bytes ≤ length flash → length (with_bytes at bytes flash) ≡ length flash
-length-with_bytes at bytes flash fits = simp (length-append, length-take, length-drop) (omega (arith, fits))
 
 bytes-with_bytes : (at : ℕ) (bytes flash : List ℕ) → All IsByte bytes → All IsByte flash → All IsByte (with_bytes at bytes flash)
 bytes-with_bytes at bytes flash b f =
@@ -38,7 +25,7 @@ pub length-erased_pages : (chip : ChipData) (pages flash : List ℕ) → length 
 length-erased_pages chip [] flash size = refl
 length-erased_pages chip (n ∷ pages) flash size =
     let page = replicate (page_size chip n) (erased_byte chip) in
-    let fits : page_offset chip n + length page ≤ length flash = omega (arith, page-fits chip.sizes n, length-replicate (page_size chip n) (erased_byte chip), size) in
+    let fits : page_offset chip n + length page ≤ length flash = omega (arith, page_within chip.sizes n, length-replicate (page_size chip n) (erased_byte chip), size) in
     let one = length-with_bytes (page_offset chip n) page flash fits in
     length-erased_pages chip pages (with_bytes (page_offset chip n) page flash) (one ∙ size) ∙ one
 
