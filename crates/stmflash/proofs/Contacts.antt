@@ -25,6 +25,8 @@ contacted old new same was is keeps settled =
       honest = keeps.honest;
       settled = settled;
       chip = here.same_chip;
+      version = here.same_version;
+      codes = here.same_codes;
       flash = same old.device.chip old.device.flash new.device.flash was.device.size here.flash;
       journal = keeps.journal;
     }

@@ -18,11 +18,11 @@ pub record Describes (chip : ChipData) (info : Info) : Type 0 where
   pub size : info.size ≡ flash_size chip
   pub kind : info.kind ≡ chip.kind
 
--- what is told is so of the device, and the device is settled, with the same flash
+-- what is told was so of the device, and the device is settled, with the same flash
 pub record Informs (info : Info) (old new : RigState) : Type 0 where
   pub chip : Describes old.device.chip info
-  pub version : info.commands.version ≡ new.device.version
-  pub codes : take info.commands.count info.commands.codes ≡ new.device.codes
+  pub version : info.commands.version ≡ old.device.version
+  pub codes : take info.commands.count info.commands.codes ≡ old.device.codes
   pub flash : new.device.flash ≡ old.device.flash
   pub settled : IsSettled new.device
   pub honest : new.is_honest

@@ -1,5 +1,5 @@
 // How a session begins: whatever the device was sent before is ended.
-ghost use Rattle.std.specs.Prelude.{◌≢◌, ⊤, IfErr, MatchResult, OnOk};
+ghost use Rattle.std.specs.Prelude.{◌≡◌, ⊤, IfErr, MatchResult, OnOk};
 ghost use Rattle.stm_wire.specs.Device.{IsReady};
 ghost use Rattle.stm_wire.specs.Dialogue.{GoesOn};
 ghost use Rattle.stmflash.specs.Contact.{IsContacted};
@@ -21,7 +21,7 @@ pub fn settle_ready<R: Rig>(rig: &mut R) -> Result<(), Fault>
     ensures sent { OnOk result (GoesOn (λ _. ⊤) (R.view rig.old).calls (R.view rig.new).calls) }
     ensures line { CountsLine result (R.view rig.old) (R.view rig.new) }
     ensures honest { (R.view rig.old).is_honest → IsReady (R.view rig.old).device
-        → MatchResult result (λ _. IsContacted (R.view rig.old) (R.view rig.new)) (λ fault. fault ≢ Fault.Device) }
+        → MatchResult result (λ _. IsContacted (R.view rig.old) (R.view rig.new)) (λ fault. fault ≡ Fault.Line) }
 {
     stopped_is_harmless();
     pages_are_the_flash();

@@ -3,9 +3,11 @@ ghost use Rattle.std.specs.Prelude.{◌≡◌, ◌≢◌, false, true, IfErr, If
 ghost use Rattle.stm_chip.specs.Document.{IsChipWith, IsNewId};
 ghost use Rattle.stm_wire.specs.Chip.{ChipData};
 ghost use Rattle.std.specs.List.{list_all};
+ghost use Rattle.stmflash.specs.Contact.{IsReadyToDo, IsReadyToGo};
 ghost use Rattle.stmflash.specs.Fault.{IsMishap};
 ghost use Rattle.stmflash.specs.Info.{Describes, EndsWith, Informs, IsUnlistedOrMishap};
 ghost use Rattle.stmflash.specs.Reading.{CountsLine, IsReadable};
+ghost use Rattle.stm_wire.specs.Device.{Gone};
 ghost use Rattle.stm_wire.specs.Dialogue.{GoesOn};
 ghost use Rattle.stm_wire.specs.Frames.{go_turns, protect_turns};
 ghost use Rattle.stm_wire.specs.Protection.{protection_code};
@@ -97,6 +99,9 @@ pub fn run<R: Rig>(
 }
 
 /// Settles the device, and asks what it is. A number that the table hasn't is answered as `UnknownChip`.
+///
+/// From an honest Rig whose device is ready, and whose chip is the table's, what is told was so of the device before the
+/// call, the flash is as it was, the device is settled, and `Device` is not answered.
 pub fn info<R: Rig>(rig: &mut R, table: &Table) -> Result<Info, Fault>
     ensures told { IfOk result (λ info. (chip : ChipData) × IsChipWith table.now info.id chip × Describes chip info) }
     ensures unknown { IfErr result (IsUnlistedOrMishap table.now) }
@@ -121,10 +126,15 @@ pub fn info<R: Rig>(rig: &mut R, table: &Table) -> Result<Info, Fault>
 }
 
 /// Settles the device, and lets it run what stands at an address. Nothing is promised of the flash afterwards.
+///
+/// From an honest Rig whose device is ready, lists the command and has the address inside its flash, the device is gone
+/// from the bootloader, and no fault but `Line` is answered.
 pub fn go<R: Rig>(rig: &mut R, address: u32) -> Result<(), Fault>
     ensures mishap { IfErr result IsMishap }
     ensures line { CountsLine result (R.view rig.old) (R.view rig.new) }
     ensures sent { OnOk result (GoesOn (EndsWith (go_turns address)) (R.view rig.old).calls (R.view rig.new).calls) }
+    ensures honest { (R.view rig.old).is_honest → IsReadyToGo address (R.view rig.old).device
+        → MatchResult result (λ _. (R.view rig.new).device.phase ≡ Gone) (λ fault. fault ≡ Fault.Line) }
 {
     settle_ready(rig)?;
     stm_wire::go(rig, address)?;
@@ -132,10 +142,14 @@ pub fn go<R: Rig>(rig: &mut R, address: u32) -> Result<(), Fault>
 }
 
 /// Settles the device, and changes a protection. Nothing is promised of the flash and of the device afterwards.
+///
+/// From an honest Rig whose device is ready and lists the command, no fault but `Line` is answered.
 pub fn protect<R: Rig>(rig: &mut R, kind: Protection) -> Result<(), Fault>
     ensures mishap { IfErr result IsMishap }
     ensures line { CountsLine result (R.view rig.old) (R.view rig.new) }
     ensures sent { OnOk result (GoesOn (EndsWith (protect_turns (protection_code kind))) (R.view rig.old).calls (R.view rig.new).calls) }
+    ensures honest { (R.view rig.old).is_honest → IsReadyToDo (protection_code kind) (R.view rig.old).device
+        → IfErr result (λ fault. fault ≡ Fault.Line) }
 {
     settle_ready(rig)?;
     stm_wire::protect(rig, kind)?;

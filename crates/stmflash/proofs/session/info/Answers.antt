@@ -24,8 +24,8 @@ returns-clause-honest g c h awaited =
         size = rw chip c.flash_size.ensures.size;
         kind = rw chip c.kind.ensures;
       };
-      version = told.0 ∙ ap (λ (d : Device). d.version) (sym same);
-      codes = told.1 ∙ ap (λ (d : Device). d.codes) (sym same);
+      version = told.0 ∙ contact.version;
+      codes = told.1 ∙ contact.codes;
       flash = ap (λ (d : Device). d.flash) same ∙ contact.flash;
       settled = subst (λ d. IsSettled d) (sym same) contact.settled;
       honest = (c.in_ok-id.ensures.held.honestly on).honest;
