@@ -3,6 +3,7 @@ mod Answering
 mod Asking
 mod Awaited
 mod Bound
+mod Checks
 mod Closed
 mod ErasePage
 mod ErasePair
@@ -15,6 +16,7 @@ mod Holding
 mod Keeping
 mod LineCalls
 mod Mild
+mod NamedPages
 mod Pages
 mod Plain
 mod Protecting

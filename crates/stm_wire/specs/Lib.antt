@@ -17,6 +17,7 @@ pub mod MomentLaws
 pub mod Sending
 pub mod Command
 pub mod Protection
+pub mod Rest
 pub mod Simulator
 pub mod Memory
 pub mod Simulated

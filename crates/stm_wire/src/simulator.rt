@@ -7,15 +7,20 @@ ghost use Rattle.stm_wire.specs.Device.{Device, Connected, Gone, IsDevice, reset
 ghost use Rattle.stm_wire.specs.Rig.{GetsFirst};
 ghost use Rattle.stm_wire.specs.Reply.{ack, step_reply};
 ghost use Rattle.stm_wire.specs.Exchange.{verdict};
+ghost use Rattle.stm_wire.specs.Rest.{IsCurrent};
 ghost use Rattle.stm_wire.specs.Simulator.{simulated_device, after_verdict, after_loose, device_of, simulator_codes, simulator_version};
 
 mod effect;
 mod reply;
+mod rest;
+#[cfg(test)]
+mod tests;
 
-use crate::verdict::{Verdict, verdict_of};
+use crate::verdict::Verdict;
 use crate::{Chip, EraseKind};
 use effect::change_flash;
 use reply::{REPLY_ROOM, reply_to_done};
+use rest::Rest;
 use std::alloc::{AllocError, Global};
 use std::collections::VecDeque;
 use std::marker::Model;
@@ -62,20 +67,22 @@ fn finish_done(
     chip: &Chip,
     flash: &mut Vec<u8>,
     owed: &mut VecDeque<u8>,
-    rest: &mut Vec<u8>,
+    rest: &mut Rest,
     stage: &mut Stage,
 )
     requires room { deque_len owed.old + REPLY_ROOM ≤ deque_capacity owed.old }
     requires size { length flash.old.items ≡ flash_size chip.now }
     requires connected { stage.old ≡ Stage.Connected }
-    requires done { verdict chip.now (simulator_codes chip.now.kind) rest.old.items ≡ Some Verdict.Done }
-    ensures { device_of chip.now flash.new.items owed.new.items rest.new.items stage.new
-        ≡ after_verdict (device_of chip.now flash.old.items owed.old.items [] Stage.Connected) rest.old.items (Some Verdict.Done) }
+    requires done { verdict chip.now (simulator_codes chip.now.kind) rest.old.bytes.items ≡ Some Verdict.Done }
+    ensures device { device_of chip.now flash.new.items owed.new.items rest.new.bytes.items stage.new
+        ≡ after_verdict (device_of chip.now flash.old.items owed.old.items [] Stage.Connected) rest.old.bytes.items (Some Verdict.Done) }
+    ensures current { IsCurrent chip.now (simulator_codes chip.now.kind) rest.new }
 {
     let codes = codes_of(chip.kind());
-    reply_to_done(owed, chip, version_of(chip.kind()), &codes, flash, rest);
-    change_flash(chip, flash, rest);
-    if let [0x21, ..] = rest.as_slice() {
+    let bytes = rest.bytes();
+    reply_to_done(owed, chip, version_of(chip.kind()), &codes, flash, bytes);
+    change_flash(chip, flash, bytes);
+    if let [0x21, ..] = bytes {
         *stage = Stage::Gone;
     }
     rest.clear();
@@ -86,16 +93,17 @@ fn finish_loose(
     chip: &Chip,
     flash: &mut Vec<u8>,
     owed: &mut VecDeque<u8>,
-    rest: &mut Vec<u8>,
+    rest: &mut Rest,
     stage: &mut Stage,
 )
     requires room { deque_len owed.old + 2 ≤ deque_capacity owed.old }
-    requires some { 1 ≤ length rest.old.items }
+    requires some { 1 ≤ length rest.old.bytes.items }
     requires connected { stage.old ≡ Stage.Connected }
-    ensures { device_of chip.now flash.new.items owed.new.items rest.new.items stage.new
-        ≡ after_loose (device_of chip.now flash.old.items owed.old.items [] Stage.Connected) rest.old.items }
+    ensures device { device_of chip.now flash.new.items owed.new.items rest.new.bytes.items stage.new
+        ≡ after_loose (device_of chip.now flash.old.items owed.old.items [] Stage.Connected) rest.old.bytes.items }
+    ensures current { IsCurrent chip.now (simulator_codes chip.now.kind) rest.new }
 {
-    let code = rest[0];
+    let code = rest.bytes()[0];
     if code == 0x73 || code == 0x82 || code == 0x92 {
         if code == 0x92 {
             flash.fill(0xFF);
@@ -115,22 +123,23 @@ fn feed_connected(
     chip: &Chip,
     flash: &mut Vec<u8>,
     owed: &mut VecDeque<u8>,
-    rest: &mut Vec<u8>,
+    rest: &mut Rest,
     stage: &mut Stage,
     byte: u8,
 )
     requires room { deque_len owed.old + REPLY_ROOM ≤ deque_capacity owed.old }
-    requires rest_room { vec_len rest.old < vec_capacity rest.old }
+    requires rest_room { vec_len rest.old.bytes < vec_capacity rest.old.bytes }
+    requires current { IsCurrent chip.now (simulator_codes chip.now.kind) rest.old }
     requires size { length flash.old.items ≡ flash_size chip.now }
     requires connected { stage.old ≡ Stage.Connected }
-    ensures { device_of chip.now flash.new.items owed.new.items rest.new.items stage.new
-        ≡ simulated_device byte (device_of chip.now flash.old.items owed.old.items rest.old.items stage.old) }
+    ensures device { device_of chip.now flash.new.items owed.new.items rest.new.bytes.items stage.new
+        ≡ simulated_device byte (device_of chip.now flash.old.items owed.old.items rest.old.bytes.items stage.old) }
+    ensures current { IsCurrent chip.now (simulator_codes chip.now.kind) rest.new }
 {
     let codes = codes_of(chip.kind());
-    rest.push_reserved(byte);
-    match verdict_of(chip, &codes, rest) {
+    match rest.push(chip, &codes, byte) {
         None => {
-            if ends_step(rest) {
+            if ends_step(rest.bytes()) {
                 owed.push_back_reserved(0x79);
             }
         }
@@ -149,15 +158,17 @@ fn feed(
     chip: &Chip,
     flash: &mut Vec<u8>,
     owed: &mut VecDeque<u8>,
-    rest: &mut Vec<u8>,
+    rest: &mut Rest,
     stage: &mut Stage,
     byte: u8,
 )
     requires room { deque_len owed.old + REPLY_ROOM ≤ deque_capacity owed.old }
-    requires rest_room { vec_len rest.old < vec_capacity rest.old }
+    requires rest_room { vec_len rest.old.bytes < vec_capacity rest.old.bytes }
+    requires current { IsCurrent chip.now (simulator_codes chip.now.kind) rest.old }
     requires size { length flash.old.items ≡ flash_size chip.now }
-    ensures { device_of chip.now flash.new.items owed.new.items rest.new.items stage.new
-        ≡ simulated_device byte (device_of chip.now flash.old.items owed.old.items rest.old.items stage.old) }
+    ensures device { device_of chip.now flash.new.items owed.new.items rest.new.bytes.items stage.new
+        ≡ simulated_device byte (device_of chip.now flash.old.items owed.old.items rest.old.bytes.items stage.old) }
+    ensures current { IsCurrent chip.now (simulator_codes chip.now.kind) rest.new }
 {
     match *stage {
         Stage::Fresh => {
@@ -178,16 +189,17 @@ pub struct Simulator {
     chip: Chip,
     flash: Vec<u8>,
     owed: VecDeque<u8>,
-    rest: Vec<u8>,
+    rest: Rest,
     stage: Stage,
 }
 
 impl Model for Simulator {
     ghost Value = { Device };
 
-    ghost view = { λ s. device_of s.chip s.flash.items s.owed.items s.rest.items s.stage };
+    ghost view = { λ s. device_of s.chip s.flash.items s.owed.items s.rest.bytes.items s.stage };
 
-    ghost invariant = { λ s. IsDevice (device_of s.chip s.flash.items s.owed.items s.rest.items s.stage) };
+    ghost invariant = { λ s. IsDevice (device_of s.chip s.flash.items s.owed.items s.rest.bytes.items s.stage)
+        × IsCurrent s.chip (simulator_codes s.chip.kind) s.rest };
 }
 
 impl Simulator {
@@ -201,7 +213,7 @@ impl Simulator {
             chip,
             flash,
             owed: VecDeque::new(alloc),
-            rest: Vec::new(alloc),
+            rest: Rest::new(alloc),
             stage: Stage::Fresh,
         }
     }
@@ -212,7 +224,7 @@ impl Simulator {
         ensures same { OnErr result (self.new ≡ self.old) }
     {
         self.owed.reserve(REPLY_ROOM)?;
-        self.rest.reserve(1)?;
+        self.rest.reserve()?;
         feed(
             &self.chip,
             &mut self.flash,
@@ -258,7 +270,7 @@ impl Simulator {
         ensures { MatchOption result ((rest : List ℕ) → self.now.phase ≡ Connected rest → ⊥) (λ rest. self.now.phase ≡ Connected rest.now) }
     {
         match self.stage {
-            Stage::Connected => Some(&self.rest),
+            Stage::Connected => Some(self.rest.bytes()),
             _ => None,
         }
     }

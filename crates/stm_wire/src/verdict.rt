@@ -14,7 +14,7 @@ pub enum Verdict {
     Loose,
 }
 
-fn done_if(test: bool) -> Verdict
+pub fn done_if(test: bool) -> Verdict
     ensures { result ≡ done_if test }
 {
     if test {
@@ -47,7 +47,7 @@ fn is_inside(chip: &Chip, address: u32) -> bool
         && u64::from(address) < u64::from(chip.base()) + u64::from(chip.flash_size())
 }
 
-fn fits_inside(chip: &Chip, address: u32, n: u16) -> bool
+pub fn fits_inside(chip: &Chip, address: u32, n: u16) -> bool
     ensures { result ≡ fits_inside chip.now address n }
 {
     chip.base() <= address

@@ -8,4 +8,7 @@ pub change_flash-requires-clause-fits : goal.change_flash-requires-clause-fits
 change_flash-requires-clause-fits c =
     let chip = c.args.chip.now in
     let P : List ℕ → Type 0 = λ bytes. Fits chip (change_of bytes) in
-    subst P (sym c.deref-3.ensures.value) (done-change-fits chip (simulator_codes chip.kind) c.args.rest.now.items c.requires.done)
+    subst P (sym c.bytes-bytes.ensures) (done-change-fits chip (simulator_codes chip.kind) c.args.rest.now.bytes.items c.requires.done)
+
+pub returns-clause-current : goal.returns-clause-current
+returns-clause-current c = c.clear.ensures.current c.args.chip.now (simulator_codes c.args.chip.now.kind)

@@ -10,9 +10,11 @@ invariant_of-self-2 c =
     let byte = c.args.byte in
     let small : byte < 256 = omega arith in
     let P : Device → Type 0 = λ d. IsDevice d in
-    let old = device_of i.chip i.flash.items i.owed.items i.rest.items i.stage in
-    subst P
-    (sym
-    (c.feed.ensures
-    ∙ ap₂ (λ (owed rest : List ℕ). simulated_device byte (device_of i.chip i.flash.items owed rest i.stage)) c.in_ok-reserve.ensures.items c.in_ok-reserve-2.ensures.items))
-    (simulated_device-IsDevice byte old small c.self.invariant)
+    let old = device_of i.chip i.flash.items i.owed.items i.rest.bytes.items i.stage in (
+      subst P
+          (sym
+          (c.feed.ensures.device
+          ∙ ap₂ (λ (owed rest : List ℕ). simulated_device byte (device_of i.chip i.flash.items owed rest i.stage)) c.in_ok-reserve.ensures.items c.in_ok-reserve-2.ensures.same))
+          (simulated_device-IsDevice byte old small c.self.invariant.0),
+      c.feed.ensures.current,
+    )
