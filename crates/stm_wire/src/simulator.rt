@@ -254,8 +254,8 @@ impl Simulator {
     pub fn reset(&mut self)
         ensures { self.new ≡ reset self.old }
     {
-        self.owed.clear();
         self.rest.clear();
+        self.owed.clear();
         self.stage = Stage::Fresh;
     }
 
