@@ -1,4 +1,5 @@
 pub mod Documents
+pub mod Fitting
 pub mod Paging
 pub mod Programming
 pub mod Runs

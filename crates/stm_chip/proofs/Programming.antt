@@ -55,7 +55,7 @@ unused_tail erased (b ∷ block) zero n h e =
 unused_tail erased (b ∷ block) (suc c) n h e = unused_tail erased block c n (used_rest erased b (used_length erased block) c h) (omega arith)
 
 -- a frame, or none, where all is unused
-frame_cases : (used : ℕ) (frame : Frame) → ((used ≡ 0) × (cond (used == 0) [] (frame ∷ []) ≡ [])) ⊎ ((0 < used) × (cond (used == 0) [] (frame ∷ []) ≡ frame ∷ []))
+pub frame_cases : (used : ℕ) (frame : Frame) → ((used ≡ 0) × (cond (used == 0) [] (frame ∷ []) ≡ [])) ⊎ ((0 < used) × (cond (used == 0) [] (frame ∷ []) ≡ frame ∷ []))
 frame_cases zero frame = inl (refl, refl)
 frame_cases (suc used) frame =
     let some_used : (suc used == 0) ≡ false = grind (arith, nat_tests) in

@@ -1,5 +1,5 @@
 -- How a page of flash comes to hold new bytes.
-use Rattle.std.specs.Prelude.{ℕ, zero, suc, ◌≡◌, ◌≢◌, ◌+◌, ◌*◌, ◌/◌, ◌==◌, if◌then◌else◌, List, [], ◌∷◌, ◌++◌, length, take, drop, replicate}
+use Rattle.std.specs.Prelude.{ℕ, zero, suc, ◌≡◌, ◌≢◌, ◌+◌, ◌*◌, ◌/◌, ◌%◌, ◌≤◌, ◌==◌, if◌then◌else◌, List, [], ◌∷◌, ◌++◌, length, take, drop, replicate}
 use Rattle.stm_wire.specs.Chip.{with_bytes}
 use Rattle.stm_chip.specs.declared.plan.Frame.{Frame}
 use Rattle.stm_chip.specs.declared.plan.PagePlan.{PagePlan}
@@ -52,3 +52,22 @@ IsPlan erased old new (Erase frames) = (old ≢ new) × (frames.items ≡ frames
 abbrev pub planned : ℕ → List ℕ → List ℕ → PagePlan → List ℕ
 planned erased old new Same = old
 planned erased old new (Erase frames) = written new frames.items (replicate (length old) erased)
+
+-- the frames of a plan
+abbrev pub frames_in : PagePlan → List Frame
+frames_in Same = []
+frames_in (Erase frames) = frames.items
+
+-- 4 to 256 bytes, a multiple of 4, at the start of a block of 256 bytes that lies from this place on in a page of this size
+pub record IsFrame (from size : ℕ) (frame : Frame) : Type 0 where
+  pub aligned : frame.offset % 256 ≡ 0
+  pub after : from ≤ frame.offset
+  pub inside : frame.offset + 256 ≤ size
+  pub some : 4 ≤ frame.length
+  pub limit : frame.length ≤ 256
+  pub words : frame.length % 4 ≡ 0
+
+-- each of these frames has a block of its own, by rising offset, from this place on in a page of this size
+abbrev pub AreFrames : ℕ → ℕ → List Frame → Type 0
+AreFrames from size [] = Unit {0}
+AreFrames from size (frame ∷ frames) = IsFrame from size frame × AreFrames (frame.offset + 256) size frames

@@ -1,6 +1,6 @@
 // How a page of flash comes to hold new bytes.
 ghost use Rattle.std.specs.Prelude.{◌≡◌, ◌↔◌, ◌^◌, ◌+◌, ◌*◌, ◌/◌, ◌%◌, ◌<◌, ◌≤◌, ◌++◌, length, IfOk, IsOkUnless, Ok, option_to_list};
-ghost use Rattle.stm_chip.specs.Plan.{IsPlan, erased_byte, frame_of, frames_of, planned, used_length};
+ghost use Rattle.stm_chip.specs.Plan.{AreFrames, IsPlan, erased_byte, frame_of, frames_in, frames_of, planned, used_length};
 
 use crate::PlanFault;
 use std::alloc::{AllocError, Global};
@@ -86,6 +86,8 @@ pub fn page_plan(alloc: Global, old: &[u8], new: &[u8]) -> Result<PagePlan, Plan
     ensures plan { IfOk result (IsPlan erased_byte old.now new.now) }
     // The frames, written over an erased page, give the new page.
     ensures gives_new { IfOk result (λ plan. planned erased_byte old.now new.now plan ≡ new.now) }
+    // They may be sent one after another: each fits one command, and lies where no earlier one wrote.
+    ensures fits { IfOk result (λ plan. AreFrames 0 (length new.now) (frames_in plan)) }
     ensures memory { IsOkUnless result PlanFault.Memory }
 {
     if old == new {
