@@ -4,9 +4,10 @@ use Rattle.std.proofs.lemmas.Bool.{cases_eq}
 use Rattle.std.proofs.lemmas.Bool.Decides.{nat_tests}
 use Rattle.std.proofs.lemmas.List.Elements.{Contains-append_left, Contains-get_or, Contains-push, Contains-push_cases}
 use Rattle.std.proofs.lemmas.List.Quantifiers.{all_pairs_push}
+use Rattle.std.proofs.lemmas.List.Sums.{sum_by_more}
 use Rattle.stm_image.specs.Pairs.{Pairs, IsNext, HasNone}
 use Rattle.stm_wire.specs.Chip.{ChipData, page_count, page_offset, page_size}
-use Rattle.stm_chip.specs.Touch.{AreTouched, HasBefore, HasFrom, TouchedBelow, Touches}
+use Rattle.stm_chip.specs.Touch.{AreTouched, HasBefore, HasFrom, HasWithin, TouchedBelow, Touches}
 
 less_test : (a b : ℕ) → IsTrue (nat_lt a b) → a < b
 less_test a b h = grind (arith, nat_tests)
@@ -29,18 +30,29 @@ pub from_found : (image : Pairs) (address : ℕ) (found : Option (ℕ × ℕ)) �
 from_found image address None none = (λ t. cc, λ h. absurd (omega (arith, none h.pair h.held, h.from)))
 from_found image address (Some p) next = (λ t. record { pair = p; held = next.held; from = next.after }, λ h. refl)
 
--- the next place from a page's start on tells whether the page is touched
-module _ (chip : ChipData) (image : Pairs) (n start : ℕ) (page : n < page_count chip) (start_is : start ≡ chip.base + page_offset chip n) where
-  pub touches_next : (p : ℕ × ℕ) (size : ℕ) → size ≡ page_size chip n → IsNext image start p → IsTrue (nat_lt (p.0 - start) size) ↔ Touches chip image n
-  touches_next p size size_is next = (
-    λ t. let less : p.0 - start < size = less_test (p.0 - start) size t in
-        record { pair = p; held = next.held; page = page; from = omega (arith, next.after, start_is); to = omega (arith, next.after, start_is, size_is, less) },
-    λ h. let first : p.0 ≤ h.pair.0 = next.least h.pair h.held (omega (arith, h.from, start_is)) in
-        less_passes (p.0 - start) size (omega (arith, next.after, first, h.to, h.from, start_is, size_is)),
-  )
+-- the next place from an address on tells whether one lies among some bytes there
+pub within_next : (image : Pairs) (start size : ℕ) (p : ℕ × ℕ) → IsNext image start p → IsTrue (nat_lt (p.0 - start) size) ↔ HasWithin image start size
+within_next image start size p next = (
+  λ t. let less : p.0 - start < size = less_test (p.0 - start) size t in
+      record { pair = p; held = next.held; from = next.after; to = omega (arith, next.after, less) },
+  λ h. let first : p.0 ≤ h.pair.0 = next.least h.pair h.held h.from in
+      less_passes (p.0 - start) size (omega (arith, next.after, first, h.to)),
+)
 
-  pub touches_none : HasNone image start → IsTrue false ↔ Touches chip image n
-  touches_none none = (λ t. cc, λ h. absurd (omega (arith, none h.pair h.held, h.from, start_is)))
+pub within_none : (image : Pairs) (start size : ℕ) → HasNone image start → IsTrue false ↔ HasWithin image start size
+within_none image start size none = (λ t. cc, λ h. absurd (omega (arith, none h.pair h.held, h.from)))
+
+-- a page is touched where a place lies among its bytes
+pub touches_page : (chip : ChipData) (image : Pairs) (n start size : ℕ) → n < page_count chip → start ≡ chip.base + page_offset chip n → size ≡ page_size chip n
+    → Touches chip image n ↔ HasWithin image start size
+touches_page chip image n start size page start_is size_is = (
+  λ h. record { pair = h.pair; held = h.held; from = omega (arith, h.from, start_is); to = omega (arith, h.to, start_is, size_is) },
+  λ h. record { pair = h.pair; held = h.held; page = page; from = omega (arith, h.from, start_is); to = omega (arith, h.to, start_is, size_is) },
+)
+
+-- where the next page begins
+pub next_offset : (chip : ChipData) (n : ℕ) → n < page_count chip → page_offset chip (n + 1) ≡ page_offset chip n + page_size chip n
+next_offset chip n page = sum_by_more (λ size. size) chip.sizes n 0 page
 
 -- one page more
 module _ (chip : ChipData) (image : Pairs) (n : ℕ) (pages : List ℕ) (below : TouchedBelow chip image n pages) where

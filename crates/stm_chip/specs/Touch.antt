@@ -34,6 +34,13 @@ pub record HasFrom (image : Pairs) (address : ℕ) : Type 0 where
   pub held : Contains image pair
   pub from : address ≤ pair.0
 
+-- a place of the image lies among so many bytes from this address on
+pub record HasWithin (image : Pairs) (start size : ℕ) : Type 0 where
+  pub pair : ℕ × ℕ
+  pub held : Contains image pair
+  pub from : start ≤ pair.0
+  pub to : pair.0 < start + size
+
 -- those of the first n pages that hold a place of the image
 pub record TouchedBelow (chip : ChipData) (image : Pairs) (n : ℕ) (pages : List ℕ) : Type 0 where
   pub rising : AllPairs (λ m n. m < n) pages

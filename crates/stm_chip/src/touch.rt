@@ -1,7 +1,6 @@
 // The pages of a chip that an image touches.
-ghost use Rattle.std.specs.Prelude.{◌≡◌, ◌↔◌, ◌<◌, Err, IfOk, IsTrue};
-ghost use Rattle.stm_wire.specs.Chip.{page_count};
-ghost use Rattle.stm_chip.specs.Touch.{AreTouched, HasBefore, HasFrom, HasOutside, Touches};
+ghost use Rattle.std.specs.Prelude.{◌≡◌, ◌↔◌, Err, IfOk, IsTrue};
+ghost use Rattle.stm_chip.specs.Touch.{AreTouched, HasBefore, HasFrom, HasOutside, HasWithin};
 
 use crate::PlanFault;
 use std::alloc::Global;
@@ -39,14 +38,12 @@ fn has_outside(chip: &Chip, image: &Image) -> bool
     has_before(image, chip.base()) || has_from(image, end)
 }
 
-/// Whether a place of the image lies in page `n`.
-fn touches(chip: &Chip, image: &Image, n: u16) -> bool
-    requires { n < page_count chip.now }
-    ensures { IsTrue result ↔ Touches chip.now image.now n }
+/// Whether a place of the image lies among the `size` bytes from `start` on.
+fn has_within(image: &Image, start: u32, size: u32) -> bool
+    ensures { IsTrue result ↔ HasWithin image.now start size }
 {
-    let start = chip.page_start(n);
     match image.next_from(start) {
-        Some((place, _)) => place - start < chip.page_size(n),
+        Some((place, _)) => place - start < size,
         None => false,
     }
 }
@@ -63,11 +60,17 @@ pub fn touched(alloc: Global, chip: &Chip, image: &Image) -> Result<Vec<u16>, Pl
     if has_outside(chip, image) {
         return Err(PlanFault::OutOfFlash);
     }
+    // So each page's start has 32 bits.
+    chip.keeps_limits();
     let mut pages = Vec::new(alloc);
+    // Where page `n` begins, from the flash's first byte; `page_start` would sum the pages before it each time.
+    let mut offset = 0;
     for n in 0..chip.pages() {
-        if touches(chip, image, n) {
+        let size = chip.page_size(n);
+        if has_within(image, chip.base() + offset, size) {
             pages.push(n)?;
         }
+        offset += size;
     }
     Ok(pages)
 }
