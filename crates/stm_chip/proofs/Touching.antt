@@ -1,13 +1,14 @@
 -- Where an image lies, by its next places.
-use Rattle.std.proofs.Common.{◌≡◌, ◌↔◌, inl, inr, ℕ, ◌+◌, ◌-◌, ◌<◌, ◌≤◌, false, nat_lt, List, [], ◌∷◌, ◌++◌, get_or, Option, Some, None, Contains, IsTrue, MatchOption, is_some, refl, sym, subst, arith}
-use Rattle.std.proofs.lemmas.Bool.{cases_eq}
+use Rattle.std.proofs.Common.{◌≡◌, ◌≢◌, ◌∙◌, ◌↔◌, inl, inr, ℕ, ◌+◌, ◌-◌, ◌<◌, ◌≤◌, Bool, true, false, nat_lt, List, [], ◌∷◌, ◌++◌, get_or, Option, Some, None, Contains, IsTrue, MatchOption, is_some, refl, sym, subst, arith}
+use Rattle.std.specs.List.{list_all, AllPass}
+use Rattle.std.proofs.lemmas.Bool.{both_ways, cases_Bool, cases_eq, false_from_ne_true, true_from_ne_false}
 use Rattle.std.proofs.lemmas.Bool.Decides.{nat_tests}
-use Rattle.std.proofs.lemmas.List.Elements.{Contains-append_left, Contains-get_or, Contains-push, Contains-push_cases}
+use Rattle.std.proofs.lemmas.List.Elements.{All-contains, Contains-append_left, Contains-get_or, Contains-push, Contains-push_cases}
 use Rattle.std.proofs.lemmas.List.Quantifiers.{all_pairs_push}
-use Rattle.std.proofs.lemmas.List.Sums.{sum_by_more}
+use Rattle.std.proofs.lemmas.List.Sums.{AllPass-from_list_all, list_all-from_AllPass, sum_by_more}
 use Rattle.stm_image.specs.Pairs.{Pairs, IsNext, HasNone}
-use Rattle.stm_wire.specs.Chip.{ChipData, page_count, page_offset, page_size}
-use Rattle.stm_chip.specs.Touch.{AreTouched, HasBefore, HasFrom, HasWithin, TouchedBelow, Touches}
+use Rattle.stm_wire.specs.Chip.{ChipData, is_inside, page_count, page_offset, page_size}
+use Rattle.stm_chip.specs.Touch.{AreTouched, HasBefore, HasFrom, HasOutside, HasWithin, TouchedBelow, Touches}
 
 less_test : (a b : ℕ) → IsTrue (nat_lt a b) → a < b
 less_test a b h = grind (arith, nat_tests)
@@ -88,3 +89,19 @@ module _ (chip : ChipData) (image : Pairs) (n : ℕ) (pages : List ℕ) (below :
   pub touched_all : page_count chip ≤ n → AreTouched chip image pages
   touched_all all =
       record { rising = below.rising; each = λ m. (λ held. ((below.each m).0 held).1, λ touches. (below.each m).1 (omega (arith, touches.page), touches)) }
+
+-- an image that lies inside the flash, or has a place outside it, is told by a test of each of its places
+pub inside_each : (chip : ChipData) (image : Pairs) (inside : Bool) → IsTrue inside ↔ ¬ HasOutside chip image → (inside ≡ false → HasOutside chip image)
+    → inside ≡ list_all (λ pair. is_inside chip pair.0) image
+inside_each chip image inside all_inside one_outside =
+    let p : ℕ × ℕ → Bool = λ pair. is_inside chip pair.0 in
+    elim (cases_Bool inside) [
+      | inl is ↦
+          let each : AllPass p image = λ k d h. true_from_ne_false (p (get_or image k d)) (λ e.
+          all_inside.0 is (record { pair = get_or image k d; held = Contains-get_or image k d h; outside = both_ways (p (get_or image k d)) e })) in
+          is ∙ sym (list_all-from_AllPass p image each)
+      | inr is ↦
+          let other = one_outside is in
+          let some : list_all p image ≢ true = λ e. other.outside (All-contains (λ pair. p pair ≡ true) image other.pair (AllPass-from_list_all p image e) other.held) in
+          is ∙ sym (false_from_ne_true (list_all p image) some)
+    ]

@@ -11,7 +11,7 @@ mod touch;
 pub use fault::{PlanFault, TableFault};
 pub use plan::{Frame, PagePlan, page_plan};
 pub use table::{Table, read_table};
-pub use touch::touched;
+pub use touch::{is_inside_flash, touched};
 
 #[cfg(test)]
 mod tests;

@@ -1,5 +1,7 @@
 // The pages of a chip that an image touches.
-ghost use Rattle.std.specs.Prelude.{◌≡◌, ◌↔◌, Err, IfOk, IsTrue};
+ghost use Rattle.std.specs.Prelude.{◌≡◌, ◌↔◌, false, Err, IfOk, IsTrue};
+ghost use Rattle.std.specs.List.{list_all};
+ghost use Rattle.stm_wire.specs.Chip.{is_inside};
 ghost use Rattle.stm_chip.specs.Touch.{AreTouched, HasBefore, HasFrom, HasOutside, HasWithin};
 
 use crate::PlanFault;
@@ -30,12 +32,14 @@ fn has_from(image: &Image, address: u64) -> bool
     }
 }
 
-/// Whether a place of the image lies outside the flash.
-fn has_outside(chip: &Chip, image: &Image) -> bool
-    ensures { IsTrue result ↔ HasOutside chip.now image.now }
+/// Whether each place of the image lies inside the flash. It asks the image for two of its places alone.
+pub fn is_inside_flash(chip: &Chip, image: &Image) -> bool
+    ensures each { result ≡ list_all (λ pair. is_inside chip.now pair.0) image.now }
+    ensures inside { IsTrue result ↔ ¬ HasOutside chip.now image.now }
+    ensures outside { result ≡ false → HasOutside chip.now image.now }
 {
     let end = u64::from(chip.base()) + u64::from(chip.flash_size());
-    has_before(image, chip.base()) || has_from(image, end)
+    !has_before(image, chip.base()) && !has_from(image, end)
 }
 
 /// Whether a place of the image lies among the `size` bytes from `start` on.
@@ -57,7 +61,7 @@ pub fn touched(alloc: Global, chip: &Chip, image: &Image) -> Result<Vec<u16>, Pl
     ensures pages { IfOk result (λ pages. AreTouched chip.now image.now pages.items) }
     ensures outside { (result ≡ Err PlanFault.OutOfFlash) ↔ HasOutside chip.now image.now }
 {
-    if has_outside(chip, image) {
+    if !is_inside_flash(chip, image) {
         return Err(PlanFault::OutOfFlash);
     }
     // So each page's start has 32 bits.

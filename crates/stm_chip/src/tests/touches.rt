@@ -1,20 +1,40 @@
 // Images laid over chips.
 use crate::tests::chips::pages;
-use crate::{PlanFault, touched};
+use crate::{PlanFault, is_inside_flash, touched};
+use std::alloc::Global;
 use std::test::Fail;
 use stm_image::read_raw;
 use stm_wire::{Chip, EraseKind};
 
+/// A chip of 128 pages of 1024 bytes.
+fn chip(alloc: Global) -> Result<Chip, Fail> {
+    let sizes = pages(alloc, 128, 1024)?;
+    Ok(Chip::new(0x410, 0x0800_0000, sizes, EraseKind::Page).ok_or("no chip")?)
+}
+
+/// Whether an image of `count` bytes from `start` on lies inside that chip's flash.
+fn is_inside(alloc: Global, start: u32, count: usize) -> Result<bool, Fail> {
+    let bytes = vec![in alloc; 0u8; count]?;
+    let image = read_raw(alloc, &bytes, start).map_err(|_| "no image")?;
+    Ok(is_inside_flash(&chip(alloc)?, &image))
+}
+
+#[test]
+fn knows_an_image_of_the_whole_flash(rt: HostRuntime) -> Result<(), Fail> {
+    assert!(rt; is_inside(rt.alloc(), 0x0800_0000, 131_072)?);
+    Ok(())
+}
+
+#[test]
+fn knows_an_image_that_ends_one_past_the_flash(rt: HostRuntime) -> Result<(), Fail> {
+    assert!(rt; !is_inside(rt.alloc(), 0x0800_0000, 131_073)?);
+    Ok(())
+}
+
 #[test]
 fn touches_pages(rt: HostRuntime) -> Result<(), Fail> {
     let alloc = rt.alloc();
-    let chip = Chip::new(
-        0x410,
-        0x0800_0000,
-        pages(alloc, 128, 1024)?,
-        EraseKind::Page,
-    )
-    .ok_or("no chip")?;
+    let chip = chip(alloc)?;
     let rows = [
         // where three bytes lie, and the pages that they touch
         (0x0800_03FF, Some([0u16, 1].as_slice())),
