@@ -2,7 +2,7 @@
 use Rattle.std.proofs.Common.{◌≡◌, inl, inr, ℕ, zero, suc, ◌+◌, ◌*◌, ◌/◌, ◌%◌, ◌<◌, ◌≤◌, List, [], ◌∷◌, ◌++◌, length, drop, sym, subst, arith, length-take}
 use Rattle.std.proofs.lemmas.List.{append-nil}
 use Rattle.stm_chip.specs.declared.plan.Frame.{Frame}
-use Rattle.stm_chip.specs.Plan.{AreFrames, IsFrame, block_of, cut_length, frame_of, frame_with, frames_of, used_length}
+use Rattle.stm_chip.specs.Plan.{AreFrames, IsFrame, block_of, cut_length, frame_with, frames_of, used_length}
 use Rattle.stm_chip.proofs.Programming.{frame_cases, used_length-le}
 
 -- a frame in a page is one in a larger page, from an earlier place on
