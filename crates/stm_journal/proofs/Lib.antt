@@ -1,3 +1,4 @@
+mod Intended
 mod Pages
 mod Sound
 mod Flashing

@@ -8,6 +8,7 @@ use Rattle.stm_journal.specs.declared.kept.Kept.{Kept}
 use Rattle.std.specs.declared.alloc.AllocError.{AllocError}
 use Rattle.stm_journal.specs.declared.header.JournalHeader.{JournalHeader}
 use Rattle.stm_journal.specs.States.{StateData, stack_of, SegmentData, LacksPage, PagesOnce, IsSound, may_keep, newest_has, keeps, is_open_stage, keeping}
+use Rattle.stm_journal.proofs.Intended.{intended-keep}
 
 or-first : (a b : Bool) → (a || b) ≡ false → a ≡ false
 or-first true b h = h
@@ -45,6 +46,7 @@ IsSound-keep header segment below k sound may =
       named = sound.named;
       ended = sound.ended;
       once = (PagesOnce-push segment.pages k sound.once.0 (not-true (keeps segment k.page) (and-second (is_open_stage segment.stage) (not (keeps segment k.page)) may)), sound.once.1);
+      intended = intended-keep header segment below k sound.intended;
     }
 
 -- a segment that was to keep a page, and does or is as it was

@@ -3,6 +3,7 @@ use Rattle.std.proofs.Common.{◌≡◌, ◌≤◌, ℕ, ◌+◌, ◌*◌, ◌-�
 use Rattle.std.specs.Prelude.{is_some, position, option_and_then, slice_index}
 use Rattle.std.proofs.lemmas.Bool.{true≢false, not-true}
 use Rattle.std.proofs.lemmas.Bool.Decides.{nat_tests}
+use Rattle.std.proofs.lemmas.Option.{none-some}
 use Rattle.stm_wire.specs.declared.intent.Intent.TheVariants.{Erase, Program}
 use Rattle.stm_journal.specs.declared.kept.Kept.{Kept}
 use Rattle.stm_journal.specs.declared.stage.Stage.{Stage}
@@ -12,8 +13,9 @@ use Rattle.stm_journal.specs.declared.entry.Entry.{Entry}
 use Rattle.stm_journal.specs.declared.entry.Entry.TheVariants.{Names, Opens, Keeps, Erases, Programs, Ends, Undoes}
 use Rattle.stm_journal.specs.Text.{text_of, is_void}
 use Rattle.stm_journal.specs.Entries.{with_digit, number_of, number_of_pair, hex_bytes_of, behind, page_of_fields, page_at, page_of, header_of, worded, entry_of}
-use Rattle.stm_journal.specs.States.{StateData, SegmentData, empty_state, allows, after_entry, IsSound, EndedBelow, AllEnded, on_newest, keeping, kept_in, may_keep, newest_has, newest_may_keep, is_ended_stage, is_unfinished, stage_with}
+use Rattle.stm_journal.specs.States.{StateData, SegmentData, empty_state, allows, after_entry, IsSound, IntentIsKept, EndedBelow, AllEnded, on_newest, keeping, kept_in, may_keep, newest_has, newest_keeps, newest_may_keep, is_ended_stage, is_unfinished, stage_with}
 use Rattle.stm_journal.specs.Journals.{JournalData, good, bad, Reading, read_line, start, journal_of, after_line, after_said}
+use Rattle.stm_journal.proofs.Intended.{intended-intend, intended-end, intended-ended}
 use Rattle.stm_journal.proofs.Pages.{IsSound-keep}
 
 first-true : (a b : Bool) → (a && b) ≡ true → a ≡ true
@@ -120,9 +122,10 @@ short-entry line =
     (short-worded (codes "undone ") (λ rest. option_map (λ n. Undoes n) (number_of rest)) line None (λ rest. short-undoes (number_of rest)) tt))))))
 
 sound-change : (header : Option JournalHeader) (stack : List SegmentData) (stage : SegmentData → Stage) → IsSound (record { header = header; stack = stack })
+    → IntentIsKept (record { header = header; stack = on_newest (λ segment. record segment { stage = stage segment }) stack })
     → IsSound (record { header = header; stack = on_newest (λ segment. record segment { stage = stage segment }) stack })
-sound-change header [] stage sound = sound
-sound-change header (segment ∷ below) stage sound = record { depth = sound.depth; named = sound.named; ended = sound.ended; once = sound.once }
+sound-change header [] stage sound intended = sound
+sound-change header (segment ∷ below) stage sound intended = record { depth = sound.depth; named = sound.named; ended = sound.ended; once = sound.once; intended = intended }
 
 sound-keep : (header : Option JournalHeader) (stack : List SegmentData) (k : Kept) → IsSound (record { header = header; stack = stack }) → newest_has (may_keep k.page) stack ≡ true
     → IsSound (record { header = header; stack = on_newest (keeping k) stack })
@@ -142,6 +145,7 @@ sound-drop header (segment ∷ below) sound =
       named = λ some. sound.named (omega arith);
       ended = ended-rest below sound.ended;
       once = sound.once.1;
+      intended = intended-ended header below sound.ended;
     }
 
 ended-stage : (stage : Stage) → not (is_ended_stage stage) ≡ false → stage ≡ Ended
@@ -171,15 +175,18 @@ sound-open s k line ends within may sound =
       named = λ some. parts.0;
       ended = all-ended s.stack sound.ended (not-true (is_unfinished s) parts.1);
       once = (tt, sound.once);
+      intended = λ i is. absurd (none-some i is);
     }
 
 sound-entry : (line ends : ℕ) (s : StateData) (e : Entry) → IsShort e → allows s e ≡ true → IsSound s → IsSound (after_entry line ends s e)
-sound-entry line ends s (Names version id) short may sound = record { depth = sound.depth; named = λ some. refl; ended = sound.ended; once = sound.once }
+sound-entry line ends s (Names version id) short may sound = record { depth = sound.depth; named = λ some. refl; ended = sound.ended; once = sound.once; intended = sound.intended }
 sound-entry line ends s (Opens k) short may sound = sound-open s k line ends short may sound
 sound-entry line ends s (Keeps n bytes) short may sound = sound-keep s.header s.stack (kept_in line ends n bytes) sound (second-true (is_some s.header) (newest_may_keep n s) may)
-sound-entry line ends s (Erases n) short may sound = sound-change s.header s.stack (λ segment. stage_with (Erase n) segment.stage) sound
-sound-entry line ends s (Programs n) short may sound = sound-change s.header s.stack (λ segment. stage_with (Program n) segment.stage) sound
-sound-entry line ends s (Ends k) short may sound = sound-change s.header s.stack (λ segment. Ended) sound
+sound-entry line ends s (Erases n) short may sound =
+    sound-change s.header s.stack (λ segment. stage_with (Erase n) segment.stage) sound (intended-intend s.header s.stack (Erase n) (second-true (is_some s.header) (newest_keeps n s) may))
+sound-entry line ends s (Programs n) short may sound =
+    sound-change s.header s.stack (λ segment. stage_with (Program n) segment.stage) sound (intended-intend s.header s.stack (Program n) (second-true (is_some s.header) (newest_keeps n s) may))
+sound-entry line ends s (Ends k) short may sound = sound-change s.header s.stack (λ segment. Ended) sound (intended-end s.header s.stack)
 sound-entry line ends s (Undoes k) short may sound = sound-drop s.header s.stack sound
 
 abbrev IsSoundIfGood : JournalData → Type 0
@@ -207,7 +214,7 @@ sound-lines r [] sound = sound
 sound-lines r (text ∷ lines) sound = sound-lines (read_line r text) lines (sound-line (r.lines + 1) (r.size + length text) r.journal text sound)
 
 sound-empty : IsSound empty_state
-sound-empty = record { depth = omega arith; named = λ some. absurd (omega (arith, some)); ended = tt; once = tt }
+sound-empty = record { depth = omega arith; named = λ some. absurd (omega (arith, some)); ended = tt; once = tt; intended = λ i is. absurd (none-some i is) }
 
 pub journal-is-sound : (bytes : List ℕ) (s : StateData) → journal_of bytes ≡ good s → IsSound s
 journal-is-sound bytes s is = subst IsSoundIfGood is (sound-lines start (text_of bytes).lines sound-empty)

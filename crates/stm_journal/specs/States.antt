@@ -167,9 +167,19 @@ abbrev pub EndedBelow : List SegmentData → Type 0
 EndedBelow [] = Unit {0}
 EndedBelow (segment ∷ below) = AllEnded below
 
+-- the page that an intent is about
+abbrev pub intent_page : Intent → ℕ
+intent_page (Erase n) = n
+intent_page (Program n) = n
+
+-- the newest segment keeps the page of its intent
+abbrev pub IntentIsKept : StateData → Type 0
+IntentIsKept s = (i : Intent) → intent_of s ≡ Some i → newest_keeps (intent_page i) s ≡ true
+
 -- what is so of every journal without a bad line
 pub record IsSound (s : StateData) : Type 0 where
   pub depth : length s.stack ≤ 65535
   pub named : 0 < length s.stack → IsSome s.header
   pub ended : EndedBelow s.stack
   pub once : AllOnce s.stack
+  pub intended : IntentIsKept s

@@ -17,8 +17,8 @@ pub fn flashes_before_segments()
     ensures { FlashesAreThose }
 {}
 
-/// In a journal without a bad line every segment below the newest is ended, a page stands once in a segment, a journal
-/// with a segment has a header, and its depth is at most 65,535.
+/// In a journal without a bad line every segment below the newest is ended, a page stands once in a segment, the newest
+/// segment keeps the page of its intent, a journal with a segment has a header, and its depth is at most 65,535.
 pub fn a_journal_is_sound()
     ensures { (bytes : List ℕ) (s : StateData) → journal_of bytes ≡ good s → IsSound s }
 {}

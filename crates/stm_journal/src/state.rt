@@ -1,6 +1,6 @@
 // The segments of a journal, and what entries make of them.
 ghost use Rattle.std.specs.Prelude.{◌≡◌, ◌+◌, ◌<◌, ◌∷◌, [], length, not, OnOk, OnErr, IsTrue, IsSome, is_some, is_none, drop, Some, Option, option_map, List, ℕ, true, false};
-ghost use Rattle.stm_journal.specs.States.{stack_of, empty_state, is_unfinished, intent_of, allows, newest_has, newest_intent, may_keep, keeps, is_open_stage, is_ended_stage, on_newest, keeping, intending, ending, fresh_segment, after_entry, page_bytes, kept_at, segment_of, IsSound};
+ghost use Rattle.stm_journal.specs.States.{stack_of, empty_state, is_unfinished, intent_of, allows, newest_has, newest_intent, may_keep, keeps, is_open_stage, is_ended_stage, on_newest, keeping, intending, ending, fresh_segment, after_entry, page_bytes, kept_at, segment_of, intent_page, IsSound};
 
 use crate::segment::Segment;
 use crate::{Entry, Intent, JournalHeader, Kept, Stage};
@@ -172,6 +172,7 @@ impl State {
     }
 
     fn intend(&mut self, intent: Intent)
+        requires { IsTrue (newest_has (λ segment. keeps segment (intent_page intent)) self.old.stack) }
         ensures { self.new ≡ record self.old { stack = on_newest (intending intent) self.old.stack } }
     {
         if let Some(newest) = &mut self.newest {
