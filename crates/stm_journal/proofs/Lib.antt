@@ -12,3 +12,4 @@ mod Appending
 mod Rules
 mod Loads
 mod Fetching
+mod Stopping

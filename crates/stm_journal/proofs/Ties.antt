@@ -18,13 +18,13 @@ none-longer (x ∷ xs) h = absurd (omega (arith, grind-length (length xs) h))
     grind-length n g = grind (arith, nat_tests)
 
 -- a journal without a torn tail ends with a whole line
-no-tail : (l : Loaded) (bytes : List ℕ) → IsLoaded l bytes → l.is_torn ≡ false → (text_of bytes).tail ≡ []
+pub no-tail : (l : Loaded) (bytes : List ℕ) → IsLoaded l bytes → l.is_torn ≡ false → (text_of bytes).tail ≡ []
 no-tail l bytes is whole = none-longer (text_of bytes).tail (sym is.is_torn ∙ whole)
 
-void-after : (n ends : ℕ) (s : StateData) (line : List ℕ) → is_void line ≡ true → after_line n ends (good s) line ≡ good s
+pub void-after : (n ends : ℕ) (s : StateData) (line : List ℕ) → is_void line ≡ true → after_line n ends (good s) line ≡ good s
 void-after n ends s line v = ap (λ (b : Bool). if b then good s else after_said n ends s (entry_of line)) v
 
-said-after : (n ends : ℕ) (s : StateData) (e : Entry) → IsPrintable e → IsTrue (allows s e) → after_line n ends (good s) (line_of e) ≡ good (after_entry n ends s e)
+pub said-after : (n ends : ℕ) (s : StateData) (e : Entry) → IsPrintable e → IsTrue (allows s e) → after_line n ends (good s) (line_of e) ≡ good (after_entry n ends s e)
 said-after n ends s e is may =
     ap (λ (b : Bool). if b then good s else after_said n ends s (entry_of (line_of e))) (is_void-printed e is)
     ∙ ap (λ (o : Option Entry). after_said n ends s o) (entry_of-line e is)

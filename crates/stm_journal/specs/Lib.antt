@@ -3,6 +3,7 @@ pub mod Entries
 pub mod States
 pub mod Flashes
 pub mod Journals
+pub mod Beginnings
 pub mod Calls
 pub mod Loading
 pub mod Examples

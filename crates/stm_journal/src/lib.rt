@@ -20,7 +20,10 @@ pub use fault::JournalFault;
 pub use header::JournalHeader;
 pub use journal::Journal;
 pub use kept::{Kept, PageBytes};
-pub use laws::{a_journal_is_sound, a_printed_line_reads_back, flashes_before_segments};
+pub use laws::{
+    a_journal_is_sound, a_printed_line_reads_back, a_stopped_append_is_good,
+    flashes_before_segments,
+};
 pub use stage::Stage;
 pub use stm_wire::Intent;
 
