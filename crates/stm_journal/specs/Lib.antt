@@ -3,7 +3,9 @@ pub mod Entries
 pub mod States
 pub mod Flashes
 pub mod Journals
+pub mod EntryLaws
 pub mod Beginnings
+pub mod CallEntries
 pub mod Calls
 pub mod Loading
 pub mod Examples
