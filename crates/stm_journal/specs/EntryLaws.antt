@@ -1,7 +1,7 @@
 -- What an entry makes of the newest segment, of the depth and of the intent.
 use Rattle.std.proofs.Common.{◌≡◌, ℕ, ◌+◌, ◌-◌, Bool, true, false, not, ◌&&◌, ◌||◌, ◌==◌, List, [], ◌∷◌, length, drop, Some, None, refl, ◌∙◌, ap, arith}
 use Rattle.std.proofs.Math.Bool.{or-false}
-use Rattle.std.proofs.lemmas.Bool.{false≢true}
+use Rattle.std.proofs.lemmas.Bool.{false≢true, eq-eqb}
 use Rattle.std.proofs.lemmas.List.Folds.{list_any-append}
 use Rattle.stm_wire.specs.declared.intent.Intent.{Intent}
 use Rattle.stm_wire.specs.declared.intent.Intent.TheVariants.{Erase, Program}
@@ -96,6 +96,40 @@ newest_may_keep-keeps line ends n bytes m s = may_keep-kept (kept_in line ends n
 
 pub intent_of-keeps : (line ends n : ℕ) (bytes : List ℕ) (s : StateData) → intent_of (after_entry line ends s (Keeps n bytes)) ≡ intent_of s
 intent_of-keeps line ends n bytes s = intent-on (keeping (kept_in line ends n bytes)) s.stack (λ segment. refl)
+
+-- in short: the page is kept, and the segment is open as it was
+open-first : (a b : Bool) → (a && b) ≡ true → a ≡ true
+open-first true b h = refl
+open-first false b h = h
+
+open-unfinished : (stage : Stage) → is_open_stage stage ≡ true → not (is_ended_stage stage) ≡ true
+open-unfinished (Open i) h = refl
+open-unfinished Ended h = h
+open-unfinished (Returning i) h = refl
+
+either-true : (a b : Bool) → b ≡ true → (a || b) ≡ true
+either-true true b h = refl
+either-true false b h = h
+
+pub newest_is_open-may_keep : (n : ℕ) (s : StateData) → newest_may_keep n s ≡ true → newest_is_open s ≡ true
+newest_is_open-may_keep n s may = at s.stack may
+  where
+    at : (stack : List SegmentData) → newest_has (may_keep n) stack ≡ true → newest_has (λ segment. is_open_stage segment.stage) stack ≡ true
+    at [] h = h
+    at (segment ∷ below) h = open-first (is_open_stage segment.stage) (not (keeps segment n)) h
+
+pub is_unfinished-open : (s : StateData) → newest_is_open s ≡ true → is_unfinished s ≡ true
+is_unfinished-open s is = at s.stack is
+  where
+    at : (stack : List SegmentData) → newest_has (λ segment. is_open_stage segment.stage) stack ≡ true → newest_has (λ segment. not (is_ended_stage segment.stage)) stack ≡ true
+    at [] h = h
+    at (segment ∷ below) h = open-unfinished segment.stage h
+
+pub newest_keeps-kept : (line ends n : ℕ) (bytes : List ℕ) (s : StateData) → newest_may_keep n s ≡ true → newest_keeps n (after_entry line ends s (Keeps n bytes)) ≡ true
+newest_keeps-kept line ends n bytes s may = newest_keeps-keeps line ends n bytes n s may ∙ either-true (newest_keeps n s) (n == n) (eq-eqb n n refl)
+
+pub is_unfinished-kept : (line ends n : ℕ) (bytes : List ℕ) (s : StateData) → newest_may_keep n s ≡ true → is_unfinished (after_entry line ends s (Keeps n bytes)) ≡ true
+is_unfinished-kept line ends n bytes s may = is_unfinished-keeps line ends n bytes s ∙ is_unfinished-open s (newest_is_open-may_keep n s may)
 
 -- `erase N` and `program N`: the intent alone, which an ended segment is being taken back by
 not-ended : (i : Intent) (stage : Stage) → not (is_ended_stage (stage_with i stage)) ≡ true
