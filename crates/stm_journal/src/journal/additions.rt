@@ -1,0 +1,126 @@
+// What a call adds to a journal: lines that are prepared in memory and then appended at once.
+ghost use Rattle.std.specs.Prelude.{◌≡◌, ◌∷◌, [], length, OnOk, IfOk, IfErr, IsTrue};
+ghost use Rattle.stm_wire.specs.Dialogue.{GoesOn};
+ghost use Rattle.stm_journal.specs.States.{empty_state, allows};
+ghost use Rattle.stm_journal.specs.Journals.{IsLoaded, IsPrintable, mark, added_bytes, past_mark, loaded_after, LeavesLoaded};
+ghost use Rattle.stm_journal.specs.Calls.{HasJournalCause, AppendsOnce, Appends};
+
+use crate::append::append;
+use crate::print::print;
+use crate::{Entry, Journal, JournalFault, JournalHeader};
+use std::alloc::AllocError;
+use stm_wire::Rig;
+
+impl Journal {
+    /// The number of whole lines, where a torn tail is made one.
+    fn marked_lines(&self) -> u64
+        ensures { result ≡ (past_mark self.now).lines }
+    {
+        if self.is_torn {
+            self.lines.saturating_add(1)
+        } else {
+            self.lines
+        }
+    }
+
+    /// The number of bytes, where a torn tail is made a line.
+    fn marked_size(&self) -> u64
+        ensures { result ≡ (past_mark self.now).size }
+    {
+        if self.is_torn {
+            self.size.saturating_add(2)
+        } else {
+            self.size
+        }
+    }
+
+    /// What stands before the lines of an append.
+    fn marked_text(&self) -> Result<Vec<u8>, AllocError>
+        ensures { IfOk result (λ text. text.items ≡ mark self.now.is_torn) }
+    {
+        let mut text = Vec::new(self.alloc);
+        if self.is_torn {
+            text.extend_from_slice(b"!\n")?;
+        }
+        Ok(text)
+    }
+
+    /// Makes it what it is after the line of an entry, and gives the bytes of that line.
+    fn prepare(&mut self, entry: Entry) -> Result<Vec<u8>, JournalFault>
+        requires { IsTrue (allows self.old.state entry) }
+        ensures text { IfOk result (λ text. text.items ≡ added_bytes self.old.is_torn (entry ∷ [])) }
+        ensures after { OnOk result (self.new ≡ loaded_after (entry ∷ []) self.old) }
+        ensures err { IfErr result (λ e. (e ≡ JournalFault.Memory) × (self.new ≡ self.old)) }
+    {
+        let mut text = self.marked_text()?;
+        let marked = text.len();
+        print(&mut text, self.alloc, &entry)?;
+        let line = self.marked_lines().saturating_add(1);
+        let size = self.marked_size();
+        let length = (text.len() - marked) as u64;
+        self.state
+            .apply(self.alloc, line, size.saturating_add(length - 1), entry)?;
+        self.lines = line;
+        self.size = size.saturating_add(length);
+        self.is_torn = false;
+        Ok(text)
+    }
+
+    /// Makes it what it is after the header and the line of the first segment, and gives the bytes of these.
+    fn prepare_first(&mut self, id: u16) -> Result<Vec<u8>, JournalFault>
+        requires { self.old.state ≡ empty_state }
+        ensures text { IfOk result (λ text. text.items ≡ added_bytes self.old.is_torn (Entry.Names 1 id ∷ Entry.Opens 1 ∷ [])) }
+        ensures after { OnOk result (self.new ≡ loaded_after (Entry.Names 1 id ∷ Entry.Opens 1 ∷ []) self.old) }
+        ensures err { IfErr result (λ e. (e ≡ JournalFault.Memory) × (self.new ≡ self.old)) }
+    {
+        let mut text = self.marked_text()?;
+        let marked = text.len();
+        let header = Entry::Names(1, id);
+        print(&mut text, self.alloc, &header)?;
+        let named = text.len();
+        let first = Entry::Opens(1);
+        print(&mut text, self.alloc, &first)?;
+        let line = self.marked_lines().saturating_add(1);
+        let size = self.marked_size().saturating_add((named - marked) as u64);
+        self.state.open(
+            self.alloc,
+            Some(JournalHeader {
+                version: 1,
+                id,
+                line,
+            }),
+        )?;
+        self.lines = line.saturating_add(1);
+        self.size = size.saturating_add((text.len() - named) as u64);
+        self.is_torn = false;
+        Ok(text)
+    }
+
+    /// Adds the line of an entry that the line rules allow.
+    pub(super) fn add<R: Rig>(&mut self, rig: &mut R, entry: Entry) -> Result<(), JournalFault>
+        requires { IsTrue (allows self.old.state entry) }
+        ensures after { OnOk result (self.new ≡ loaded_after (entry ∷ []) self.old) }
+        ensures left { IfErr result (LeavesLoaded self.old self.new) }
+        ensures cause { HasJournalCause (R.view rig.old) (R.view rig.new) result }
+        ensures calls { GoesOn (AppendsOnce (length (added_bytes self.old.is_torn (entry ∷ []))) result) (R.view rig.old).calls (R.view rig.new).calls }
+        ensures honest { (R.view rig.old).is_honest → IsLoaded self.old (R.view rig.old).journal → IsPrintable entry
+            → Appends (entry ∷ []) self.old self.new (R.view rig.old) (R.view rig.new) result }
+    {
+        let text = self.prepare(entry)?;
+        append(rig, &text)
+    }
+
+    /// Adds the header and the line of the first segment.
+    pub(super) fn add_first<R: Rig>(&mut self, rig: &mut R, id: u16) -> Result<(), JournalFault>
+        requires { self.old.state ≡ empty_state }
+        ensures after { OnOk result (self.new ≡ loaded_after (Entry.Names 1 id ∷ Entry.Opens 1 ∷ []) self.old) }
+        ensures left { IfErr result (LeavesLoaded self.old self.new) }
+        ensures cause { HasJournalCause (R.view rig.old) (R.view rig.new) result }
+        ensures calls { GoesOn (AppendsOnce (length (added_bytes self.old.is_torn (Entry.Names 1 id ∷ Entry.Opens 1 ∷ []))) result) (R.view rig.old).calls (R.view rig.new).calls }
+        ensures honest { (R.view rig.old).is_honest → IsLoaded self.old (R.view rig.old).journal
+            → Appends (Entry.Names 1 id ∷ Entry.Opens 1 ∷ []) self.old self.new (R.view rig.old) (R.view rig.new) result }
+    {
+        let text = self.prepare_first(id)?;
+        append(rig, &text)
+    }
+}

@@ -1,0 +1,70 @@
+// The calls that begin a segment, end it, and say that it was taken back.
+ghost use Rattle.std.specs.Prelude.{◌≡◌, ◌+◌, ◌<◌, ◌∷◌, [], length, false, OnOk, IfOk, IfErr, IsTrue};
+ghost use Rattle.stm_wire.specs.Dialogue.{GoesOn};
+ghost use Rattle.stm_journal.specs.States.{is_unfinished, newest_is_open, names_other};
+ghost use Rattle.stm_journal.specs.Journals.{IsLoaded, added_bytes, loaded_after, begin_entries, LeavesLoaded, LeavesUnbegun};
+ghost use Rattle.stm_journal.specs.Calls.{HasJournalCause, AppendsOnce, Appends};
+
+use crate::{Entry, Journal, JournalFault};
+use stm_wire::Rig;
+
+impl Journal {
+    /// Begins a segment for the device with this product id, and answers its number.
+    ///
+    /// A journal without a header gets one, in the same append.
+    pub fn begin<R: Rig>(&mut self, rig: &mut R, id: u16) -> Result<u32, JournalFault>
+        requires room { length self.old.state.stack < 65535 }
+        requires finished { is_unfinished self.old.state ≡ false }
+        ensures number { IfOk result (λ k. k ≡ length self.old.state.stack + 1) }
+        ensures device { OnOk result (names_other id self.old.state ≡ false) }
+        ensures after { OnOk result (self.new ≡ loaded_after (begin_entries id self.old.state) self.old) }
+        ensures left { IfErr result (LeavesUnbegun id self.old self.new) }
+        ensures cause { HasJournalCause (R.view rig.old) (R.view rig.new) result }
+        ensures calls { GoesOn (AppendsOnce (length (added_bytes self.old.is_torn (begin_entries id self.old.state))) result) (R.view rig.old).calls (R.view rig.new).calls }
+        ensures honest { (R.view rig.old).is_honest → IsLoaded self.old (R.view rig.old).journal
+            → Appends (begin_entries id self.old.state) self.old self.new (R.view rig.old) (R.view rig.new) result }
+    {
+        let k = self.state.depth() + 1;
+        match self.state.header() {
+            Some(header) => {
+                if header.id != id {
+                    return Err(JournalFault::OtherDevice);
+                }
+                self.add(rig, Entry::Opens(k as u16))?;
+                Ok(k)
+            }
+            None => {
+                self.add_first(rig, id)?;
+                Ok(k)
+            }
+        }
+    }
+
+    /// Ends the newest segment, which is open.
+    pub fn end<R: Rig>(&mut self, rig: &mut R) -> Result<(), JournalFault>
+        requires { IsTrue (newest_is_open self.old.state) }
+        ensures after { OnOk result (self.new ≡ loaded_after (Entry.Ends (length self.old.state.stack) ∷ []) self.old) }
+        ensures left { IfErr result (LeavesLoaded self.old self.new) }
+        ensures cause { HasJournalCause (R.view rig.old) (R.view rig.new) result }
+        ensures calls { GoesOn (AppendsOnce (length (added_bytes self.old.is_torn (Entry.Ends (length self.old.state.stack) ∷ []))) result) (R.view rig.old).calls (R.view rig.new).calls }
+        ensures honest { (R.view rig.old).is_honest → IsLoaded self.old (R.view rig.old).journal
+            → Appends (Entry.Ends (length self.old.state.stack) ∷ []) self.old self.new (R.view rig.old) (R.view rig.new) result }
+    {
+        let k = self.state.depth();
+        self.add(rig, Entry::Ends(k as u16))
+    }
+
+    /// Says that the newest segment was taken back.
+    pub fn undone<R: Rig>(&mut self, rig: &mut R) -> Result<(), JournalFault>
+        requires { 0 < length self.old.state.stack }
+        ensures after { OnOk result (self.new ≡ loaded_after (Entry.Undoes (length self.old.state.stack) ∷ []) self.old) }
+        ensures left { IfErr result (LeavesLoaded self.old self.new) }
+        ensures cause { HasJournalCause (R.view rig.old) (R.view rig.new) result }
+        ensures calls { GoesOn (AppendsOnce (length (added_bytes self.old.is_torn (Entry.Undoes (length self.old.state.stack) ∷ []))) result) (R.view rig.old).calls (R.view rig.new).calls }
+        ensures honest { (R.view rig.old).is_honest → IsLoaded self.old (R.view rig.old).journal
+            → Appends (Entry.Undoes (length self.old.state.stack) ∷ []) self.old self.new (R.view rig.old) (R.view rig.new) result }
+    {
+        let k = self.state.depth();
+        self.add(rig, Entry::Undoes(k as u16))
+    }
+}
