@@ -13,3 +13,4 @@ mod Rules
 mod Loads
 mod Fetching
 mod Stopping
+pub mod AfterCalls

@@ -2,6 +2,8 @@ pub mod Text
 pub mod Entries
 pub mod States
 pub mod Flashes
+pub mod Newest
+pub mod NewestLaws
 pub mod Journals
 pub mod EntryLaws
 pub mod Beginnings

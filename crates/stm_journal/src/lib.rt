@@ -28,4 +28,6 @@ pub use stage::Stage;
 pub use stm_wire::Intent;
 
 #[cfg(test)]
+mod call_order;
+#[cfg(test)]
 mod tests;

@@ -5,7 +5,7 @@ use std::test::Fail;
 use stm_wire::{Chip, EraseKind, MemoryRig};
 
 /// A Rig with one page of flash, and this journal.
-fn rig_with(alloc: Global, bytes: &[u8]) -> Result<MemoryRig, Fail> {
+pub(crate) fn rig_with(alloc: Global, bytes: &[u8]) -> Result<MemoryRig, Fail> {
     let sizes = vec![in alloc; 256; 1]?;
     let flash = vec![in alloc; 0xFF; 256]?;
     let journal = Vec::from_slice(alloc, bytes)?;

@@ -2,10 +2,11 @@
 ghost use Rattle.std.specs.Prelude.{◌≡◌, ◌<◌, ◌∷◌, [], length, OnOk, IfErr, IsTrue};
 ghost use Rattle.stm_wire.specs.Dialogue.{GoesOn};
 ghost use Rattle.stm_journal.specs.States.{newest_keeps, newest_may_keep};
+ghost use Rattle.stm_journal.specs.Newest.{HasKept, HasIntended};
 ghost use Rattle.stm_journal.specs.Journals.{IsLoaded, added_bytes, loaded_after, LeavesLoaded};
 ghost use Rattle.stm_journal.specs.Calls.{HasJournalCause, AppendsOnce, Appends};
 
-use crate::{Entry, Journal, JournalFault, PageBytes};
+use crate::{Entry, Intent, Journal, JournalFault, PageBytes};
 use stm_wire::Rig;
 
 impl Journal {
@@ -19,6 +20,7 @@ impl Journal {
         requires open { IsTrue (newest_may_keep n self.old.state) }
         requires some { 0 < length bytes.now }
         ensures after { OnOk result (self.new ≡ loaded_after (Entry.Keeps n bytes.now ∷ []) self.old) }
+        ensures kept { OnOk result (HasKept n bytes.now self.old.state self.new.state) }
         ensures left { IfErr result (LeavesLoaded self.old self.new) }
         ensures cause { HasJournalCause (R.view rig.old) (R.view rig.new) result }
         ensures calls { GoesOn (AppendsOnce (length (added_bytes self.old.is_torn (Entry.Keeps n bytes.now ∷ []))) result) (R.view rig.old).calls (R.view rig.new).calls }
@@ -34,6 +36,7 @@ impl Journal {
     pub fn intend_erase<R: Rig>(&mut self, rig: &mut R, n: u16) -> Result<(), JournalFault>
         requires { IsTrue (newest_keeps n self.old.state) }
         ensures after { OnOk result (self.new ≡ loaded_after (Entry.Erases n ∷ []) self.old) }
+        ensures intended { OnOk result (HasIntended n (Intent.Erase n) self.old.state self.new.state) }
         ensures left { IfErr result (LeavesLoaded self.old self.new) }
         ensures cause { HasJournalCause (R.view rig.old) (R.view rig.new) result }
         ensures calls { GoesOn (AppendsOnce (length (added_bytes self.old.is_torn (Entry.Erases n ∷ []))) result) (R.view rig.old).calls (R.view rig.new).calls }
@@ -48,6 +51,7 @@ impl Journal {
     pub fn intend_program<R: Rig>(&mut self, rig: &mut R, n: u16) -> Result<(), JournalFault>
         requires { IsTrue (newest_keeps n self.old.state) }
         ensures after { OnOk result (self.new ≡ loaded_after (Entry.Programs n ∷ []) self.old) }
+        ensures intended { OnOk result (HasIntended n (Intent.Program n) self.old.state self.new.state) }
         ensures left { IfErr result (LeavesLoaded self.old self.new) }
         ensures cause { HasJournalCause (R.view rig.old) (R.view rig.new) result }
         ensures calls { GoesOn (AppendsOnce (length (added_bytes self.old.is_torn (Entry.Programs n ∷ []))) result) (R.view rig.old).calls (R.view rig.new).calls }

@@ -2,6 +2,7 @@
 ghost use Rattle.std.specs.Prelude.{◌≡◌, ◌+◌, ◌<◌, ◌∷◌, [], length, false, OnOk, IfOk, IfErr, IsTrue};
 ghost use Rattle.stm_wire.specs.Dialogue.{GoesOn};
 ghost use Rattle.stm_journal.specs.States.{is_unfinished, newest_is_open, names_other};
+ghost use Rattle.stm_journal.specs.Newest.{HasBegun, HasEnded, HasUndone};
 ghost use Rattle.stm_journal.specs.Journals.{IsLoaded, added_bytes, loaded_after, begin_entries, LeavesLoaded, LeavesUnbegun};
 ghost use Rattle.stm_journal.specs.Calls.{HasJournalCause, AppendsOnce, Appends};
 
@@ -18,6 +19,7 @@ impl Journal {
         ensures number { IfOk result (λ k. k ≡ length self.old.state.stack + 1) }
         ensures device { OnOk result (names_other id self.old.state ≡ false) }
         ensures after { OnOk result (self.new ≡ loaded_after (begin_entries id self.old.state) self.old) }
+        ensures begun { OnOk result (HasBegun id self.old.state self.new.state) }
         ensures left { IfErr result (LeavesUnbegun id self.old self.new) }
         ensures cause { HasJournalCause (R.view rig.old) (R.view rig.new) result }
         ensures calls { GoesOn (AppendsOnce (length (added_bytes self.old.is_torn (begin_entries id self.old.state))) result) (R.view rig.old).calls (R.view rig.new).calls }
@@ -44,6 +46,7 @@ impl Journal {
     pub fn end<R: Rig>(&mut self, rig: &mut R) -> Result<(), JournalFault>
         requires { IsTrue (newest_is_open self.old.state) }
         ensures after { OnOk result (self.new ≡ loaded_after (Entry.Ends (length self.old.state.stack) ∷ []) self.old) }
+        ensures ended { OnOk result (HasEnded self.old.state self.new.state) }
         ensures left { IfErr result (LeavesLoaded self.old self.new) }
         ensures cause { HasJournalCause (R.view rig.old) (R.view rig.new) result }
         ensures calls { GoesOn (AppendsOnce (length (added_bytes self.old.is_torn (Entry.Ends (length self.old.state.stack) ∷ []))) result) (R.view rig.old).calls (R.view rig.new).calls }
@@ -58,6 +61,7 @@ impl Journal {
     pub fn undone<R: Rig>(&mut self, rig: &mut R) -> Result<(), JournalFault>
         requires { 0 < length self.old.state.stack }
         ensures after { OnOk result (self.new ≡ loaded_after (Entry.Undoes (length self.old.state.stack) ∷ []) self.old) }
+        ensures undone { OnOk result (HasUndone self.old.state self.new.state) }
         ensures left { IfErr result (LeavesLoaded self.old self.new) }
         ensures cause { HasJournalCause (R.view rig.old) (R.view rig.new) result }
         ensures calls { GoesOn (AppendsOnce (length (added_bytes self.old.is_torn (Entry.Undoes (length self.old.state.stack) ∷ []))) result) (R.view rig.old).calls (R.view rig.new).calls }

@@ -1,0 +1,13 @@
+use Rattle.std.proofs.Common.{sym, subst}
+use Rattle.std.proofs.lemmas.Result.{on_ok_weaker}
+use Rattle.stm_wire.specs.declared.intent.Intent.TheVariants.{Program}
+use Rattle.stm_journal.specs.Journals.{Loaded}
+use Rattle.stm_journal.specs.Newest.{HasIntended}
+use Rattle.stm_journal.proofs.AfterCalls.{HasIntended-program}
+use Rattle.stm_journal.proofs.journal.Journal.intend_program.Goals as goal
+
+pub returns-clause-intended : goal.returns-clause-intended
+returns-clause-intended g c =
+    let l = c.args.self.now in
+    let H : Loaded → Type 0 = λ x. HasIntended c.args.n (Program c.args.n) l.state x.state in
+    on_ok_weaker c.add.result (λ e. subst H (sym e) (HasIntended-program c.args.n l c.requires)) c.add.ensures.after
