@@ -107,6 +107,7 @@ pub record PassesLine (text : List ℕ) (old new : Loaded) : Type 0 where
   pub state : after_line (capped (old.lines + 1)) old.size (good old.state) text ≡ good new.state
   pub lines : new.lines ≡ capped (old.lines + 1)
   pub size : new.size ≡ capped (old.size + 1)
+  pub is_torn : new.is_torn ≡ old.is_torn
 
 abbrev pub BadLine : List ℕ → Loaded → JournalFault → Type 0
 BadLine text old File = ⊥
