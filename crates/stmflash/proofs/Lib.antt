@@ -3,3 +3,4 @@ pub mod Ranges
 pub mod Runs
 pub mod Subcommands
 pub mod Simple
+pub mod Growing

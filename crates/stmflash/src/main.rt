@@ -6,6 +6,12 @@ mod contact;
 mod device;
 mod failure;
 mod fault;
+mod files;
+#[cfg(test)]
+mod full_disk;
+mod journal_file;
+#[cfg(test)]
+mod journal_tests;
 mod number;
 mod program;
 mod reading;
@@ -13,6 +19,9 @@ mod session;
 #[cfg(test)]
 mod session_tests;
 mod simulator_file;
+mod simulator_rig;
+#[cfg(test)]
+mod simulator_rig_tests;
 mod task;
 #[cfg(test)]
 mod tests;

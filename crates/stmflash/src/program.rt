@@ -4,8 +4,10 @@ use crate::command::{Command, Info, Outcome};
 use crate::device::Simulator;
 use crate::failure::Failure;
 use crate::fault::Fault;
+use crate::journal_file::JournalFile;
 use crate::session;
 use crate::simulator_file::{load, store};
+use crate::simulator_rig::SimulatorRig;
 use crate::task::Task;
 use crate::words::read_words;
 use clap::error::ErrorKind;
@@ -14,7 +16,7 @@ use std::fs::Files;
 use std::io::Write;
 use std::{fs, io};
 use stm_chip::{Table, read_table};
-use stm_wire::{Chip, EraseKind, MemoryRig};
+use stm_wire::{Chip, EraseKind, Rig};
 
 /// Runs the program on its words, the first of which is its name, and answers the exit status: 0 where all was done or
 /// help was asked for, 1 after a fault, 2 where the words can't be read. Each fault is one line on `err`.
@@ -72,9 +74,13 @@ fn on_device<'a, R: Files + AllocGlobal, O: Write>(
     let Some(chip) = table.find(simulator.id) else {
         return Err(Failure::Session(Fault::UnknownChip(simulator.id)));
     };
-    let mut rig = load(rt, chip.clone()?, simulator.file)?;
+    let loaded = load(rt, chip.clone()?, simulator.file)?;
+    let name = given.get_str("journal").unwrap_or("");
+    let file = JournalFile::new(rt, name);
+    let journal = read_journal(&file, name)?;
+    let mut rig = SimulatorRig::new(loaded.start(rt.alloc(), journal)?, file);
     let done = do_task(rt, task, &mut rig, &table, chip, out);
-    let stored = store(rt, &rig, simulator.file);
+    let stored = store(rt, rig.memory(), simulator.file);
     done?;
     stored
 }
@@ -87,11 +93,22 @@ fn read_chips<'a, R: Files + AllocGlobal>(rt: &R, name: &'a str) -> Result<Table
     }
 }
 
+/// The bytes of the journal in a file of this name.
+fn read_journal<'a, R: Files + AllocGlobal>(
+    file: &JournalFile<'_, R>,
+    name: &'a str,
+) -> Result<Vec<u8>, Failure<'a>> {
+    match file.read() {
+        Ok(bytes) => Ok(bytes),
+        Err(e) => Err(Failure::of_file(&e, Failure::CannotRead(name))),
+    }
+}
+
 /// Does what a subcommand asks.
-fn do_task<'a, R: Files + AllocGlobal, O: Write>(
+fn do_task<'a, R: Files + AllocGlobal, L: Rig, O: Write>(
     rt: &R,
     task: Task<'a>,
-    rig: &mut MemoryRig,
+    rig: &mut L,
     table: &Table,
     chip: &Chip,
     out: &mut O,
@@ -111,9 +128,9 @@ fn do_task<'a, R: Files + AllocGlobal, O: Write>(
 }
 
 /// Reads the whole flash into a file, which is not touched where the read failed.
-fn read_flash<'a, R: Files + AllocGlobal>(
+fn read_flash<'a, R: Files + AllocGlobal, L: Rig>(
     rt: &R,
-    rig: &mut MemoryRig,
+    rig: &mut L,
     table: &Table,
     chip: &Chip,
     name: &'a str,

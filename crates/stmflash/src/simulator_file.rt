@@ -1,11 +1,14 @@
 // A simulator between two runs of the program: its flash is in a file, and where it stands in another beside it.
 
+ghost use Rattle.std.specs.Prelude.{◌≡◌, length};
+ghost use Rattle.stm_wire.specs.Chip.{flash_size};
+
 use crate::failure::Failure;
 use crate::fault::Fault;
+use crate::files::read_if_there;
 use std::alloc::{AllocError, Global};
 use std::fs;
 use std::fs::Files;
-use std::io::ErrorKind;
 use stm_wire::{Chip, MemoryRig, Patience, Rig};
 
 /// What stands in the line's file of a device that waits for 7F.
@@ -20,57 +23,87 @@ const GONE: &str = "gone\n";
 /// The byte that connects a device.
 const CONNECT: u8 = 0x7F;
 
-/// A file's bytes, or none where there is no such file.
-fn read_if_there<'a, R: Files + AllocGlobal>(
-    rt: &R,
-    name: &str,
-    named: Failure<'a>,
-) -> Result<Option<Vec<u8>>, Failure<'a>> {
-    match fs::read(rt, name) {
-        Ok(bytes) => Ok(Some(bytes)),
-        Err(e) if e.kind() == ErrorKind::NotFound => Ok(None),
-        Err(e) => Err(Failure::of_file(&e, named)),
-    }
-}
-
 /// The name of the file that tells where a simulator stands.
 fn line_name(alloc: Global, file: &str) -> Result<String, AllocError> {
     format!(in alloc; "{file}.line")
 }
 
-/// The simulator that the two files hold. A flash that isn't there is erased; without a line's file the device is fresh.
+/// Where a simulator stands between two runs.
+#[derive(Clone, Copy)]
+enum Standing {
+    Fresh,
+    Idle,
+    Gone,
+}
+
+/// What the file of a simulator's line says; without one the device is fresh.
+fn read_standing(line: Option<&[u8]>) -> Option<Standing> {
+    match line {
+        None => Some(Standing::Fresh),
+        Some(text) if text == FRESH.as_bytes() => Some(Standing::Fresh),
+        Some(text) if text == IDLE.as_bytes() => Some(Standing::Idle),
+        Some(text) if text == GONE.as_bytes() => Some(Standing::Gone),
+        Some(_) => None,
+    }
+}
+
+/// A simulator between two runs, as its two files hold it.
+#[derive(Drop)]
+pub struct StoredSimulator {
+    chip: Chip,
+    flash: Vec<u8>,
+    standing: Standing,
+    ghost is_whole: { length flash.items ≡ flash_size chip },
+}
+
+/// The simulator that the two files hold. A flash that isn't there is erased.
 pub fn load<'a, R: Files + AllocGlobal>(
     rt: &R,
     chip: Chip,
     file: &'a str,
-) -> Result<MemoryRig, Failure<'a>> {
+) -> Result<StoredSimulator, Failure<'a>> {
     let alloc = rt.alloc();
-    let base = chip.base();
-    let flash = match read_if_there(rt, file, Failure::CannotRead(file))? {
-        Some(flash) => flash,
-        None => vec![in alloc; 0xFF; chip.flash_size() as usize]?,
+    let size = chip.flash_size() as usize;
+    let flash = match read_if_there(rt, file) {
+        Ok(Some(flash)) => flash,
+        Ok(None) => vec![in alloc; 0xFF; size]?,
+        Err(e) => return Err(Failure::of_file(&e, Failure::CannotRead(file))),
     };
-    let line = read_if_there(
-        rt,
-        line_name(alloc, file)?.as_str(),
-        Failure::CannotReadLine(file),
-    )?;
-    let Some(mut rig) = MemoryRig::new(alloc, chip, flash, Vec::new(alloc)) else {
-        return Err(Failure::BadSimulatorFile(file));
+    let line = match read_if_there(rt, line_name(alloc, file)?.as_str()) {
+        Ok(line) => line,
+        Err(e) => return Err(Failure::of_file(&e, Failure::CannotReadLine(file))),
     };
-    match line {
-        None => Ok(rig),
-        Some(line) if line.as_slice() == FRESH.as_bytes() => Ok(rig),
-        Some(line) if line.as_slice() == IDLE.as_bytes() => {
-            feed(&mut rig, CONNECT)?;
-            Ok(rig)
+    match read_standing(line.as_deref()) {
+        Some(standing) if flash.len() == size => Ok(StoredSimulator {
+            chip,
+            flash,
+            standing,
+        }),
+        _ => Err(Failure::BadSimulatorFile(file)),
+    }
+}
+
+impl StoredSimulator {
+    /// The simulator, standing as it was left, beside a journal of these bytes.
+    pub fn start(self, alloc: Global, journal: Vec<u8>) -> Result<MemoryRig, Fault> {
+        let StoredSimulator {
+            chip,
+            flash,
+            standing,
+        } = self;
+        let base = chip.base();
+        let Some(mut rig) = MemoryRig::new(alloc, chip, flash, journal) else {
+            unreachable!()
+        };
+        match standing {
+            Standing::Fresh => {}
+            Standing::Idle => feed(&mut rig, CONNECT)?,
+            Standing::Gone => {
+                feed(&mut rig, CONNECT)?;
+                stm_wire::go(&mut rig, base)?;
+            }
         }
-        Some(line) if line.as_slice() == GONE.as_bytes() => {
-            feed(&mut rig, CONNECT)?;
-            stm_wire::go(&mut rig, base).map_err(Fault::from)?;
-            Ok(rig)
-        }
-        Some(_) => Err(Failure::BadSimulatorFile(file)),
+        Ok(rig)
     }
 }
 

@@ -19,15 +19,15 @@ const BAD_DEVICES: [&str; 5] = ["line", "sim:0412", "sim:0412:", "sim:412:F", "s
 
 /// What the program answered and said.
 #[derive(Drop)]
-struct Said {
-    status: u8,
-    out: Vec<u8>,
-    err: Vec<u8>,
+pub struct Said {
+    pub status: u8,
+    pub out: Vec<u8>,
+    pub err: Vec<u8>,
 }
 
 impl Said {
     /// Whether this one line was all that was said, with this status.
-    fn is_fault(&self, status: u8, text: &str) -> bool {
+    pub fn is_fault(&self, status: u8, text: &str) -> bool {
         self.status == status && self.out.is_empty() && self.err.as_slice() == text.as_bytes()
     }
 
@@ -37,38 +37,41 @@ impl Said {
     }
 
     /// Whether all was done, and nothing was said.
-    fn is_silent(&self) -> bool {
+    pub fn is_silent(&self) -> bool {
         self.status == 0 && self.out.is_empty() && self.err.is_empty()
     }
 }
 
-/// A table and a simulator of this test alone: its two files, and the word that names it.
+/// A table and a simulator of this test alone: its two files, the word that names it, and the name of a journal.
 #[derive(Drop)]
-struct Place {
-    table: String,
-    flash: String,
-    line: String,
-    device: String,
+pub struct Place {
+    pub table: String,
+    pub flash: String,
+    pub line: String,
+    pub device: String,
+    pub journal: String,
 }
 
 impl Place {
     /// Writes the table.
-    fn new(rt: &HostRuntime, name: &str) -> Result<Place, Fail> {
+    pub fn new(rt: &HostRuntime, name: &str) -> Result<Place, Fail> {
         let flash = file_name(rt, name)?;
         let table = format!(in rt.alloc(); "{flash}.toml")?;
         let line = format!(in rt.alloc(); "{flash}.line")?;
         let device = format!(in rt.alloc(); "sim:0412:{flash}")?;
+        let journal = format!(in rt.alloc(); "{flash}.journal")?;
         fs::write(rt, table.as_str(), TABLE)?;
         Ok(Place {
             table,
             flash,
             line,
             device,
+            journal,
         })
     }
 
     /// Runs a subcommand on the simulator, with these further words.
-    fn call<'x>(
+    pub fn call<'x>(
         &'x self,
         rt: &HostRuntime,
         name: &'x str,
@@ -93,7 +96,7 @@ impl Place {
             "--device",
             device,
             "--journal",
-            "J",
+            self.journal.as_str(),
         ]?;
         words.extend_from_slice(further)?;
         call(rt, words.as_slice())
@@ -107,7 +110,7 @@ impl Place {
     }
 
     /// Removes the files that are there.
-    fn remove(&self, rt: &HostRuntime) {
+    pub fn remove(&self, rt: &HostRuntime) {
         let _ = fs::remove_file(rt, self.table.as_str());
         let _ = fs::remove_file(rt, self.flash.as_str());
         let _ = fs::remove_file(rt, self.line.as_str());
@@ -125,7 +128,7 @@ fn call(rt: &HostRuntime, words: &[&str]) -> Result<Said, AllocError> {
 }
 
 /// The name of a file of this test alone.
-fn file_name(rt: &HostRuntime, name: &str) -> Result<String, Fail> {
+pub fn file_name(rt: &HostRuntime, name: &str) -> Result<String, Fail> {
     let folder = env::temp_dir(rt)?;
     let id = std::process::id(rt.process());
     Ok(format!(in rt.alloc(); "{}/stmflash-{id}-{name}", folder.as_path().display())?)

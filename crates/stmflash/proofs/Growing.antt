@@ -1,0 +1,60 @@
+-- An append to the journal in memory, and then to its file.
+use Rattle.std.proofs.Common.{◌≡◌, ◌⊎◌, ℕ, List, [], ◌++◌, length, drop, true, Result, Ok, Err, sym, ap, subst, ◌∙◌, inl, inr, ⊎_elim, append-nil}
+use Rattle.std.proofs.Math.Seq.{drop-append_seam}
+use Rattle.std.specs.Io.KnownBytes.{Appends}
+use Rattle.stm_wire.specs.declared.fault.RigFault.{RigFault}
+use Rattle.stm_wire.specs.declared.fault.RigFault.TheVariants.{Line, File, Stopped}
+use Rattle.stm_wire.specs.Memory.{MemoryData, AppendsInMemory}
+use Rattle.stmflash.specs.JournalFile.{JournalBytes}
+use Rattle.stmflash.specs.SimulatorRig.{SimulatorState, AppendsToFile}
+
+-- the journal only grows
+grown-by : (bytes : List ℕ) (answer : Result (Unit {0}) RigFault) (old new : MemoryData) → AppendsInMemory bytes answer old new
+    → (added : List ℕ) × (new.journal ≡ old.journal ++ added)
+grown-by bytes (Ok done) old new does = (bytes, ap (λ m. m.journal) does.2)
+grown-by bytes (Err Stopped) old new does =
+    ⊎_elim
+    (λ some. (_, ap (λ m. m.journal) some))
+    (λ none. ([], ap (λ m. m.journal) none ∙ sym (append-nil old.journal)))
+    does.1
+grown-by bytes (Err File) old new does =
+    ⊎_elim
+    (λ entry. ([], ap (λ m. m.journal) entry ∙ sym (append-nil old.journal)))
+    (λ none. ([], ap (λ m. m.journal) none ∙ sym (append-nil old.journal)))
+    does.1
+grown-by bytes (Err Line) old new does = absurd does
+
+-- by what stands there from the old end on
+grown : (bytes : List ℕ) (answer : Result (Unit {0}) RigFault) (old new : MemoryData) → AppendsInMemory bytes answer old new
+    → new.journal ≡ old.journal ++ drop (length old.journal) new.journal
+grown bytes answer old new does =
+    let by = grown-by bytes answer old new does in
+    by.1 ∙ ap (λ added. old.journal ++ added) (sym (ap (drop (length old.journal)) by.1 ∙ drop-append_seam old.journal by.0))
+
+module _ (bytes : List ℕ) (answer result : Result (Unit {0}) RigFault) (old new : SimulatorState) (memory : MemoryData) (file : JournalBytes)
+    (memory_is : new.memory ≡ memory) (file_is : new.file ≡ file) (does : AppendsInMemory bytes answer old.memory memory) where
+  abbrev In : MemoryData → Type 0
+  In m = AppendsInMemory bytes answer old.memory m
+
+  -- the file took what the memory did
+  pub taken : (journal : List ℕ) → journal ≡ old.memory.journal → result ≡ answer → Appends old.file.known file.known (drop (length journal) memory.journal)
+      → AppendsToFile bytes result old new
+  taken journal journal_is same appends =
+      let in_new : In new.memory = subst In (sym memory_is) does in
+      record {
+        answer = answer;
+        in_memory = in_new;
+        in_file =
+            inl (
+              same,
+              (
+                drop (length old.memory.journal) new.memory.journal,
+                grown bytes answer old.memory new.memory in_new,
+                rw (memory_is, file_is, ← journal_is) appends,
+              ),
+            );
+      }
+
+  -- the file failed
+  pub failed : result ≡ Err File → file.has_failed ≡ true → AppendsToFile bytes result old new
+  failed is has = record { answer = answer; in_memory = subst In (sym memory_is) does; in_file = inr (is, ap (λ f. f.has_failed) file_is ∙ has) }

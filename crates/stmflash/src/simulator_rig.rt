@@ -1,0 +1,139 @@
+// A simulated device, and a journal kept in a file.
+ghost use Rattle.std.specs.Prelude.{◌≡◌, ◌≤◌, drop, length, OnErr, OnOk, true};
+ghost use Rattle.std.specs.Io.KnownBytes.{Appends};
+ghost use Rattle.std.proofs.Common.{refl};
+ghost use Rattle.stm_wire.specs.Memory.{PutsInMemory, GetsInMemory};
+ghost use Rattle.stm_wire.specs.Rig.{AppendsHonestly, FetchesHonestly, FetchesWithin, GetsHonestly, HasCause, PutsHonestly, Records, entry_of_get};
+ghost use Rattle.stmflash.specs.SimulatorRig.{SimulatorState, simulator_rig_state, AppendsToFile, FetchesUnlessFailed};
+
+use crate::journal_file::JournalFile;
+use std::fs::Files;
+use std::io;
+use std::marker::Model;
+use stm_wire::{MemoryRig, Patience, Rig, RigCall, RigFault};
+
+/// A simulated device, and a journal kept in a file. The device, the steps to a stop and the record are those of a Rig in
+/// memory, which also holds the journal's bytes: each append goes to it first, and by what its journal grew, the file
+/// grows too. After the file has failed once, no journal byte is added to it or told any more.
+#[derive(Drop)]
+pub struct SimulatorRig<'a, R: Files> {
+    memory: MemoryRig,
+    file: JournalFile<'a, R>,
+    journal_failures: u64,
+}
+
+impl<'a, R: Files> Model for SimulatorRig<'a, R> {
+    ghost Value = { SimulatorState };
+
+    ghost view = { λ rig. record { memory = rig.memory; file = rig.file; journal_failures = rig.journal_failures } };
+}
+
+impl<'a, R: Files> SimulatorRig<'a, R> {
+    /// A Rig with the device of this one in memory, whose journal has to be what the file holds.
+    pub fn new(memory: MemoryRig, file: JournalFile<'a, R>) -> SimulatorRig<'a, R>
+        ensures { result ≡ record { memory = memory; file = file.entry; journal_failures = 0 } }
+    {
+        SimulatorRig {
+            memory,
+            file,
+            journal_failures: 0,
+        }
+    }
+
+    /// The Rig in memory.
+    pub fn memory(&self) -> &MemoryRig
+        ensures { result.now ≡ self.now.memory }
+    {
+        &self.memory
+    }
+
+    /// Counts a failure of the journal, where the answer is one.
+    fn count_journal<T: Drop>(&mut self, answer: Result<T, RigFault>) -> Result<T, RigFault>
+        ensures answer { result ≡ answer }
+        ensures cause { HasCause self.old.journal_failures self.new.journal_failures result }
+        ensures memory { self.new.memory ≡ self.old.memory }
+        ensures file { self.new.file ≡ self.old.file }
+    {
+        if answer.is_err() {
+            self.journal_failures = self.journal_failures.saturating_add(1);
+        }
+        answer
+    }
+
+    /// Adds to the file what the journal in memory has from this place on.
+    fn append_to_file(&mut self, start: usize) -> io::Result<()>
+        requires { start ≤ length self.old.memory.journal }
+        ensures added { OnOk result (Appends self.old.file.known self.new.file.known (drop start self.old.memory.journal)) }
+        ensures err { OnErr result (self.new.file.has_failed ≡ true) }
+        ensures memory { self.new.memory ≡ self.old.memory }
+        ensures count { self.new.journal_failures ≡ self.old.journal_failures }
+    {
+        let added = &self.memory.journal()[start..];
+        if added.is_empty() {
+            return Ok(());
+        }
+        self.file.append(added)
+    }
+}
+
+impl<'a, R: Files> Rig for SimulatorRig<'a, R> {
+    ghost view = { simulator_rig_state };
+
+    ghost model = { λ rig honest. absurd honest };
+
+    ghost places = { λ rig. refl };
+
+    fn put(&mut self, byte: u8) -> Result<(), RigFault>
+        ensures cause { HasCause (simulator_rig_state self.old).line_failures (simulator_rig_state self.new).line_failures result }
+        ensures journal_count { (simulator_rig_state self.new).journal_failures ≡ (simulator_rig_state self.old).journal_failures }
+        ensures recorded { Records (RigCall.Put byte) result (simulator_rig_state self.old).calls (simulator_rig_state self.new).calls }
+        ensures honest { (simulator_rig_state self.old).is_honest → PutsHonestly byte result (simulator_rig_state self.old) (simulator_rig_state self.new) }
+        ensures in_memory { PutsInMemory byte result self.old.memory self.new.memory }
+        ensures file { self.new.file ≡ self.old.file }
+    {
+        self.memory.put(byte)
+    }
+
+    fn get(&mut self, patience: Patience) -> Result<Option<u8>, RigFault>
+        ensures cause { HasCause (simulator_rig_state self.old).line_failures (simulator_rig_state self.new).line_failures result }
+        ensures journal_count { (simulator_rig_state self.new).journal_failures ≡ (simulator_rig_state self.old).journal_failures }
+        ensures recorded { Records (entry_of_get result) result (simulator_rig_state self.old).calls (simulator_rig_state self.new).calls }
+        ensures honest { (simulator_rig_state self.old).is_honest → GetsHonestly result (simulator_rig_state self.old) (simulator_rig_state self.new) }
+        ensures in_memory { GetsInMemory result self.old.memory self.new.memory }
+        ensures file { self.new.file ≡ self.old.file }
+    {
+        self.memory.get(patience)
+    }
+
+    fn append(&mut self, bytes: &[u8]) -> Result<(), RigFault>
+        ensures cause { HasCause (simulator_rig_state self.old).journal_failures (simulator_rig_state self.new).journal_failures result }
+        ensures line_count { (simulator_rig_state self.new).line_failures ≡ (simulator_rig_state self.old).line_failures }
+        ensures recorded { Records (RigCall.Append (length bytes.now)) result (simulator_rig_state self.old).calls (simulator_rig_state self.new).calls }
+        ensures honest { (simulator_rig_state self.old).is_honest → AppendsHonestly bytes.now result (simulator_rig_state self.old) (simulator_rig_state self.new) }
+        ensures in_file { AppendsToFile bytes.now result self.old self.new }
+    {
+        let start = self.memory.journal().len();
+        let answer = self.memory.append(bytes);
+        let answer = match self.append_to_file(start) {
+            Ok(()) => answer,
+            Err(_) => Err(RigFault::File),
+        };
+        self.count_journal(answer)
+    }
+
+    fn fetch(&mut self, at: u64, buf: &mut [u8]) -> Result<usize, RigFault>
+        ensures within { FetchesWithin at buf.old buf.new result }
+        ensures cause { HasCause (simulator_rig_state self.old).journal_failures (simulator_rig_state self.new).journal_failures result }
+        ensures line_count { (simulator_rig_state self.new).line_failures ≡ (simulator_rig_state self.old).line_failures }
+        ensures recorded { Records RigCall.Fetch result (simulator_rig_state self.old).calls (simulator_rig_state self.new).calls }
+        ensures honest { (simulator_rig_state self.old).is_honest → FetchesHonestly at buf.old buf.new result (simulator_rig_state self.old) (simulator_rig_state self.new) }
+        ensures in_memory { FetchesUnlessFailed at buf.old buf.new result self.old self.new }
+        ensures file { self.new.file ≡ self.old.file }
+    {
+        if self.file.has_failed() {
+            return self.count_journal(Err(RigFault::File));
+        }
+        let answer = self.memory.fetch(at, buf);
+        self.count_journal(answer)
+    }
+}
