@@ -6,4 +6,5 @@ pub mod JournalFile
 pub mod Number
 pub mod Reading
 pub mod Session
+pub mod SimulatorFile
 pub mod SimulatorRig

@@ -1,7 +1,8 @@
 // A simulator between two runs of the program: its flash is in a file, and where it stands in another beside it.
-
-ghost use Rattle.std.specs.Prelude.{◌≡◌, length};
+ghost use Rattle.std.specs.Prelude.{◌≡◌, length, IfOk, OnOk};
 ghost use Rattle.stm_wire.specs.Chip.{flash_size};
+ghost use Rattle.stm_wire.specs.Memory.{rig_state};
+ghost use Rattle.stmflash.specs.SimulatorFile.{KeepsJournal};
 
 use crate::failure::Failure;
 use crate::fault::Fault;
@@ -85,7 +86,10 @@ pub fn load<'a, R: Files + AllocGlobal>(
 
 impl StoredSimulator {
     /// The simulator, standing as it was left, beside a journal of these bytes.
-    pub fn start(self, alloc: Global, journal: Vec<u8>) -> Result<MemoryRig, Fault> {
+    pub fn start(self, alloc: Global, journal: Vec<u8>) -> Result<MemoryRig, Fault>
+        ensures honest { IfOk result (λ rig. (rig_state rig).is_honest) }
+        ensures journal { IfOk result (λ rig. rig.journal ≡ journal.items) }
+    {
         let StoredSimulator {
             chip,
             flash,
@@ -95,23 +99,40 @@ impl StoredSimulator {
         let Some(mut rig) = MemoryRig::new(alloc, chip, flash, journal) else {
             unreachable!()
         };
-        match standing {
-            Standing::Fresh => {}
-            Standing::Idle => feed(&mut rig, CONNECT)?,
-            Standing::Gone => {
-                feed(&mut rig, CONNECT)?;
-                stm_wire::go(&mut rig, base)?;
-            }
-        }
+        stand(&mut rig, standing, base)?;
         Ok(rig)
     }
 }
 
-/// Feeds a byte to the simulator, and takes its replies.
-fn feed(rig: &mut MemoryRig, byte: u8) -> Result<(), Fault> {
-    if rig.put(byte).is_err() {
-        return Err(Fault::Line);
+/// Brings a fresh simulator to where it stood; a device that is gone went to this address.
+fn stand(rig: &mut MemoryRig, standing: Standing, base: u32) -> Result<(), Fault>
+    ensures { OnOk result (KeepsJournal (rig_state rig.old) (rig_state rig.new)) }
+{
+    match standing {
+        Standing::Fresh => Ok(()),
+        Standing::Idle => feed(rig, CONNECT),
+        Standing::Gone => {
+            feed(rig, CONNECT)?;
+            stm_wire::go(rig, base)?;
+            Ok(())
+        }
     }
+}
+
+/// Feeds a byte to the simulator, and takes its replies.
+fn feed(rig: &mut MemoryRig, byte: u8) -> Result<(), Fault>
+    ensures { OnOk result (KeepsJournal (rig_state rig.old) (rig_state rig.new)) }
+{
+    match rig.put(byte) {
+        Ok(()) => take_replies(rig),
+        Err(_) => Err(Fault::Line),
+    }
+}
+
+/// Takes the bytes that the simulator owes.
+fn take_replies(rig: &mut MemoryRig) -> Result<(), Fault>
+    ensures { OnOk result (KeepsJournal (rig_state rig.old) (rig_state rig.new)) }
+{
     for _ in 0..u64::MAX {
         match rig.get(Patience::Brief) {
             Ok(Some(_)) => {}

@@ -33,62 +33,64 @@ fn open<'a>(
     Ok(SimulatorRig::new(memory(rt, journal, steps)?, file))
 }
 
-/// Whether the file holds just these bytes.
-fn holds(rt: &HostRuntime, name: &str, bytes: &[u8]) -> Result<bool, Fail> {
-    Ok(fs::read(rt, name)?.as_slice() == bytes)
+/// Whether the file holds just these bytes; none: it is not there.
+fn holds(rt: &HostRuntime, name: &str, bytes: Option<&[u8]>) -> bool {
+    match fs::read(rt, name) {
+        Ok(held) => bytes == Some(held.as_slice()),
+        Err(_) => bytes.is_none(),
+    }
+}
+
+/// Whether an append of these bytes is answered so.
+fn answers<L: Rig>(rig: &mut L, bytes: &[u8], answer: Result<(), RigFault>) -> bool {
+    rig.append(bytes) == answer
+}
+
+/// Whether the journal is told to be these bytes, or this fault to have come.
+fn tells<L: Rig>(rig: &mut L, answer: Result<&[u8], RigFault>) -> bool {
+    let mut told = [0; 32];
+    match rig.fetch(0, &mut told) {
+        Ok(size) => answer == Ok(&told[..size]),
+        Err(fault) => answer == Err(fault),
+    }
+}
+
+/// Begins a journal in a file that is not there.
+fn begin(rt: &HostRuntime, name: &str) -> Result<bool, Fail> {
+    let mut rig = open(rt, name, u64::MAX)?;
+    Ok(
+        tells(&mut rig, Ok(b""))
+            && answers(&mut rig, b"", Ok(()))
+            && holds(rt, name, None)
+            && answers(&mut rig, b"open 1\n", Ok(()))
+            && holds(rt, name, Some(b"open 1\n"))
+            && answers(&mut rig, b"page", Ok(()))
+            && holds(rt, name, Some(b"open 1\npage")),
+    )
+}
+
+/// Goes on with it.
+fn go_on(rt: &HostRuntime, name: &str) -> Result<bool, Fail> {
+    let mut rig = open(rt, name, u64::MAX)?;
+    Ok(
+        tells(&mut rig, Ok(b"open 1\npage"))
+            && answers(&mut rig, b"!\n", Ok(()))
+            && tells(&mut rig, Ok(b"open 1\npage!\n"))
+            && holds(rt, name, Some(b"open 1\npage!\n")),
+    )
+}
+
+/// Does both, and removes the file.
+fn begin_and_go_on(rt: &HostRuntime, name: &str) -> Result<bool, Fail> {
+    let is_right = begin(rt, name)? && go_on(rt, name)?;
+    fs::remove_file(rt, name)?;
+    Ok(is_right)
 }
 
 #[test]
 fn appends_stand_in_the_file(rt: HostRuntime) -> Result<(), Fail> {
     let name = file_name(&rt, "appended")?;
-    let mut first = open(&rt, name.as_str(), u64::MAX)?;
-    let mut read = [0; 8];
-    assert_eq!(rt; first.fetch(0, &mut read), Ok(0));
-    assert_eq!(rt; first.append(b""), Ok(()));
-    assert!(rt; fs::metadata(&rt, name.as_str()).is_err());
-    assert_eq!(rt; first.append(b"open 1\n"), Ok(()));
-    assert!(rt; holds(&rt, name.as_str(), b"open 1\n")?);
-    assert_eq!(rt; first.append(b"page"), Ok(()));
-    assert!(rt; holds(&rt, name.as_str(), b"open 1\npage")?);
-    let mut second = open(&rt, name.as_str(), u64::MAX)?;
-    assert_eq!(rt; second.fetch(5, &mut read), Ok(6));
-    assert_eq!(rt; read, [b'1', b'\n', b'p', b'a', b'g', b'e', 0, 0]);
-    assert_eq!(rt; second.append(b"!\n"), Ok(()));
-    assert_eq!(rt; second.fetch(11, &mut read), Ok(2));
-    assert!(rt; holds(&rt, name.as_str(), b"open 1\npage!\n")?);
-    fs::remove_file(&rt, name.as_str())?;
-    Ok(())
-}
-
-// The line's two steps come first, and four of the append's.
-#[test]
-fn a_stop_leaves_a_beginning_in_the_file(rt: HostRuntime) -> Result<(), Fail> {
-    let name = file_name(&rt, "stopped")?;
-    let mut rig = open(&rt, name.as_str(), 6)?;
-    assert_eq!(rt; rig.put(0x7F), Ok(()));
-    assert_eq!(rt; rig.get(Patience::Brief), Ok(Some(0x79)));
-    assert_eq!(rt; rig.append(b"open 1\n"), Err(RigFault::Stopped));
-    assert!(rt; holds(&rt, name.as_str(), b"open")?);
-    assert_eq!(rt; rig.append(b"open 1\n"), Err(RigFault::Stopped));
-    assert_eq!(rt; rig.fetch(0, &mut [0; 8]), Err(RigFault::Stopped));
-    assert!(rt; holds(&rt, name.as_str(), b"open")?);
-    fs::remove_file(&rt, name.as_str())?;
-    let mut rig = open(&rt, name.as_str(), 0)?;
-    assert_eq!(rt; rig.append(b"open 1\n"), Err(RigFault::Stopped));
-    assert!(rt; fs::metadata(&rt, name.as_str()).is_err());
-    Ok(())
-}
-
-#[test]
-fn a_missing_folder_is_not_made(rt: HostRuntime) -> Result<(), Fail> {
-    let folder = file_name(&rt, "absent")?;
-    let name = format!(in rt.alloc(); "{folder}/journal")?;
-    let mut rig = open(&rt, name.as_str(), u64::MAX)?;
-    assert_eq!(rt; rig.append(b"open 1\n"), Err(RigFault::File));
-    assert_eq!(rt; rig.append(b"open 1\n"), Err(RigFault::File));
-    assert_eq!(rt; rig.fetch(0, &mut [0; 8]), Err(RigFault::File));
-    assert_eq!(rt; rig.put(0x7F), Ok(()));
-    assert!(rt; fs::metadata(&rt, folder.as_str()).is_err());
+    assert!(rt; begin_and_go_on(&rt, name.as_str())?);
     Ok(())
 }
 
@@ -96,55 +98,98 @@ fn a_missing_folder_is_not_made(rt: HostRuntime) -> Result<(), Fail> {
 fn a_name_without_a_folder_is_in_this_one(rt: HostRuntime) -> Result<(), Fail> {
     let id = std::process::id(rt.process());
     let name = format!(in rt.alloc(); "stmflash-{id}-journal")?;
-    let mut rig = open(&rt, name.as_str(), u64::MAX)?;
-    let answer = rig.append(b"open 1\n");
-    let is_held = holds(&rt, name.as_str(), b"open 1\n")?;
-    fs::remove_file(&rt, name.as_str())?;
-    assert!(rt; answer.is_ok() && is_held);
+    assert!(rt; begin_and_go_on(&rt, name.as_str())?);
     Ok(())
 }
 
-// Three bytes of the second append are written. Nothing is written behind them, though there is room again.
+/// Stops after so many steps, the first two of which are the line's, and answers whether just this beginning stands in
+/// the file then and after further calls.
+fn stop(rt: &HostRuntime, name: &str, steps: u64, held: Option<&[u8]>) -> Result<bool, Fail> {
+    let mut rig = open(rt, name, steps)?;
+    let is_right = rig.put(0x7F) == Ok(())
+        && rig.get(Patience::Brief) == Ok(Some(0x79))
+        && answers(&mut rig, b"open 1\n", Err(RigFault::Stopped))
+        && holds(rt, name, held)
+        && answers(&mut rig, b"open 1\n", Err(RigFault::Stopped))
+        && tells(&mut rig, Err(RigFault::Stopped))
+        && holds(rt, name, held);
+    let _ = fs::remove_file(rt, name);
+    Ok(is_right)
+}
+
 #[test]
-fn a_full_disk_ends_the_journal(rt: HostRuntime) -> Result<(), Fail> {
-    let name = file_name(&rt, "full")?;
-    let room = Cell::new(10);
-    let syncs = Cell::new(true);
+fn a_stop_leaves_a_beginning_in_the_file(rt: HostRuntime) -> Result<(), Fail> {
+    let name = file_name(&rt, "stopped")?;
+    assert!(rt; stop(&rt, name.as_str(), 6, Some(b"open"))?);
+    assert!(rt; stop(&rt, name.as_str(), 2, None)?);
+    Ok(())
+}
+
+/// Whether nothing more is added or told, and the line still works.
+fn has_ended<L: Rig>(rig: &mut L) -> bool {
+    answers(rig, b"end 1\n", Err(RigFault::File))
+        && tells(rig, Err(RigFault::File))
+        && rig.put(0x7F) == Ok(())
+}
+
+#[test]
+fn a_missing_folder_is_not_made(rt: HostRuntime) -> Result<(), Fail> {
+    let folder = file_name(&rt, "absent")?;
+    let name = format!(in rt.alloc(); "{folder}/journal")?;
+    let mut rig = open(&rt, name.as_str(), u64::MAX)?;
+    let is_right = answers(&mut rig, b"open 1\n", Err(RigFault::File)) && has_ended(&mut rig);
+    assert!(rt; is_right);
+    assert!(rt; fs::metadata(&rt, folder.as_str()).is_err());
+    Ok(())
+}
+
+/// Fills a disk in the midst of the second append, makes room again, and answers whether nothing is written behind what
+/// stands there.
+fn fill(rt: &HostRuntime, name: &str) -> Result<bool, Fail> {
+    let (room, syncs) = (Cell::new(10), Cell::new(true));
     let disk = FullDisk {
-        rt: &rt,
+        rt,
         room: &room,
         syncs: &syncs,
     };
-    let journal = JournalFile::new(&disk, name.as_str());
-    let mut rig = SimulatorRig::new(memory(&rt, Vec::new(rt.alloc()), u64::MAX)?, journal);
-    assert_eq!(rt; rig.append(b"open 1\n"), Ok(()));
-    assert_eq!(rt; rig.append(b"end 1\n"), Err(RigFault::File));
-    assert!(rt; holds(&rt, name.as_str(), b"open 1\nend")?);
+    let memory = memory(rt, Vec::new(rt.alloc()), u64::MAX)?;
+    let mut rig = SimulatorRig::new(memory, JournalFile::new(&disk, name));
+    let is_cut = answers(&mut rig, b"open 1\n", Ok(()))
+        && answers(&mut rig, b"end 1\n", Err(RigFault::File))
+        && holds(rt, name, Some(b"open 1\nend"));
     room.set(100);
-    assert_eq!(rt; rig.append(b"end 1\n"), Err(RigFault::File));
-    assert_eq!(rt; rig.fetch(0, &mut [0; 8]), Err(RigFault::File));
-    assert!(rt; holds(&rt, name.as_str(), b"open 1\nend")?);
+    Ok(is_cut && has_ended(&mut rig) && holds(rt, name, Some(b"open 1\nend")))
+}
+
+#[test]
+fn a_full_disk_ends_the_journal(rt: HostRuntime) -> Result<(), Fail> {
+    let name = file_name(&rt, "full")?;
+    assert!(rt; fill(&rt, name.as_str())?);
     fs::remove_file(&rt, name.as_str())?;
     Ok(())
+}
+
+/// Adds to a journal on a disk that ceases to keep what was written, and answers whether this is told.
+fn lose(rt: &HostRuntime, name: &str) -> bool {
+    let (room, syncs) = (Cell::new(100), Cell::new(true));
+    let disk = FullDisk {
+        rt,
+        room: &room,
+        syncs: &syncs,
+    };
+    let mut journal = JournalFile::new(&disk, name);
+    let is_kept = journal.append(b"open 1\n").is_ok();
+    syncs.set(false);
+    let is_lost = journal.append(b"end 1\n").is_err();
+    syncs.set(true);
+    is_kept && is_lost && journal.append(b"end 1\n").is_err()
 }
 
 #[test]
 fn what_is_not_on_the_disk_is_not_answered(rt: HostRuntime) -> Result<(), Fail> {
     let name = file_name(&rt, "unsynced")?;
-    let room = Cell::new(100);
-    let syncs = Cell::new(true);
-    let disk = FullDisk {
-        rt: &rt,
-        room: &room,
-        syncs: &syncs,
-    };
-    let mut journal = JournalFile::new(&disk, name.as_str());
-    assert!(rt; journal.append(b"open 1\n").is_ok());
-    syncs.set(false);
-    assert!(rt; journal.append(b"end 1\n").is_err());
-    syncs.set(true);
-    assert!(rt; journal.append(b"end 1\n").is_err());
-    assert!(rt; holds(&rt, name.as_str(), b"open 1\nend 1\n")?);
+    assert!(rt; lose(&rt, name.as_str()));
+    assert!(rt; holds(&rt, name.as_str(), Some(b"open 1\nend 1\n")));
     fs::remove_file(&rt, name.as_str())?;
     Ok(())
 }

@@ -1,4 +1,4 @@
-use Rattle.std.proofs.Common.{◌≡◌, ◌∙◌, subst}
+use Rattle.std.proofs.Common.{◌∙◌, subst}
 use Rattle.stmflash.specs.SimulatorRig.{SimulatorState, AppendsToFile}
 use Rattle.stmflash.proofs.Growing.{taken, failed}
 use Rattle.stmflash.proofs.simulator_rig.SimulatorRigRig.append.Goals as goal
@@ -11,7 +11,7 @@ returns-clause-in_file g c =
     let result = c.count_journal.result in
     let old : SimulatorState = record { memory = c.self.inside.memory; file = c.self.inside.file; journal_failures = c.self.inside.journal_failures } in
     let new = c.count_journal.new.self in
-    let memory_is : new.memory ≡ c.append-answer.new.self = c.count_journal.ensures.memory ∙ c.append_to_file.ensures.memory in
+    let memory_is = ◌∙◌ {a = c.count_journal.new.self.memory} c.count_journal.ensures.memory c.append_to_file.ensures.memory in
     let file_is = c.count_journal.ensures.file in
     let does = c.append-answer.ensures.simulated in
     let Goal : SimulatorState → Type 0 = λ s. AppendsToFile bytes result s new in
