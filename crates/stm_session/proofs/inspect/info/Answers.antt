@@ -1,0 +1,13 @@
+use Rattle.std.proofs.Common.{refl}
+use Rattle.stm_session.proofs.OpenedRuns.{informs_all, informs_nothing}
+use Rattle.stm_session.proofs.inspect.info.Goals as goal
+
+pub returns-in_err-opened-clause-honest : goal.returns-in_err-opened-clause-honest
+returns-in_err-opened-clause-honest g c h safe =
+    let V = g.R.Rig.view in
+    informs_nothing c.args.table.now (V c.args.rig.now) (V c.open.new.rig) _ c.from_residual.result (c.in_err-opened.ensures.honest h safe) c.from_residual.ensures.1
+
+pub returns-clause-honest : goal.returns-clause-honest
+returns-clause-honest g c h safe =
+    let V = g.R.Rig.view in
+    informs_all c.args.table.now (V c.args.rig.now) (V c.open.new.rig) c.in_ok-opened.opened _ (c.in_ok-opened.ensures.honest h safe) c.id.ensures refl

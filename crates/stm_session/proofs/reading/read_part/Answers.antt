@@ -1,0 +1,26 @@
+use Rattle.std.proofs.Common.{◌≡◌, rules, refl, sym, ◌∙◌, ap, subst, IsTrue, length, take, drop, ℕ, ◌-◌}
+use Rattle.stm_wire.specs.Chip.{ChipData, fits_inside}
+use Rattle.stm_wire.specs.Stopped.{read}
+use Rattle.stm_session.proofs.Asking.{asked, broken_off}
+use Rattle.stm_session.proofs.reading.read_part.Goals as goal
+
+pub returns-in_err-read-clause-honest : goal.returns-in_err-read-clause-honest
+returns-in_err-read-clause-honest g c h settled chip fits =
+    let V = g.R.Rig.view in
+    let P : ChipData → Type 0 = λ p. IsTrue (fits_inside p c.args.address (length c.args.buf.now)) in
+    let inside = subst P (sym chip) fits in
+    let does = c.in_err-read.ensures.honest h (record { settled = settled; inside = inside }) in
+    broken_off c.sending_is_harmless.ensures.asking (V c.args.rig.now) (V c.read.new.rig) c.from_residual.result _ h
+    (g.met.R.Rig.model c.args.rig.now h).device settled (read c.args.address (length c.args.buf.now) c.requires.some c.requires.limit inside refl) c.in_err-read.ensures.broken.2 does.fails c.from_residual.ensures.1
+
+pub returns-clause-honest : goal.returns-clause-honest
+returns-clause-honest g c h settled chip fits =
+    let V = g.R.Rig.view in
+    let P : ChipData → Type 0 = λ p. IsTrue (fits_inside p c.args.address (length c.args.buf.now)) in
+    let inside = subst P (sym chip) fits in
+    let does = (c.in_ok-read.ensures.honest h (record { settled = settled; inside = inside })).done in
+    let size : length c.read.new.buf ≡ length c.args.buf.now = search rules in
+    asked c.sending_is_harmless.ensures.asking (V c.args.rig.now) (V c.read.new.rig) (tt {0}) _ h
+    (g.met.R.Rig.model c.args.rig.now h).device settled (read c.args.address (length c.args.buf.now) c.requires.some c.requires.limit inside refl) c.in_ok-read.ensures.held does.same
+    (does.read ∙ ap (λ (n : ℕ). take n (drop (c.args.address - (V c.args.rig.now).device.chip.base) (V c.args.rig.now).device.flash)) size
+    ∙ ap (λ (p : ChipData). take (length c.args.buf.now) (drop (c.args.address - p.base) (V c.args.rig.now).device.flash)) chip)

@@ -1,0 +1,59 @@
+-- A round of the loop reads a block more.
+use Rattle.std.proofs.Common.{◌≡◌, arith, ap, ◌∙◌, ℕ}
+use Rattle.stm_session.specs.Running.{bytes_at}
+use Rattle.stm_session.proofs.Asking.{asks_failed, asks_ok, memory_refused, nothing_asked}
+use Rattle.stm_session.proofs.Ranges.{block_adds, block_asks}
+use Rattle.stm_session.proofs.reading.read_range.Goals as goal
+
+pub returns-in_err-bytes-clause-honest : goal.returns-in_err-bytes-clause-honest
+returns-in_err-bytes-clause-honest g c h settled chip =
+    let V = g.R.Rig.view in
+    memory_refused (V c.args.rig.now) (V c.args.rig.now) (tt {0}) c.from_residual.result
+    (nothing_asked c.sending_is_harmless.ensures.asking (V c.args.rig.now) (tt {0}) (λ x. Unit {0}) h (g.met.R.Rig.model c.args.rig.now h) settled tt) c.from_residual.ensures.1
+
+pub loop-done-init : goal.loop-done-init
+loop-done-init g c =
+    let V = g.R.Rig.view in (
+      omega (arith, c.in_ok-bytes.ensures.len),
+      record {
+        within = omega arith;
+        line = omega arith;
+        journal = omega arith;
+        honest = λ h settled chip. nothing_asked c.sending_is_harmless.ensures.asking (V c.args.rig.now) (tt {0}) _ h (g.met.R.Rig.model c.args.rig.now h) settled c.in_ok-bytes.ensures.items;
+      },
+    )
+
+pub loop-done-preserved : goal.loop-done-preserved
+loop-done-preserved g c =
+    let V = g.R.Rig.view in
+    let so_far = c.loop-done.invariant.1 in (
+      omega (arith, c.loop-done.invariant.0, c.in_ok-read_block.ensures.size),
+      record {
+        within = omega (arith, c.block_size-block.ensures.cut, c.loop-done-test.true);
+        line = omega (arith, so_far.line, c.in_ok-read_block.ensures.cause.line_later);
+        journal = omega (arith, so_far.journal, c.in_ok-read_block.ensures.cause.journal_later);
+        honest = λ h settled chip.
+            block_asks c.args.chip.now c.args.start c.args.size c.loop-done.done c.block_size-block.result c.loop-done.bytes.items
+            (V c.args.rig.now) (V c.loop-done.rig) (V c.read_block.new.rig) so_far c.loop-done-test.true c.requires c.block_size-block.ensures h settled chip
+            _ _ _ c.in_ok-read_block.ensures.honest
+            (λ asks. asks_ok (V c.loop-done.rig) (V c.read_block.new.rig) _ (tt {0}) asks
+            (block_adds c.args.chip.now c.args.start c.args.size c.loop-done.done c.block_size-block.result c.loop-done.bytes.items
+            (V c.args.rig.now) (V c.loop-done.rig) (V c.read_block.new.rig) so_far c.loop-done-test.true c.requires c.block_size-block.ensures h settled chip c.read_block.new.bytes.items));
+      },
+    )
+
+pub returns-in_err-read_block-clause-honest : goal.returns-in_err-read_block-clause-honest
+returns-in_err-read_block-clause-honest g c h settled chip =
+    let V = g.R.Rig.view in
+    block_asks c.args.chip.now c.args.start c.args.size c.loop-done.done c.block_size-block.result c.loop-done.bytes.items
+    (V c.args.rig.now) (V c.loop-done.rig) (V c.read_block.new.rig) c.loop-done.invariant.1 c.loop-done-test.true c.requires c.block_size-block.ensures h settled chip
+    _ c.from_residual-in_err-read_block.result _ c.in_err-read_block.ensures.honest
+    (λ asks. asks_failed (V c.loop-done.rig) (V c.read_block.new.rig) _ c.from_residual-in_err-read_block.result asks c.from_residual-in_err-read_block.ensures.1)
+
+pub returns-clause-honest : goal.returns-clause-honest
+returns-clause-honest g c h settled chip =
+    let V = g.R.Rig.view in
+    let so_far = c.loop-done.invariant.1 in
+    let all : c.loop-done.done ≡ c.args.size = omega (arith, so_far.within, c.loop-done-test.false) in
+    asks_ok (V c.args.rig.now) (V c.loop-done.rig) (tt {0}) c.loop-done.bytes (so_far.honest h settled chip)
+    (λ bytes. bytes ∙ ap (λ (n : ℕ). bytes_at c.args.chip.now (V c.args.rig.now).device.flash c.args.start n) all)

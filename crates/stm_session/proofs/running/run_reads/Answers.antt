@@ -1,0 +1,55 @@
+use Rattle.std.proofs.Common.{refl, arith, List, subst}
+use Rattle.std.proofs.lemmas.List.{take_all}
+use Rattle.stm_session.specs.declared.command.Command.{Command}
+use Rattle.stm_session.specs.Running.{AreRead, bytes_of, bytes_read, size_asked, size_of}
+use Rattle.stm_session.proofs.Asking.{asks_failed, asks_ok, memory_refused, nothing_asked}
+use Rattle.stm_session.proofs.ReadCommands.{grows, read_asks, read_first}
+use Rattle.stm_session.proofs.running.run_reads.Goals as goal
+
+pub loop-command-init : goal.loop-command-init
+loop-command-init g c =
+    let V = g.R.Rig.view in (
+      rw c.new-outcomes.ensures.items refl,
+      record {
+        line = omega arith;
+        journal = omega arith;
+        honest = λ h settled chip. nothing_asked c.sending_is_harmless.ensures.asking (V c.args.rig.now) (tt {0}) _ h (g.met.R.Rig.model c.args.rig.now h) settled (rw c.new-outcomes.ensures.items refl);
+      },
+    )
+
+pub loop-command-preserved : goal.loop-command-preserved
+loop-command-preserved g c =
+    let V = g.R.Rig.view in
+    let so_far = c.loop-command.invariant.1 in (
+      grows size_of size_asked c.args.commands.now c.loop-command.command-index _ c.loop-command.outcomes.items c.push.new.self.items c.in_ok-outcome.outcome
+          c.loop-command-test.true c.in_ok-push.ensures.items c.loop-command.invariant.0 c.in_ok-outcome.ensures.size,
+      record {
+        line = omega (arith, so_far.line, c.in_ok-outcome.ensures.cause.line_later);
+        journal = omega (arith, so_far.journal, c.in_ok-outcome.ensures.cause.journal_later);
+        honest = λ h settled chip.
+            read_asks c.args.chip.now _ c.loop-command.outcomes.items (V c.args.rig.now) (V c.loop-command.rig) (V c.run_command.new.rig) so_far h settled chip
+            _ _ _ c.in_ok-outcome.ensures.honest
+            (λ asks. asks_ok (V c.loop-command.rig) (V c.run_command.new.rig) _ (tt {0}) asks
+            (λ read. grows bytes_of (bytes_read (V c.args.rig.now).device.chip (V c.args.rig.now).device.flash) c.args.commands.now c.loop-command.command-index _ c.loop-command.outcomes.items
+            c.push.new.self.items c.in_ok-outcome.outcome c.loop-command-test.true c.in_ok-push.ensures.items (so_far.honest h settled chip).done
+            (read_first c.args.chip.now _ c.loop-command.outcomes.items (V c.args.rig.now) (V c.loop-command.rig) (V c.run_command.new.rig) so_far h settled chip _ _ read)));
+      },
+    )
+
+pub returns-in_err-outcome-clause-honest : goal.returns-in_err-outcome-clause-honest
+returns-in_err-outcome-clause-honest g c h settled chip =
+    let V = g.R.Rig.view in
+    read_asks c.args.chip.now _ c.loop-command.outcomes.items (V c.args.rig.now) (V c.loop-command.rig) (V c.run_command.new.rig) c.loop-command.invariant.1 h settled chip
+    _ c.from_residual.result _ c.in_err-outcome.ensures.honest (λ asks. asks_failed (V c.loop-command.rig) (V c.run_command.new.rig) _ c.from_residual.result asks c.from_residual.ensures.1)
+
+pub returns-in_err-push-clause-honest : goal.returns-in_err-push-clause-honest
+returns-in_err-push-clause-honest g c h settled chip =
+    let V = g.R.Rig.view in
+    read_asks c.args.chip.now _ c.loop-command.outcomes.items (V c.args.rig.now) (V c.loop-command.rig) (V c.run_command.new.rig) c.loop-command.invariant.1 h settled chip
+    _ c.from_residual-in_err-push.result _ c.in_ok-outcome.ensures.honest (λ asks. memory_refused (V c.loop-command.rig) (V c.run_command.new.rig) _ c.from_residual-in_err-push.result asks c.from_residual-in_err-push.ensures.1)
+
+pub returns-clause-honest : goal.returns-clause-honest
+returns-clause-honest g c h settled chip =
+    let V = g.R.Rig.view in
+    asks_ok (V c.args.rig.now) (V c.loop-command.rig) (tt {0}) c.loop-command.outcomes (c.loop-command.invariant.1.honest h settled chip)
+    (λ read. subst (λ (cs : List Command). AreRead (V c.args.rig.now).device cs c.loop-command.outcomes.items) (take_all c.loop-command.command-index c.args.commands.now (omega (arith, c.loop-command-test.false))) read)

@@ -1,0 +1,9 @@
+pub mod Fault
+pub mod Undoable
+pub mod Moments
+pub mod Refusal
+pub mod Opening
+pub mod Information
+pub mod Reading
+pub mod Running
+pub mod Leaving

@@ -1,0 +1,132 @@
+-- What a session refuses before it does anything to a device, in the order of its steps.
+use Rattle.std.specs.Prelude.{◌≡◌, ◌⊎◌, ℕ, not, ◌&&◌, ◌||◌, ◌==◌, Bool, false, nat_lt, min, if◌then◌else◌, List, [], ◌∷◌, length, fold, Option, Some, None, option_map, Result, Ok, Err}
+use Rattle.std.specs.List.{list_all, find, flat_map}
+use Rattle.std.specs.Option.{option_map_or}
+use Rattle.stm_wire.specs.Chip.{ChipData, page_count, page_size, fits_inside}
+use Rattle.stm_wire.specs.Device.{Device}
+use Rattle.stm_wire.specs.Rig.{RigState}
+use Rattle.stm_wire.specs.Moments.{LeavesOnly}
+use Rattle.stm_journal.specs.declared.kept.Kept.{Kept}
+use Rattle.stm_journal.specs.States.{StateData, SegmentData, segment_of, is_unfinished, names_other}
+use Rattle.stm_journal.specs.Journals.{JournalData, good, bad}
+use Rattle.stm_session.specs.declared.command.Command.{Command}
+use Rattle.stm_session.specs.declared.command.Command.TheVariants.{Read}
+use Rattle.stm_session.specs.declared.fault.Fault.{Fault}
+use Rattle.stm_session.specs.declared.fault.Fault.TheVariants.{Line, Journal, Memory, Unfinished, UnknownChip, OutOfFlash, NoErase, InSession, Differs, Device as DeviceFault, BadJournal, OtherDevice, Full}
+use Rattle.stm_session.specs.Fault.{IsOutsideFault}
+
+-- refused where the test fails
+abbrev pub refused_unless : Bool → Fault → Option Fault
+refused_unless test fault = if test then None else Some fault
+
+abbrev pub first_refusal : List (Option Fault) → Option Fault
+first_refusal [] = None
+first_refusal (Some fault ∷ rest) = Some fault
+first_refusal (None ∷ rest) = first_refusal rest
+
+-- the chip of a table that has this id
+abbrev pub chip_with : List ChipData → ℕ → Option ChipData
+chip_with table id = find (λ chip. chip.id == id) table
+
+-- the chip has this kept page, of this size
+abbrev pub fits_chip : ChipData → Kept → Bool
+fits_chip chip kept = nat_lt kept.page (page_count chip) && (length kept.bytes == page_size chip kept.page)
+
+-- the pages that a segment keeps
+abbrev pub pages_kept : Option SegmentData → List Kept
+pages_kept None = []
+pages_kept (Some segment) = segment.pages
+
+-- the pages that segment k keeps, counted from the oldest, which is 1
+abbrev pub segment_pages : StateData → ℕ → List Kept
+segment_pages s k = pages_kept (segment_of s k)
+
+-- these pages have page n, and the chip has it in the size of the first of them
+abbrev pub fits_as_kept : ChipData → List Kept → ℕ → Bool
+fits_as_kept chip pages n = option_map_or (fits_chip chip) (find (λ kept. kept.page == n) pages) false
+
+-- the lines of the kept pages that a chip lacks or has in another size
+abbrev pub misfit_lines_of : ChipData → List Kept → List ℕ
+misfit_lines_of chip pages = flat_map (λ kept. if fits_chip chip kept then [] else kept.line ∷ []) pages
+
+abbrev pub misfit_lines : ChipData → List SegmentData → List ℕ
+misfit_lines chip stack = flat_map (λ segment. misfit_lines_of chip segment.pages) stack
+
+abbrev pub lesser : Option ℕ → ℕ → ℕ
+lesser None line = line
+lesser (Some least) line = min least line
+
+-- the least of these lines and the least so far
+abbrev pub least_with : Option ℕ → List ℕ → Option ℕ
+least_with so_far lines = fold (λ so_far line. Some (lesser so_far line)) so_far lines
+
+abbrev pub least : List ℕ → Option ℕ
+least lines = fold (λ so_far line. Some (lesser so_far line)) None lines
+
+-- a page that the journal keeps doesn't fit the chip; the least such line is told
+abbrev pub misfit_refusal : ChipData → StateData → Option Fault
+misfit_refusal chip s = option_map (λ line. BadJournal line) (least (misfit_lines chip s.stack))
+
+-- the table hasn't the device's id, or the journal isn't one of its chip
+abbrev pub table_refusal : StateData → ℕ → Option ChipData → Option Fault
+table_refusal s id None = Some (UnknownChip id)
+table_refusal s id (Some chip) = misfit_refusal chip s
+
+-- the journal can't go on with a device of this id
+abbrev pub device_refusals : StateData → ℕ → List ChipData → List (Option Fault)
+device_refusals s id table = refused_unless (not (names_other id s)) OtherDevice ∷ table_refusal s id (chip_with table id) ∷ []
+
+-- a fault that these give
+abbrev pub IsOfDevice : Fault → Type 0
+IsOfDevice Line = ⊥
+IsOfDevice Journal = ⊥
+IsOfDevice Memory = ⊥
+IsOfDevice Unfinished = ⊥
+IsOfDevice (UnknownChip id) = Unit {0}
+IsOfDevice OutOfFlash = ⊥
+IsOfDevice NoErase = ⊥
+IsOfDevice InSession = ⊥
+IsOfDevice (Differs address) = ⊥
+IsOfDevice DeviceFault = ⊥
+IsOfDevice (BadJournal line) = Unit {0}
+IsOfDevice OtherDevice = Unit {0}
+IsOfDevice Full = ⊥
+
+-- what is refused before any command is looked at
+abbrev pub opening_refusal : JournalData → Device → List ChipData → Option Fault
+opening_refusal (bad line) d table = Some (BadJournal line)
+opening_refusal (good s) d table = first_refusal (refused_unless (not (is_unfinished s)) Unfinished ∷ device_refusals s d.chip.id table)
+
+-- the command names no place outside the flash; no bytes lie anywhere
+abbrev pub is_in_flash : ChipData → Command → Bool
+is_in_flash chip (Read start size) = size == 0 || fits_inside chip start size
+
+abbrev pub range_refusal : Option ChipData → List Command → Option Fault
+range_refusal None commands = None
+range_refusal (Some chip) commands = refused_unless (list_all (is_in_flash chip) commands) OutOfFlash
+
+-- what a run of these commands refuses
+abbrev pub refusal_of : JournalData → Device → List ChipData → List Command → Option Fault
+refusal_of journal d table commands =
+    first_refusal (opening_refusal journal d table ∷ range_refusal (chip_with table d.chip.id) commands ∷ [])
+
+-- what is refused before a byte is sent
+abbrev pub unsent_refusal : JournalData → Option Fault
+unsent_refusal (bad line) = Some (BadJournal line)
+unsent_refusal (good s) = refused_unless (not (is_unfinished s)) Unfinished
+
+-- what Go and the protections refuse, and they send nothing then
+abbrev pub open_refusal : JournalData → Option Fault
+open_refusal (bad line) = Some (BadJournal line)
+open_refusal (good s) = refused_unless (length s.stack == 0) InSession
+
+-- this refusal is answered, or a failure of the line, the journal or memory
+abbrev pub AnswersRefusal : {T : Type 0} → Fault → Result T Fault → Type 0
+AnswersRefusal fault (Ok x) = ⊥
+AnswersRefusal fault (Err e) = (e ≡ fault) ⊎ IsOutsideFault e
+
+-- each moment leaves what has P, the last one too, and the answer is this refusal
+pub record Refuses {T : Type 0} (P : Device → List ℕ → Type 0) (fault : Fault) (old new : RigState) (result : Result T Fault) : Type 0 where
+  pub moments : LeavesOnly P old new
+  pub left : P new.device new.journal
+  pub answers : AnswersRefusal fault result

@@ -1,0 +1,99 @@
+// A run: everything is checked before the first command is begun, and then the commands are done in their order.
+ghost use Rattle.std.specs.Prelude.{◌≡◌, ◌≢◌, [], IfOk, IfErr, Some, None, true, map};
+ghost use Rattle.std.specs.List.{list_all};
+ghost use Rattle.stm_wire.specs.Device.{IsSettled};
+ghost use Rattle.stm_wire.specs.Dialogue.{GoesOn};
+ghost use Rattle.stm_chip.specs.Document.{IsChipWith};
+ghost use Rattle.stm_journal.specs.Calls.{AreFetches, IsUntouched};
+ghost use Rattle.stm_journal.specs.Journals.{journal_of};
+ghost use Rattle.stm_session.specs.Fault.{HasSessionCause, IsOfJournal};
+ghost use Rattle.stm_session.specs.Moments.{AsksOnly, IsSafe, IsUnbegun};
+ghost use Rattle.stm_session.specs.Refusal.{Refuses, is_in_flash, refusal_of, unsent_refusal};
+ghost use Rattle.stm_session.specs.Running.{AreRead, bytes_of, bytes_read, RunsReads, size_asked, size_of};
+
+use crate::check::are_in_flash;
+use crate::opening::open;
+use crate::reading::read_range;
+use crate::{Command, Fault, Outcome, Report};
+use std::alloc::Global;
+use stm_chip::Table;
+use stm_wire::{Chip, Rig, sending_is_harmless};
+
+/// Does a command on a settled device.
+fn run_command<R: Rig>(
+    alloc: Global,
+    rig: &mut R,
+    chip: &Chip,
+    command: &Command,
+) -> Result<Outcome, Fault>
+    requires { is_in_flash chip.now command.now ≡ true }
+    ensures size { IfOk result (λ outcome. size_of outcome ≡ size_asked command.now) }
+    ensures cause { HasSessionCause (R.view rig.old) (R.view rig.new) result }
+    ensures sent { IfErr result (λ fault. IsOfJournal fault → ⊥) }
+    ensures honest { (R.view rig.old).is_honest → IsSettled (R.view rig.old).device → (R.view rig.old).device.chip ≡ chip.now
+        → AsksOnly (R.view rig.old) (R.view rig.new) result
+        (λ outcome. bytes_of outcome ≡ bytes_read chip.now (R.view rig.old).device.flash command.now) }
+{
+    match command {
+        Command::Read { start, length } => {
+            let bytes = read_range(alloc, rig, chip, *start, *length)?;
+            Ok(Outcome::Read(bytes))
+        }
+    }
+}
+
+/// Does the commands, one after another, on a settled device.
+fn run_reads<R: Rig>(
+    alloc: Global,
+    rig: &mut R,
+    chip: &Chip,
+    commands: &[Command],
+) -> Result<Vec<Outcome>, Fault>
+    requires { list_all (is_in_flash chip.now) commands.now ≡ true }
+    ensures sizes { IfOk result (λ outcomes. map size_of outcomes.items ≡ map size_asked commands.now) }
+    ensures nothing { commands.now ≡ [] → IfErr result (λ _. ⊥) }
+    ensures cause { HasSessionCause (R.view rig.old) (R.view rig.new) result }
+    ensures sent { IfErr result (λ fault. IsOfJournal fault → ⊥) }
+    ensures honest { (R.view rig.old).is_honest → IsSettled (R.view rig.old).device → (R.view rig.old).device.chip ≡ chip.now
+        → AsksOnly (R.view rig.old) (R.view rig.new) result
+        (λ outcomes. AreRead (R.view rig.old).device commands.now outcomes.items) }
+{
+    sending_is_harmless();
+    let mut outcomes = Vec::new(alloc);
+    for command in commands {
+        let outcome = run_command(alloc, rig, chip, command)?;
+        outcomes.push(outcome)?;
+    }
+    Ok(outcomes)
+}
+
+/// Does commands, one after another. Whatever can be refused is refused before the first of them.
+pub fn run<R: Rig>(
+    alloc: Global,
+    rig: &mut R,
+    table: &Table,
+    commands: &[Command],
+) -> Result<Report, Fault>
+    ensures cause { HasSessionCause (R.view rig.old) (R.view rig.new) result }
+    ensures sizes { IfOk result (λ report. map size_of report.outcomes.items ≡ map size_asked commands.now) }
+    ensures silent { IfErr result (λ fault. fault ≡ Fault.Unfinished → GoesOn AreFetches (R.view rig.old).calls (R.view rig.new).calls) }
+    ensures unsent { (R.view rig.old).is_honest → (fault : Fault) → unsent_refusal (journal_of (R.view rig.old).journal) ≡ Some fault
+        → Refuses (IsUntouched (R.view rig.old)) fault (R.view rig.old) (R.view rig.new) result }
+    ensures unsent_calls { (R.view rig.old).is_honest → (fault : Fault) → unsent_refusal (journal_of (R.view rig.old).journal) ≡ Some fault
+        → GoesOn AreFetches (R.view rig.old).calls (R.view rig.new).calls }
+    ensures refused { (R.view rig.old).is_honest → IsSafe (R.view rig.old).device → (fault : Fault)
+        → refusal_of (journal_of (R.view rig.old).journal) (R.view rig.old).device table.now commands.now ≡ Some fault
+        → Refuses (IsUnbegun (R.view rig.old)) fault (R.view rig.old) (R.view rig.new) result }
+    ensures reads { (R.view rig.old).is_honest → IsSafe (R.view rig.old).device
+        → IsChipWith table.now (R.view rig.old).device.chip.id (R.view rig.old).device.chip
+        → refusal_of (journal_of (R.view rig.old).journal) (R.view rig.old).device table.now commands.now ≡ None
+        → RunsReads commands.now (R.view rig.old) (R.view rig.new) result (λ report. report.outcomes.items) }
+    ensures spared { (R.view rig.old).is_honest → (R.view rig.old).journal ≡ [] → commands.now ≡ [] → IfErr result (λ fault. fault ≢ Fault.Memory) }
+{
+    let opened = open(alloc, rig, table)?;
+    if !are_in_flash(opened.chip, commands) {
+        return Err(Fault::OutOfFlash);
+    }
+    let outcomes = run_reads(alloc, rig, opened.chip, commands)?;
+    Ok(Report { outcomes })
+}
