@@ -1,5 +1,5 @@
 -- An append to the journal in memory, and then to its file.
-use Rattle.std.proofs.Common.{◌≡◌, ◌⊎◌, ℕ, List, [], ◌++◌, length, drop, true, Result, Ok, Err, sym, ap, subst, ◌∙◌, inl, inr, ⊎_elim, append-nil}
+use Rattle.std.proofs.Common.{◌≡◌, ℕ, List, [], ◌++◌, length, drop, true, Result, Ok, Err, sym, ap, subst, ◌∙◌, inl, inr, ⊎_elim, append-nil}
 use Rattle.std.proofs.Math.Seq.{drop-append_seam}
 use Rattle.std.specs.Io.KnownBytes.{Appends}
 use Rattle.stm_wire.specs.declared.fault.RigFault.{RigFault}

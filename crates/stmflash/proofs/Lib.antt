@@ -1,6 +1,3 @@
-pub mod Contacts
-pub mod Ranges
-pub mod Runs
 pub mod Subcommands
 pub mod Simple
 pub mod Growing

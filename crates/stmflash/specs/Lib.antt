@@ -1,10 +1,5 @@
 pub mod CommandSet
-pub mod Contact
-pub mod Fault
-pub mod Info
 pub mod JournalFile
 pub mod Number
-pub mod Reading
-pub mod Session
 pub mod SimulatorFile
 pub mod SimulatorRig

@@ -1,10 +1,10 @@
 // Why the program failed, and what it says of it.
 
-use crate::fault::Fault;
 use std::alloc::{AllocError, AllocFailed};
 use std::io;
 use std::io::ErrorKind;
 use stm_chip::TableFault;
+use stm_session::Fault;
 use thiserror::Error;
 
 /// Why the program failed. Names are those that the words gave.

@@ -1,11 +1,8 @@
 //! Reads the flash of an STM32 through the bootloader in its ROM (ST AN3155), over a simulator of one.
 #![tactic(auto)]
 
-mod command;
-mod contact;
 mod device;
 mod failure;
-mod fault;
 mod files;
 #[cfg(test)]
 mod full_disk;
@@ -14,10 +11,6 @@ mod journal_file;
 mod journal_tests;
 mod number;
 mod program;
-mod reading;
-mod session;
-#[cfg(test)]
-mod session_tests;
 mod simulator_file;
 mod simulator_rig;
 #[cfg(test)]

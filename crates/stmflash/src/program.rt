@@ -1,11 +1,8 @@
 // The program: what its words ask, done on the device that they name.
 
-use crate::command::{Command, Info, Outcome};
 use crate::device::Simulator;
 use crate::failure::Failure;
-use crate::fault::Fault;
 use crate::journal_file::JournalFile;
-use crate::session;
 use crate::simulator_file::{load, store};
 use crate::simulator_rig::SimulatorRig;
 use crate::task::Task;
@@ -16,6 +13,7 @@ use std::fs::Files;
 use std::io::Write;
 use std::{fs, io};
 use stm_chip::{Table, read_table};
+use stm_session::{Command, Fault, Info, Outcome, go, info, protect, run};
 use stm_wire::{Chip, EraseKind, Rig};
 
 /// Runs the program on its words, the first of which is its name, and answers the exit status: 0 where all was done or
@@ -115,15 +113,15 @@ fn do_task<'a, R: Files + AllocGlobal, L: Rig, O: Write>(
 ) -> Result<(), Failure<'a>> {
     match task {
         Task::Info => {
-            let info = session::info(rig, table)?;
-            match print_info(&info, out) {
+            let told = info(rt.alloc(), rig, table)?;
+            match print_info(&told, out) {
                 Ok(()) => Ok(()),
                 Err(_) => Err(Failure::CannotWrite("standard output")),
             }
         }
         Task::Read(name) => read_flash(rt, rig, table, chip, name),
-        Task::Go(address) => Ok(session::go(rig, address)?),
-        Task::Protect(kind) => Ok(session::protect(rig, kind)?),
+        Task::Go(address) => Ok(go(rt.alloc(), rig, address)?),
+        Task::Protect(kind) => Ok(protect(rt.alloc(), rig, kind)?),
     }
 }
 
@@ -139,7 +137,7 @@ fn read_flash<'a, R: Files + AllocGlobal, L: Rig>(
         start: chip.base(),
         length: chip.flash_size(),
     }];
-    let report = session::run(rt.alloc(), rig, table, chip.id(), &commands)?;
+    let report = run(rt.alloc(), rig, table, &commands)?;
     let Outcome::Read(bytes) = &report.outcomes[0];
     match fs::write(rt, name, bytes.as_slice()) {
         Ok(()) => Ok(()),

@@ -5,11 +5,11 @@ ghost use Rattle.stm_wire.specs.Memory.{rig_state};
 ghost use Rattle.stmflash.specs.SimulatorFile.{KeepsJournal};
 
 use crate::failure::Failure;
-use crate::fault::Fault;
 use crate::files::read_if_there;
 use std::alloc::{AllocError, Global};
 use std::fs;
 use std::fs::Files;
+use stm_session::Fault;
 use stm_wire::{Chip, MemoryRig, Patience, Rig};
 
 /// What stands in the line's file of a device that waits for 7F.

@@ -1,9 +1,0 @@
-use Rattle.std.proofs.Common.{◌≡◌, map, take}
-use Rattle.stmflash.specs.Session.{size_asked, size_of}
-use Rattle.stmflash.proofs.Runs.{AreDoneSoFar}
-use Rattle.stmflash.proofs.session.run_reads.Given as goal
-
-abbrev pub invariant-loop-command : goal.invariant-loop-command
-invariant-loop-command g l =
-    (map size_of l.outcomes.items ≡ map size_asked (take l.command-index l.commands))
-    × AreDoneSoFar l.chip (take l.command-index l.commands) l.outcomes.items (g.R.Rig.view l.fn.rig) (g.R.Rig.view l.rig)
