@@ -1,10 +1,19 @@
 # stmflash: the few words that a user or an engineer needs.
-#   make demo   builds the program the fastest way, without waiting for proofs, and runs it on the simulator
+#   make demo   builds the program the fastest way, without waiting for proofs, runs it on the simulator, and leaves it
+#               at bin/stmflash-unproved
 #   make        proves and builds bin/stmflash
-#   make test   the whole gate: every proof from nothing, the wrong bodies, the tests, the programs
+#   make test   the whole gate: every proof from nothing, the wrong bodies, the tests, the programs; then the demo, and the
+#               program and the simulator over a real socket
+#   make install PREFIX=/usr/local DESTDIR=
+#               the proved program, its manual page and the sample table
+#   make bench  builds what is measured, measures it beside its peers, and prints ratios (needs python3; Debian's binutils
+#               and srecord for the peers of HEX)
 #   make clean  removes what was made
 
-.PHONY: all demo test clean
+PREFIX ?= /usr/local
+DESTDIR ?=
+
+.PHONY: all demo test install bench clean
 
 all: bin/stmflash
 
@@ -22,6 +31,21 @@ demo:
 
 test:
 	rt ci
+	sh tools/demo.sh
+	sh tools/socket.sh bin/stmflash-unproved
+
+install: bin/stmflash
+	install -d $(DESTDIR)$(PREFIX)/bin $(DESTDIR)$(PREFIX)/share/man/man1 $(DESTDIR)$(PREFIX)/share/stmflash
+	install -m 755 bin/stmflash $(DESTDIR)$(PREFIX)/bin/stmflash
+	install -m 644 stmflash.1 $(DESTDIR)$(PREFIX)/share/man/man1/stmflash.1
+	install -m 644 chips.toml $(DESTDIR)$(PREFIX)/share/stmflash/chips.toml
+
+bench: bin/stmflash
+	cd crates/hex_bench && rt run > /dev/null
+	cd crates/layer_bench && rt run > /dev/null
+	python3 bench/hex
+	python3 bench/layers
+	python3 bench/read
 
 clean:
 	rm -rf bin crates/*/out

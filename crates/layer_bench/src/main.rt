@@ -2,6 +2,7 @@
 //!
 //! - `touched TABLE ID RAW TIMES` looks up, so many times, the pages of a chip that an image of its whole flash touches.
 //! - `load TABLE ID JOURNAL` loads a journal.
+//! - `settle TABLE ID LIMIT TIMES` settles a device that was reset, so many times, with so many bytes that it ignores.
 //!
 //! ID is decimal.
 #![tactic(auto)]
@@ -10,9 +11,10 @@ use std::{env, fs, io};
 use stm_chip::{read_table, touched};
 use stm_image::read_raw;
 use stm_journal::Journal;
-use stm_wire::{Chip, MemoryRig};
+use stm_wire::{Chip, MemoryRig, settle};
 
-const USAGE: &str = "usage: touched TABLE ID RAW TIMES or load TABLE ID JOURNAL";
+const USAGE: &str =
+    "usage: touched TABLE ID RAW TIMES or load TABLE ID JOURNAL or settle TABLE ID LIMIT TIMES";
 
 // The chip of a table file that has this number, or `None` once it is told that there is none.
 fn chip_of(rt: &HostRuntime, name: &str, id: &str) -> io::Result<Option<Chip>> {
@@ -65,6 +67,22 @@ fn load(rt: &HostRuntime, chip: Chip, name: &str) -> io::Result<()> {
     }
 }
 
+// Tells how many calls settling made in all.
+fn settle_fresh(rt: &HostRuntime, chip: Chip, limit: &str, times: &str) -> io::Result<()> {
+    let flash = vec![in rt.alloc(); 0xFF; chip.flash_size() as usize]?;
+    let Some(mut rig) = MemoryRig::new(rt.alloc(), chip, flash, Vec::new(rt.alloc())) else {
+        return Ok(());
+    };
+    for _time in 0..times.parse::<u32>().unwrap_or(1) {
+        rig.reset();
+        if let Err(fault) = settle(&mut rig, 0x05, limit.parse::<u32>().unwrap_or(0)) {
+            println!(rt; "{fault}")?;
+        }
+    }
+    let calls = rig.calls().len();
+    println!(rt; "{calls} calls")
+}
+
 fn main(rt: HostRuntime) -> io::Result<()> {
     let words: Vec<String> = env::args(&rt)?.collect(rt.alloc())?;
     match words.as_slice() {
@@ -77,6 +95,12 @@ fn main(rt: HostRuntime) -> io::Result<()> {
         [_, verb, table, id, journal] if verb.as_str() == "load" => {
             match chip_of(&rt, table.as_str(), id.as_str())? {
                 Some(chip) => load(&rt, chip, journal.as_str()),
+                None => Ok(()),
+            }
+        }
+        [_, verb, table, id, limit, times] if verb.as_str() == "settle" => {
+            match chip_of(&rt, table.as_str(), id.as_str())? {
+                Some(chip) => settle_fresh(&rt, chip, limit.as_str(), times.as_str()),
                 None => Ok(()),
             }
         }

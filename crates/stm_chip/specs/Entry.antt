@@ -27,26 +27,32 @@ unfoldable pub runs_of : Items → Option (List Run)
 runs_of no_items = Some []
 runs_of (item d ds) = with_run (run_of d) (runs_of ds)
 
--- the values of a chip's four keys
+-- the values of a chip's keys
 pub record Keys : Type 0 where
   pub id : ℤ
   pub base : ℤ
   pub runs : List Run
   pub erase : List ℕ
+  pub erased : ℤ
 
-abbrev pub keys_with : ℤ → ℤ → List Run → List ℕ → Keys
-keys_with id base runs erase = record { id = id; base = base; runs = runs; erase = erase }
+abbrev pub keys_with : ℤ → ℤ → List Run → List ℕ → ℤ → Keys
+keys_with id base runs erase erased = record { id = id; base = base; runs = runs; erase = erase; erased = erased }
 
-abbrev pub keys_from : Option ℤ → Option ℤ → Option (List Run) → Option (List ℕ) → Option Keys
-keys_from (Some id) (Some base) (Some runs) (Some erase) = Some (keys_with id base runs erase)
-keys_from _ _ _ _ = None
+abbrev pub keys_from : Option ℤ → Option ℤ → Option (List Run) → Option (List ℕ) → Option ℤ → Option Keys
+keys_from (Some id) (Some base) (Some runs) (Some erase) (Some erased) = Some (keys_with id base runs erase erased)
+keys_from _ _ _ _ _ = None
 
--- the keys of an entry, where each is there and of its kind
+-- what an erased place holds: all bits set, where the key is absent
+abbrev pub erased_of : Option Data → Option ℤ
+erased_of (Some value) = as_integer value
+erased_of None = Some (pos 0xFF)
+
+-- the keys of an entry, where each is there, or has a value of its own when absent, and of its kind
 abbrev pub keys_of : Data → Option Keys
 keys_of d =
     keys_from (option_and_then as_integer (get (codes "id") d)) (option_and_then as_integer (get (codes "base") d))
     (option_and_then runs_of (option_and_then as_array (get (codes "pages") d)))
-    (option_and_then as_str (get (codes "erase") d))
+    (option_and_then as_str (get (codes "erase") d)) (erased_of (get (codes "erased") d))
 
 -- a run has a page
 abbrev pub IsRun : Run → Type 0
@@ -70,6 +76,7 @@ pub record IsChipOf (keys : Keys) (chip : ChipData) : Type 0 where
   pub runs : All IsRun keys.runs
   pub sizes : chip.sizes ≡ flat_map pages_of keys.runs
   pub erase : keys.erase ≡ word_of chip.kind
+  pub erased : keys.erased ≡ pos chip.erased
   pub limits : IsChip chip
 
 -- the chip's limits leave room for no more pages than a number of 16 bits counts, of sizes of 32 bits

@@ -5,10 +5,6 @@ use Rattle.stm_chip.specs.declared.plan.Frame.{Frame}
 use Rattle.stm_chip.specs.declared.plan.PagePlan.{PagePlan}
 use Rattle.stm_chip.specs.declared.plan.PagePlan.TheVariants.{Same, Erase}
 
--- what an erased place holds
-abbrev pub erased_byte : ℕ
-erased_byte = 0xFF
-
 -- one byte before some others of which this many are used
 abbrev pub used_before : ℕ → ℕ → ℕ → ℕ
 used_before erased byte used = if used == 0 then (if byte == erased then 0 else 1) else used + 1

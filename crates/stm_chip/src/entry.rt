@@ -53,7 +53,7 @@ fn page_sizes(alloc: Global, runs: &[(i64, i64)]) -> Result<Option<Vec<u32>>, Al
 
 /// The chip of these keys, or None where a limit is broken.
 pub(crate) fn chip_of(alloc: Global, keys: &EntryKeys<'_>) -> Result<Option<Chip>, AllocError>
-    ensures { let values = keys_with keys.now.id keys.now.base keys.now.runs.items keys.now.erase.now in
+    ensures { let values = keys_with keys.now.id keys.now.base keys.now.runs.items keys.now.erase.now keys.now.erased in
         IfOk result (λ chip. MatchOption chip (BreaksLimit values) (IsChipOf values)) }
 {
     let Some(sizes) = page_sizes(alloc, &keys.runs)? else {
@@ -63,8 +63,9 @@ pub(crate) fn chip_of(alloc: Global, keys: &EntryKeys<'_>) -> Result<Option<Chip
         u16::try_from(keys.id),
         u32::try_from(keys.base),
         kind_of(keys.erase),
+        u8::try_from(keys.erased),
     ) {
-        (Ok(id), Ok(base), Some(kind)) => Ok(Chip::new(id, base, sizes, kind)),
+        (Ok(id), Ok(base), Some(kind), Ok(erased)) => Ok(Chip::new(id, base, sizes, kind, erased)),
         _ => Ok(None),
     }
 }

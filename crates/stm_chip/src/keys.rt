@@ -1,8 +1,8 @@
-// The four keys of an entry, of whatever worth their values are.
+// The keys of an entry, of whatever worth their values are.
 ghost use Rattle.std.specs.Prelude.{ℤ, ◌≡◌, IfOk, option_and_then, option_map, vec_items, codes};
 ghost use Rattle.toml.specs.Data.{as_array, as_integer, as_str, at, get};
 ghost use Rattle.toml.specs.View.{array_view, view};
-ghost use Rattle.stm_chip.specs.Entry.{run_of, runs_of, keys_of, keys_with};
+ghost use Rattle.stm_chip.specs.Entry.{erased_of, run_of, runs_of, keys_of, keys_with};
 
 use std::alloc::{AllocError, Global};
 use toml::Value;
@@ -15,6 +15,8 @@ pub(crate) struct EntryKeys<'a> {
     /// How many pages, and of how many bytes.
     pub(crate) runs: Vec<(i64, i64)>,
     pub(crate) erase: &'a str,
+    /// What an erased place holds.
+    pub(crate) erased: i64,
 }
 
 /// The whole number at a key.
@@ -91,12 +93,23 @@ fn read_pages(alloc: Global, entry: &Value) -> Result<Option<Vec<(i64, i64)>>, A
     }
 }
 
+/// The whole number at the key `erased`, and FF where it is absent.
+fn read_erased(entry: &Value) -> Option<i64>
+    ensures { result ≡ erased_of (get (codes "erased") (view entry.now)) }
+{
+    match entry.get("erased") {
+        Some(value) => value.as_integer(),
+        None => Some(0xFF),
+    }
+}
+
 /// The keys of an entry, or None where one is absent or of another kind.
 pub(crate) fn read_keys<'a>(
     alloc: Global,
     entry: &'a Value,
 ) -> Result<Option<EntryKeys<'a>>, AllocError>
-    ensures { IfOk result (λ keys. option_map (λ k. keys_with k.id k.base k.runs.items k.erase.now) keys ≡ keys_of (view entry.now)) }
+    ensures { let values = option_map (λ k. keys_with k.id k.base k.runs.items k.erase.now k.erased) in
+        IfOk result (λ keys. values keys ≡ keys_of (view entry.now)) }
 {
     let runs = read_pages(alloc, entry)?;
     match (
@@ -104,12 +117,14 @@ pub(crate) fn read_keys<'a>(
         whole(entry, "base"),
         runs,
         text(entry, "erase"),
+        read_erased(entry),
     ) {
-        (Some(id), Some(base), Some(runs), Some(erase)) => Ok(Some(EntryKeys {
+        (Some(id), Some(base), Some(runs), Some(erase), Some(erased)) => Ok(Some(EntryKeys {
             id,
             base,
             runs,
             erase,
+            erased,
         })),
         _ => Ok(None),
     }

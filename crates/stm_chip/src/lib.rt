@@ -12,6 +12,3 @@ pub use fault::{PlanFault, TableFault};
 pub use plan::{Frame, PagePlan, page_plan};
 pub use table::{Table, read_table};
 pub use touch::{is_inside_flash, touched};
-
-#[cfg(test)]
-mod tests;

@@ -1,12 +1,9 @@
 // How a page of flash comes to hold new bytes.
 ghost use Rattle.std.specs.Prelude.{◌≡◌, ◌↔◌, ◌^◌, ◌+◌, ◌*◌, ◌/◌, ◌%◌, ◌<◌, ◌≤◌, ◌++◌, length, IfOk, IsOkUnless, Ok, option_to_list};
-ghost use Rattle.stm_chip.specs.Plan.{AreFrames, IsPlan, erased_byte, frame_of, frames_in, frames_of, planned, used_length};
+ghost use Rattle.stm_chip.specs.Plan.{AreFrames, IsPlan, frame_of, frames_in, frames_of, planned, used_length};
 
 use crate::PlanFault;
 use std::alloc::{AllocError, Global};
-
-/// What an erased place of flash holds.
-const ERASED: u8 = 0xFF;
 
 /// How many bytes a frame carries at most, and a block has.
 const BLOCK: usize = 256;
@@ -30,13 +27,13 @@ pub enum PagePlan {
 }
 
 /// How many bytes of a block there are up to its last that isn't the erased one.
-fn used_length(block: &[u8]) -> usize
-    ensures used { result ≡ used_length erased_byte block.now }
+fn used_length(block: &[u8], erased: u8) -> usize
+    ensures used { result ≡ used_length erased block.now }
     ensures within { result ≤ length block.now }
 {
     let mut used = 0;
     for (place, byte) in block.iter().enumerate() {
-        if *byte != ERASED {
+        if *byte != erased {
             used = place + 1;
         }
     }
@@ -44,11 +41,11 @@ fn used_length(block: &[u8]) -> usize
 }
 
 /// The frame of a block at this offset; None where each byte is the erased one.
-fn frame_of(offset: u32, block: &[u8]) -> Option<Frame>
+fn frame_of(offset: u32, block: &[u8], erased: u8) -> Option<Frame>
     requires { length block.now ≡ 256 }
-    ensures { option_to_list result ≡ frame_of erased_byte offset block.now }
+    ensures { option_to_list result ≡ frame_of erased offset block.now }
 {
-    let used = used_length(block);
+    let used = used_length(block, erased);
     if used == 0 {
         return None;
     }
@@ -59,33 +56,33 @@ fn frame_of(offset: u32, block: &[u8]) -> Option<Frame>
 }
 
 /// The frames of a page's blocks.
-fn frames_of(alloc: Global, page: &[u8]) -> Result<Vec<Frame>, AllocError>
+fn frames_of(alloc: Global, page: &[u8], erased: u8) -> Result<Vec<Frame>, AllocError>
     requires blocks { length page.now % 256 ≡ 0 }
     requires size { length page.now ≤ 2 ^ 32 }
-    ensures { IfOk result (λ frames. frames.items ≡ frames_of erased_byte page.now (length page.now / 256)) }
+    ensures { IfOk result (λ frames. frames.items ≡ frames_of erased page.now (length page.now / 256)) }
 {
     let mut frames = Vec::new(alloc);
     for n in 0..page.len() / BLOCK {
         let offset = BLOCK * n;
-        if let Some(frame) = frame_of(offset as u32, &page[offset..offset + BLOCK]) {
+        if let Some(frame) = frame_of(offset as u32, &page[offset..offset + BLOCK], erased) {
             frames.push(frame)?;
         }
     }
     Ok(frames)
 }
 
-/// The plan that makes a page of bytes `old` one of bytes `new`.
+/// The plan that makes a page of bytes `old` one of bytes `new`, where an erased place holds `erased`.
 ///
-/// Each block of 256 bytes, from the page's start, has a frame, cut after its last byte that isn't FF and rounded up
-/// to a multiple of 4 bytes; a block of FF alone has none, since an erased page holds FF.
-pub fn page_plan(alloc: Global, old: &[u8], new: &[u8]) -> Result<PagePlan, PlanFault>
+/// Each block of 256 bytes, from the page's start, has a frame, cut after its last byte that isn't `erased` and rounded
+/// up to a multiple of 4 bytes; a block of erased bytes alone has none, since the page was erased.
+pub fn page_plan(alloc: Global, old: &[u8], new: &[u8], erased: u8) -> Result<PagePlan, PlanFault>
     requires lengths { length old.now ≡ length new.now }
     requires blocks { length new.now % 256 ≡ 0 }
     requires size { length new.now ≤ 2 ^ 32 }
     ensures same { (result ≡ Ok PagePlan.Same) ↔ (old.now ≡ new.now) }
-    ensures plan { IfOk result (IsPlan erased_byte old.now new.now) }
+    ensures plan { IfOk result (IsPlan erased old.now new.now) }
     // The frames, written over an erased page, give the new page.
-    ensures gives_new { IfOk result (λ plan. planned erased_byte old.now new.now plan ≡ new.now) }
+    ensures gives_new { IfOk result (λ plan. planned erased old.now new.now plan ≡ new.now) }
     // They may be sent one after another: each fits one command, and lies where no earlier one wrote.
     ensures fits { IfOk result (λ plan. AreFrames 0 (length new.now) (frames_in plan)) }
     ensures memory { IsOkUnless result PlanFault.Memory }
@@ -93,6 +90,6 @@ pub fn page_plan(alloc: Global, old: &[u8], new: &[u8]) -> Result<PagePlan, Plan
     if old == new {
         return Ok(PagePlan::Same);
     }
-    let frames = frames_of(alloc, new)?;
+    let frames = frames_of(alloc, new, erased)?;
     Ok(PagePlan::Erase(frames))
 }

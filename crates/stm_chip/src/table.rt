@@ -112,11 +112,12 @@ fn read_entries(alloc: Global, entries: &Vec<Value>) -> Result<Vec<Chip>, TableF
     Ok(chips)
 }
 
-/// The table of a text in TOML 1.0: the chips of the tables at its key `chip`, in order.
+/// The table of a text in TOML 1.1: the chips of the tables at its key `chip`, in order.
 ///
 /// Each has the keys `id` and `base` (whole numbers), `pages` (an array of arrays of two whole numbers: how many
-/// pages, of how many bytes) and `erase` (`"page"` or `"extended"`); further keys are ignored. The first faulty
-/// entry decides, and in it first what is missing, then a broken limit, then an id that came before.
+/// pages, of how many bytes) and `erase` (`"page"` or `"extended"`), and may have `erased` (what an erased place
+/// holds: 255, which stands where it is absent, or 0); further keys are ignored. The first faulty entry decides, and in
+/// it first what is missing, then a broken limit, then an id that came before.
 pub fn read_table(alloc: Global, text: &[u8]) -> Result<Table, TableFault>
     ensures { MatchResult result (IsTableOf text.now) (IsFaultOf text.now) }
 {

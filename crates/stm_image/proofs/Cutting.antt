@@ -1,14 +1,16 @@
 -- Runs and parts of rising pairs, from their front.
-use Rattle.std.proofs.Common.{◌≡◌, ◌≢◌, ℕ, zero, suc, ◌+◌, ◌/◌, ◌%◌, ◌<◌, ◌≤◌, ◌++◌, List, [], ◌∷◌, length, take, drop, ◌⊎◌, inl, inr, refl, sym, ap, ap₂, ◌∙◌, subst, length-drop, arith}
+use Rattle.std.proofs.Common.{◌≡◌, ◌≢◌, ℕ, ◌+◌, ◌/◌, ◌%◌, ◌<◌, ◌≤◌, ◌++◌, List, [], ◌∷◌, length, take, drop, get_or, ◌⊎◌, inl, inr, refl, sym, ap, ap₂, ◌∙◌, subst, append_assoc, length-drop, arith}
 use Rattle.std.specs.Prelude.{Bool, true, false, ◌==◌, ◌&&◌, not, if◌then◌else◌}
 use Rattle.std.proofs.lemmas.Bool.{cases_eq}
 use Rattle.std.proofs.lemmas.Bool.Decides.{nat_tests}
 use Rattle.std.proofs.lemmas.Grind.{common_steps}
-use Rattle.std.proofs.lemmas.List.{take-append-drop, take_all}
+use Rattle.std.proofs.lemmas.List.{take-append-drop, take_all, length-take}
+use Rattle.std.proofs.lemmas.List.Elements.{Contains-get_or}
 use Rattle.std.proofs.Math.Seq.{take-append_seam, drop-append_seam}
 use Rattle.stm_image.specs.Pairs.{Pairs, raw_pairs}
 use Rattle.stm_image.specs.Canon.{Run, join, runs_of, cut, parts_of, lines, line, upper_line}
-use Rattle.stm_image.specs.Parts.{IsPart, EndsPart, address_in, bytes_in}
+use Rattle.stm_image.specs.Parts.{IsPart, EndsPart, IsBehind}
+use Rattle.stm_image.proofs.Standing.{raw_pairs-append}
 
 -- bytes from a start on before some runs, where `next` is the address after them
 abbrev join_at : ℕ → ℕ → List ℕ → List Run → List Run
@@ -57,7 +59,7 @@ join_head a b ((start, bytes) ∷ runs) more t cs e = of_test ((start == a + 1) 
     of_test true e = ap first e
     of_test false e = ap first e
 
-runs_head : (rest : Pairs) (t : ℕ) (cs : List ℕ) (more : List Run) → runs_of rest ≡ (t, cs) ∷ more → (0 < length rest) × (address_in rest 0 ≡ t)
+runs_head : (rest : Pairs) (t : ℕ) (cs : List ℕ) (more : List Run) → runs_of rest ≡ (t, cs) ∷ more → (0 < length rest) × ((get_or rest 0 (0, 0)).0 ≡ t)
 runs_head [] t cs more e = cc
 runs_head ((a, b) ∷ rest) t cs more e = (omega arith, join_head a b (runs_of rest) more t cs e)
 
@@ -116,24 +118,6 @@ parts_front s (b ∷ bs) rest some short below ends = ap parts_of (runs_of-raw s
     of_runs [] is = ap (λ parts. parts ++ []) (cut_one s b bs short)
     of_runs ((t, cs) ∷ runs) is = parts_joined s b bs t cs runs ((t == s + length (b ∷ bs)) && not (t % 65536 == 0)) refl short (elim ends [ inl full ↦ inl full | inr none ↦ inr (none t cs runs is) ])
 
--- consecutive pairs are their bytes from the first address on
-raw_front : (pairs : Pairs) (s count : ℕ) → count ≤ length pairs → ((k : ℕ) → k < count → address_in pairs k ≡ s + k) → take count pairs ≡ raw_pairs s (bytes_in (take count pairs))
-raw_front pairs s zero within goes = refl
-raw_front [] s (suc count) within goes = refl
-raw_front ((a, b) ∷ pairs) s (suc count) within goes =
-    let here : a ≡ s = let e = goes zero (omega arith) in omega arith in
-    ap₂ (λ x rest. (x, b) ∷ rest) here (raw_front pairs (s + 1) count (omega arith) (λ k lt. let e = goes (suc k) (omega arith) in omega arith))
-
-length-bytes : (pairs : Pairs) (count : ℕ) → count ≤ length pairs → length (bytes_in (take count pairs)) ≡ count
-length-bytes pairs zero within = refl
-length-bytes [] (suc count) within = absurd (omega arith)
-length-bytes (p ∷ pairs) (suc count) within = let e = length-bytes pairs count (omega arith) in omega arith
-
-address_dropped : (pairs : Pairs) (count : ℕ) → address_in (drop count pairs) 0 ≡ address_in pairs count
-address_dropped pairs zero = refl
-address_dropped [] (suc count) = refl
-address_dropped (p ∷ pairs) (suc count) = address_dropped pairs count
-
 other_address : (t n : ℕ) → t ≢ n → ((t == n) && not (t % 65536 == 0)) ≡ false
 other_address t n ne = grind (arith, nat_tests)
 
@@ -146,32 +130,37 @@ at_edge t n edge = elim (cases_eq t n) [
     edge_test : (n : ℕ) → n % 65536 ≡ 0 → ((n == n) && not (n % 65536 == 0)) ≡ false
     edge_test n edge = grind (arith, nat_tests)
 
-none_joins : (pairs : Pairs) (count : ℕ) → EndsPart pairs count → NoneJoins (address_in pairs 0) count (drop count pairs)
-none_joins pairs count (inl full) = inl full
-none_joins pairs count (inr (inl all)) = inr (λ t cs more e. let head = runs_head (drop count pairs) t cs more e in absurd (omega (arith, head.0, length-drop count pairs)))
-none_joins pairs count (inr (inr (inl other))) = inr (λ t cs more e.
-    let head = runs_head (drop count pairs) t cs more e in
-    other_address t (address_in pairs 0 + count) (λ same. other (sym (address_dropped pairs count) ∙ head.1 ∙ same)))
-none_joins pairs count (inr (inr (inr edge))) = inr (λ t cs more e. at_edge t (address_in pairs 0 + count) edge)
-
 -- THE LINES OF A PART, and then those of what is left
-pub lines_front : (upper : ℕ) (pairs : Pairs) (count : ℕ) → IsPart pairs count
-    → lines upper (parts_of (runs_of pairs))
-    ≡ upper_line upper (address_in pairs 0 / 65536) ++ line (address_in pairs 0 % 65536) 0 (bytes_in (take count pairs)) ++ lines (address_in pairs 0 / 65536) (parts_of (runs_of (drop count pairs)))
+pub lines_part : (upper s count : ℕ) (bytes : List ℕ) (later : Pairs) → IsPart s (length bytes) count → IsBehind (s + length bytes) later
+    → lines upper (parts_of (runs_of (raw_pairs s bytes ++ later)))
+    ≡ upper_line upper (s / 65536) ++ line (s % 65536) 0 (take count bytes) ++ lines (s / 65536) (parts_of (runs_of (raw_pairs (s + count) (drop count bytes) ++ later)))
 unfolding lines
-lines_front upper pairs count part =
-    let s = address_in pairs 0 in
-    let xs = bytes_in (take count pairs) in
-    let long : length xs ≡ count = length-bytes pairs count part.within in
-    let whole : pairs ≡ raw_pairs s xs ++ drop count pairs = sym (take-append-drop count pairs) ∙ ap (λ ps. ps ++ drop count pairs) (raw_front pairs s count part.within part.goes_on) in
-    let N : ℕ → Type 0 = λ n. NoneJoins s n (drop count pairs) in
+lines_part upper s count bytes later part behind =
+    let xs = take count bytes in
+    let rest = raw_pairs (s + count) (drop count bytes) ++ later in
     let some = part.some in
+    let within = part.within in
     let short = part.short in
     let below = part.below in
-    let front = parts_front s xs (drop count pairs) (omega arith) (omega arith) (omega arith) (subst N (sym long) (none_joins pairs count part.ends)) in
+    let taken = length-take count bytes in
+    let long : length xs ≡ count = omega arith in
+    let whole : raw_pairs s bytes ++ later ≡ raw_pairs s xs ++ rest =
+    ap (λ bs. raw_pairs s bs ++ later) (sym (take-append-drop count bytes))
+    ∙ ap (λ ps. ps ++ later) (raw_pairs-append s xs (drop count bytes) ∙ ap (λ n. raw_pairs s xs ++ raw_pairs (s + n) (drop count bytes)) long)
+    ∙ append_assoc (raw_pairs s xs) (raw_pairs (s + count) (drop count bytes)) later in
+    let N : ℕ → Type 0 = λ n. NoneJoins s n rest in
+    let front = parts_front s xs rest (omega arith) (omega arith) (omega arith) (subst N (sym long) (none part.ends)) in
     ap (λ ps. lines upper (parts_of (runs_of ps))) whole ∙ ap (lines upper) front
+  where
+    behind_all : count ≡ length bytes → (t : ℕ) (cs : List ℕ) (more : List Run) → runs_of (raw_pairs (s + count) (drop count bytes) ++ later) ≡ (t, cs) ∷ more → s + count < t
+    behind_all all t cs more e =
+        let nothing : drop count bytes ≡ [] = drop_all count bytes (omega arith) in
+        let e_later : runs_of later ≡ (t, cs) ∷ more = ap (λ bs. runs_of (raw_pairs (s + count) bs ++ later)) (sym nothing) ∙ e in
+        let head = runs_head later t cs more e_later in
+        let up = behind (get_or later 0 (0, 0)) (Contains-get_or later 0 (0, 0) head.0) in
+        omega (arith, head.1)
 
-pub address_front : (pairs : Pairs) (count : ℕ) → 0 < count → address_in (take count pairs) 0 ≡ address_in pairs 0
-address_front pairs zero some = absurd (omega arith)
-address_front [] (suc count) some = refl
-address_front (p ∷ pairs) (suc count) some = refl
+    none : EndsPart s (length bytes) count → NoneJoins s count (raw_pairs (s + count) (drop count bytes) ++ later)
+    none (inl full) = inl full
+    none (inr (inl edge)) = inr (λ t cs more e. at_edge t (s + count) edge)
+    none (inr (inr all)) = inr (λ t cs more e. other_address t (s + count) (λ same. let up = behind_all all t cs more e in omega arith))

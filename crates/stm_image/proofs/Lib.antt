@@ -4,9 +4,16 @@ pub mod Digits
 pub mod Every
 pub mod Examples
 pub mod Holding
+pub mod Laid
+pub mod Lying
+pub mod Overlaps
+pub mod Placing
 pub mod Printing
 pub mod Reading
+pub mod Running
 pub mod Scanning
 pub mod Sets
+pub mod Standing
+pub mod Tables
 pub mod Upper
 pub mod Verdicts

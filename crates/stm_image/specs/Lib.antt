@@ -1,9 +1,14 @@
 pub mod Canon
+pub mod Digits
 pub mod Held
+pub mod Lay
+pub mod Layout
 pub mod Pairs
 pub mod Parts
+pub mod Pieces
 pub mod Reads
 pub mod Record
+pub mod Runs
 pub mod Scanned
 pub mod Sorting
 pub mod Text

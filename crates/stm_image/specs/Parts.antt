@@ -1,21 +1,26 @@
--- How many pairs at the front of some go into one record.
-use Rattle.std.specs.Prelude.{ℕ, ◌≡◌, ◌≢◌, ◌<◌, ◌≤◌, ◌+◌, ◌%◌, ◌⊎◌, length, map, slice_index_or, List}
-use Rattle.stm_image.specs.Pairs.{Pairs}
+-- How many bytes at the front of a run go into one record, and the lines of a run.
+use Rattle.std.specs.Prelude.{ℕ, ◌≡◌, ◌<◌, ◌≤◌, ◌+◌, ◌%◌, ◌++◌, ◌⊎◌, length, List, Contains}
+use Rattle.stm_image.specs.Pairs.{Pairs, raw_pairs}
+use Rattle.stm_image.specs.Canon.{lines, parts_of, runs_of}
 
-abbrev pub address_in : Pairs → ℕ → ℕ
-address_in pairs k = (slice_index_or pairs k (0, 0)).0
+-- the record is full, the upper sixteen bits change behind it, or no bytes are left
+abbrev pub EndsPart : ℕ → ℕ → ℕ → Type 0
+EndsPart start left count = (count ≡ 16) ⊎ ((start + count) % 65536 ≡ 0) ⊎ (count ≡ left)
 
-abbrev pub bytes_in : Pairs → List ℕ
-bytes_in pairs = map (λ (p : ℕ × ℕ). p.1) pairs
-
--- the record is full, the pairs end, the next address is another, or its upper sixteen bits are
-abbrev pub EndsPart : Pairs → ℕ → Type 0
-EndsPart pairs count = (count ≡ 16) ⊎ (count ≡ length pairs) ⊎ (address_in pairs count ≢ address_in pairs 0 + count) ⊎ ((address_in pairs 0 + count) % 65536 ≡ 0)
-
-pub record IsPart (pairs : Pairs) (count : ℕ) : Type 0 where
+-- so many of the bytes that are left from an address on go into one record
+pub record IsPart (start left count : ℕ) : Type 0 where
   pub some : 0 < count
-  pub within : count ≤ length pairs
+  pub within : count ≤ left
   pub short : count ≤ 16
-  pub goes_on : (k : ℕ) → k < count → address_in pairs k ≡ address_in pairs 0 + k
-  pub below : address_in pairs 0 % 65536 + count ≤ 65536
-  pub ends : EndsPart pairs count
+  pub below : start % 65536 + count ≤ 65536
+  pub ends : EndsPart start left count
+
+-- the pairs lie behind an address
+abbrev pub IsBehind : ℕ → Pairs → Type 0
+IsBehind address pairs = (q : ℕ × ℕ) → Contains pairs q → address < q.0
+
+-- the lines of a run were added to a text, and then those of pairs behind a gap make it the text of all
+abbrev pub IsWritten : List ℕ → ℕ → ℕ → List ℕ → List ℕ → ℕ → Type 0
+IsWritten text upper start bytes written high =
+    (later : Pairs) → IsBehind (start + length bytes) later
+    → written ++ lines high (parts_of (runs_of later)) ≡ text ++ lines upper (parts_of (runs_of (raw_pairs start bytes ++ later)))

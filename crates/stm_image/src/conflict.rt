@@ -6,6 +6,7 @@ ghost use Rattle.stm_image.specs.Reads.{HasConflict};
 ghost use Rattle.stm_image.specs.Text.{Stands, IsOutOfMemory};
 
 use crate::HexFault;
+use crate::digit_table::digit_values;
 use crate::place::{Form, take_record};
 use crate::step::{Step, next_record};
 use std::alloc::Global;
@@ -22,7 +23,8 @@ enum Refusal {
 
 // Takes up some pairs beside those that the map holds.
 fn hold_pairs(held: &mut BTreeMap<u32, u8>, pairs: &[(u32, u8)]) -> Result<(), Refusal>
-    ensures { (before : Pairs) → Holds held.old before → MatchResult result (λ _. Holds held.new (before ++ pairs.now)) (IsRefused (before ++ pairs.now)) }
+    ensures { (before : Pairs) → Holds held.old before → MatchResult result
+        (λ _. Holds held.new (before ++ pairs.now)) (IsRefused (before ++ pairs.now)) }
 {
     for pair in pairs {
         let (address, byte) = *pair;
@@ -36,7 +38,9 @@ fn hold_pairs(held: &mut BTreeMap<u32, u8>, pairs: &[(u32, u8)]) -> Result<(), R
 
 // Takes up a pair beside those that the map holds.
 fn hold_pair(held: &mut BTreeMap<u32, u8>, address: u32, byte: u8) -> Result<(), Refusal>
-    ensures { (before : Pairs) → Holds held.old before → MatchResult result (λ _. Holds held.new (before ++ (address, byte) ∷ [])) (IsRefused (before ++ (address, byte) ∷ [])) }
+    ensures { (before : Pairs) → Holds held.old before →
+        let all = before ++ (address, byte) ∷ [] in
+        MatchResult result (λ _. Holds held.new all) (IsRefused all) }
 {
     match held.get(&address) {
         Some(other) => {
@@ -53,19 +57,21 @@ fn hold_pair(held: &mut BTreeMap<u32, u8>, address: u32, byte: u8) -> Result<(),
     }
 }
 
-/// The fault of a text in which records disagree: the first of these is found by a pass that keeps a map.
+/// The fault of a text in which records disagree: the first of these is found by a pass that keeps
+/// a map.
 pub fn find_conflict(alloc: Global, text: &[u8]) -> HexFault
     requires { HasConflict text.now }
     ensures { Stands text.now result ⊎ IsOutOfMemory text.now result }
 {
     let mut held = BTreeMap::new(alloc);
     let mut pairs = Vec::new(alloc);
+    let values = digit_values();
     let mut bytes = [0u8; 260];
     let mut form = Form::Linear(0);
     let mut rest = text;
     let mut number = 1u64;
     'records: loop {
-        match next_record(rest, &mut bytes, number) {
+        match next_record(&values, rest, &mut bytes, number) {
             Step::Stop(_) => unreachable!(),
             Step::Goes(count, after) => {
                 pairs.clear();

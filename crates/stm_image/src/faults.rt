@@ -21,7 +21,7 @@ pub enum HexFault {
     /// RECLEN is not the one that the record's type has.
     #[error("hex record {0}: length")]
     Length(u64),
-    /// The record gives an address another byte than an earlier one, or than an earlier byte of its own.
+    /// The record gives an address another byte than an earlier record did.
     #[error("hex record {0}: conflict")]
     Conflict(u64),
     /// The text ends between records, and no end record was read.

@@ -2,21 +2,27 @@
 #![tactic(auto)]
 
 mod conflict;
+mod data;
+mod digit_table;
 mod faults;
 mod laws;
+mod laying;
+mod layout;
 mod lines;
+mod pieces;
 mod place;
 mod raw;
 mod reader;
 mod scan;
 mod set;
 mod step;
-#[cfg(test)]
-mod tests;
 mod writer;
 
 pub use faults::{HexFault, RawFault};
-pub use laws::{canonical_text_means_the_image, every_text_has_a_verdict, verdict_is_unique};
+pub use laws::{
+    canonical_text_means_the_image, every_text_has_a_verdict, laying_by_parts, laying_keeps_places,
+    laying_nothing_new, verdict_is_unique,
+};
 pub use raw::read_raw;
 pub use reader::read_hex;
 pub use set::Image;

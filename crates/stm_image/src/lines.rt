@@ -1,5 +1,5 @@
 //! Prints records.
-ghost use Rattle.std.specs.Prelude.{◌≡◌, ◌≤◌, ◌*◌, ◌++◌, take, length, OnOk};
+ghost use Rattle.std.specs.Prelude.{◌≡◌, ◌≤◌, ◌+◌, ◌*◌, ◌++◌, ◌∷◌, [], take, length, OnOk};
 ghost use Rattle.hex.specs.Hex.{encode_upper};
 ghost use Rattle.stm_image.specs.Canon.{line, upper_line};
 
@@ -15,23 +15,44 @@ fn print_digits(bytes: &[u8], out: &mut [u8])
     out.make_ascii_uppercase();
 }
 
-// Prints bytes into the front of `digits`.
-fn fill_digits(bytes: &[u8], digits: &mut [u8; 32])
-    requires { length bytes.now ≤ 16 }
-    ensures { take (2 * length bytes.now) digits.new ≡ encode_upper bytes.now }
+// Prints bytes into a line, behind its first byte.
+fn fill_digits(bytes: &[u8], line: &mut [u8; 44])
+    requires { length bytes.now ≤ 21 }
+    ensures { take (2 * length bytes.now + 1) line.new ≡ take 1 line.old ++ encode_upper bytes.now }
 {
-    print_digits(bytes, &mut digits[..2 * bytes.len()]);
+    print_digits(bytes, &mut line[1..2 * bytes.len() + 1]);
 }
 
-// Adds bytes as digits.
-fn put_digits(text: &mut Vec<u8>, bytes: &[u8]) -> Result<(), AllocError>
-    requires { length bytes.now ≤ 16 }
-    ensures { OnOk result (text.new.items ≡ text.old.items ++ encode_upper bytes.now) }
+// Prints a record's bytes as a line, into the front of `line`.
+fn fill_line(bytes: &[u8], line: &mut [u8; 44])
+    requires { length bytes.now ≤ 21 }
+    ensures { take (2 * length bytes.now + 2) line.new ≡ 58 ∷ encode_upper bytes.now ++ 10 ∷ [] }
 {
-    let mut digits = [0u8; 32];
-    fill_digits(bytes, &mut digits);
-    text.extend_from_slice(&digits[..2 * bytes.len()])?;
+    line[0] = b':';
+    fill_digits(bytes, line);
+    line[2 * bytes.len() + 1] = b'\n';
+}
+
+// Adds a record's bytes as a line.
+fn put_bytes(text: &mut Vec<u8>, bytes: &[u8]) -> Result<(), AllocError>
+    requires { length bytes.now ≤ 21 }
+    ensures { OnOk result
+        (text.new.items ≡ text.old.items ++ (58 ∷ encode_upper bytes.now ++ 10 ∷ [])) }
+{
+    let mut line = [0u8; 44];
+    fill_line(bytes, &mut line);
+    text.extend_from_slice(&line[..2 * bytes.len() + 2])?;
     Ok(())
+}
+
+// Copies bytes into the row of a record's bytes, from a place on.
+fn copy_at(row: &mut [u8; 21], at: usize, bytes: &[u8])
+    requires { at + length bytes.now ≤ 21 }
+    ensures { take (at + length bytes.now) row.new ≡ take at row.old ++ bytes.now }
+{
+    for (i, byte) in bytes.iter().enumerate() {
+        row[at + i] = *byte;
+    }
 }
 
 /// Adds the line of a record.
@@ -46,11 +67,11 @@ pub fn put_line(text: &mut Vec<u8>, offset: u16, kind: u8, bytes: &[u8]) -> Resu
         kind,
     ];
     let check = 0u8.wrapping_sub(sum_of(&header).wrapping_add(sum_of(bytes)));
-    text.push(b':')?;
-    put_digits(text, &header)?;
-    put_digits(text, bytes)?;
-    put_digits(text, &[check])?;
-    text.push(b'\n')?;
+    let mut row = [0u8; 21];
+    copy_at(&mut row, 0, &header);
+    copy_at(&mut row, 4, bytes);
+    copy_at(&mut row, 4 + bytes.len(), &[check]);
+    put_bytes(text, &row[..bytes.len() + 5])?;
     Ok(())
 }
 

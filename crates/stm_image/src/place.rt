@@ -14,8 +14,8 @@ pub enum Form {
     Segment(u16),
 }
 
-// The address of a data byte, at the offset of its record plus its place there.
-fn address_in(form: Form, offset: u32) -> u32
+/// The address of a data byte, at the offset of its record plus its place there.
+pub fn address_in(form: Form, offset: u32) -> u32
     requires { offset < 131072 }
     ensures { result ≡ address_at form offset }
 {
@@ -73,8 +73,8 @@ pub fn take_record(
     Ok(())
 }
 
-// The number in a record of two data bytes.
-fn two_bytes(bytes: &[u8]) -> u16
+/// The number in a record of two data bytes.
+pub fn two_bytes(bytes: &[u8]) -> u16
     requires { 6 < length bytes.now }
     ensures { result ≡ number_of bytes.now }
 {

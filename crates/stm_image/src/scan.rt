@@ -3,8 +3,11 @@ ghost use Rattle.std.specs.Prelude.{◌≡◌, ◌<◌, ◌≤◌, ◌+◌, ◌*
 ghost use Rattle.std.specs.Bool.{OnTrue};
 ghost use Rattle.std.specs.List.{prefix_len};
 ghost use Rattle.hex.specs.Hex.{is_hex_digit};
+ghost use Rattle.stm_image.specs.Digits.{IsTable};
 ghost use Rattle.stm_image.specs.Record.{is_blank, bytes_of, digits_needed, scan, scan_digits};
 ghost use Rattle.stm_image.specs.Scanned.{scan_of, HasRoom};
+
+use crate::digit_table::decode;
 
 /// What stands where a record may begin.
 #[derive(Drop)]
@@ -56,26 +59,28 @@ fn leading_blanks(text: &[u8]) -> usize
 }
 
 // Fills `out` from the digits that the text begins with, where there are so many.
-fn decode_first(text: &[u8], out: &mut [u8]) -> bool
-    requires { length out.old ≤ 260 }
+fn decode_first(values: &[u8; 256], text: &[u8], out: &mut [u8]) -> bool
+    requires table { IsTable values.now }
+    requires short { length out.old ≤ 260 }
     ensures enough { IsTrue result ↔ (2 * length out.old ≤ prefix_len is_hex_digit text.now) }
     ensures fits { IsTrue result → 2 * length out.old ≤ length text.now }
     ensures value { OnTrue result (out.new ≡ bytes_of (take (2 * length out.old) text.now)) }
 {
     match text.get(..2 * out.len()) {
-        Some(digits) => hex::decode_to_slice(digits, out).is_ok(),
+        Some(digits) => decode(values, digits, out),
         None => false,
     }
 }
 
 // Fills the first `count` of the bytes, as `decode_first`.
-fn fill(text: &[u8], bytes: &mut [u8; 260], count: usize) -> bool
-    requires { count ≤ 260 }
+fn fill(values: &[u8; 256], text: &[u8], bytes: &mut [u8; 260], count: usize) -> bool
+    requires table { IsTable values.now }
+    requires short { count ≤ 260 }
     ensures enough { IsTrue result ↔ (2 * count ≤ prefix_len is_hex_digit text.now) }
     ensures fits { IsTrue result → 2 * count ≤ length text.now }
     ensures value { OnTrue result (take count bytes.new ≡ bytes_of (take (2 * count) text.now)) }
 {
-    decode_first(text, &mut bytes[..count])
+    decode_first(values, text, &mut bytes[..count])
 }
 
 // What ends the digits of a record that are too few.
@@ -92,22 +97,24 @@ fn unread<'a>(text: &'a [u8]) -> Scanned<'a>
 }
 
 // Reads a record's digits, into the front of `bytes`.
-fn read_digits<'a>(text: &'a [u8], bytes: &mut [u8; 260]) -> Scanned<'a>
+fn read_digits<'a>(values: &[u8; 256], text: &'a [u8], bytes: &mut [u8; 260]) -> Scanned<'a>
+    requires { IsTable values.now }
     ensures value { scan_of result bytes.new ≡ scan_digits text.now }
     ensures room { HasRoom result }
 {
-    if !fill(text, bytes, 1) {
+    if !fill(values, text, bytes, 1) {
         return unread(text);
     }
     let count = usize::from(bytes[0]) + 5;
-    if !fill(text, bytes, count) {
+    if !fill(values, text, bytes, count) {
         return unread(text);
     }
     Scanned::Whole(count, &text[2 * count..])
 }
 
 /// Reads a record, its bytes into the front of `bytes`.
-pub fn scan_record<'a>(text: &'a [u8], bytes: &mut [u8; 260]) -> Scanned<'a>
+pub fn scan_record<'a>(values: &[u8; 256], text: &'a [u8], bytes: &mut [u8; 260]) -> Scanned<'a>
+    requires { IsTable values.now }
     ensures value { scan_of result bytes.new ≡ scan text.now }
     ensures room { HasRoom result }
 {
@@ -116,7 +123,7 @@ pub fn scan_record<'a>(text: &'a [u8], bytes: &mut [u8; 260]) -> Scanned<'a>
         None => Scanned::Ended,
         Some((first, digits)) => {
             if *first == b':' {
-                read_digits(digits, bytes)
+                read_digits(values, digits, bytes)
             } else {
                 Scanned::Stray
             }

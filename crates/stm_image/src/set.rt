@@ -1,27 +1,28 @@
 //! A set of addresses with a byte each.
-ghost use Rattle.std.specs.Prelude.{◌≡◌, ◌==◌, MatchOption, length};
-ghost use Rattle.std.specs.Bool.{MatchBool};
-ghost use Rattle.stm_image.specs.Pairs.{Pairs, IsImage, byte_at, Agree, IsSetOf, IsNext, HasNone};
-ghost use Rattle.stm_image.specs.Sorting.{HasFall, NeverFalls, same_pair};
-ghost use Rattle.std.specs.List.{dedup};
-ghost use Rattle.std.specs.List.Sorted.{IsPermutation};
+ghost use Rattle.std.specs.Prelude.{◌≡◌, ◌==◌, ◌<◌, All, MatchOption, length};
+ghost use Rattle.stm_image.specs.Pairs.{Pairs, IsImage, byte_at, IsNext, HasNone};
+ghost use Rattle.stm_image.specs.Pieces.{AllStand, Apart, AreRuns, pairs_in};
+ghost use Rattle.stm_image.specs.Runs.{IsRunFrom};
 
+use crate::pieces::{Piece, Pieces, first_ending_from};
+use std::alloc::AllocError;
 use std::marker::Model;
 
 /// A set of addresses of 32 bits with a byte each, every address once.
 ///
-/// Contracts see it as the list of its (address, byte) pairs by strictly rising address.
+/// Contracts see it as the list of its (address, byte) pairs by strictly rising address. It is kept
+/// as runs of bytes at consecutive addresses, with a gap between any two.
 #[derive(Debug, Drop)]
 pub struct Image {
-    pairs: Vec<(u32, u8)>,
+    runs: Pieces,
 }
 
 impl Model for Image {
     ghost Value = { Pairs };
 
-    ghost view = { λ i. i.pairs.items };
+    ghost view = { λ i. pairs_in i.runs };
 
-    ghost invariant = { λ i. IsImage i.pairs.items };
+    ghost invariant = { λ i. AreRuns i.runs };
 }
 
 impl Image {
@@ -30,21 +31,21 @@ impl Image {
         ensures count { result ≡ length self.now }
         ensures image { IsImage self.now }
     {
-        self.pairs.len()
+        self.runs.bytes.len()
     }
 
     /// Whether no address has a byte.
     pub fn is_empty(&self) -> bool
         ensures { result ≡ (length self.now == 0) }
     {
-        self.pairs.is_empty()
+        self.len() == 0
     }
 
     /// The byte at an address.
     pub fn get(&self, address: u32) -> Option<u8>
         ensures { result ≡ byte_at self.now address }
     {
-        let _ = &self.pairs;
+        let _ = &self.runs;
         match self.next_from(address) {
             Some((found, byte)) => { if found == address { Some(byte) } else { None } }
             None => None,
@@ -55,72 +56,70 @@ impl Image {
     pub fn next_from(&self, address: u32) -> Option<(u32, u8)>
         ensures { MatchOption result (HasNone self.now address) (IsNext self.now address) }
     {
-        let place = self.pairs.partition_point(|p| p.0 < address);
-        self.pairs.get(place).copied()
+        let _ = &self.runs;
+        match self.run_from(address) {
+            Some((start, bytes)) => Some((start, bytes[0])),
+            None => None,
+        }
     }
 
-    // The pairs by rising address.
-    pub(crate) fn pairs(&self) -> &[(u32, u8)]
-        ensures value { result.now ≡ self.now }
-        ensures image { IsImage result.now }
+    /// A law, which does nothing: the addresses of an image rise and have 32 bits.
+    pub fn rises(&self)
+        ensures { IsImage self.now }
     {
-        self.pairs.as_slice()
+        let _runs = &self.runs;
     }
 
-    // The image of pairs whose addresses rise.
-    pub(crate) fn from_rising(pairs: Vec<(u32, u8)>) -> Image
-        requires { IsImage pairs.items }
-        ensures { result ≡ pairs.items }
+    // The bytes that stand together from the least place at or after `address` on, if any: the
+    // address of the first, and they.
+    pub(crate) fn run_from<'a>(&'a self, address: u32) -> Option<(u32, &'a [u8])>
+        ensures { MatchOption result (HasNone self.now address)
+            (λ run. IsRunFrom self.now address run.0 run.1.now) }
     {
-        Image { pairs }
+        let list = self.runs.list.as_slice();
+        let place = first_ending_from(list, address);
+        if place == list.len() {
+            return None;
+        }
+        let piece = list[place];
+        let bytes = piece.bytes_in(self.runs.bytes.as_slice());
+        let skip = address.saturating_sub(piece.first);
+        let (_before, rest) = bytes.split_at(skip as usize);
+        Some((piece.first + skip, rest))
     }
 
-    // The set of the pairs, if no address has two bytes among them.
-    pub(crate) fn from_pairs(mut pairs: Vec<(u32, u8)>) -> Option<Image>
-        ensures { MatchOption result (¬ Agree pairs.items) (λ set. IsSetOf set pairs.items × Agree pairs.items) }
+    // The runs by rising address.
+    pub(crate) fn runs(&self) -> &Pieces
+        ensures value { pairs_in result.now ≡ self.now }
+        ensures runs { AreRuns result.now }
     {
-        if rises(pairs.as_slice()) {
-            return Some(Image::from_rising(pairs));
-        }
-        sort_pairs(&mut pairs);
-        if rises(pairs.as_slice()) {
-            return Some(Image::from_rising(pairs));
-        }
-        drop_doubles(&mut pairs);
-        if rises(pairs.as_slice()) {
-            Some(Image::from_rising(pairs))
-        } else {
-            None
-        }
+        &self.runs
+    }
+
+    // The image of pieces that are apart.
+    pub(crate) fn from_runs(runs: Pieces) -> Image
+        requires stand { AllStand runs }
+        requires apart { Apart 0 runs.list.items }
+        ensures { result ≡ pairs_in runs }
+    {
+        are_bytes(runs.bytes.as_slice());
+        Image { runs }
     }
 }
 
-// Sorts pairs by address, in their place.
-fn sort_pairs(pairs: &mut Vec<(u32, u8)>)
-    ensures moved { IsPermutation pairs.old.items pairs.new.items }
-    ensures order { NeverFalls pairs.new.items }
-{
-    pairs.sort_unstable_by_key(|p| p.0);
-}
+// Each byte is below 256.
+fn are_bytes(bytes: &[u8])
+    ensures { All (λ b. b < 256) bytes.now }
+{}
 
-// Drops each pair that is the one before it.
-fn drop_doubles(pairs: &mut Vec<(u32, u8)>)
-    ensures { pairs.new.items ≡ dedup same_pair pairs.old.items }
-{
-    pairs.dedup();
-}
+impl Clone for Image {
+    ghost is_clone = { λ image clone. clone ≡ image };
 
-// Whether the addresses rise strictly; the pairs are then those of an image.
-fn rises(pairs: &[(u32, u8)]) -> bool
-    ensures { MatchBool result (IsImage pairs.now) (HasFall pairs.now) }
-{
-    let mut least = 0u64;
-    for pair in pairs {
-        let (address, _byte) = *pair;
-        if u64::from(address) < least {
-            return false;
-        }
-        least = u64::from(address) + 1;
+    fn clone(&self) -> Result<Self, AllocError> {
+        let bytes = self.runs.bytes.clone()?;
+        let list = self.runs.list.clone()?;
+        Ok(Image {
+            runs: Pieces { bytes, list },
+        })
     }
-    true
 }

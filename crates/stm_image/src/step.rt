@@ -1,5 +1,6 @@
 //! One step over a text.
 ghost use Rattle.std.specs.Prelude.{◌≡◌, ◌<◌, ◌≤◌, ◌*◌, ◌%◌, ◌-◌, length, take, drop, sum, IfNone, IfSome, Option, Some, None};
+ghost use Rattle.stm_image.specs.Digits.{IsTable};
 ghost use Rattle.stm_image.specs.Record.{flaw_of, has_length};
 ghost use Rattle.stm_image.specs.Text.{flaw_fault};
 ghost use Rattle.stm_image.specs.Reads.{IsStep};
@@ -61,10 +62,16 @@ fn flaw_at(number: u64, bytes: &[u8]) -> Option<HexFault>
 }
 
 /// Looks at the record that may begin here, the `number`-th.
-pub fn next_record<'a>(text: &'a [u8], bytes: &mut [u8; 260], number: u64) -> Step<'a>
+pub fn next_record<'a>(
+    values: &[u8; 256],
+    text: &'a [u8],
+    bytes: &mut [u8; 260],
+    number: u64,
+) -> Step<'a>
+    requires { IsTable values.now }
     ensures { IsStep text.now number result bytes.new }
 {
-    match scan_record(text, bytes) {
+    match scan_record(values, text, bytes) {
         Scanned::Ended => Step::Stop(Some(HexFault::NoEnd(number))),
         Scanned::Stray => Step::Stop(Some(HexFault::NoColon(number))),
         Scanned::Broken => Step::Stop(Some(HexFault::BadDigit(number))),

@@ -1,50 +1,55 @@
 //! Writes the canonical text of an image.
-ghost use Rattle.std.specs.Prelude.{◌≡◌, ◌<◌, ◌≤◌, ◌/◌, ◌%◌, ◌++◌, length, take, IfOk, OnOk};
+ghost use Rattle.std.specs.Prelude.{◌≡◌, ◌<◌, ◌≤◌, ◌+◌, ◌/◌, ◌%◌, ◌^◌, ◌++◌, length, IfOk, OnOk};
 ghost use Rattle.stm_image.specs.Canon.{canon, line, upper_line};
-ghost use Rattle.stm_image.specs.Parts.{IsPart, address_in, bytes_in};
+ghost use Rattle.stm_image.specs.Parts.{IsPart, IsWritten};
 
 use crate::Image;
 use crate::lines::{put_line, put_upper};
 use std::alloc::{AllocError, Global};
 
-// How many of the pairs the next record takes.
-fn part_len(pairs: &[(u32, u8)]) -> usize
-    requires { 0 < length pairs.now }
-    ensures { IsPart pairs.now result }
+// How many of the bytes that stand together from an address on go into one record.
+fn part_len(at: u64, left: usize) -> usize
+    requires { 0 < left }
+    ensures { IsPart at left result }
 {
-    let start = pairs[0].0;
-    let most = usize::min(16, 65536 - (start % 65536) as usize);
-    for (place, pair) in pairs.iter().enumerate() {
-        if place == most || u64::from(pair.0) != u64::from(start) + place as u64 {
-            return place;
-        }
+    let edge = (65536 - at % 65536) as usize;
+    if edge <= 16 && edge <= left {
+        return edge;
     }
-    pairs.len()
-}
-
-// Copies the bytes of some pairs into the front of `bytes`.
-fn copy_bytes(pairs: &[(u32, u8)], bytes: &mut [u8; 16])
-    requires { length pairs.now ≤ 16 }
-    ensures { take (length pairs.now) bytes.new ≡ bytes_in pairs.now }
-{
-    for (place, pair) in pairs.iter().enumerate() {
-        bytes[place] = pair.1;
+    if left <= 16 {
+        return left;
     }
+    16
 }
 
 // Adds the lines of a part.
-fn put_part(text: &mut Vec<u8>, upper: u16, part: &[(u32, u8)]) -> Result<u16, AllocError>
-    requires some { 0 < length part.now }
-    requires short { length part.now ≤ 16 }
-    ensures lines { OnOk result (text.new.items ≡ text.old.items ++ upper_line upper (address_in part.now 0 / 65536) ++ line (address_in part.now 0 % 65536) 0 (bytes_in part.now)) }
-    ensures upper { IfOk result (λ high. high ≡ address_in part.now 0 / 65536) }
+fn put_part(text: &mut Vec<u8>, upper: u16, start: u32, bytes: &[u8]) -> Result<u16, AllocError>
+    requires { length bytes.now ≤ 16 }
+    ensures lines { OnOk result (text.new.items
+        ≡ text.old.items ++ upper_line upper (start / 65536) ++ line (start % 65536) 0 bytes.now) }
+    ensures upper { IfOk result (λ high. high ≡ start / 65536) }
 {
-    let start = part[0].0;
     let high = (start / 65536) as u16;
-    let mut bytes = [0u8; 16];
-    copy_bytes(part, &mut bytes);
     put_upper(text, upper, high)?;
-    put_line(text, (start % 65536) as u16, 0, &bytes[..part.len()])?;
+    put_line(text, (start % 65536) as u16, 0, bytes)?;
+    Ok(high)
+}
+
+// Adds the lines of a run.
+fn put_run(text: &mut Vec<u8>, upper: u16, start: u32, bytes: &[u8]) -> Result<u16, AllocError>
+    requires { start + length bytes.now ≤ 2 ^ 32 }
+    ensures { IfOk result
+        (λ high. IsWritten text.old.items upper start bytes.now text.new.items high) }
+{
+    let mut high = upper;
+    let mut at = u64::from(start);
+    let mut rest = bytes;
+    'parts: while !rest.is_empty() {
+        let (part, after) = rest.split_at(part_len(at, rest.len()));
+        high = put_part(text, high, at as u32, part)?;
+        at += part.len() as u64;
+        rest = after;
+    }
     Ok(high)
 }
 
@@ -52,15 +57,15 @@ fn put_part(text: &mut Vec<u8>, upper: u16, part: &[(u32, u8)]) -> Result<u16, A
 pub fn write_hex(alloc: Global, image: &Image) -> Result<Vec<u8>, AllocError>
     ensures { IfOk result (λ text. text.items ≡ canon image.now) }
 {
-    let mut rest = image.pairs();
+    let runs = image.runs();
+    let bytes = runs.bytes.as_slice();
+    let list = runs.list.as_slice();
     // room for whole records; scattered pairs need more
-    let room = (rest.len() / 16).saturating_add(2).saturating_mul(45);
+    let room = (bytes.len() / 16).saturating_add(2).saturating_mul(45);
     let mut text = Vec::with_capacity(alloc, room)?;
     let mut upper = 0u16;
-    'parts: while !rest.is_empty() {
-        let (part, after) = rest.split_at(part_len(rest));
-        upper = put_part(&mut text, upper, part)?;
-        rest = after;
+    for run in list {
+        upper = put_run(&mut text, upper, run.first, run.bytes_in(bytes))?;
     }
     put_line(&mut text, 0, 1, &[])?;
     Ok(text)

@@ -1,6 +1,7 @@
 -- What each call makes of the newest segment.
 use Rattle.std.proofs.Common.{◌≡◌, ◌≢◌, ◌<◌, ℕ, zero, suc, ◌+◌, ◌-◌, max, Bool, true, false, not, ◌&&◌, ◌||◌, ◌==◌, nat_le, if◌then◌else◌, List, [], ◌∷◌, ◌++◌, length, map, fold, drop, Option, Some, None, option_map, refl, sym, ◌∙◌, ap, subst, arith, IsTrue}
-use Rattle.std.specs.Prelude.{option_and_then, slice_get}
+use Rattle.std.specs.Prelude.{option_and_then, slice_get, is_some, nat_lt}
+use Rattle.std.specs.Option.{option_map_or}
 use Rattle.std.specs.List.{list_any, find}
 use Rattle.std.proofs.lemmas.Bool.{true≢false, not-true}
 use Rattle.std.proofs.lemmas.Bool.Decides.{nat_tests}
@@ -12,17 +13,21 @@ use Rattle.stm_journal.specs.declared.stage.Stage.TheVariants.{Open, Ended, Retu
 use Rattle.stm_journal.specs.declared.kept.Kept.{Kept}
 use Rattle.stm_journal.specs.declared.header.JournalHeader.{JournalHeader}
 use Rattle.stm_journal.specs.declared.entry.Entry.{Entry}
-use Rattle.stm_journal.specs.declared.entry.Entry.TheVariants.{Keeps, Erases, Programs, Ends, Undoes}
+use Rattle.stm_journal.specs.declared.entry.Entry.TheVariants.{Names, Opens, Keeps, Erases, Programs, Ends, Undoes}
 use Rattle.stm_journal.specs.Entries.{line_of}
-use Rattle.stm_journal.specs.States.{StateData, SegmentData, newest_has, newest_keeps, newest_may_keep, keeps, is_open_stage, is_ended_stage, intent_of, intent_at, stage_with, on_newest, keeping, kept_in, intending, ending, after_entry, AllEnded, EndedBelow, IsSound}
-use Rattle.stm_journal.specs.Newest.{KeepsSame, HasKept, HasIntended, HasEnded, HasUndone}
+use Rattle.stm_journal.specs.States.{StateData, SegmentData, newest_has, newest_keeps, newest_may_keep, keeps, is_open_stage, is_ended_stage, intent_of, intent_at, stage_with, on_newest, keeping, kept_in, intending, ending, fresh_segment, allows, after_entry, AllEnded, EndedBelow, IsSound}
+use Rattle.stm_journal.specs.Newest.{KeepsSame, HasBegun, HasKept, HasIntended, HasEnded, HasUndone}
+use Rattle.stm_journal.specs.Added.{HasAdded}
+use Rattle.stm_journal.specs.Blank.{blank}
+use Rattle.stm_journal.specs.InMemory.{forget_entry}
 use Rattle.stm_journal.specs.NewestLaws.{segment_of-newest}
 use Rattle.stm_journal.specs.Journals.{Loaded, loaded_after, past_mark, capped}
 use Rattle.stm_journal.proofs.Ties.{mark-state}
 
--- an entry's state, where a torn tail changes nothing
-state-after : (e : Entry) (l : Loaded) → (loaded_after (e ∷ []) l).state ≡ after_entry (capped ((past_mark l).lines + 1)) (capped ((past_mark l).size + length (line_of e))) l.state e
-state-after e l = ap (λ (s : StateData). after_entry (capped ((past_mark l).lines + 1)) (capped ((past_mark l).size + length (line_of e))) s e) (mark-state l)
+-- an entry's state in memory, where a torn tail changes nothing
+state-after : (e : Entry) (l : Loaded)
+    → (loaded_after (e ∷ []) l).state ≡ after_entry (capped ((past_mark l).lines + 1)) (capped ((past_mark l).size + length (line_of e))) l.state (forget_entry e)
+state-after e l = ap (λ (s : StateData). after_entry (capped ((past_mark l).lines + 1)) (capped ((past_mark l).size + length (line_of e))) s (forget_entry e)) (mark-state l)
 
 abbrev with_stage : (SegmentData → Stage) → SegmentData → SegmentData
 with_stage stage segment = record segment { stage = stage segment }
@@ -35,14 +40,24 @@ same-looked_up look stage same segment below false j = refl
 same-looked_up look stage same segment below true zero = same segment
 same-looked_up look stage same segment below true (suc j) = refl
 
+same-mapped_up : (look : SegmentData → ℕ) (stage : SegmentData → Stage) → ((segment : SegmentData) → look (with_stage stage segment) ≡ look segment)
+    → (segment : SegmentData) (below : List SegmentData) (b : Bool) (j : ℕ)
+    → option_map_or look (if b then slice_get (with_stage stage segment ∷ below) j else None) 0 ≡ option_map_or look (if b then slice_get (segment ∷ below) j else None) 0
+same-mapped_up look stage same segment below false j = refl
+same-mapped_up look stage same segment below true zero = same segment
+same-mapped_up look stage same segment below true (suc j) = refl
+
 -- the newest one's stage is another
 KeepsSame-stage : (header : Option JournalHeader) (stack : List SegmentData) (stage : SegmentData → Stage) → KeepsSame (record { header = header; stack = stack }) (record { header = header; stack = on_newest (with_stage stage) stack })
-KeepsSame-stage header [] stage = record { header = refl; depth = refl; below = refl; pages = refl; next = refl; keeps = λ n. refl; kept = λ k i. refl; bytes = λ k n. refl; flashes = λ chip flash. refl }
+KeepsSame-stage header [] stage = record { header = refl; depth = refl; same = refl; entry = λ k i. refl; count = λ k. refl; below = refl; pages = refl; next = refl; keeps = λ n. refl; kept = λ k i. refl; bytes = λ k n. refl; flashes = λ chip flash. refl }
 KeepsSame-stage header (segment ∷ below) stage =
     let count : ℕ = length (segment ∷ below) in
     record {
       header = refl;
       depth = refl;
+      same = refl;
+      entry = λ k i. same-looked_up (λ s. slice_get s.pages i) stage (λ s. refl) segment below (nat_le 1 k && nat_le k count) (count - k);
+      count = λ k. same-mapped_up (λ s. length s.pages) stage (λ s. refl) segment below (nat_le 1 k && nat_le k count) (count - k);
       below = refl;
       pages = refl;
       next = refl;
@@ -79,6 +94,12 @@ intended i n header (segment ∷ below) may =
       unfinished = stage_with-unfinished i segment.stage;
     }
 
+pub HasIntended-entry_erase : (line ends n : ℕ) (s : StateData) → IsTrue (newest_keeps n s) → HasIntended n (Erase n) s (after_entry line ends s (Erases n))
+HasIntended-entry_erase line ends n s may = intended (Erase n) n s.header s.stack may
+
+pub HasIntended-entry_program : (line ends n : ℕ) (s : StateData) → IsTrue (newest_keeps n s) → HasIntended n (Program n) s (after_entry line ends s (Programs n))
+HasIntended-entry_program line ends n s may = intended (Program n) n s.header s.stack may
+
 pub HasIntended-erase : (n : ℕ) (l : Loaded) → IsTrue (newest_keeps n l.state) → HasIntended n (Erase n) l.state (loaded_after (Erases n ∷ []) l).state
 HasIntended-erase n l may =
     let H : StateData → Type 0 = λ s. HasIntended n (Erase n) l.state s in
@@ -92,6 +113,9 @@ HasIntended-program n l may =
 ended : (header : Option JournalHeader) (stack : List SegmentData) → HasEnded (record { header = header; stack = stack }) (record { header = header; stack = on_newest ending stack })
 ended header [] = record { same = KeepsSame-stage header [] (λ s. Ended); finished = refl; intent = refl }
 ended header (segment ∷ below) = record { same = KeepsSame-stage header (segment ∷ below) (λ s. Ended); finished = refl; intent = refl }
+
+pub HasEnded-entry : (line ends k : ℕ) (s : StateData) → HasEnded s (after_entry line ends s (Ends k))
+HasEnded-entry line ends k s = ended s.header s.stack
 
 pub HasEnded-after : (k : ℕ) (l : Loaded) → HasEnded l.state (loaded_after (Ends k ∷ []) l).state
 HasEnded-after k l =
@@ -109,6 +133,9 @@ undone header [] some sound = absurd (omega (arith, some))
 undone header (segment ∷ below) some sound =
     let rest = finished-below below sound in
     record { header = refl; stack = refl; depth = omega arith; finished = rest.0; intent = rest.1 }
+
+pub HasUndone-entry : (line ends k : ℕ) (s : StateData) → 0 < length s.stack → IsSound s → HasUndone s (after_entry line ends s (Undoes k))
+HasUndone-entry line ends k s some sound = undone s.header s.stack some sound.ended
 
 pub HasUndone-after : (k : ℕ) (l : Loaded) → 0 < length l.state.stack → IsSound l.state → HasUndone l.state (loaded_after (Undoes k ∷ []) l).state
 HasUndone-after k l some sound =
@@ -184,8 +211,45 @@ kept-more header (segment ∷ below) kept may =
       intent = refl;
     }
 
-pub HasKept-after : (n : ℕ) (bytes : List ℕ) (l : Loaded) → IsTrue (newest_may_keep n l.state) → HasKept n bytes l.state (loaded_after (Keeps n bytes ∷ []) l).state
+pub HasKept-entry : (line ends n : ℕ) (bytes : List ℕ) (s : StateData) → IsTrue (newest_may_keep n s) → HasKept n bytes s (after_entry line ends s (Keeps n bytes))
+HasKept-entry line ends n bytes s may = kept-more s.header s.stack (kept_in line ends n bytes) may
+
+pub HasKept-after : (n : ℕ) (bytes : List ℕ) (l : Loaded) → IsTrue (newest_may_keep n l.state) → HasKept n (blank (length bytes)) l.state (loaded_after (Keeps n bytes ∷ []) l).state
 HasKept-after n bytes l may =
-    let H : StateData → Type 0 = λ s. HasKept n bytes l.state s in
+    let H : StateData → Type 0 = λ s. HasKept n (blank (length bytes)) l.state s in
     subst H (sym (state-after (Keeps n bytes) l))
-    (kept-more l.state.header l.state.stack (kept_in (capped ((past_mark l).lines + 1)) (capped ((past_mark l).size + length (line_of (Keeps n bytes)))) n bytes) may)
+    (HasKept-entry (capped ((past_mark l).lines + 1)) (capped ((past_mark l).size + length (line_of (Keeps n bytes)))) n (blank (length bytes)) l.state may)
+
+-- a segment more
+pub HasBegun-opened : (id k : ℕ) (header : Option JournalHeader) (stack : List SegmentData) (old : StateData) → option_map (λ h. h.id) header ≡ Some id → old.stack ≡ stack
+    → HasBegun id old (record { header = header; stack = fresh_segment ∷ stack })
+HasBegun-opened id k header stack old named same =
+    record {
+      named = named;
+      stack = ap (λ (xs : List SegmentData). fresh_segment ∷ xs) (sym same);
+      depth = omega (arith, ap (λ (xs : List SegmentData). length xs) same);
+      is_open = refl;
+      pages = refl;
+      next = refl;
+      intent = refl;
+      unfinished = refl;
+    }
+
+all-of : (a b : Bool) → (a && b) ≡ true → (a ≡ true) × (b ≡ true)
+all-of true b h = (refl, h)
+all-of false b h = absurd (true≢false (sym h))
+
+is-some : (n : ℕ) → nat_lt 0 n ≡ true → 0 < n
+is-some n h = grind (arith, nat_tests)
+
+-- what an entry that is allowed makes of the text's state
+pub HasAdded-entry : (line ends : ℕ) (s : StateData) (e : Entry) → IsSound s → IsTrue (allows s e) → HasAdded e s (after_entry line ends s e)
+HasAdded-entry line ends s (Names version id) sound may = record { named = refl; written = refl; stack = refl }
+HasAdded-entry line ends s (Opens k) sound may = (refl, λ id named. HasBegun-opened id k s.header s.stack s named refl)
+HasAdded-entry line ends s (Keeps n bytes) sound may = HasKept-entry line ends n bytes s (all-of (is_some s.header) (newest_may_keep n s) may).1
+HasAdded-entry line ends s (Erases n) sound may = HasIntended-entry_erase line ends n s (all-of (is_some s.header) (newest_keeps n s) may).1
+HasAdded-entry line ends s (Programs n) sound may = HasIntended-entry_program line ends n s (all-of (is_some s.header) (newest_keeps n s) may).1
+HasAdded-entry line ends s (Ends k) sound may = HasEnded-entry line ends k s
+HasAdded-entry line ends s (Undoes k) sound may =
+    let some = all-of (is_some s.header && nat_lt 0 (length s.stack)) (k == length s.stack) may in
+    HasUndone-entry line ends k s (is-some (length s.stack) (all-of (is_some s.header) (nat_lt 0 (length s.stack)) some.0).1) sound

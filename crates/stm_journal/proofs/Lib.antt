@@ -11,6 +11,19 @@ mod Ties
 mod Appending
 mod Rules
 mod Loads
+mod Placing
 mod Fetching
 mod Stopping
 pub mod AfterCalls
+mod Long
+mod Upper
+mod Decides
+mod GoesOn
+mod Forgets
+mod Piecing
+mod Laying
+mod InTexts
+mod Kepts
+mod Pairs
+mod FirstLF
+mod PageReads

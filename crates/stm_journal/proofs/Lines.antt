@@ -1,5 +1,5 @@
 -- A printed line reads back as its entry, is one line, and isn't void.
-use Rattle.std.proofs.Common.{◌≡◌, ◌≤◌, ℕ, zero, suc, ◌+◌, ◌*◌, ◌/◌, ◌%◌, ◌-◌, Bool, true, false, ◌==◌, ◌&&◌, List, [], ◌∷◌, ◌++◌, length, take, drop, codes, decimal, Option, Some, refl, sym, ◌∙◌, ap, arith, length-append, option_map}
+use Rattle.std.proofs.Common.{◌≡◌, ◌≤◌, ℕ, zero, suc, ◌+◌, ◌*◌, ◌/◌, ◌%◌, ◌-◌, Bool, true, false, ◌==◌, ◌&&◌, List, [], ◌∷◌, ◌++◌, length, take, drop, codes, decimal, Option, Some, refl, sym, ◌∙◌, ap, subst, ⊎_elim, if◌then◌else◌, arith, length-append, option_map}
 use Rattle.std.specs.Prelude.{option_and_then}
 use Rattle.std.specs.List.{list_all}
 use Rattle.std.proofs.lemmas.Bool.{true≢false}
@@ -7,10 +7,10 @@ use Rattle.std.proofs.lemmas.Bool.Decides.{nat_tests}
 use Rattle.hex.specs.Hex.{encode_upper, IsBytes}
 use Rattle.stm_journal.specs.declared.entry.Entry.{Entry}
 use Rattle.stm_journal.specs.declared.entry.Entry.TheVariants.{Names, Opens, Keeps, Erases, Programs, Ends, Undoes}
-use Rattle.stm_journal.specs.Text.{is_void}
-use Rattle.stm_journal.specs.Entries.{entry_of, line_of, number_of, number_of_pair, hex_bytes_of, page_at, page_of_fields}
+use Rattle.stm_journal.specs.Text.{is_void, HasNoLF}
+use Rattle.stm_journal.specs.Entries.{entry_of, line_of, header_word, number_of, number_of_pair, hex_bytes_of, page_at, page_of_fields}
 use Rattle.stm_journal.specs.Journals.{IsPrintable}
-use Rattle.stm_journal.proofs.Texts.{HasNoLF, HasNoLF-append}
+use Rattle.stm_journal.proofs.Texts.{HasNoLF-append}
 use Rattle.stm_journal.proofs.Numbers.{number_of-decimal}
 use Rattle.stm_journal.proofs.Digits.{is_no_bang, hex_bytes_of-encode, plain-encode, plain-decimal, HasNoLF-plain, no_bang-plain, no_bang-append, position-space}
 
@@ -41,8 +41,15 @@ pub entry_of-line : (e : Entry) → IsPrintable e → entry_of (line_of e) ≡ S
 entry_of-line (Names version id) is =
     let bytes : List ℕ = id / 256 ∷ id % 256 ∷ [] in
     let whole : id / 256 * 256 + id % 256 ≡ id = omega arith in
-    ap (λ (o : Option (List ℕ)). option_map (λ i. Names 1 i) (option_and_then number_of_pair o)) (hex_bytes_of-encode bytes (omega arith) (pair-bytes id is.1))
-    ∙ ap (λ (i : ℕ). Some (Names 1 i)) whole ∙ ap (λ (v : ℕ). Some (Names v id)) (sym is.0)
+    let V : ℕ → Type 0 = λ v. entry_of (line_of (Names v id)) ≡ Some (Names v id) in
+    let read = hex_bytes_of-encode bytes (omega arith) (pair-bytes id is.1) in
+    let one : V 1 =
+    ap (λ (o : Option (List ℕ)). option_map (λ i. Names 1 i) (option_and_then number_of_pair o)) read ∙ ap (λ (i : ℕ). Some (Names 1 i)) whole
+    in
+    let two : V 2 =
+    ap (λ (o : Option (List ℕ)). option_map (λ i. Names 2 i) (option_and_then number_of_pair o)) read ∙ ap (λ (i : ℕ). Some (Names 2 i)) whole
+    in
+    ⊎_elim (λ e. subst V (sym e) one) (λ e. subst V (sym e) two) is.0
 entry_of-line (Opens k) is = ap (λ (o : Option ℕ). option_map (λ n. Opens n) o) (number_of-decimal k is)
 entry_of-line (Keeps n bytes) is =
     let ds : List ℕ = decimal n in
@@ -61,11 +68,25 @@ entry_of-line (Undoes k) is = ap (λ (o : Option ℕ). option_map (λ n. Undoes 
 numbered-noLF : (word : List ℕ) (n : ℕ) → HasNoLF word → n ≤ 65535 → HasNoLF (word ++ decimal n)
 numbered-noLF word n h is = HasNoLF-append word (decimal n) h (HasNoLF-plain (decimal n) (plain-decimal n is))
 
+header-noLF : (version : ℕ) → HasNoLF (header_word version)
+header-noLF version = at (version == 2)
+  where
+    at : (b : Bool) → HasNoLF (if b then codes "stmjournal 2 " else codes "stmjournal 1 ")
+    at true = (refl, (refl, (refl, (refl, (refl, (refl, (refl, (refl, (refl, (refl, (refl, (refl, (refl, tt)))))))))))))
+    at false = (refl, (refl, (refl, (refl, (refl, (refl, (refl, (refl, (refl, (refl, (refl, (refl, (refl, tt)))))))))))))
+
+header-no_bang : (version : ℕ) → list_all is_no_bang (header_word version) ≡ true
+header-no_bang version = at (version == 2)
+  where
+    at : (b : Bool) → list_all is_no_bang (if b then codes "stmjournal 2 " else codes "stmjournal 1 ") ≡ true
+    at true = refl
+    at false = refl
+
 -- a printed line has no LF
 pub HasNoLF-line : (e : Entry) → IsPrintable e → HasNoLF (line_of e)
 HasNoLF-line (Names version id) is =
     let bytes : List ℕ = id / 256 ∷ id % 256 ∷ [] in
-    HasNoLF-append (codes "stmjournal 1 ") (encode_upper bytes) (refl, (refl, (refl, (refl, (refl, (refl, (refl, (refl, (refl, (refl, (refl, (refl, (refl, tt))))))))))))) (HasNoLF-plain (encode_upper bytes) (plain-encode bytes (pair-bytes id is.1)))
+    HasNoLF-append (header_word version) (encode_upper bytes) (header-noLF version) (HasNoLF-plain (encode_upper bytes) (plain-encode bytes (pair-bytes id is.1)))
 HasNoLF-line (Opens k) is = numbered-noLF (codes "open ") k (refl, (refl, (refl, (refl, (refl, tt))))) is
 HasNoLF-line (Keeps n bytes) is =
     HasNoLF-append (codes "page ") (decimal n ++ 32 ∷ encode_upper bytes) (refl, (refl, (refl, (refl, (refl, tt)))))
@@ -81,7 +102,7 @@ numbered-no_bang word n h is = no_bang-append word (decimal n) h (no_bang-plain 
 no_bang-line : (e : Entry) → IsPrintable e → list_all is_no_bang (line_of e) ≡ true
 no_bang-line (Names version id) is =
     let bytes : List ℕ = id / 256 ∷ id % 256 ∷ [] in
-    no_bang-append (codes "stmjournal 1 ") (encode_upper bytes) refl (no_bang-plain (encode_upper bytes) (plain-encode bytes (pair-bytes id is.1)))
+    no_bang-append (header_word version) (encode_upper bytes) (header-no_bang version) (no_bang-plain (encode_upper bytes) (plain-encode bytes (pair-bytes id is.1)))
 no_bang-line (Opens k) is = numbered-no_bang (codes "open ") k refl is
 no_bang-line (Keeps n bytes) is =
     no_bang-append (codes "page ") (decimal n ++ 32 ∷ encode_upper bytes) refl

@@ -1,108 +1,152 @@
--- Reading a journal byte by byte.
-use Rattle.std.proofs.Common.{◌≡◌, ◌≤◌, ◌<◌, ℕ, zero, suc, ◌+◌, ◌^◌, false, ◌==◌, nat_lt, List, [], ◌∷◌, ◌++◌, length, take, drop, get_or, Result, Err, refl, sym, ◌∙◌, ap, ap₂, subst, arith, length-append, append_assoc, append-nil}
-use Rattle.std.proofs.lemmas.List.{take_more}
+-- Reading a journal piece by piece.
+use Rattle.std.proofs.Common.{◌≡◌, ◌≤◌, ◌<◌, ℕ, ◌+◌, ◌^◌, not, ◌==◌, nat_lt, List, [], ◌∷◌, ◌++◌, length, take, drop, Result, Ok, Err, refl, sym, ◌∙◌, ap, ap₂, subst, arith, length-append, append_assoc, append-nil}
+use Rattle.std.proofs.lemmas.Bool.Decides.{nat_tests}
+use Rattle.std.proofs.lemmas.List.{take-append-drop}
 use Rattle.stm_journal.specs.declared.fault.JournalFault.{JournalFault}
 use Rattle.stm_journal.specs.declared.fault.JournalFault.TheVariants.{File, Bad, OtherDevice, Memory}
-use Rattle.stm_journal.specs.Text.{Text, text_of}
-use Rattle.stm_journal.specs.Journals.{Loaded, IsLoaded, PassesLine, BadLine, journal_of, good, bad, after_line, capped}
-use Rattle.stm_journal.specs.Loading.{IsRead, StopsAt, TakesBytes}
+use Rattle.stm_journal.specs.Text.{Text, text_of, HasNoLF}
+use Rattle.stm_journal.specs.States.{StateData}
+use Rattle.stm_journal.specs.Journals.{JournalData, Loaded, IsLoaded, journal_of, good, bad, after_line, capped}
+use Rattle.stm_journal.specs.InMemory.{forget_state}
+use Rattle.stm_journal.specs.Summary.{Summary, summary_of, extended}
+use Rattle.stm_journal.specs.Forget.{forget_journal, after_summary}
+use Rattle.stm_journal.specs.Loading.{PassesLine, BadLine, IsRead, StopsAt, TakesBytes}
 use Rattle.stm_journal.proofs.Texts.{text-more-lines, text-more-tail}
-use Rattle.stm_journal.proofs.Readings.{journal-line, journal-tail, journal-bad, lines-within}
+use Rattle.stm_journal.proofs.Readings.{journal-line, journal-tail, journal-bad, lines-within, reading-size}
+use Rattle.stm_journal.proofs.GoesOn.{goes-on}
+use Rattle.stm_journal.proofs.Forgets.{summary-follows}
 
 abbrev LF : List ℕ
 LF = 10 ∷ []
 
-line-here : (l : Loaded) (tail bytes : List ℕ) → IsRead l tail bytes → length bytes < 2 ^ 63
-    → journal_of (bytes ++ LF) ≡ after_line (capped (l.lines + 1)) l.size (good l.state) tail
-line-here l tail bytes is short =
+-- a whole line more, by its summary
+line-here : (l : Loaded) (y : Summary) (bytes : List ℕ) → IsRead l y bytes → length bytes < 2 ^ 63
+    → after_summary (capped (l.lines + 1)) l.size (good l.state) y ≡ forget_journal (journal_of (bytes ++ LF))
+line-here l y bytes is short =
     let few : length (text_of bytes).lines ≤ length bytes = lines-within bytes in
     let count : length (text_of bytes).lines + 1 ≡ capped (l.lines + 1) = omega (arith, is.lines) in
     let ends : length bytes + 0 ≡ l.size = omega (arith, is.size) in
-    journal-line bytes [] l.state tt is.state
-    ∙ ap₂ (λ (n m : ℕ). after_line n m (good l.state) ((text_of bytes).tail ++ [])) count ends
-    ∙ ap (λ (t : List ℕ). after_line (capped (l.lines + 1)) l.size (good l.state) t) (append-nil (text_of bytes).tail ∙ is.rest)
+    let tail : List ℕ = (text_of bytes).tail in
+    let text : journal_of (bytes ++ LF) ≡ after_line (capped (l.lines + 1)) l.size (good is.text) tail =
+    journal-line bytes [] is.text tt is.means
+    ∙ ap₂ (λ (n m : ℕ). after_line n m (good is.text) (tail ++ [])) count ends
+    ∙ ap (λ (t : List ℕ). after_line (capped (l.lines + 1)) l.size (good is.text) t) (append-nil tail)
+    in
+    ap (λ (s : StateData). after_summary (capped (l.lines + 1)) l.size (good s) y) is.state
+    ∙ ap (λ (z : Summary). after_summary (capped (l.lines + 1)) l.size (good (forget_state is.text)) z) (sym is.rest)
+    ∙ summary-follows (capped (l.lines + 1)) l.size (good is.text) tail
+    ∙ sym (ap (λ (j : JournalData). forget_journal j) text)
 
-pub IsRead-line : (l l2 : Loaded) (tail bytes : List ℕ) → IsRead l tail bytes → length bytes < 2 ^ 63 → PassesLine tail l l2 → IsRead l2 [] (bytes ++ LF)
-IsRead-line l l2 tail bytes is short passes =
+-- what the text comes to, where its state in memory is known
+remembered : (j : JournalData) (s : StateData) → forget_journal j ≡ good s → (t : StateData) × (j ≡ good t) × (s ≡ forget_state t)
+remembered (good t) s is = (t, refl, inner is)
+  where
+    inner : good (forget_state t) ≡ good s → s ≡ forget_state t
+    inner h = cc
+remembered (bad line) s is = absurd (other is)
+  where
+    other : bad line ≡ good s → ⊥
+    other h = cc
+
+remembered-bad : (j : JournalData) (line : ℕ) → forget_journal j ≡ bad line → j ≡ bad line
+remembered-bad (good t) line is = absurd (other is)
+  where
+    other : good (forget_state t) ≡ bad line → ⊥
+    other h = cc
+remembered-bad (bad first) line is = is
+
+pub IsRead-line : (l l2 : Loaded) (y : Summary) (bytes : List ℕ) → IsRead l y bytes → length bytes < 2 ^ 63 → PassesLine y l l2 → IsRead l2 (summary_of []) (bytes ++ LF)
+IsRead-line l l2 y bytes is short passes =
     let few : length (text_of bytes).lines ≤ length bytes = lines-within bytes in
     let more : text_of (bytes ++ LF) ≡ record { lines = (text_of bytes).lines ++ ((text_of bytes).tail ++ []) ∷ []; tail = [] } = text-more-lines bytes [] [] tt in
+    let now = remembered (journal_of (bytes ++ LF)) l2.state (sym (line-here l y bytes is short) ∙ passes.state) in
     record {
-      state = line-here l tail bytes is short ∙ passes.state;
+      text = now.0;
+      means = now.1;
+      state = now.2;
       lines = omega (arith, passes.lines, is.lines, ap (λ (t : Text). length t.lines) more, length-append (text_of bytes).lines (((text_of bytes).tail ++ []) ∷ []));
       size = omega (arith, passes.size, is.size, length-append bytes LF);
-      rest = ap (λ (t : Text). t.tail) more;
+      rest = ap (λ (t : Text). summary_of t.tail) more;
     }
 
-pub StopsAt-line : (l : Loaded) (tail bytes : List ℕ) (e : JournalFault) → IsRead l tail bytes → length bytes < 2 ^ 63 → BadLine tail l e → StopsAt (bytes ++ LF) e
-StopsAt-line l tail bytes File is short wrong = wrong
-StopsAt-line l tail bytes (Bad line) is short wrong = λ rest.
+pub StopsAt-line : (l : Loaded) (y : Summary) (bytes : List ℕ) (e : JournalFault) → IsRead l y bytes → length bytes < 2 ^ 63 → BadLine y l e → StopsAt (bytes ++ LF) e
+StopsAt-line l y bytes File is short wrong = wrong
+StopsAt-line l y bytes (Bad line) is short wrong = λ rest.
     let J : List ℕ → Type 0 = λ xs. journal_of xs ≡ bad line in
-    subst J (sym (append_assoc bytes LF rest)) (journal-bad bytes [] rest line tt (line-here l tail bytes is short ∙ wrong))
-StopsAt-line l tail bytes OtherDevice is short wrong = wrong
-StopsAt-line l tail bytes Memory is short wrong = tt
+    let here : journal_of (bytes ++ LF) ≡ bad line = remembered-bad (journal_of (bytes ++ LF)) line (sym (line-here l y bytes is short) ∙ wrong) in
+    subst J (sym (append_assoc bytes LF rest)) (journal-bad bytes [] rest line tt here)
+StopsAt-line l y bytes OtherDevice is short wrong = wrong
+StopsAt-line l y bytes Memory is short wrong = tt
 
-pub IsRead-byte : (l l2 : Loaded) (byte : ℕ) (tail bytes : List ℕ) → (byte == 10) ≡ false → l2 ≡ record l { size = capped (l.size + 1) } → IsRead l tail bytes → length bytes < 2 ^ 63
-    → IsRead l2 (tail ++ byte ∷ []) (bytes ++ byte ∷ [])
-IsRead-byte l l2 byte tail bytes other same is short =
-    let one : List ℕ = byte ∷ [] in
-    let more : text_of (bytes ++ one) ≡ record { lines = (text_of bytes).lines; tail = (text_of bytes).tail ++ one } = text-more-tail bytes one (other, tt) in
-    let L : Loaded → Type 0 = λ x. IsRead x (tail ++ one) (bytes ++ one) in
+-- bytes of a line
+pub IsRead-part : (l l2 : Loaded) (y y2 : Summary) (part bytes : List ℕ) → HasNoLF part → l2 ≡ record l { size = capped (l.size + length part) } → IsRead l y bytes
+    → length bytes + length part < 2 ^ 63 → (length part ≡ 0 → y2 ≡ y) → (0 < length part → y.size + length part < 2 ^ 64 → y2 ≡ extended part y) → IsRead l2 y2 (bytes ++ part)
+IsRead-part l l2 y y2 part bytes none same is short empty some =
+    let more : text_of (bytes ++ part) ≡ record { lines = (text_of bytes).lines; tail = (text_of bytes).tail ++ part } = text-more-tail bytes part none in
+    let L : Loaded → Type 0 = λ x. IsRead x y2 (bytes ++ part) in
     subst L (sym same)
     (record {
-      state = journal-tail bytes one (other, tt) ∙ is.state;
+      text = is.text;
+      means = journal-tail bytes part none ∙ is.means;
+      state = is.state;
       lines = is.lines ∙ sym (ap (λ (t : Text). length t.lines) more);
-      size = omega (arith, is.size, length-append bytes one);
-      rest = ap (λ (t : Text). t.tail) more ∙ ap (λ (t : List ℕ). t ++ one) is.rest;
+      size = omega (arith, is.size, short, length-append bytes part);
+      rest = ap (λ (t : Text). summary_of t.tail) more ∙ summary part empty some short;
     })
+  where
+    tail-within : length (text_of bytes).tail ≤ length bytes
+    tail-within = omega (arith, reading-size bytes)
 
-take-and-drop : (n : ℕ) (xs : List ℕ) → take n xs ++ drop n xs ≡ xs
-take-and-drop zero xs = refl
-take-and-drop (suc n) [] = refl
-take-and-drop (suc n) (x ∷ xs) = ap (λ (ys : List ℕ). x ∷ ys) (take-and-drop n xs)
+    known : length (text_of bytes).tail ≡ y.size
+    known = ap (λ (z : Summary). z.size) is.rest
 
--- the bytes up to one, and those behind it
-pub bytes-more : (bytes more : List ℕ) (i : ℕ) → i < length more → (bytes ++ take i more) ++ get_or more i 0 ∷ [] ≡ bytes ++ take (i + 1) more
-bytes-more bytes more i lt = append_assoc bytes (take i more) (get_or more i 0 ∷ []) ∙ ap (λ (xs : List ℕ). bytes ++ xs) (sym (take_more more i 0 lt))
+    summary : (xs : List ℕ) → (length xs ≡ 0 → y2 ≡ y) → (0 < length xs → y.size + length xs < 2 ^ 64 → y2 ≡ extended xs y) → length bytes + length xs < 2 ^ 63
+        → summary_of ((text_of bytes).tail ++ xs) ≡ y2
+    summary [] e s fits = ap (λ (t : List ℕ). summary_of t) (append-nil (text_of bytes).tail) ∙ is.rest ∙ sym (e refl)
+    summary (b ∷ xs) e s fits =
+        goes-on (text_of bytes).tail b xs ∙ ap (λ (z : Summary). extended (b ∷ xs) z) is.rest
+        ∙ sym (s (omega arith) (omega (arith, fits, tail-within, known)))
 
-pub StopsAt-more : (bytes more : List ℕ) (i : ℕ) (e : JournalFault) → i < length more → StopsAt ((bytes ++ take i more) ++ get_or more i 0 ∷ []) e → StopsAt (bytes ++ more) e
-StopsAt-more bytes more i File lt wrong = wrong
-StopsAt-more bytes more i (Bad line) lt wrong = λ rest.
+-- a fault in the first of these bytes
+pub StopsAt-first : (bytes first rest : List ℕ) (e : JournalFault) → StopsAt (bytes ++ first) e → StopsAt (bytes ++ (first ++ rest)) e
+StopsAt-first bytes first rest File wrong = wrong
+StopsAt-first bytes first rest (Bad line) wrong = λ more.
     let J : List ℕ → Type 0 = λ xs. journal_of xs ≡ bad line in
-    let whole : ((bytes ++ take i more) ++ get_or more i 0 ∷ []) ++ (drop (i + 1) more ++ rest) ≡ (bytes ++ more) ++ rest =
-    ap (λ (xs : List ℕ). xs ++ (drop (i + 1) more ++ rest)) (bytes-more bytes more i lt)
-    ∙ sym (append_assoc (bytes ++ take (i + 1) more) (drop (i + 1) more) rest)
-    ∙ ap (λ (xs : List ℕ). xs ++ rest) (append_assoc bytes (take (i + 1) more) (drop (i + 1) more) ∙ ap (λ (xs : List ℕ). bytes ++ xs) (take-and-drop (i + 1) more))
+    let whole : (bytes ++ first) ++ (rest ++ more) ≡ (bytes ++ (first ++ rest)) ++ more =
+    append_assoc bytes first (rest ++ more) ∙ ap (λ (xs : List ℕ). bytes ++ xs) (sym (append_assoc first rest more)) ∙ sym (append_assoc bytes (first ++ rest) more)
     in
-    subst J whole (wrong (drop (i + 1) more ++ rest))
-StopsAt-more bytes more i OtherDevice lt wrong = wrong
-StopsAt-more bytes more i Memory lt wrong = tt
+    subst J whole (wrong (rest ++ more))
+StopsAt-first bytes first rest OtherDevice wrong = wrong
+StopsAt-first bytes first rest Memory wrong = tt
 
-pub IsLoaded-read : (l l2 : Loaded) (tail bytes : List ℕ) → IsRead l tail bytes → l2 ≡ record l { is_torn = nat_lt 0 (length tail) } → IsLoaded l2 bytes
-IsLoaded-read l l2 tail bytes is same =
+pub IsLoaded-read : (l l2 : Loaded) (y : Summary) (bytes : List ℕ) → IsRead l y bytes → l2 ≡ record l { is_torn = not (y.size == 0) } → IsLoaded l2 bytes
+IsLoaded-read l l2 y bytes is same =
     let L : Loaded → Type 0 = λ x. IsLoaded x bytes in
-    subst L (sym same) (record { state = is.state; lines = is.lines; size = is.size; is_torn = ap (λ (t : List ℕ). nat_lt 0 (length t)) (sym is.rest) })
+    subst L (sym same)
+    (record {
+      text = is.text;
+      means = is.means;
+      state = is.state;
+      lines = is.lines;
+      size = is.size;
+      is_torn = ap (λ (z : Summary). not (z.size == 0)) (sym is.rest) ∙ some (length (text_of bytes).tail);
+    })
+  where
+    some : (n : ℕ) → not (n == 0) ≡ nat_lt 0 n
+    some n = grind (arith, nat_tests)
 
--- the same, as a call finds them
-pub TakesBytes-line : (l l2 : Loaded) (text tail after bytes : List ℕ) (byte : ℕ) → text ≡ tail → byte ≡ 10 → after ≡ [] → IsRead l tail bytes → length bytes < 2 ^ 63
-    → PassesLine text l l2 → IsRead l2 after (bytes ++ byte ∷ [])
-TakesBytes-line l l2 text tail after bytes byte same lf none is short passes =
-    let P : List ℕ → Type 0 = λ xs. PassesLine xs l l2 in
-    let A : List ℕ → Type 0 = λ xs. IsRead l2 xs (bytes ++ byte ∷ []) in
-    let B : ℕ → Type 0 = λ b. IsRead l2 [] (bytes ++ b ∷ []) in
-    subst A (sym none) (subst B (sym lf) (IsRead-line l l2 tail bytes is short (subst P same passes)))
+-- bytes and more bytes
+pub TakesBytes-join : {T : Type 0} (bytes first rest : List ℕ) (l : Loaded) (y : Summary) (result : Result T JournalFault)
+    → TakesBytes rest (bytes ++ first) l y result → TakesBytes (first ++ rest) bytes l y result
+TakesBytes-join bytes first rest l y (Ok x) is = let R : List ℕ → Type 0 = λ xs. IsRead l y xs in subst R (append_assoc bytes first rest) is
+TakesBytes-join bytes first rest l y (Err e) is = let S : List ℕ → Type 0 = λ xs. StopsAt xs e in subst S (append_assoc bytes first rest) is
 
-pub TakesBytes-stop : {T : Type 0} (l l2 : Loaded) (text tail after bytes : List ℕ) (byte : ℕ) (e y : JournalFault) (result : Result T JournalFault) → text ≡ tail → byte ≡ 10 → IsRead l tail bytes
-    → length bytes < 2 ^ 63 → BadLine text l e → result ≡ Err y → y ≡ e → TakesBytes (byte ∷ []) bytes l2 after result
-TakesBytes-stop {T} l l2 text tail after bytes byte e y result same lf is short wrong answered given =
-    let P : List ℕ → Type 0 = λ xs. BadLine xs l e in
-    let R : Result T JournalFault → Type 0 = λ r. TakesBytes (byte ∷ []) bytes l2 after r in
-    let Y : JournalFault → Type 0 = λ f. StopsAt (bytes ++ byte ∷ []) f in
-    let B : ℕ → Type 0 = λ b. StopsAt (bytes ++ b ∷ []) e in
-    subst R (sym answered) (subst Y (sym given) (subst B (sym lf) (StopsAt-line l tail bytes e is short (subst P same wrong))))
+pub TakesBytes-same : {T : Type 0} (bytes xs ys : List ℕ) (l : Loaded) (y : Summary) (result : Result T JournalFault) → xs ≡ ys → TakesBytes xs bytes l y result → TakesBytes ys bytes l y result
+TakesBytes-same {T} bytes xs ys l y result e is = let R : List ℕ → Type 0 = λ zs. TakesBytes zs bytes l y result in subst R e is
 
-pub TakesBytes-stop_more : {T : Type 0} (l : Loaded) (tail bytes more : List ℕ) (i : ℕ) (e y : JournalFault) (result : Result T JournalFault) → i < length more
-    → StopsAt ((bytes ++ take i more) ++ get_or more i 0 ∷ []) e → result ≡ Err y → y ≡ e → TakesBytes more bytes l tail result
-TakesBytes-stop_more {T} l tail bytes more i e y result lt wrong answered given =
-    let R : Result T JournalFault → Type 0 = λ r. TakesBytes more bytes l tail r in
-    let Y : JournalFault → Type 0 = λ f. StopsAt (bytes ++ more) f in
-    subst R (sym answered) (subst Y (sym given) (StopsAt-more bytes more i e lt wrong))
+-- a fault in a line of these bytes
+pub StopsAt-part : (bytes more first : List ℕ) (k : ℕ) (e : JournalFault) → first ≡ bytes ++ take k more → StopsAt first e → StopsAt (bytes ++ more) e
+StopsAt-part bytes more first k e same wrong =
+    let S : List ℕ → Type 0 = λ xs. StopsAt xs e in
+    let A : List ℕ → Type 0 = λ xs. StopsAt (bytes ++ xs) e in
+    subst A (take-append-drop k more) (StopsAt-first bytes (take k more) (drop k more) e (subst S same wrong))

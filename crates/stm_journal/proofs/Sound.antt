@@ -89,9 +89,9 @@ short-undoes : (o : Option ℕ) → SaysShort (option_map (λ n. Undoes n) o)
 short-undoes None = tt
 short-undoes (Some n) = tt
 
-short-names : (o : Option ℕ) → SaysShort (option_map (λ id. Names 1 id) o)
-short-names None = tt
-short-names (Some id) = tt
+short-names : (version : ℕ) (o : Option ℕ) → SaysShort (option_map (λ id. Names version id) o)
+short-names version None = tt
+short-names version (Some id) = tt
 
 short-fields : (o : Option ℕ) (bytes : Option (List ℕ)) → SaysShort (page_of_fields o bytes)
 short-fields (Some n) (Some bytes) = tt
@@ -114,12 +114,13 @@ short-worded word said line other h g = short-behind (behind word line) said oth
 short-entry : (line : List ℕ) → SaysShort (entry_of line)
 short-entry line =
     short-worded (codes "page ") page_of line _ (λ rest. short-page rest (position (λ b. b == 32) rest))
-    (short-worded (codes "stmjournal 1 ") header_of line _ (λ rest. short-names (option_and_then number_of_pair (hex_bytes_of rest)))
+    (short-worded (codes "stmjournal 1 ") (header_of 1) line _ (λ rest. short-names 1 (option_and_then number_of_pair (hex_bytes_of rest)))
+    (short-worded (codes "stmjournal 2 ") (header_of 2) line _ (λ rest. short-names 2 (option_and_then number_of_pair (hex_bytes_of rest)))
     (short-worded (codes "open ") (λ rest. option_map (λ n. Opens n) (number_of rest)) line _ (λ rest. short-opens (number_of rest) (within-number rest))
     (short-worded (codes "erase ") (λ rest. option_map (λ n. Erases n) (number_of rest)) line _ (λ rest. short-erases (number_of rest))
     (short-worded (codes "program ") (λ rest. option_map (λ n. Programs n) (number_of rest)) line _ (λ rest. short-programs (number_of rest))
     (short-worded (codes "end ") (λ rest. option_map (λ n. Ends n) (number_of rest)) line _ (λ rest. short-ends (number_of rest))
-    (short-worded (codes "undone ") (λ rest. option_map (λ n. Undoes n) (number_of rest)) line None (λ rest. short-undoes (number_of rest)) tt))))))
+    (short-worded (codes "undone ") (λ rest. option_map (λ n. Undoes n) (number_of rest)) line None (λ rest. short-undoes (number_of rest)) tt)))))))
 
 sound-change : (header : Option JournalHeader) (stack : List SegmentData) (stage : SegmentData → Stage) → IsSound (record { header = header; stack = stack })
     → IntentIsKept (record { header = header; stack = on_newest (λ segment. record segment { stage = stage segment }) stack })

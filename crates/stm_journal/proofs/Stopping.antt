@@ -1,14 +1,21 @@
 -- What a journal comes to where an append of entries was stopped.
-use Rattle.std.proofs.Common.{◌≡◌, ℕ, zero, suc, ◌+◌, ◌-◌, Bool, true, false, List, [], ◌∷◌, ◌++◌, length, take, flat_map, refl, sym, ◌∙◌, ap, subst, inl, inr, ⊎_elim, arith, length-append, append_assoc}
+use Rattle.std.proofs.Common.{◌≡◌, ◌⊎◌, ℕ, zero, suc, ◌+◌, ◌-◌, Bool, true, false, not, ◌==◌, Option, Some, None, IsTrue, append-nil, List, [], ◌∷◌, ◌++◌, length, take, flat_map, refl, sym, ◌∙◌, ap, subst, inl, inr, ⊎_elim, arith, length-append, append_assoc}
 use Rattle.std.proofs.lemmas.Bool.{cases_lt}
 use Rattle.std.proofs.lemmas.List.{take-append-le}
 use Rattle.stm_journal.specs.declared.entry.Entry.{Entry}
-use Rattle.stm_journal.specs.Text.{Text, text_of}
+use Rattle.std.proofs.lemmas.Bool.Decides.{nat_tests}
+use Rattle.stm_journal.specs.declared.header.JournalHeader.{JournalHeader}
+use Rattle.stm_journal.specs.Text.{Text, text_of, HasNoLF}
 use Rattle.stm_journal.specs.Entries.{line_of, line_text}
-use Rattle.stm_journal.specs.States.{StateData, after_entry}
-use Rattle.stm_journal.specs.Journals.{IsLoaded, Loaded, journal_of, good, after_line, mark}
+use Rattle.stm_journal.specs.States.{StateData, SegmentData, allows, after_entry, names_other, IsSound}
+use Rattle.stm_journal.specs.Journals.{IsLoaded, Loaded, journal_of, good, after_line, mark, added_bytes, begin_entries}
 use Rattle.stm_journal.specs.Beginnings.{LeadsTo, AllAllowed, AllPrintable, BeginningsAreGood}
-use Rattle.stm_journal.proofs.Texts.{HasNoLF, text-more-lines}
+use Rattle.stm_journal.specs.Added.{HasAdded, EntriesLeaveEither, BeginningsLeaveEither}
+use Rattle.stm_journal.specs.Newest.{HasBegun}
+use Rattle.stm_journal.specs.CallEntries.{allowed-begin, printable-begin}
+use Rattle.stm_journal.proofs.Sound.{journal-is-sound}
+use Rattle.stm_journal.proofs.AfterCalls.{HasAdded-entry, HasBegun-opened}
+use Rattle.stm_journal.proofs.Texts.{text-more-lines}
 use Rattle.stm_journal.proofs.Readings.{journal-line, journal-tail}
 use Rattle.stm_journal.proofs.Lines.{HasNoLF-line, is_void-marked}
 use Rattle.stm_journal.proofs.Ties.{no-tail, void-after, said-after}
@@ -64,22 +71,102 @@ begun-entries (e ∷ entries) s journal n may printable is whole =
     subst B cut (begun-none (e ∷ entries) s journal (take n line) is (HasNoLF-take n line noLF)))
     (cases_lt (length line) n)
 
+-- a mark changes nothing
+marked-state : (l : Loaded) (journal : List ℕ) (s : StateData) → journal_of journal ≡ good s → journal_of (journal ++ ((33 ∷ []) ++ 10 ∷ [])) ≡ good s
+marked-state l journal s means =
+    journal-line journal (33 ∷ []) s (refl, tt) means
+    ∙ void-after (length (text_of journal).lines + 1) (length journal + 1) s ((text_of journal).tail ++ 33 ∷ []) (is_void-marked (text_of journal).tail)
+
+own : (id : ℕ) → not (id == id) ≡ false
+own id = grind (arith, nat_tests)
+
+-- each of these entries leads on from one state to the other, whatever numbers and places their lines have
+abbrev pub LeadsAll : List Entry → StateData → StateData → Type 0
+LeadsAll [] s s2 = s2 ≡ s
+LeadsAll (e ∷ entries) s s2 = (line : ℕ) × (ends : ℕ) × LeadsAll entries (after_entry line ends s e) s2
+
 -- a stop in the mark or behind it
-begun-mark : (torn : Bool) (l : Loaded) (journal : List ℕ) (entries : List Entry) (n : ℕ) → l.is_torn ≡ torn → IsLoaded l journal → AllAllowed entries l.state → AllPrintable entries
-    → Begun entries l.state (journal ++ take n (mark torn ++ flat_map line_text entries))
-begun-mark false l journal entries n torn is may printable = begun-entries entries l.state journal n may printable is.state (no-tail l journal is torn)
-begun-mark true l journal entries zero torn is may printable = begun-none entries l.state journal [] is.state tt
-begun-mark true l journal entries (suc zero) torn is may printable = begun-none entries l.state journal (33 ∷ []) is.state (refl, tt)
-begun-mark true l journal entries (suc (suc m)) torn is may printable =
+begun-mark : (torn : Bool) (l : Loaded) (journal : List ℕ) (s : StateData) (entries : List Entry) (n : ℕ) → l.is_torn ≡ torn → IsLoaded l journal → journal_of journal ≡ good s
+    → AllAllowed entries s → AllPrintable entries → Begun entries s (journal ++ take n (mark torn ++ flat_map line_text entries))
+begun-mark false l journal s entries n torn is means may printable = begun-entries entries s journal n may printable means (no-tail l journal is torn)
+begun-mark true l journal s entries zero torn is means may printable = begun-none entries s journal [] means tt
+begun-mark true l journal s entries (suc zero) torn is means may printable = begun-none entries s journal (33 ∷ []) means (refl, tt)
+begun-mark true l journal s entries (suc (suc m)) torn is means may printable =
     let bang : List ℕ = 33 ∷ [] in
     let marked : List ℕ = journal ++ (bang ++ 10 ∷ []) in
-    let state : journal_of marked ≡ good l.state =
-    journal-line journal bang l.state (refl, tt) is.state
-    ∙ void-after (length (text_of journal).lines + 1) (length journal + 1) l.state ((text_of journal).tail ++ bang) (is_void-marked (text_of journal).tail)
-    in
-    let B : List ℕ → Type 0 = λ xs. Begun entries l.state xs in
+    let state : journal_of marked ≡ good s = marked-state l journal s means in
+    let B : List ℕ → Type 0 = λ xs. Begun entries s xs in
     subst B (append_assoc journal (bang ++ 10 ∷ []) (take m (flat_map line_text entries)))
-    (begun-entries entries l.state marked m may printable state (ap (λ (t : Text). t.tail) (text-more-lines journal bang [] (refl, tt))))
+    (begun-entries entries s marked m may printable state (ap (λ (t : Text). t.tail) (text-more-lines journal bang [] (refl, tt))))
 
 pub beginnings-are-good : BeginningsAreGood
-beginnings-are-good l journal entries n is may printable = begun-mark l.is_torn l journal entries n refl is may printable
+beginnings-are-good l journal s entries n is means may printable = begun-mark l.is_torn l journal s entries n refl is means may printable
+
+-- one entry: the old state or the new one
+pub entries-leave-either : EntriesLeaveEither
+entries-leave-either l journal s e n is means may printable =
+    let begun = beginnings-are-good l journal s (e ∷ []) n is means (may, λ line ends. tt) (printable, tt) in
+    (begun.0, begun.1, ⊎_elim (λ none. inl none) (λ more. inr (added-state e s begun.0 more.0 more.1 (journal-is-sound journal s means) may more.2)) begun.2)
+  where
+    added-state : (e : Entry) (s s2 : StateData) (line ends : ℕ) → IsSound s → IsTrue (allows s e) → s2 ≡ after_entry line ends s e → HasAdded e s s2
+    added-state e s s2 line ends sound may same =
+        let H : StateData → Type 0 = λ x. HasAdded e s x in
+        subst H (sym same) (HasAdded-entry line ends s e sound may)
+
+-- what begins a segment
+begun-at : (id : ℕ) (header : Option JournalHeader) (stack : List SegmentData) (s2 : StateData) → names_other id (record { header = header; stack = stack }) ≡ false
+    → LeadsTo (begin_entries id (record { header = header; stack = stack })) (record { header = header; stack = stack }) s2
+    → ((s2.stack ≡ stack) × (names_other id s2 ≡ false)) ⊎ HasBegun id (record { header = header; stack = stack }) s2
+begun-at id None stack s2 mine leads =
+    ⊎_elim
+    (λ none. inl (ap (λ (s : StateData). s.stack) none, ap (λ (s : StateData). names_other id s) none))
+    (λ named. ⊎_elim
+    (λ none. inl (ap (λ (s : StateData). s.stack) none, ap (λ (s : StateData). names_other id s) none ∙ own id))
+    (λ opened.
+    let H : StateData → Type 0 = λ x. HasBegun id (record { header = None; stack = stack }) x in
+    inr (subst H (sym opened.2) (HasBegun-opened id (length stack + 1) (Some (record { version = 2; id = id; line = named.0 })) stack (record { header = None; stack = stack }) refl refl)))
+    named.2)
+    leads
+begun-at id (Some h) stack s2 mine leads =
+    ⊎_elim
+    (λ none. inl (ap (λ (s : StateData). s.stack) none, ap (λ (s : StateData). names_other id s) none ∙ mine))
+    (λ opened.
+    let H : StateData → Type 0 = λ x. HasBegun id (record { header = Some h; stack = stack }) x in
+    inr (subst H (sym opened.2) (HasBegun-opened id (length stack + 1) (Some h) stack (record { header = Some h; stack = stack }) (ap (λ (k : ℕ). Some k) (same-id h.id id mine)) refl)))
+    leads
+  where
+    same-id : (a b : ℕ) → not (a == b) ≡ false → a ≡ b
+    same-id a b h = grind (arith, nat_tests)
+
+pub beginnings-leave-either : BeginningsLeaveEither
+beginnings-leave-either l journal s id n is means finished mine within room =
+    let begun = beginnings-are-good l journal s (begin_entries id s) n is means (allowed-begin id s finished) (printable-begin id s within room) in
+    (begun.0, begun.1, begun-at id s.header s.stack begun.0 mine begun.2)
+
+-- the whole of an append of entries: each is added, whatever numbers and places their lines have
+pub added-entries : (l : Loaded) (journal : List ℕ) (s : StateData) (entries : List Entry) → IsLoaded l journal → journal_of journal ≡ good s → AllAllowed entries s → AllPrintable entries
+    → (s2 : StateData) × (journal_of (journal ++ added_bytes l.is_torn entries) ≡ good s2) × LeadsAll entries s s2
+added-entries l journal s entries is means may printable = marked l.is_torn refl
+  where
+    each : (entries : List Entry) (s : StateData) (journal : List ℕ) → AllAllowed entries s → AllPrintable entries → journal_of journal ≡ good s → (text_of journal).tail ≡ []
+        → (s2 : StateData) × (journal_of (journal ++ flat_map line_text entries) ≡ good s2) × LeadsAll entries s s2
+    each [] s journal may printable means whole = (s, ap (λ (xs : List ℕ). journal_of xs) (append-nil journal) ∙ means, refl)
+    each (e ∷ entries) s journal may printable means whole =
+        let line : List ℕ = line_of e in
+        let text : List ℕ = line_text e in
+        let rest : List ℕ = flat_map line_text entries in
+        let number : ℕ = length (text_of journal).lines + 1 in
+        let ends : ℕ = length journal + length line in
+        let noLF : HasNoLF line = HasNoLF-line e printable.0 in
+        let state : journal_of (journal ++ text) ≡ good (after_entry number ends s e) =
+        journal-line journal line s noLF means ∙ ap (λ (t : List ℕ). after_line number ends (good s) (t ++ line)) whole ∙ said-after number ends s e printable.0 may.0
+        in
+        let more = each entries (after_entry number ends s e) (journal ++ text) (may.1 number ends) printable.1 state (ap (λ (t : Text). t.tail) (text-more-lines journal line [] noLF)) in
+        (more.0, ap (λ (xs : List ℕ). journal_of xs) (sym (append_assoc journal text rest)) ∙ more.1, (number, ends, more.2))
+
+    marked : (torn : Bool) → l.is_torn ≡ torn → (s2 : StateData) × (journal_of (journal ++ (mark torn ++ flat_map line_text entries)) ≡ good s2) × LeadsAll entries s s2
+    marked false torn = each entries s journal may printable means (no-tail l journal is torn)
+    marked true torn =
+        let bang : List ℕ = 33 ∷ [] in
+        let more = each entries s (journal ++ (bang ++ 10 ∷ [])) may printable (marked-state l journal s means) (ap (λ (t : Text). t.tail) (text-more-lines journal bang [] (refl, tt))) in
+        (more.0, ap (λ (xs : List ℕ). journal_of xs) (sym (append_assoc journal (bang ++ 10 ∷ []) (flat_map line_text entries))) ∙ more.1, more.2)

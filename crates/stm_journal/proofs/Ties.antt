@@ -2,11 +2,14 @@
 use Rattle.std.proofs.Common.{◌≡◌, ◌≤◌, ℕ, suc, ◌+◌, ◌-◌, ◌^◌, Bool, true, false, nat_lt, if◌then◌else◌, List, [], ◌∷◌, ◌++◌, length, fold, flat_map, Option, refl, sym, ◌∙◌, ap, ap₂, subst, arith, length-append, append_assoc, append-nil, IsTrue}
 use Rattle.std.proofs.lemmas.Bool.Decides.{nat_tests}
 use Rattle.stm_journal.specs.declared.entry.Entry.{Entry}
-use Rattle.stm_journal.specs.Text.{Text, text_of, is_void}
+use Rattle.stm_journal.specs.Text.{Text, text_of, is_void, HasNoLF}
 use Rattle.stm_journal.specs.Entries.{entry_of, line_of, line_text}
 use Rattle.stm_journal.specs.States.{StateData, allows, after_entry}
 use Rattle.stm_journal.specs.Journals.{good, bad, after_line, after_said, Loaded, IsLoaded, capped, mark, added_bytes, past_mark, past_entry, loaded_after, IsPrintable}
-use Rattle.stm_journal.proofs.Texts.{HasNoLF, text-more-lines}
+use Rattle.stm_journal.proofs.Texts.{text-more-lines}
+use Rattle.stm_journal.specs.InMemory.{forget_entry}
+use Rattle.stm_journal.specs.ForgetLaws.{allows-forgets}
+use Rattle.stm_journal.proofs.Forgets.{after-forgets}
 use Rattle.stm_journal.proofs.Readings.{journal-line, lines-within}
 use Rattle.stm_journal.proofs.Lines.{entry_of-line, HasNoLF-line, is_void-printed, is_void-marked}
 
@@ -37,7 +40,7 @@ ended xs t = record { lines = (text_of xs).lines ++ ((text_of xs).tail ++ t) ∷
 one-line-more : (xs t : List ℕ) → HasNoLF t → text_of (xs ++ (t ++ 10 ∷ [])) ≡ ended xs t
 one-line-more xs t h = text-more-lines xs t [] h
 
-pub pass-entry : (l : Loaded) (bytes : List ℕ) (e : Entry) → IsLoaded l bytes → l.is_torn ≡ false → IsPrintable e → IsTrue (allows l.state e)
+pub pass-entry : (l : Loaded) (bytes : List ℕ) (e : Entry) → IsLoaded l bytes → l.is_torn ≡ false → IsPrintable e → IsTrue (allows l.state (forget_entry e))
     → length (bytes ++ line_text e) ≤ 2 ^ 63 - 1 → IsLoaded (past_entry l e) (bytes ++ line_text e)
 pass-entry l bytes e is whole printable may short =
     let line : List ℕ = line_of e in
@@ -48,12 +51,19 @@ pass-entry l bytes e is whole printable may short =
     let count : length (text_of bytes).lines + 1 ≡ capped (l.lines + 1) = omega (arith, is.lines) in
     let ends : length bytes + length line ≡ capped (l.size + length line) = omega (arith, is.size) in
     let more : text_of (bytes ++ text) ≡ ended bytes line = one-line-more bytes line noLF in
+    let s : StateData = is.text in
+    let M : StateData → Type 0 = λ x. IsTrue (allows x (forget_entry e)) in
+    let may2 : IsTrue (allows s e) = sym (allows-forgets s e) ∙ subst M is.state may in
     record {
+      text = after_entry (capped (l.lines + 1)) (capped (l.size + length line)) s e;
+      means =
+          journal-line bytes line s noLF is.means
+          ∙ ap (λ (t : List ℕ). after_line (length (text_of bytes).lines + 1) (length bytes + length line) (good s) (t ++ line)) (no-tail l bytes is whole)
+          ∙ ap₂ (λ (n m : ℕ). after_line n m (good s) line) count ends
+          ∙ said-after (capped (l.lines + 1)) (capped (l.size + length line)) s e printable may2;
       state =
-          journal-line bytes line l.state noLF is.state
-          ∙ ap (λ (t : List ℕ). after_line (length (text_of bytes).lines + 1) (length bytes + length line) (good l.state) (t ++ line)) (no-tail l bytes is whole)
-          ∙ ap₂ (λ (n m : ℕ). after_line n m (good l.state) line) count ends
-          ∙ said-after (capped (l.lines + 1)) (capped (l.size + length line)) l.state e printable may;
+          ap (λ (x : StateData). after_entry (capped (l.lines + 1)) (capped (l.size + length line)) x (forget_entry e)) is.state
+          ∙ after-forgets (capped (l.lines + 1)) (capped (l.size + length line)) s e;
       lines = sym count ∙ sym (ap (λ (t : Text). length t.lines) more ∙ length-append (text_of bytes).lines (((text_of bytes).tail ++ line) ∷ []));
       size = omega (arith, is.size, size);
       is_torn = sym (ap (λ (t : Text). nat_lt 0 (length t.tail)) more);
@@ -70,9 +80,11 @@ pass-bang l bytes is short =
     let count : length (text_of bytes).lines + 1 ≡ capped (l.lines + 1) = omega (arith, is.lines) in
     let more : text_of (bytes ++ (bang ++ 10 ∷ [])) ≡ ended bytes bang = one-line-more bytes bang (refl, tt) in
     record {
-      state =
-          journal-line bytes bang l.state (refl, tt) is.state
-          ∙ void-after (length (text_of bytes).lines + 1) (length bytes + 1) l.state ((text_of bytes).tail ++ bang) (is_void-marked (text_of bytes).tail);
+      text = is.text;
+      means =
+          journal-line bytes bang is.text (refl, tt) is.means
+          ∙ void-after (length (text_of bytes).lines + 1) (length bytes + 1) is.text ((text_of bytes).tail ++ bang) (is_void-marked (text_of bytes).tail);
+      state = is.state;
       lines = sym count ∙ sym (ap (λ (t : Text). length t.lines) more ∙ length-append (text_of bytes).lines (((text_of bytes).tail ++ bang) ∷ []));
       size = omega (arith, is.size, size);
       is_torn = sym (ap (λ (t : Text). nat_lt 0 (length t.tail)) more);
@@ -89,7 +101,7 @@ pass-mark l bytes is short = pass-mark-at l.is_torn l bytes refl is short
 -- entries that may be added one after another
 abbrev pub AllAllowed : List Entry → Loaded → Type 0
 AllAllowed [] l = Unit {0}
-AllAllowed (e ∷ entries) l = IsPrintable e × (IsTrue (allows l.state e) × AllAllowed entries (past_entry l e))
+AllAllowed (e ∷ entries) l = IsPrintable e × (IsTrue (allows l.state (forget_entry e)) × AllAllowed entries (past_entry l e))
 
 pass-entries : (entries : List Entry) (l : Loaded) (bytes : List ℕ) → IsLoaded l bytes → l.is_torn ≡ false → AllAllowed entries l
     → length (bytes ++ flat_map line_text entries) ≤ 2 ^ 63 - 1 → IsLoaded (fold past_entry l entries) (bytes ++ flat_map line_text entries)
@@ -125,7 +137,7 @@ mark-state-at false l = refl
 pub mark-state : (l : Loaded) → (past_mark l).state ≡ l.state
 mark-state l = mark-state-at l.is_torn l
 
-pub AllAllowed-one : (e : Entry) (l : Loaded) → IsPrintable e → IsTrue (allows l.state e) → AllAllowed (e ∷ []) (past_mark l)
+pub AllAllowed-one : (e : Entry) (l : Loaded) → IsPrintable e → IsTrue (allows l.state (forget_entry e)) → AllAllowed (e ∷ []) (past_mark l)
 AllAllowed-one e l printable may =
-    let S : StateData → Type 0 = λ s. IsTrue (allows s e) in
+    let S : StateData → Type 0 = λ s. IsTrue (allows s (forget_entry e)) in
     (printable, (subst S (sym (mark-state l)) may, tt))

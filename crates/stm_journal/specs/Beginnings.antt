@@ -20,5 +20,6 @@ AllPrintable (e ∷ entries) = IsPrintable e × AllPrintable entries
 
 -- wherever an append is stopped, the journal is good, and a beginning of the entries is added to its state
 abbrev pub BeginningsAreGood : Type 0
-BeginningsAreGood = (l : Loaded) (journal : List ℕ) (entries : List Entry) (n : ℕ) → IsLoaded l journal → AllAllowed entries l.state → AllPrintable entries
-    → (s : StateData) × (journal_of (journal ++ take n (added_bytes l.is_torn entries)) ≡ good s) × LeadsTo entries l.state s
+BeginningsAreGood = (l : Loaded) (journal : List ℕ) (s : StateData) (entries : List Entry) (n : ℕ) → IsLoaded l journal → journal_of journal ≡ good s
+    → AllAllowed entries s → AllPrintable entries
+    → (s2 : StateData) × (journal_of (journal ++ take n (added_bytes l.is_torn entries)) ≡ good s2) × LeadsTo entries s s2

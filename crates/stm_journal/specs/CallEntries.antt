@@ -35,7 +35,7 @@ pub allowed-begin : (id : ℕ) (s : StateData) → is_unfinished s ≡ false →
 allowed-begin id s ended = allowed-begin_at id s.header s.stack ended
 
 printable-begin_at : (id : ℕ) (header : Option JournalHeader) (stack : List SegmentData) → id ≤ 65535 → length stack < 65535 → AllPrintable (begin_entries id (record { header = header; stack = stack }))
-printable-begin_at id None stack within room = ((refl, within), ((omega (arith, room)), tt))
+printable-begin_at id None stack within room = ((inr refl, within), ((omega (arith, room)), tt))
 printable-begin_at id (Some h) stack within room = ((omega (arith, room)), tt)
 
 pub printable-begin : (id : ℕ) (s : StateData) → id ≤ 65535 → length s.stack < 65535 → AllPrintable (begin_entries id s)

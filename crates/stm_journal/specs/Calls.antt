@@ -1,5 +1,5 @@
 -- What the calls of a journal do to the Rig's journal, its device, its counts and its record.
-use Rattle.std.specs.Prelude.{◌≡◌, ◌⊎◌, ℕ, ◌≤◌, List, [], ◌∷◌, ◌++◌, Result, Ok, Err, OnOk, IfOk, IfErr}
+use Rattle.std.specs.Prelude.{◌≡◌, ◌⊎◌, ℕ, ◌≤◌, List, [], ◌∷◌, ◌++◌, Some, Result, Ok, Err, OnOk, IfOk, IfErr}
 use Rattle.stm_wire.specs.declared.rig.RigCall.{RigCall}
 use Rattle.stm_wire.specs.declared.rig.RigCall.TheVariants.{Put, Get, Append, Fetch}
 use Rattle.stm_wire.specs.Device.{Device, LosesOwed}
@@ -8,14 +8,18 @@ use Rattle.stm_wire.specs.Moments.{LeavesOnly}
 use Rattle.stm_journal.specs.declared.entry.Entry.{Entry}
 use Rattle.stm_journal.specs.declared.fault.JournalFault.{JournalFault}
 use Rattle.stm_journal.specs.declared.fault.JournalFault.TheVariants.{File, Bad, OtherDevice, Memory}
-use Rattle.stm_journal.specs.Journals.{Loaded, IsLoaded, added_bytes, journal_of, bad}
+use Rattle.stm_journal.specs.Journals.{Loaded, IsLoaded, added_bytes, journal_of, good, bad}
+use Rattle.stm_journal.specs.declared.kept.Kept.{Kept}
+use Rattle.stm_journal.specs.declared.kept.PagePlace.{PagePlace}
+use Rattle.stm_journal.specs.States.{StateData}
+use Rattle.stm_journal.specs.KeptPlaces.{kept_entry, place_of}
 
--- the fault of a file comes only where the count of such failures rose
+-- the fault of a file comes exactly where the count of such failures rose
 abbrev pub RisesFor : ℕ → ℕ → JournalFault → Type 0
 RisesFor before now File = Rises before now
-RisesFor before now (Bad line) = Unit {0}
-RisesFor before now OtherDevice = Unit {0}
-RisesFor before now Memory = Unit {0}
+RisesFor before now (Bad line) = now ≡ before
+RisesFor before now OtherDevice = now ≡ before
+RisesFor before now Memory = now ≡ before
 
 -- on any Rig: the counts
 pub record HasJournalCause {T : Type 0} (old new : RigState) (result : Result T JournalFault) : Type 0 where
@@ -24,10 +28,14 @@ pub record HasJournalCause {T : Type 0} (old new : RigState) (result : Result T 
   pub failed : IfErr result (RisesFor old.journal_failures new.journal_failures)
   pub line_count : new.line_failures ≡ old.line_failures
 
--- one append of so many bytes; a call that failed may have made none
+-- one append of so many bytes; one that failed may be missing in the record, and a call that failed for another cause
+-- made none
 abbrev pub AppendsOnce : {T : Type 0} → ℕ → Result T JournalFault → List RigCall → Type 0
 AppendsOnce n (Ok x) calls = calls ≡ Append n ∷ []
-AppendsOnce n (Err e) calls = (calls ≡ []) ⊎ (calls ≡ Append n ∷ [])
+AppendsOnce n (Err File) calls = (calls ≡ []) ⊎ (calls ≡ Append n ∷ [])
+AppendsOnce n (Err (Bad line)) calls = calls ≡ []
+AppendsOnce n (Err OtherDevice) calls = calls ≡ []
+AppendsOnce n (Err Memory) calls = calls ≡ []
 
 abbrev pub AreFetches : List RigCall → Type 0
 AreFetches [] = Unit {0}
@@ -52,11 +60,29 @@ pub record AddsBytes {T : Type 0} (bytes : List ℕ) (old new : RigState) (resul
   pub same_device : OnOk result (new.device ≡ old.device)
   pub fails : IfErr result (LeftByFault bytes old new)
 
+-- a relation of the states that a journal's bytes come to, before and after
+abbrev pub InText : (StateData → StateData → Type 0) → List ℕ → List ℕ → Type 0
+InText Has old new = (s s2 : StateData) → journal_of old ≡ good s → journal_of new ≡ good s2 → Has s s2
+
 -- The lines of these entries, and what a torn tail asks for before them, are added to the journal that the one in memory
 -- is tied to, and the new one in memory is tied to the result.
 pub record Appends {T : Type 0} (entries : List Entry) (l l2 : Loaded) (old new : RigState) (result : Result T JournalFault) : Type 0 where
   pub bytes : AddsBytes (added_bytes l.is_torn entries) old new result
   pub loaded : OnOk result (IsLoaded l2 new.journal)
+
+-- the faults of a load
+abbrev pub IsLoadAnswer : JournalFault → Type 0
+IsLoadAnswer File = Unit {0}
+IsLoadAnswer (Bad line) = Unit {0}
+IsLoadAnswer OtherDevice = ⊥
+IsLoadAnswer Memory = Unit {0}
+
+-- the faults of fetching a page whose line has this number
+abbrev pub IsFetchAnswer : ℕ → JournalFault → Type 0
+IsFetchAnswer line File = Unit {0}
+IsFetchAnswer line (Bad number) = number ≡ line
+IsFetchAnswer line OtherDevice = ⊥
+IsFetchAnswer line Memory = ⊥
 
 -- nothing but owed bytes changed, which a stop may lose
 abbrev pub IsUntouched : RigState → Device → List ℕ → Type 0
@@ -86,3 +112,14 @@ pub record Loads (old new : RigState) (result : Result Loaded JournalFault) : Ty
   pub kept_device : IfErr result (KeepsDevice old new)
   pub loaded : IfOk result (λ l. IsLoaded l old.journal)
   pub faults : IfErr result (IsFaultOf old.journal)
+
+-- The bytes of a page are fetched from an honest Rig's journal, of which nothing is changed: at Ok they are those that the
+-- journal keeps, and only the file can fail.
+pub record FetchesPage (place : PagePlace) (after : List ℕ) (old new : RigState) (result : Result (Unit {0}) JournalFault) : Type 0 where
+  pub honest : new.is_honest
+  pub moments : LeavesOnly (IsUntouched old) old new
+  pub journal : new.journal ≡ old.journal
+  pub same_device : OnOk result (new.device ≡ old.device)
+  pub kept_device : IfErr result (KeepsDevice old new)
+  pub bytes : OnOk result ((s : StateData) (k i : ℕ) (kept : Kept) → journal_of old.journal ≡ good s → kept_entry s k i ≡ Some kept → place_of kept ≡ place → after ≡ kept.bytes)
+  pub fails : IfErr result (λ e. e ≡ File)

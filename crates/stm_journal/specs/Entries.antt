@@ -48,9 +48,9 @@ page_at rest (Some i) = page_of_fields (number_of (take i rest)) (hex_bytes_of (
 abbrev pub page_of : List ℕ → Option Entry
 page_of rest = page_at rest (position (λ b. b == 32) rest)
 
--- the device of a journal of version 1: its id has four digits
-abbrev pub header_of : List ℕ → Option Entry
-header_of rest = option_map (λ id. Names 1 id) (option_and_then number_of_pair (hex_bytes_of rest))
+-- the device of a journal of this version: its id has four digits
+abbrev pub header_of : ℕ → List ℕ → Option Entry
+header_of version rest = option_map (λ id. Names version id) (option_and_then number_of_pair (hex_bytes_of rest))
 
 -- what follows one of these words, and else what the other reading says
 abbrev pub worded : List ℕ → (List ℕ → Option Entry) → List ℕ → Option Entry → Option Entry
@@ -66,11 +66,17 @@ numbered_entry_of line =
 
 -- what a whole line says, if it says anything
 abbrev pub entry_of : List ℕ → Option Entry
-entry_of line = worded (codes "page ") page_of line (worded (codes "stmjournal 1 ") header_of line (numbered_entry_of line))
+entry_of line =
+    worded (codes "page ") page_of line
+    (worded (codes "stmjournal 1 ") (header_of 1) line (worded (codes "stmjournal 2 ") (header_of 2) line (numbered_entry_of line)))
 
--- the line that says it; of a header, one of version 1
+-- what a header of version 1 or 2 begins with
+abbrev pub header_word : ℕ → List ℕ
+header_word version = if version == 2 then codes "stmjournal 2 " else codes "stmjournal 1 "
+
+-- the line that says it
 abbrev pub line_of : Entry → List ℕ
-line_of (Names version id) = codes "stmjournal 1 " ++ encode_upper (id / 256 ∷ id % 256 ∷ [])
+line_of (Names version id) = header_word version ++ encode_upper (id / 256 ∷ id % 256 ∷ [])
 line_of (Opens k) = codes "open " ++ decimal k
 line_of (Keeps n bytes) = codes "page " ++ (decimal n ++ 32 ∷ encode_upper bytes)
 line_of (Erases n) = codes "erase " ++ decimal n

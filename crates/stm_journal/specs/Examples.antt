@@ -62,6 +62,10 @@ torn : journal_of (begun ++ codes "page 0 FFFF") ≡ good (record { header = Som
 unfolding hex_on_literals
 torn = refl
 
+version_two : journal_of (codes "stmjournal 2 0412" ++ LF) ≡ good (record { header = Some (record { version = 2; id = 0x412; line = 1 }); stack = [] })
+unfolding hex_on_literals
+version_two = refl
+
 other_version : journal_of (codes "stmjournal 3 0412" ++ LF) ≡ bad 1
 unfolding hex_on_literals
 other_version = refl

@@ -1,5 +1,5 @@
 -- What a journal's bytes come to, and how a journal in memory is tied to them.
-use Rattle.std.specs.Prelude.{◌≡◌, ℕ, ◌+◌, ◌-◌, ◌^◌, ◌<◌, ◌≤◌, min, Bool, true, false, nat_lt, if◌then◌else◌, List, [], ◌∷◌, ◌++◌, length, fold, flat_map, Option, Some, None, is_none}
+use Rattle.std.specs.Prelude.{◌≡◌, ◌⊎◌, ℕ, ◌+◌, ◌-◌, ◌^◌, ◌<◌, ◌≤◌, min, Bool, true, false, nat_lt, if◌then◌else◌, List, [], ◌∷◌, ◌++◌, length, fold, flat_map, Option, Some, None, is_none}
 use Rattle.stm_journal.specs.declared.entry.Entry.{Entry}
 use Rattle.stm_journal.specs.declared.entry.Entry.TheVariants.{Names, Opens, Keeps, Erases, Programs, Ends, Undoes}
 use Rattle.stm_journal.specs.declared.fault.JournalFault.{JournalFault}
@@ -8,6 +8,7 @@ use Rattle.hex.specs.Hex.{IsBytes}
 use Rattle.stm_journal.specs.Text.{text_of, is_void}
 use Rattle.stm_journal.specs.Entries.{entry_of, line_of, line_text}
 use Rattle.stm_journal.specs.States.{StateData, empty_state, allows, after_entry, names_other}
+use Rattle.stm_journal.specs.InMemory.{forget_entry, forget_state}
 
 -- every line that isn't void is allowed in its place, or the first that isn't has this number
 pub data JournalData : Type 0 where
@@ -42,16 +43,20 @@ reading_of lines = fold read_line start lines
 abbrev pub journal_of : List ℕ → JournalData
 journal_of bytes = (reading_of (text_of bytes).lines).journal
 
--- a journal in memory: its state, how many whole lines and how many bytes it has, and whether a torn tail stands
+-- a journal in memory: its state, with zeros for the bytes of pages, how many whole lines and how many bytes it has, and
+-- whether a torn tail stands
 pub record Loaded : Type 0 where
   pub state : StateData
   pub lines : ℕ
   pub size : ℕ
   pub is_torn : Bool
 
--- The tie between a journal in memory and a journal's bytes.
+-- The tie between a journal in memory and a journal's bytes: these come to a state, which stands in memory without the
+-- bytes of its pages, and with their places.
 pub record IsLoaded (l : Loaded) (bytes : List ℕ) : Type 0 where
-  pub state : journal_of bytes ≡ good l.state
+  pub text : StateData
+  pub means : journal_of bytes ≡ good text
+  pub state : l.state ≡ forget_state text
   pub lines : l.lines ≡ length (text_of bytes).lines
   pub size : l.size ≡ length bytes
   pub is_torn : l.is_torn ≡ nat_lt 0 (length (text_of bytes).tail)
@@ -74,7 +79,7 @@ past_mark l = if l.is_torn then record { state = l.state; lines = capped (l.line
 abbrev pub past_entry : Loaded → Entry → Loaded
 past_entry l e =
     record {
-      state = after_entry (capped (l.lines + 1)) (capped (l.size + length (line_of e))) l.state e;
+      state = after_entry (capped (l.lines + 1)) (capped (l.size + length (line_of e))) l.state (forget_entry e);
       lines = capped (l.lines + 1);
       size = capped (l.size + (length (line_of e) + 1));
       is_torn = false;
@@ -84,36 +89,23 @@ past_entry l e =
 abbrev pub loaded_after : List Entry → Loaded → Loaded
 loaded_after entries l = fold past_entry (past_mark l) entries
 
--- what begins a segment: its line, and the header before it where there is none
+-- what begins a segment: its line, and before it a header of version 2 where there is none
 abbrev pub begin_entries : ℕ → StateData → List Entry
-begin_entries id s = if is_none s.header then Names 1 id ∷ Opens (length s.stack + 1) ∷ [] else Opens (length s.stack + 1) ∷ []
+begin_entries id s = if is_none s.header then Names 2 id ∷ Opens (length s.stack + 1) ∷ [] else Opens (length s.stack + 1) ∷ []
 
 -- a journal in memory of no lines
 abbrev pub empty_loaded : Loaded
 empty_loaded = record { state = empty_state; lines = 0; size = 0; is_torn = false }
 
--- an entry whose line reads back: a header is of version 1, numbers are at most 65,535, bytes are bytes, a page has some
+-- an entry whose line reads back: a header is of version 1 or 2, numbers are at most 65,535, bytes are bytes, a page has some
 abbrev pub IsPrintable : Entry → Type 0
-IsPrintable (Names version id) = (version ≡ 1) × (id ≤ 65535)
+IsPrintable (Names version id) = ((version ≡ 1) ⊎ (version ≡ 2)) × (id ≤ 65535)
 IsPrintable (Opens k) = k ≤ 65535
 IsPrintable (Keeps n bytes) = (n ≤ 65535) × ((0 < length bytes) × IsBytes bytes)
 IsPrintable (Erases n) = n ≤ 65535
 IsPrintable (Programs n) = n ≤ 65535
 IsPrintable (Ends k) = k ≤ 65535
 IsPrintable (Undoes k) = k ≤ 65535
-
--- a journal in memory takes a whole line more, at whose LF its bytes so far end
-pub record PassesLine (text : List ℕ) (old new : Loaded) : Type 0 where
-  pub state : after_line (capped (old.lines + 1)) old.size (good old.state) text ≡ good new.state
-  pub lines : new.lines ≡ capped (old.lines + 1)
-  pub size : new.size ≡ capped (old.size + 1)
-  pub is_torn : new.is_torn ≡ old.is_torn
-
-abbrev pub BadLine : List ℕ → Loaded → JournalFault → Type 0
-BadLine text old File = ⊥
-BadLine text old (Bad line) = after_line (capped (old.lines + 1)) old.size (good old.state) text ≡ bad line
-BadLine text old OtherDevice = ⊥
-BadLine text old Memory = Unit {0}
 
 -- without memory a journal in memory is as it was; of a fault of the file nothing is said, and there is no other
 abbrev pub LeavesLoaded : Loaded → Loaded → JournalFault → Type 0

@@ -1,20 +1,39 @@
 -- Loading a journal: what of its bytes was read.
-use Rattle.std.specs.Prelude.{◌≡◌, ℕ, ◌<◌, ◌≤◌, List, ◌++◌, length, take, drop, Result, Ok, Err, OnOk, IfOk, OnErr}
+use Rattle.std.specs.Prelude.{◌≡◌, ℕ, ◌+◌, ◌<◌, ◌≤◌, List, ◌++◌, length, take, drop, Result, Ok, Err, OnOk, IfOk, OnErr}
 use Rattle.stm_wire.specs.Rig.{RigState}
 use Rattle.stm_wire.specs.Device.{LosesOwed}
 use Rattle.stm_wire.specs.Moments.{LeavesOnly}
 use Rattle.stm_journal.specs.declared.fault.JournalFault.{JournalFault}
 use Rattle.stm_journal.specs.declared.fault.JournalFault.TheVariants.{File, Bad, OtherDevice, Memory}
 use Rattle.stm_journal.specs.Text.{text_of}
-use Rattle.stm_journal.specs.Journals.{Loaded, journal_of, good, bad}
+use Rattle.stm_journal.specs.Journals.{Loaded, capped, journal_of, good, bad}
+use Rattle.stm_journal.specs.States.{StateData}
+use Rattle.stm_journal.specs.InMemory.{forget_state}
+use Rattle.stm_journal.specs.Summary.{Summary, summary_of}
+use Rattle.stm_journal.specs.Forget.{after_summary}
 use Rattle.stm_journal.specs.Calls.{IsUntouched}
 
--- these bytes were read: their whole lines are good, and this is their torn tail
-pub record IsRead (l : Loaded) (tail : List ℕ) (bytes : List ℕ) : Type 0 where
-  pub state : journal_of bytes ≡ good l.state
+-- a journal in memory takes a whole line more by its summary; at the LF its bytes so far end
+pub record PassesLine (y : Summary) (old new : Loaded) : Type 0 where
+  pub state : after_summary (capped (old.lines + 1)) old.size (good old.state) y ≡ good new.state
+  pub lines : new.lines ≡ capped (old.lines + 1)
+  pub size : new.size ≡ capped (old.size + 1)
+  pub is_torn : new.is_torn ≡ old.is_torn
+
+abbrev pub BadLine : Summary → Loaded → JournalFault → Type 0
+BadLine y old File = ⊥
+BadLine y old (Bad line) = after_summary (capped (old.lines + 1)) old.size (good old.state) y ≡ bad line
+BadLine y old OtherDevice = ⊥
+BadLine y old Memory = Unit {0}
+
+-- these bytes were read: their whole lines are good, and this is the summary of their torn tail
+pub record IsRead (l : Loaded) (y : Summary) (bytes : List ℕ) : Type 0 where
+  pub text : StateData
+  pub means : journal_of bytes ≡ good text
+  pub state : l.state ≡ forget_state text
   pub lines : l.lines ≡ length (text_of bytes).lines
   pub size : l.size ≡ length bytes
-  pub rest : (text_of bytes).tail ≡ tail
+  pub rest : summary_of (text_of bytes).tail ≡ y
 
 -- these bytes have a bad line, whatever follows; or there was no memory
 abbrev pub StopsAt : List ℕ → JournalFault → Type 0
@@ -30,9 +49,9 @@ IsLoadFault OtherDevice = ⊥
 IsLoadFault Memory = Unit {0}
 
 -- the bytes that were read, and these after them
-abbrev pub TakesBytes : {T : Type 0} → List ℕ → List ℕ → Loaded → List ℕ → Result T JournalFault → Type 0
-TakesBytes more bytes l tail (Ok x) = IsRead l tail (bytes ++ more)
-TakesBytes more bytes l tail (Err e) = StopsAt (bytes ++ more) e
+abbrev pub TakesBytes : {T : Type 0} → List ℕ → List ℕ → Loaded → Summary → Result T JournalFault → Type 0
+TakesBytes more bytes l y (Ok x) = IsRead l y (bytes ++ more)
+TakesBytes more bytes l y (Err e) = StopsAt (bytes ++ more) e
 
 -- a fetch of an honest Rig's journal
 pub record Fetches (at : ℕ) (before after : List ℕ) (old new : RigState) (result : Result ℕ JournalFault) : Type 0 where
@@ -45,10 +64,10 @@ pub record Fetches (at : ℕ) (before after : List ℕ) (old new : RigState) (re
   pub more : IfOk result (λ n. n ≡ 0 → at < length old.journal → length before ≡ 0)
 
 -- an honest Rig's journal, of which a beginning was read and nothing was changed
-pub record HasRead (l : Loaded) (tail : List ℕ) (old new : RigState) : Type 0 where
+pub record HasRead (l : Loaded) (y : Summary) (old new : RigState) : Type 0 where
   pub honest : new.is_honest
   pub journal : new.journal ≡ old.journal
   pub device : new.device ≡ old.device
   pub moments : LeavesOnly (IsUntouched old) old new
-  pub read : IsRead l tail (take l.size old.journal)
+  pub read : IsRead l y (take l.size old.journal)
   pub within : l.size ≤ length old.journal

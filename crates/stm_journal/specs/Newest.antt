@@ -4,6 +4,7 @@ use Rattle.stm_wire.specs.Chip.{ChipData}
 use Rattle.stm_wire.specs.declared.intent.Intent.{Intent}
 use Rattle.stm_journal.specs.declared.kept.Kept.{Kept}
 use Rattle.stm_journal.specs.States.{StateData, SegmentData, newest_is_open, newest_keeps, newest_may_keep, is_unfinished, intent_of, kept_at, page_bytes, on_newest, keeping, fresh_segment}
+use Rattle.stm_journal.specs.KeptPlaces.{kept_entry, kept_count}
 use Rattle.stm_journal.specs.Flashes.{flashes_before_segments}
 
 abbrev pub pages_of_newest : List SegmentData → List ℕ
@@ -18,10 +19,17 @@ newest_pages s = pages_of_newest s.stack
 abbrev pub next_page : StateData → ℕ
 next_page s = fold (λ next n. max next (n + 1)) 0 (newest_pages s)
 
+-- the pages of each segment, the newest first
+abbrev pub pages_of_segments : List SegmentData → List (List Kept)
+pages_of_segments stack = map (λ segment. segment.pages) stack
+
 -- The same header and as many segments, which keep what they kept: at most the stage of the newest is another.
 pub record KeepsSame (old new : StateData) : Type 0 where
   pub header : new.header ≡ old.header
   pub depth : length new.stack ≡ length old.stack
+  pub same : pages_of_segments new.stack ≡ pages_of_segments old.stack
+  pub entry : (k i : ℕ) → kept_entry new k i ≡ kept_entry old k i
+  pub count : (k : ℕ) → kept_count new k ≡ kept_count old k
   pub below : drop 1 new.stack ≡ drop 1 old.stack
   pub pages : newest_pages new ≡ newest_pages old
   pub next : next_page new ≡ next_page old

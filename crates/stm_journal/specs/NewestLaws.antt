@@ -10,13 +10,16 @@ use Rattle.stm_journal.specs.States.{StateData, SegmentData, newest_has, newest_
 use Rattle.stm_journal.specs.Newest.{KeepsSame, newest_pages, next_page}
 
 pub KeepsSame-refl : (s : StateData) → KeepsSame s s
-KeepsSame-refl s = record { header = refl; depth = refl; below = refl; pages = refl; next = refl; keeps = λ n. refl; kept = λ k i. refl; bytes = λ k n. refl; flashes = λ chip flash. refl }
+KeepsSame-refl s = record { header = refl; depth = refl; same = refl; entry = λ k i. refl; count = λ k. refl; below = refl; pages = refl; next = refl; keeps = λ n. refl; kept = λ k i. refl; bytes = λ k n. refl; flashes = λ chip flash. refl }
 
 pub KeepsSame-trans : (a b c : StateData) → KeepsSame a b → KeepsSame b c → KeepsSame a c
 KeepsSame-trans a b c first second =
     record {
       header = second.header ∙ first.header;
       depth = second.depth ∙ first.depth;
+      same = second.same ∙ first.same;
+      entry = λ k i. second.entry k i ∙ first.entry k i;
+      count = λ k. second.count k ∙ first.count k;
       below = second.below ∙ first.below;
       pages = second.pages ∙ first.pages;
       next = second.next ∙ first.next;

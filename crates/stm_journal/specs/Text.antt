@@ -1,5 +1,5 @@
 -- The journal's text: whole lines and a torn tail.
-use Rattle.std.specs.Prelude.{ℕ, Bool, ◌==◌, if◌then◌else◌, List, [], ◌∷◌, codes}
+use Rattle.std.specs.Prelude.{◌≡◌, ℕ, Bool, false, ◌==◌, if◌then◌else◌, List, [], ◌∷◌, codes}
 use Rattle.std.specs.List.{ends_with}
 
 -- whole lines, without the LF that ends each, and the bytes after the last LF
@@ -18,3 +18,8 @@ text_of (b ∷ bs) = if b == 10 then record { lines = [] ∷ (text_of bs).lines;
 -- a line that ends with `!` counts as nothing
 abbrev pub is_void : List ℕ → Bool
 is_void line = ends_with (λ a b. a == b) line (codes "!")
+
+-- no LF stands in it
+abbrev pub HasNoLF : List ℕ → Type 0
+HasNoLF [] = Unit {0}
+HasNoLF (b ∷ bs) = ((b == 10) ≡ false) × HasNoLF bs

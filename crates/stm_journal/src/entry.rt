@@ -5,10 +5,10 @@ use crate::PageBytes;
 #[derive(Drop)]
 pub enum Entry {
     /// `stmjournal V ID`: the journal has this version, and is of the device with this product id.
-    Names(u16, u16),
+    Names(u8, u16),
     /// `open K`: segment K begins.
     Opens(u16),
-    /// `page N HEX`: page N held these bytes.
+    /// `page N HEX`: page N held these bytes; in memory only their number is known.
     Keeps(u16, PageBytes),
     /// `erase N`: page N is about to be erased.
     Erases(u16),

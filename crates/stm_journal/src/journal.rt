@@ -1,6 +1,7 @@
 // A journal in memory.
 ghost use Rattle.std.specs.Prelude.{◌≡◌, ◌+◌, OnOk, IfErr};
-ghost use Rattle.stm_journal.specs.Journals.{capped, empty_loaded, PassesLine, BadLine};
+ghost use Rattle.stm_journal.specs.Journals.{capped, empty_loaded};
+ghost use Rattle.stm_journal.specs.Loading.{PassesLine, BadLine};
 
 mod additions;
 mod page_calls;
@@ -8,14 +9,15 @@ mod readers;
 mod segment_calls;
 
 use crate::JournalFault;
-use crate::line::entry_of;
 use crate::state::State;
+use crate::summary::LineSummary;
 use std::alloc::Global;
 use std::marker::Model;
 
 /// A journal that was loaded, and the calls that add lines to it.
 ///
-/// Contracts see its state, how many whole lines and how many bytes it has, and whether a torn tail stands. After
+/// It holds the places of kept pages, and none of their bytes: these stay in the Rig's journal. Contracts see its state,
+/// with zeros for such bytes, how many whole lines and how many bytes it has, and whether a torn tail stands. After
 /// `JournalFault::File` it has to be loaded again.
 #[derive(Drop)]
 pub struct Journal {
@@ -54,11 +56,11 @@ impl Journal {
         self.size
     }
 
-    /// A byte more that is no LF.
-    pub(crate) fn pass_byte(&mut self)
-        ensures { self.new ≡ record self.old { size = capped (self.old.size + 1) } }
+    /// Bytes more, none of which is an LF.
+    pub(crate) fn pass_bytes(&mut self, n: usize)
+        ensures { self.new ≡ record self.old { size = capped (self.old.size + n) } }
     {
-        self.size = self.size.saturating_add(1);
+        self.size = self.size.saturating_add(n as u64);
     }
 
     pub(crate) fn set_torn(&mut self, is_torn: bool)
@@ -68,14 +70,15 @@ impl Journal {
     }
 
     /// A whole line more, at whose LF the bytes so far end.
-    pub(crate) fn pass_line(&mut self, text: &[u8]) -> Result<(), JournalFault>
+    pub(crate) fn pass_line(&mut self, text: &LineSummary) -> Result<(), JournalFault>
         ensures ok { OnOk result (PassesLine text.now self.old self.new) }
         ensures err { IfErr result (BadLine text.now self.old) }
     {
         let line = self.lines.saturating_add(1);
-        if !text.ends_with(b"!") {
-            match entry_of(self.alloc, text)? {
+        if !text.is_void() {
+            match text.entry() {
                 Some(entry) => {
+                    self.state.mark(self.alloc, &entry);
                     if !self.state.allows(&entry) {
                         return Err(JournalFault::Bad(line));
                     }

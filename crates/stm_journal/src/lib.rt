@@ -4,30 +4,31 @@
 mod append;
 mod entry;
 mod fault;
+mod fetch_page;
 mod header;
 mod journal;
 mod kept;
 mod laws;
 mod line;
 mod load;
+mod place;
 mod print;
 mod segment;
 mod stage;
 mod state;
+mod summary;
 
 pub use entry::Entry;
 pub use fault::JournalFault;
 pub use header::JournalHeader;
 pub use journal::Journal;
-pub use kept::{Kept, PageBytes};
+pub use kept::{Kept, PageBytes, PagePlace};
 pub use laws::{
-    a_journal_is_sound, a_printed_line_reads_back, a_stopped_append_is_good,
-    flashes_before_segments,
+    a_beginning_leaves_the_old_segments_or_one_more, a_journal_is_sound, a_printed_line_reads_back,
+    a_stopped_append_is_good, a_summary_decides, a_summary_follows, a_summary_goes_on,
+    an_entry_leaves_the_old_state_or_the_new, changes_of_kept_pages_keep_the_flashes,
+    entries_forget, flashes_before_segments, keeping_a_page_keeps_the_flashes, pages_are_placed,
+    pieces_say, restored_pages_are_the_flash_before,
 };
 pub use stage::Stage;
 pub use stm_wire::Intent;
-
-#[cfg(test)]
-mod call_order;
-#[cfg(test)]
-mod tests;

@@ -1,13 +1,11 @@
-// Reading a line of the journal.
-ghost use Rattle.std.specs.Prelude.{◌≡◌, ◌==◌, ◌&&◌, ◌||◌, ◌+◌, ◌<◌, nat_le, nat_lt, length, option_map, codes, IfOk, Some, None, List, ℕ, Option, fold, position, take, drop};
+// Reading a line of the journal, without the bytes of a page.
+ghost use Rattle.std.specs.Prelude.{◌≡◌, ◌==◌, ◌&&◌, ◌||◌, ◌+◌, ◌<◌, ◌^◌, nat_le, nat_lt, length, option_map, option_and_then, codes, Some, None, List, ℕ, Option, fold, position, take, drop, IsTrue};
 ghost use Rattle.std.specs.List.{list_all};
-ghost use Rattle.std.specs.Result.{result_ok};
-ghost use Rattle.hex.specs.Hex.{decode_of};
+ghost use Rattle.stm_journal.specs.InMemory.{forget_entry};
 ghost use Rattle.stm_journal.specs.Entries.{is_upper_digit, are_upper_digits, number_of_pair, page_at, with_digit, number_of, hex_bytes_of, header_of, page_of, numbered_entry_of, entry_of};
+ghost use Rattle.stm_journal.specs.Summary.{page_with, long_at, long_page};
 
 use crate::{Entry, PageBytes};
-use hex::FromHexError;
-use std::alloc::{AllocError, Global};
 
 fn is_upper_digit(c: u8) -> bool
     ensures { result ≡ is_upper_digit c }
@@ -41,40 +39,21 @@ fn number_of(digits: &[u8]) -> Option<u16>
     }
 }
 
-fn are_all_upper(digits: &[u8]) -> bool
+/// All of these are upper-case digits.
+pub(crate) fn are_all_upper(digits: &[u8]) -> bool
     ensures { result ≡ list_all is_upper_digit digits.now }
 {
     digits.iter().all(|c| is_upper_digit(*c))
 }
 
-fn are_upper_digits(digits: &[u8]) -> bool
-    ensures { result ≡ are_upper_digits digits.now }
+/// How many bytes upper-case digits say, two a byte, at least one byte.
+fn hex_length(digits: &[u8]) -> Option<u64>
+    ensures { result ≡ option_map (λ bytes. length bytes) (hex_bytes_of digits.now) }
 {
-    !digits.is_empty() && are_all_upper(digits)
-}
-
-/// The bytes of digits of either case, where they are such.
-fn decoded(alloc: Global, digits: &[u8]) -> Result<Option<PageBytes>, AllocError>
-    ensures { IfOk result (λ bytes. bytes ≡ result_ok (decode_of digits.now)) }
-{
-    match hex::decode(alloc, digits) {
-        Ok(bytes) => {
-            let bytes = PageBytes::new(bytes);
-            Ok(Some(bytes))
-        }
-        Err(FromHexError::OutOfMemory) => Err(AllocError),
-        Err(_) => Ok(None),
-    }
-}
-
-/// The bytes of upper-case digits, two a byte, at least one byte.
-fn hex_bytes(alloc: Global, digits: &[u8]) -> Result<Option<PageBytes>, AllocError>
-    ensures { IfOk result (λ bytes. bytes ≡ hex_bytes_of digits.now) }
-{
-    if are_upper_digits(digits) {
-        decoded(alloc, digits)
+    if !digits.is_empty() && digits.len() % 2 == 0 && are_all_upper(digits) {
+        Some((digits.len() / 2) as u64)
     } else {
-        Ok(None)
+        None
     }
 }
 
@@ -87,15 +66,34 @@ fn number_of_pair(bytes: &[u8]) -> Option<u16>
     }
 }
 
-fn header_of(alloc: Global, rest: &[u8]) -> Result<Option<Entry>, AllocError>
-    ensures { IfOk result (λ e. e ≡ header_of rest.now) }
+/// The number of two bytes, as four upper-case digits.
+fn id_of_digits(digits: &[u8]) -> Option<u16>
+    requires { IsTrue (list_all is_upper_digit digits.now) }
+    ensures { result ≡ option_and_then number_of_pair (hex_bytes_of digits.now) }
 {
-    match hex_bytes(alloc, rest)? {
-        Some(bytes) => match number_of_pair(bytes.as_slice()) {
-            Some(id) => Ok(Some(Entry::Names(1, id))),
-            None => Ok(None),
-        },
-        None => Ok(None),
+    let mut pair = [0u8; 2];
+    match hex::decode_to_slice(digits, &mut pair) {
+        Ok(()) => number_of_pair(&pair),
+        Err(_) => None,
+    }
+}
+
+fn id_of(rest: &[u8]) -> Option<u16>
+    ensures { result ≡ option_and_then number_of_pair (hex_bytes_of rest.now) }
+{
+    if are_all_upper(rest) {
+        id_of_digits(rest)
+    } else {
+        None
+    }
+}
+
+fn header_of(version: u8, rest: &[u8]) -> Option<Entry>
+    ensures { result ≡ option_map forget_entry (header_of version rest.now) }
+{
+    match id_of(rest) {
+        Some(id) => Some(Entry::Names(version, id)),
+        None => None,
     }
 }
 
@@ -106,30 +104,24 @@ fn first_space(bytes: &[u8]) -> Option<usize>
     bytes.iter().position(|b| *b == b' ')
 }
 
-fn page_at(alloc: Global, rest: &[u8], space: usize) -> Result<Option<Entry>, AllocError>
-    requires { space < length rest.now }
-    ensures { IfOk result (λ e. e ≡ page_at rest.now (Some space)) }
-{
-    match number_of(&rest[..space]) {
-        Some(n) => match hex_bytes(alloc, &rest[space + 1..])? {
-            Some(bytes) => Ok(Some(Entry::Keeps(n, bytes))),
-            None => Ok(None),
-        },
-        None => Ok(None),
-    }
-}
-
-fn page_of(alloc: Global, rest: &[u8]) -> Result<Option<Entry>, AllocError>
-    ensures { IfOk result (λ e. e ≡ page_of rest.now) }
+/// What follows the word `page ` of a line.
+fn page_of(rest: &[u8]) -> Option<Entry>
+    ensures { result ≡ option_map forget_entry (page_of rest.now) }
 {
     match first_space(rest) {
-        Some(space) => page_at(alloc, rest, space),
-        None => Ok(None),
+        Some(space) => match number_of(&rest[..space]) {
+            Some(n) => match hex_length(&rest[space + 1..]) {
+                Some(length) => Some(Entry::Keeps(n, PageBytes::new(length))),
+                None => None,
+            },
+            None => None,
+        },
+        None => None,
     }
 }
 
 fn numbered_entry_of(line: &[u8]) -> Option<Entry>
-    ensures { result ≡ numbered_entry_of line.now }
+    ensures { result ≡ option_map forget_entry (numbered_entry_of line.now) }
 {
     if let Some(rest) = line.strip_prefix(b"open ") {
         return number_of(rest).map(|n| Entry::Opens(n));
@@ -150,14 +142,62 @@ fn numbered_entry_of(line: &[u8]) -> Option<Entry>
 }
 
 /// What a whole line says, if it says anything.
-pub(crate) fn entry_of(alloc: Global, line: &[u8]) -> Result<Option<Entry>, AllocError>
-    ensures { IfOk result (λ e. e ≡ entry_of line.now) }
+pub(crate) fn entry_of(line: &[u8]) -> Option<Entry>
+    ensures { result ≡ option_map forget_entry (entry_of line.now) }
 {
     if let Some(rest) = line.strip_prefix(b"page ") {
-        return page_of(alloc, rest);
+        return page_of(rest);
     }
     if let Some(rest) = line.strip_prefix(b"stmjournal 1 ") {
-        return header_of(alloc, rest);
+        return header_of(1, rest);
     }
-    Ok(numbered_entry_of(line))
+    if let Some(rest) = line.strip_prefix(b"stmjournal 2 ") {
+        return header_of(2, rest);
+    }
+    numbered_entry_of(line)
+}
+
+/// A page of so many digits, two a byte.
+fn page_with(n: Option<u16>, digits: u64) -> Option<Entry>
+    ensures { result ≡ page_with n digits }
+{
+    match n {
+        Some(n) => {
+            if digits % 2 == 0 {
+                Some(Entry::Keeps(n, PageBytes::new(digits / 2)))
+            } else {
+                None
+            }
+        }
+        None => None,
+    }
+}
+
+/// What follows the word `page ` of a line that goes on with so many upper-case digits.
+fn long_page_at(rest: &[u8], more: u64) -> Option<Entry>
+    requires { length rest.now + more < 2 ^ 64 }
+    ensures { result ≡ long_at rest.now more (position (λ b. b == 32) rest.now) }
+{
+    match first_space(rest) {
+        Some(space) => {
+            let digits = &rest[space + 1..];
+            if are_all_upper(digits) {
+                page_with(number_of(&rest[..space]), digits.len() as u64 + more)
+            } else {
+                None
+            }
+        }
+        None => None,
+    }
+}
+
+/// What a line says that begins so and goes on with so many upper-case digits.
+pub(crate) fn long_page_of(prefix: &[u8], more: u64) -> Option<Entry>
+    requires { length prefix.now + more < 2 ^ 64 }
+    ensures { result ≡ long_page prefix.now more }
+{
+    match prefix.strip_prefix(b"page ") {
+        Some(rest) => long_page_at(rest, more),
+        None => None,
+    }
 }

@@ -1,16 +1,18 @@
 // Reading the journal of a Rig.
-ghost use Rattle.std.specs.Prelude.{◌≡◌, ◌⊎◌, ◌+◌, ◌-◌, ◌^◌, ◌<◌, ◌≤◌, ◌∷◌, ◌++◌, [], ℕ, List, Result, OnOk, IfOk, IfErr, length};
+ghost use Rattle.std.specs.Prelude.{◌≡◌, ◌⊎◌, ◌+◌, ◌-◌, ◌^◌, ◌<◌, ◌≤◌, ◌∷◌, ◌++◌, [], ℕ, List, Result, ◌==◌, position, OnOk, IfOk, IfErr, length};
 ghost use Rattle.stm_wire.specs.Dialogue.{GoesOn};
 ghost use Rattle.stm_journal.specs.Journals.{Loaded, IsLoaded, capped};
+ghost use Rattle.stm_journal.specs.Text.{HasNoLF};
 ghost use Rattle.stm_journal.specs.Loading.{IsRead, IsLoadFault, TakesBytes, Fetches};
-ghost use Rattle.stm_journal.specs.Calls.{HasJournalCause, AreFetches, Loads};
+ghost use Rattle.stm_journal.specs.Calls.{HasJournalCause, AreFetches, IsLoadAnswer, Loads};
 
+use crate::summary::LineSummary;
 use crate::{Journal, JournalFault};
 use std::alloc::Global;
 use stm_wire::Rig;
 
 /// How many bytes are fetched at once.
-const BUFFER: usize = 4096;
+const BUFFER: usize = 512;
 
 /// A journal of which a beginning was read.
 #[derive(Drop)]
@@ -18,54 +20,79 @@ struct Loader {
     /// What the whole lines come to.
     journal: Journal,
     /// The bytes after the last LF.
-    tail: Vec<u8>,
+    tail: LineSummary,
+}
+
+/// Where the first LF stands.
+fn first_lf(bytes: &[u8]) -> Option<usize>
+    ensures { result ≡ position (λ b. b == 10) bytes.now }
+{
+    bytes.iter().position(|b| *b == b'\n')
 }
 
 impl Loader {
     fn new(alloc: Global) -> Self
-        ensures { IsRead result.journal result.tail.items [] }
+        ensures { IsRead result.journal result.tail [] }
     {
         Loader {
             journal: Journal::new(alloc),
-            tail: Vec::new(alloc),
+            tail: LineSummary::new(alloc),
         }
     }
 
-    /// Takes the next byte.
-    fn take_byte(&mut self, byte: u8) -> Result<(), JournalFault>
+    /// Takes bytes of a line.
+    fn take_part(&mut self, part: &[u8]) -> Result<(), JournalFault>
+        ensures size { OnOk result (capped self.new.journal.size ≡ capped (self.old.journal.size + length part.now)) }
+        ensures answers { IfErr result IsLoadFault }
+        ensures takes { (bytes : List ℕ) → IsRead self.old.journal self.old.tail bytes → HasNoLF part.now → length bytes + length part.now < 2 ^ 63
+            → TakesBytes part.now bytes self.new.journal self.new.tail result }
+    {
+        self.tail.extend(part)?;
+        self.journal.pass_bytes(part.len());
+        Ok(())
+    }
+
+    /// Takes the LF that ends a line.
+    fn take_line(&mut self) -> Result<(), JournalFault>
         ensures size { OnOk result (capped self.new.journal.size ≡ capped (self.old.journal.size + 1)) }
         ensures answers { IfErr result IsLoadFault }
-        ensures takes { (bytes : List ℕ) → IsRead self.old.journal self.old.tail.items bytes → length bytes < 2 ^ 63
-            → TakesBytes (byte ∷ []) bytes self.new.journal self.new.tail.items result }
+        ensures takes { (bytes : List ℕ) → IsRead self.old.journal self.old.tail bytes → length bytes < 2 ^ 63
+            → TakesBytes (10 ∷ []) bytes self.new.journal self.new.tail result }
     {
-        if byte == b'\n' {
-            self.journal.pass_line(&self.tail)?;
-            self.tail.clear();
-        } else {
-            if self.tail.push(byte).is_err() {
-                return Err(JournalFault::Memory);
-            }
-            self.journal.pass_byte();
-        }
+        self.journal.pass_line(&self.tail)?;
+        self.tail.clear();
         Ok(())
+    }
+
+    /// Takes the rest of a line, and the LF that ends it.
+    fn take_ended(&mut self, part: &[u8]) -> Result<(), JournalFault>
+        ensures size { OnOk result (capped self.new.journal.size ≡ capped (self.old.journal.size + (length part.now + 1))) }
+        ensures answers { IfErr result IsLoadFault }
+        ensures takes { (bytes : List ℕ) → IsRead self.old.journal self.old.tail bytes → HasNoLF part.now → length bytes + length part.now < 2 ^ 63
+            → TakesBytes (part.now ++ 10 ∷ []) bytes self.new.journal self.new.tail result }
+    {
+        self.take_part(part)?;
+        self.take_line()
     }
 
     /// Takes the next bytes.
     fn take(&mut self, more: &[u8]) -> Result<(), JournalFault>
         ensures size { OnOk result (capped self.new.journal.size ≡ capped (self.old.journal.size + length more.now)) }
         ensures answers { IfErr result IsLoadFault }
-        ensures takes { (bytes : List ℕ) → IsRead self.old.journal self.old.tail.items bytes → length bytes + length more.now < 2 ^ 63
-            → TakesBytes more.now bytes self.new.journal self.new.tail.items result }
+        ensures takes { (bytes : List ℕ) → IsRead self.old.journal self.old.tail bytes → length bytes + length more.now < 2 ^ 63
+            → TakesBytes more.now bytes self.new.journal self.new.tail result }
     {
-        for byte in more {
-            self.take_byte(*byte)?;
+        let mut done = 0usize;
+        while let Some(lf) = first_lf(&more[done..]) {
+            self.take_ended(&more[done..done + lf])?;
+            done += lf + 1;
         }
-        Ok(())
+        self.take_part(&more[done..])
     }
 
     /// The journal, when all bytes were read.
     fn finish(self) -> Journal
-        ensures { (bytes : List ℕ) → IsRead self.journal self.tail.items bytes → IsLoaded result bytes }
+        ensures { (bytes : List ℕ) → IsRead self.journal self.tail bytes → IsLoaded result bytes }
     {
         let mut journal = self.journal;
         journal.set_torn(!self.tail.is_empty());
@@ -74,7 +101,7 @@ impl Loader {
 }
 
 /// Reads bytes of the journal from a place on, and answers how many.
-fn fetch<R: Rig>(rig: &mut R, at: u64, buf: &mut [u8]) -> Result<usize, JournalFault>
+pub(crate) fn fetch<R: Rig>(rig: &mut R, at: u64, buf: &mut [u8]) -> Result<usize, JournalFault>
     ensures within { IfOk result (λ n. n ≤ length buf.old) }
     ensures last { 2 ^ 63 - 1 ≤ at → IfOk result (λ n. n ≡ 0) }
     ensures cause { HasJournalCause (R.view rig.old) (R.view rig.new) result }
@@ -92,6 +119,7 @@ fn fetch<R: Rig>(rig: &mut R, at: u64, buf: &mut [u8]) -> Result<usize, JournalF
 fn load_by<R: Rig>(alloc: Global, rig: &mut R, buf: &mut [u8]) -> Result<Journal, JournalFault>
     requires some { 0 < length buf.old }
     requires few { length buf.old ≤ 65536 }
+    ensures answers { IfErr result IsLoadAnswer }
     ensures cause { HasJournalCause (R.view rig.old) (R.view rig.new) result }
     ensures calls { GoesOn AreFetches (R.view rig.old).calls (R.view rig.new).calls }
     ensures honest { (R.view rig.old).is_honest → Loads (R.view rig.old) (R.view rig.new) result }
@@ -109,10 +137,13 @@ fn load_by<R: Rig>(alloc: Global, rig: &mut R, buf: &mut [u8]) -> Result<Journal
 impl Journal {
     /// Reads the journal of a Rig, by `fetch` alone.
     ///
+    /// It reads in pieces of 512 bytes and keeps no line whole. The answer is the journal, `File`, `Bad` or `Memory`.
+    ///
     /// On an honest Rig the answer is the journal of its bytes, or `Bad` with the number of the first bad line, where they
     /// have one; `Memory` never comes of an empty journal. `File` comes only where the Rig's count of journal failures
     /// rose. Nothing is added, and the device is as it was, but for owed bytes that a stop may lose.
     pub fn load<R: Rig>(alloc: Global, rig: &mut R) -> Result<Journal, JournalFault>
+        ensures answers { IfErr result IsLoadAnswer }
         ensures cause { HasJournalCause (R.view rig.old) (R.view rig.new) result }
         ensures calls { GoesOn AreFetches (R.view rig.old).calls (R.view rig.new).calls }
         ensures honest { (R.view rig.old).is_honest → Loads (R.view rig.old) (R.view rig.new) result }

@@ -1,7 +1,8 @@
 // Writing a line of the journal.
 ghost use Rattle.std.specs.Prelude.{◌≡◌, ◌++◌, ◌∷◌, [], ◌/◌, ◌%◌, List, ℕ, OnOk, codes, decimal};
 ghost use Rattle.hex.specs.Hex.{encode_upper};
-ghost use Rattle.stm_journal.specs.Entries.{line_of, line_text};
+ghost use Rattle.stm_journal.specs.Entries.{header_word, line_of, line_text};
+ghost use Rattle.stm_journal.specs.InMemory.{filled};
 
 use crate::Entry;
 use std::alloc::{AllocError, Global};
@@ -30,19 +31,35 @@ fn print_id(out: &mut Vec<u8>, alloc: Global, id: u16) -> Result<(), AllocError>
     print_hex(out, alloc, &[(id / 256) as u8, (id % 256) as u8])
 }
 
-fn print_words(out: &mut Vec<u8>, alloc: Global, entry: &Entry) -> Result<(), AllocError>
-    ensures { OnOk result (out.new.items ≡ out.old.items ++ line_of entry.now) }
+/// Adds what a header of this version begins with.
+fn print_header_word(out: &mut Vec<u8>, version: u8) -> Result<(), AllocError>
+    ensures { OnOk result (out.new.items ≡ out.old.items ++ header_word version) }
+{
+    if version == 2 {
+        out.extend_from_slice(b"stmjournal 2 ")
+    } else {
+        out.extend_from_slice(b"stmjournal 1 ")
+    }
+}
+
+fn print_words(
+    out: &mut Vec<u8>,
+    alloc: Global,
+    entry: &Entry,
+    held: &[u8],
+) -> Result<(), AllocError>
+    ensures { OnOk result (out.new.items ≡ out.old.items ++ line_of (filled entry.now held.now)) }
 {
     match entry {
-        Entry::Names(_, id) => {
-            out.extend_from_slice(b"stmjournal 1 ")?;
+        Entry::Names(version, id) => {
+            print_header_word(out, *version)?;
             print_id(out, alloc, *id)
         }
         Entry::Opens(k) => print_number(out, alloc, b"open ", *k),
-        Entry::Keeps(n, bytes) => {
+        Entry::Keeps(n, _) => {
             print_number(out, alloc, b"page ", *n)?;
             out.push(b' ')?;
-            print_hex(out, alloc, bytes.as_slice())
+            print_hex(out, alloc, held)
         }
         Entry::Erases(n) => print_number(out, alloc, b"erase ", *n),
         Entry::Programs(n) => print_number(out, alloc, b"program ", *n),
@@ -51,11 +68,16 @@ fn print_words(out: &mut Vec<u8>, alloc: Global, entry: &Entry) -> Result<(), Al
     }
 }
 
-/// Adds the line that says it, with its LF.
-pub(crate) fn print(out: &mut Vec<u8>, alloc: Global, entry: &Entry) -> Result<(), AllocError>
-    ensures { OnOk result (out.new.items ≡ out.old.items ++ line_text entry.now) }
+/// Adds the line that says it, with its LF; that of a page with these bytes.
+pub(crate) fn print(
+    out: &mut Vec<u8>,
+    alloc: Global,
+    entry: &Entry,
+    held: &[u8],
+) -> Result<(), AllocError>
+    ensures { OnOk result (out.new.items ≡ out.old.items ++ line_text (filled entry.now held.now)) }
 {
-    print_words(out, alloc, entry)?;
+    print_words(out, alloc, entry, held)?;
     out.push(b'\n')?;
     Ok(())
 }

@@ -1,9 +1,11 @@
 // The segments of a journal, and what entries make of them.
-ghost use Rattle.std.specs.Prelude.{◌≡◌, ◌+◌, ◌<◌, ◌∷◌, [], length, not, OnOk, OnErr, IsTrue, IsSome, is_some, is_none, drop, Some, Option, option_map, List, ℕ, true, false};
-ghost use Rattle.stm_journal.specs.States.{stack_of, empty_state, is_unfinished, intent_of, allows, newest_has, newest_intent, may_keep, keeps, is_open_stage, is_ended_stage, on_newest, keeping, intending, ending, fresh_segment, after_entry, page_bytes, kept_at, segment_of, intent_page, IsSound};
+ghost use Rattle.std.specs.Prelude.{◌≡◌, ◌+◌, ◌<◌, ◌∷◌, [], length, not, OnOk, OnErr, IsTrue, IsSome, is_some, is_none, sum_by, drop, Some, Option, option_map, List, ℕ, true, false};
+ghost use Rattle.stm_journal.specs.States.{stack_of, empty_state, is_unfinished, intent_of, allows, newest_has, newest_intent, may_keep, keeps, is_open_stage, is_ended_stage, on_newest, keeping, intending, ending, fresh_segment, after_entry, kept_at, segment_of, intent_page, IsSound};
+ghost use Rattle.stm_journal.specs.KeptPlaces.{page_place, kept_place, kept_count, entries_of};
+ghost use Rattle.stm_journal.specs.Journals.{capped};
 
 use crate::segment::Segment;
-use crate::{Entry, Intent, JournalHeader, Kept, Stage};
+use crate::{Entry, Intent, JournalHeader, Kept, PagePlace, Stage};
 use std::alloc::{AllocError, Global};
 use std::marker::Model;
 
@@ -24,6 +26,17 @@ impl Model for State {
     ghost view = { λ s. record { header = s.header; stack = stack_of s.newest s.below.items } };
 
     ghost invariant = { λ s. IsStacked s.newest s.below.items × IsSound (record { header = s.header; stack = stack_of s.newest s.below.items }) };
+}
+
+/// How many pages these segments keep, and so many more.
+fn counted(segments: &[Segment], more: usize) -> usize
+    ensures { result ≡ capped (more + sum_by (λ segment. length segment.pages) segments.now) }
+{
+    let mut count = more;
+    for segment in segments {
+        count = count.saturating_add(segment.count());
+    }
+    count
 }
 
 impl State {
@@ -149,7 +162,8 @@ impl State {
         ensures ok { OnOk result (self.new ≡ record { header = header; stack = fresh_segment ∷ self.old.stack }) }
         ensures err { OnErr result (self.new ≡ self.old) }
     {
-        if let Some(newest) = self.newest.take() {
+        if let Some(mut newest) = self.newest.take() {
+            newest.unmark(alloc);
             if let Err(failed) = self.below.push(newest) {
                 self.newest = Some(failed.value);
                 return Err(AllocError);
@@ -217,7 +231,7 @@ impl State {
                 self.open(alloc, header)
             }
             Entry::Keeps(page, bytes) => {
-                let size = bytes.as_slice().len() as u64;
+                let size = bytes.length();
                 let at = ends.saturating_sub(size).saturating_sub(size);
                 self.keep(Kept {
                     page,
@@ -259,13 +273,47 @@ impl State {
         }
     }
 
-    /// What segment k keeps of page `n`.
-    pub(crate) fn page(&self, k: u32, n: u16) -> Option<&[u8]>
-        ensures { option_map (λ b. b.now) result ≡ page_bytes self.now k n }
+    /// Where page `n` stands, if segment k keeps that.
+    pub(crate) fn page(&self, k: u32, n: u16) -> Option<PagePlace>
+        ensures { result ≡ page_place self.now k n }
     {
         match self.segment(k) {
             Some(segment) => segment.page(n),
             None => None,
+        }
+    }
+
+    /// How many pages segment k keeps.
+    pub(crate) fn kept_count(&self, k: u32) -> usize
+        ensures { result ≡ kept_count self.now k }
+    {
+        match self.segment(k) {
+            Some(segment) => segment.count(),
+            None => 0,
+        }
+    }
+
+    /// How many pages the segments keep.
+    pub(crate) fn entries(&self) -> usize
+        ensures { result ≡ capped (entries_of self.now) }
+    {
+        match &self.newest {
+            Some(newest) => counted(&self.below, newest.count()),
+            None => 0,
+        }
+    }
+
+    /// Marks the newest segment's pages where the entry asks for one of them and they are many.
+    pub(crate) fn mark(&mut self, alloc: Global, entry: &Entry)
+        ensures { self.new ≡ self.old }
+    {
+        if let Some(newest) = &mut self.newest {
+            match entry {
+                Entry::Keeps(_, _) => newest.mark(alloc),
+                Entry::Erases(_) => newest.mark(alloc),
+                Entry::Programs(_) => newest.mark(alloc),
+                _ => (),
+            }
         }
     }
 
@@ -275,6 +323,16 @@ impl State {
     {
         match self.segment(k) {
             Some(segment) => segment.kept(i),
+            None => None,
+        }
+    }
+
+    /// Where the page of the i-th page line of segment k stands.
+    pub(crate) fn kept_place(&self, k: u32, i: usize) -> Option<PagePlace>
+        ensures { result ≡ kept_place self.now k i }
+    {
+        match self.segment(k) {
+            Some(segment) => segment.kept_place(i),
             None => None,
         }
     }

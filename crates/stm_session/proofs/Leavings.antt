@@ -1,25 +1,30 @@
 -- Calls after which nothing is promised of the device.
-use Rattle.std.proofs.Common.{◌≡◌, ℕ, ⊎_elim, List, ◌++◌, Option, Some, None, Result, Ok, Err, IsErrAnd, IsTrue, refl, sym, ◌∙◌, ap, subst}
+use Rattle.std.proofs.Common.{◌≡◌, ℕ, ⊎_elim, inl, inr, List, ◌++◌, length, Option, Some, None, Result, Ok, Err, IsErrAnd, IfErr, IsTrue, refl, sym, ◌∙◌, ap, subst}
 use Rattle.std.proofs.lemmas.List.{append_assoc}
+use Rattle.std.proofs.Math.Seq.{take-length}
 use Rattle.stm_wire.specs.declared.fault.WireFault.{WireFault}
-use Rattle.stm_wire.specs.declared.fault.WireFault.TheVariants.{Line}
+use Rattle.stm_wire.specs.declared.fault.WireFault.TheVariants.{Line, Nack, Quiet, Garbled}
 use Rattle.stm_wire.specs.declared.rig.RigCall.{RigCall}
 use Rattle.stm_wire.specs.Chip.{ChipData, is_inside}
 use Rattle.stm_wire.specs.Command.{CanGo, CanProtect}
 use Rattle.stm_wire.specs.Device.{Device}
 use Rattle.stm_wire.specs.Dialogue.{Turn, Adds, GoesOn, calls_of}
 use Rattle.stm_wire.specs.Exchange.{is_listed}
+use Rattle.stm_wire.specs.Moments.{FedAndTaken, LeavesOnly, LeftBySending, PartlyFed}
+use Rattle.stm_wire.specs.MomentLaws.{joined, weaker}
 use Rattle.stm_wire.specs.Rig.{RigState}
-use Rattle.stm_wire.specs.Sending.{Holds}
+use Rattle.stm_wire.specs.Sending.{BreaksOff, Holds}
 use Rattle.stm_wire.specs.Settling.{SettlesWithin}
+use Rattle.stm_wire.specs.Stopped.{LossStaysHarmless}
 use Rattle.stm_journal.specs.Calls.{AreFetches}
 use Rattle.stm_session.specs.declared.fault.Fault.{Fault}
-use Rattle.stm_session.specs.Fault.{IsOutsideFault, fault_of}
-use Rattle.stm_session.specs.Leaving.{CanLeave, IsSettledThen, Leaves}
-use Rattle.stm_session.specs.Moments.{AsksOnly, IsSafe}
+use Rattle.stm_session.specs.Fault.{Cause, IsHeard, IsJournalOrMemory, IsOfLine, IsOutsideFault, IsUnheard, cause_of, fault_of, of_file, of_line, of_memory, of_protocol, of_refusal, of_session}
+use Rattle.stm_session.specs.Leaving.{CanLeave, IsSettledSame, IsSettledThen, Leaves, LeftByFrame, LeftByLeaving}
+use Rattle.stm_session.specs.Moments.{BeginsNothing, IsSafe, IsUnbegun}
 use Rattle.stm_session.specs.Opening.{LoadsUnless}
 use Rattle.stm_session.proofs.Asking.{line_outside}
-use Rattle.stm_session.proofs.Openings.{refused_nothing}
+use Rattle.stm_session.proofs.Openings.{left_by_loading, moments_of_asking, moments_of_loading, refused_nothing, unsent_outside, untouched_is_unbegun}
+use Rattle.stm_session.proofs.Unbegun.{further}
 
 -- the journal was read, the device settled, and then came a dialogue
 pub settled_then : (turns : List Turn) (a b c d : Option (List RigCall)) → GoesOn AreFetches a b → GoesOn (SettlesWithin 0x7F 131072) b c → Adds (calls_of turns) c d → GoesOn (IsSettledThen turns) a d
@@ -36,40 +41,113 @@ settled_then turns (Some past) b c d fetched settled said =
       record { fetches = fetches; are_fetches = fetched.2; settling = settling; settles = s.2; is = refl },
     )
 
--- a call that wasn't made, since the journal couldn't be read
-pub leaves_unread : {T U : Type 0} (frame : List ℕ) (refusal : Option Fault) (old new : RigState) (e : Fault) (result : Result U Fault) → LoadsUnless {T = T} refusal old new (Err e) → refusal ≡ None
-    → IsErrAnd result (λ x. x ≡ e) → Leaves frame old new result
-leaves_unread frame refusal old new e (Ok x) loads none is = absurd is
-leaves_unread frame refusal old new e (Err x) loads none is =
-    record { fed = tt; fails = subst IsOutsideFault (sym is) (⊎_elim (λ outside. outside) (λ said. refused_nothing refusal e none said) loads.refused) }
+-- a fault of talking to a device is none of the journal or of memory
+heard_or_not : (cause : Cause) → IsHeard cause → IsUnheard cause → ⊥
+heard_or_not of_line heard unheard = unheard
+heard_or_not of_protocol heard unheard = unheard
+heard_or_not of_file heard unheard = heard
+heard_or_not of_memory heard unheard = heard
+heard_or_not of_session heard unheard = heard
+heard_or_not of_refusal heard unheard = heard
 
--- with the journal read, and the device settled
-module _ (refusal : Option Fault) (old mid : RigState) (loads : LoadsUnless {T = Unit {0}} refusal old mid (Ok tt)) where
-  pub safe_then : IsSafe old.device → IsSafe mid.device
-  safe_then safe = subst (λ (d : Device). IsSafe d) (sym loads.same) safe
+line_used : (e : Fault) → IsOfLine e → IsJournalOrMemory e → ⊥
+line_used e line unsent = heard_or_not (cause_of e) line unsent
 
-  pub leaves_unsettled : {T U : Type 0} {Done : T → Type 0} (frame : List ℕ) (new : RigState) (e : Fault) (result : Result U Fault) → AsksOnly mid new (Err e) Done → IsErrAnd result (λ x. x ≡ e) → Leaves frame old new result
-  leaves_unsettled frame new e (Ok x) asks is = absurd is
-  leaves_unsettled frame new e (Err x) asks is = record { fed = tt; fails = subst IsOutsideFault (sym is) asks.fails }
+frame_used : (e : WireFault) → IsOfLine (fault_of e)
+frame_used Line = tt
+frame_used Nack = tt
+frame_used Quiet = tt
+frame_used Garbled = tt
 
-  module _ {Done : Unit {0} → Type 0} (settled : RigState) (asks : AsksOnly mid settled (Ok tt) Done) where
-    chip_is : settled.device.chip ≡ old.device.chip
-    chip_is = asks.left.make.chip ∙ ap (λ (d : Device). d.chip) loads.same
+-- nothing was sent, since the journal couldn't be read
+module _ (lost : LossStaysHarmless) (frame : List ℕ) (refusal : Option Fault) (old mid : RigState) (safe : IsSafe old.device) where
+  pub leaves_unread : {T U : Type 0} (e : Fault) (result : Result U Fault) → LoadsUnless {T = T} refusal old mid (Err e) → IsErrAnd result (λ x. x ≡ e) → Leaves frame old mid result
+  leaves_unread e (Ok x) loads is = absurd is
+  leaves_unread e (Err x) loads is =
+      record {
+        moments = weaker (IsUnbegun old) (LeftByLeaving frame old) old mid (moments_of_loading lost old mid safe refusal (Err e) loads) (λ d journal u. inl u);
+        honest = loads.honest;
+        left = inl (untouched_is_unbegun lost old safe mid.device mid.journal loads.left);
+        unsent = λ of. loads.left;
+        fed = tt;
+      }
 
-    listed_then : (code : ℕ) → IsTrue (is_listed old.device.codes code) → IsTrue (is_listed settled.device.codes code)
-    listed_then code listed = subst (λ (codes : List ℕ). IsTrue (is_listed codes code)) (sym (asks.left.make.codes ∙ ap (λ (d : Device). d.codes) loads.same)) listed
+  -- the journal was read
+  module _ (loads : LoadsUnless {T = Unit {0}} refusal old mid (Ok tt)) where
+    pub safe_then : IsSafe mid.device
+    safe_then = subst (λ (d : Device). IsSafe d) (sym loads.same) safe
 
-    pub can_go : (address : ℕ) → CanLeave 0x21 old.device → IsTrue (is_inside old.device.chip address) → CanGo address settled.device
-    can_go address can inside =
-        record { settled = asks.settled; listed = listed_then 0x21 can.listed; inside = subst (λ (c : ChipData). IsTrue (is_inside c address)) (sym chip_is) inside }
+    -- the device couldn't be settled
+    pub leaves_unsettled : {T U : Type 0} {Done : T → Type 0} (new : RigState) (e : Fault) (result : Result U Fault) → BeginsNothing mid new (Err e) Done → IsOfLine e → IsErrAnd result (λ x. x ≡ e)
+        → Leaves frame old new result
+    leaves_unsettled new e (Ok x) begins of is = absurd is
+    leaves_unsettled new e (Err x) begins of is =
+        record {
+          moments = weaker (IsUnbegun old) (LeftByLeaving frame old) old new (moments_of_asking lost old mid safe refusal new (tt {0}) (Err e) loads begins) (λ d journal u. inl u);
+          honest = begins.honest;
+          left = inl (further old mid (left_by_loading lost old mid safe refusal (tt {0}) loads) new.device new.journal begins.left);
+          unsent = λ said. absurd (line_used e of (let P : Fault → Type 0 = λ y. IsJournalOrMemory y in subst P is said));
+          fed = tt;
+        }
 
-    pub can_protect : (code : ℕ) → CanLeave code old.device → CanProtect code settled.device
-    can_protect code can = record { settled = asks.settled; listed = listed_then code can.listed }
+    -- the device was settled
+    module _ {Done : Unit {0} → Type 0} (settled : RigState) (begins : BeginsNothing mid settled (Ok tt) Done) where
+      unbegun : IsUnbegun old settled.device settled.journal
+      unbegun = further old mid (left_by_loading lost old mid safe refusal (tt {0}) loads) settled.device settled.journal begins.left
 
-    pub leaves_broken : {U : Type 0} (frame : List ℕ) (new : RigState) (e : WireFault) (result : Result U Fault) → e ≡ Line → IsErrAnd result (λ x. x ≡ fault_of e) → Leaves frame old new result
-    leaves_broken frame new e (Ok x) line is = absurd is
-    leaves_broken frame new e (Err x) line is = record { fed = tt; fails = subst IsOutsideFault (sym is) (line_outside e line) }
+      reached : IsSettledSame old.device settled.device
+      reached = record { settled = begins.settled; make = unbegun.make; flash = unbegun.flash }
 
-    pub leaves_fed : {U : Type 0} (frame : List ℕ) (turns : List Turn) (new : RigState) (x : U) → Holds frame turns settled new → Leaves frame old new (Ok x)
-    leaves_fed frame turns new x holds =
-        record { fed = (settled.device, asks.settled, asks.left.flash ∙ ap (λ (d : Device). d.flash) loads.same, (holds.honestly asks.honest).fed); fails = tt }
+      listed_then : (code : ℕ) → IsTrue (is_listed old.device.codes code) → IsTrue (is_listed settled.device.codes code)
+      listed_then code listed = subst (λ (codes : List ℕ). IsTrue (is_listed codes code)) (sym unbegun.make.codes) listed
+
+      pub can_go : (address : ℕ) → CanLeave 0x21 old.device → IsTrue (is_inside old.device.chip address) → CanGo address settled.device
+      can_go address can inside =
+          record { settled = begins.settled; listed = listed_then 0x21 can.listed; inside = subst (λ (c : ChipData). IsTrue (is_inside c address)) (sym unbegun.make.chip) inside }
+
+      pub can_protect : (code : ℕ) → CanLeave code old.device → CanProtect code settled.device
+      can_protect code can = record { settled = begins.settled; listed = listed_then code can.listed }
+
+      by_frame : (d : Device) (journal : List ℕ) → LeftBySending frame settled d journal → LeftByFrame frame old d journal
+      by_frame d journal left = (left.0 ∙ unbegun.journal_same, (settled.device, reached, left.1))
+
+      moments_of_frame : (new : RigState) → LeavesOnly (LeftBySending frame settled) settled new → LeavesOnly (LeftByLeaving frame old) old new
+      moments_of_frame new sent =
+          joined (IsUnbegun old) (LeftBySending frame settled) (LeftByLeaving frame old) old settled new (moments_of_asking lost old mid safe refusal settled (tt {0}) (Ok tt) loads begins) sent
+          (λ d journal u. inl u) (λ d journal left. inr (by_frame d journal left))
+
+      pub leaves_broken : {U : Type 0} {turns : List Turn} {e : WireFault} (new : RigState) (result : Result U Fault) → BreaksOff e frame turns settled new → IsErrAnd result (λ x. x ≡ fault_of e)
+          → Leaves frame old new result
+      leaves_broken new (Ok x) breaks is = absurd is
+      leaves_broken {e = e} new (Err x) breaks is =
+          let sent = breaks.honestly begins.honest in
+          record {
+            moments = moments_of_frame new sent.moments;
+            honest = sent.honest;
+            left = inr (by_frame new.device new.journal (sent.journal, sent.fed));
+            unsent = λ said. absurd (line_used (fault_of e) (frame_used e) (let P : Fault → Type 0 = λ y. IsJournalOrMemory y in subst P is said));
+            fed = tt;
+          }
+
+      pub leaves_fed : {U : Type 0} {turns : List Turn} (new : RigState) (x : U) → Holds frame turns settled new → Leaves frame old new (Ok x)
+      leaves_fed new x holds =
+          let sent = holds.honestly begins.honest in
+          let whole : PartlyFed frame settled.device new.device = (length frame, let F : List ℕ → Type 0 = λ bytes. FedAndTaken bytes settled.device new.device in subst F (sym (take-length frame)) sent.fed) in
+          record {
+            moments = moments_of_frame new sent.moments;
+            honest = sent.honest;
+            left = inr (by_frame new.device new.journal (sent.journal, whole));
+            unsent = tt;
+            fed = (settled.device, reached, sent.fed);
+          }
+
+-- a journal that isn't refused, and couldn't be read
+pub fails_unread : {T U : Type 0} (refusal : Option Fault) (old new : RigState) (e : Fault) (result : Result U Fault) → LoadsUnless {T = T} refusal old new (Err e) → refusal ≡ None → IsErrAnd result (λ x. x ≡ e)
+    → IfErr result IsOutsideFault
+fails_unread refusal old new e (Ok x) loads none is = absurd is
+fails_unread refusal old new e (Err x) loads none is = subst IsOutsideFault (sym is) (⊎_elim (λ unsent. unsent_outside e unsent) (λ said. refused_nothing refusal e none said) loads.refused)
+
+-- a dialogue that only the line broke off
+pub fails_by_line : {U : Type 0} (e : WireFault) (result : Result U Fault) → e ≡ Line → IsErrAnd result (λ x. x ≡ fault_of e) → IfErr result IsOutsideFault
+fails_by_line e (Ok x) line is = absurd is
+fails_by_line e (Err x) line is = subst IsOutsideFault (sym is) (line_outside e line)

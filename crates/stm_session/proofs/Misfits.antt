@@ -1,5 +1,6 @@
 -- The pages that a journal keeps, against a chip.
-use Rattle.std.proofs.Common.{◌≡◌, ℕ, zero, suc, ◌+◌, ◌-◌, ◌<◌, ◌≤◌, Bool, true, false, cond, ◌&&◌, ◌||◌, ◌==◌, nat_lt, nat_le, if◌then◌else◌, List, [], ◌∷◌, ◌++◌, length, drop, slice_get, Option, Some, None, option_map, option_and_then, inl, inr, refl, sym, ◌∙◌, ap, subst, arith}
+use Rattle.std.proofs.Common.{◌≡◌, ℕ, zero, suc, ◌+◌, ◌-◌, ◌<◌, ◌≤◌, Bool, true, false, not, cond, ◌&&◌, ◌||◌, ◌==◌, nat_lt, nat_le, if◌then◌else◌, List, [], ◌∷◌, ◌++◌, length, drop, slice_get, Option, Some, None, option_map, option_and_then, inl, inr, refl, sym, ◌∙◌, ap, subst, arith}
+use Rattle.std.specs.Prelude.{is_none}
 use Rattle.std.specs.List.{find, list_any}
 use Rattle.std.specs.Option.{option_map_or}
 use Rattle.std.proofs.lemmas.Bool.{cases_Bool, true≢false}
@@ -10,10 +11,10 @@ use Rattle.std.proofs.lemmas.Option.{slice_get_within, get_or_from_slice_get, sl
 use Rattle.std.proofs.Math.ListN.{drop_of_length-le}
 use Rattle.stm_wire.specs.Chip.{ChipData, page_count, page_size}
 use Rattle.stm_journal.specs.declared.kept.Kept.{Kept}
-use Rattle.stm_journal.specs.States.{StateData, SegmentData, segment_of, page_bytes, kept_at, LacksPage, PagesOnce, AllOnce, IsSound}
-use Rattle.stm_session.specs.declared.fault.Fault.TheVariants.{BadJournal}
-use Rattle.stm_session.specs.Refusal.{pages_kept, segment_pages, fits_chip, fits_as_kept, misfit_lines_of, misfit_lines, lesser, least, least_with, misfit_refusal}
-use Rattle.stm_session.specs.Undoable.{FitsChip, AllKeptFit, AllFit}
+use Rattle.stm_journal.specs.declared.kept.PagePlace.{PagePlace}
+use Rattle.stm_journal.specs.KeptPlaces.{place_of, page_place}
+use Rattle.stm_journal.specs.States.{StateData, SegmentData, segment_of, kept_at, LacksPage, PagesOnce, AllOnce, IsSound}
+use Rattle.stm_session.specs.Refusal.{pages_kept, segment_pages, fits_among, fits_as_kept, lacks_companion, header_misfits, misfit_lines_of, misfit_lines, lesser, least, least_with}
 
 -- the number and the line of a kept page
 abbrev told : Kept → ℕ × ℕ
@@ -24,10 +25,10 @@ kept-in : (o : Option SegmentData) (i : ℕ) → option_map told (option_and_the
 kept-in None i = refl
 kept-in (Some segment) i = refl
 
-bytes-in : (o : Option SegmentData) (n : ℕ)
-    → option_map (λ kept. kept.bytes) (option_and_then (λ segment. find (λ kept. kept.page == n) segment.pages) o) ≡ option_map (λ kept. kept.bytes) (find (λ kept. kept.page == n) (pages_kept o))
-bytes-in None n = refl
-bytes-in (Some segment) n = refl
+place-in : (o : Option SegmentData) (n : ℕ)
+    → option_map place_of (option_and_then (λ segment. find (λ kept. kept.page == n) segment.pages) o) ≡ option_map place_of (find (λ kept. kept.page == n) (pages_kept o))
+place-in None n = refl
+place-in (Some segment) n = refl
 
 abbrev IsOfPage : ℕ → Option Kept → Type 0
 IsOfPage n None = Unit {0}
@@ -44,34 +45,48 @@ found-page n (kept ∷ pages) = elim (cases_Bool (kept.page == n)) [
 ]
 
 -- a page beyond the chip's
-beyond-found : (chip : ChipData) (n : ℕ) (o : Option Kept) → IsOfPage n o → page_count chip ≤ n → option_map_or (fits_chip chip) o false ≡ false
-beyond-found chip n None is h = refl
-beyond-found chip n (Some kept) is h = let beyond : nat_lt kept.page (page_count chip) ≡ false = grind (arith, nat_tests) in rw beyond
+beyond-found : (chip : ChipData) (among : List Kept) (n : ℕ) (o : Option Kept) → IsOfPage n o → page_count chip ≤ n → option_map_or (fits_among chip among) o false ≡ false
+beyond-found chip among n None is h = refl
+beyond-found chip among n (Some kept) is h = let beyond : nat_lt kept.page (page_count chip) ≡ false = grind (arith, nat_tests) in rw beyond
 
 pub fits-beyond : (chip : ChipData) (pages : List Kept) (n : ℕ) → page_count chip ≤ n → fits_as_kept chip pages n ≡ false
-fits-beyond chip pages n h = beyond-found chip n (find (λ kept. kept.page == n) pages) (found-page n pages) h
+fits-beyond chip pages n h = beyond-found chip pages n (find (λ kept. kept.page == n) pages) (found-page n pages) h
 
 -- a page of the chip that is kept
-found-bytes : (chip : ChipData) (n : ℕ) (bytes : List ℕ) (o : Option Kept) → IsOfPage n o → n < page_count chip → Some bytes ≡ option_map (λ kept. kept.bytes) o
-    → option_map_or (fits_chip chip) o false ≡ (length bytes == page_size chip n)
-found-bytes chip n bytes None is h e = absurd (cc)
-found-bytes chip n bytes (Some kept) is h e =
+same-place : (p q : PagePlace) → Some p ≡ Some q → p ≡ q
+same-place p q e = cc
+
+found-place : (chip : ChipData) (among : List Kept) (n : ℕ) (place : PagePlace) (o : Option Kept) → IsOfPage n o → n < page_count chip → Some place ≡ option_map place_of o
+    → option_map_or (fits_among chip among) o false ≡ ((place.length == page_size chip n) && not (lacks_companion chip among n))
+found-place chip among n place None is h e = absurd (cc)
+found-place chip among n place (Some kept) is h e =
     let within : nat_lt kept.page (page_count chip) ≡ true = grind (arith, nat_tests) in
-    let same : kept.bytes ≡ bytes = cc in
+    let same : length kept.bytes ≡ place.length = sym (ap (λ (p : PagePlace). p.length) (same-place place (place_of kept) e)) in
     rw (within, same, is)
 
-pub fits-bytes : (chip : ChipData) (s : StateData) (k n : ℕ) (bytes : List ℕ) → n < page_count chip → Some bytes ≡ page_bytes s k n
-    → fits_as_kept chip (segment_pages s k) n ≡ (length bytes == page_size chip n)
-fits-bytes chip s k n bytes h e =
-    found-bytes chip n bytes (find (λ kept. kept.page == n) (segment_pages s k)) (found-page n (segment_pages s k)) h (e ∙ bytes-in (segment_of s k) n)
+pub fits-place : (chip : ChipData) (s : StateData) (k n : ℕ) (place : PagePlace) → n < page_count chip → Some place ≡ page_place s k n
+    → fits_as_kept chip (segment_pages s k) n ≡ ((place.length == page_size chip n) && not (lacks_companion chip (segment_pages s k) n))
+fits-place chip s k n place h e =
+    found-place chip (segment_pages s k) n place (find (λ kept. kept.page == n) (segment_pages s k)) (found-page n (segment_pages s k)) h (e ∙ place-in (segment_of s k) n)
 
 -- a page that isn't kept
-found-none : (chip : ChipData) (o : Option Kept) → None ≡ option_map (λ kept. kept.bytes) o → option_map_or (fits_chip chip) o false ≡ false
-found-none chip None e = refl
-found-none chip (Some kept) e = absurd (cc)
+found-none : (chip : ChipData) (among : List Kept) (o : Option Kept) → None ≡ option_map place_of o → option_map_or (fits_among chip among) o false ≡ false
+found-none chip among None e = refl
+found-none chip among (Some kept) e = absurd (cc)
 
-pub fits-none : (chip : ChipData) (s : StateData) (k n : ℕ) → None ≡ page_bytes s k n → fits_as_kept chip (segment_pages s k) n ≡ false
-fits-none chip s k n e = found-none chip (find (λ kept. kept.page == n) (segment_pages s k)) (e ∙ bytes-in (segment_of s k) n)
+pub fits-none : (chip : ChipData) (s : StateData) (k n : ℕ) → None ≡ page_place s k n → fits_as_kept chip (segment_pages s k) n ≡ false
+fits-none chip s k n e = found-none chip (segment_pages s k) (find (λ kept. kept.page == n) (segment_pages s k)) (e ∙ place-in (segment_of s k) n)
+
+-- the companion isn't kept exactly where none of the pages is it
+companion-found : (n : ℕ) (pages : List Kept) → is_none (option_map place_of (find (λ kept. kept.page == n) pages)) ≡ not (list_any (λ kept. kept.page == n) pages)
+companion-found n [] = refl
+companion-found n (kept ∷ pages) = elim (cases_Bool (kept.page == n)) [
+  | inl here ↦ rw here
+  | inr other ↦ rw other (companion-found n pages)
+]
+
+pub companion-kept : (s : StateData) (k n : ℕ) → is_none (page_place s k n) ≡ not (list_any (λ kept. kept.page == n) (segment_pages s k))
+companion-kept s k n = ap (λ o. is_none o) (place-in (segment_of s k) n) ∙ companion-found n (segment_pages s k)
 
 -- a page that is kept once is found by its number
 or-first : (a b : Bool) → (a || b) ≡ false → a ≡ false
@@ -178,27 +193,29 @@ told-none None e = refl
 told-none (Some kept) e = absurd (cc)
 
 -- one page line more is looked at
-misfit-one : (chip : ChipData) (kept : Kept) (rest : List Kept) (so_far : Option ℕ) (b : Bool) → b ≡ fits_chip chip kept
-    → least_with so_far (misfit_lines_of chip (kept ∷ rest)) ≡ least_with (if b then so_far else Some (lesser so_far kept.line)) (misfit_lines_of chip rest)
-misfit-one chip kept rest so_far true is = rw (sym is)
-misfit-one chip kept rest so_far false is = rw (sym is)
+misfit-one : (chip : ChipData) (among : List Kept) (kept : Kept) (rest : List Kept) (so_far : Option ℕ) (b : Bool) → b ≡ fits_among chip among kept
+    → least_with so_far (misfit_lines_of chip among (kept ∷ rest)) ≡ least_with (if b then so_far else Some (lesser so_far kept.line)) (misfit_lines_of chip among rest)
+misfit-one chip among kept rest so_far true is = rw (sym is)
+misfit-one chip among kept rest so_far false is = rw (sym is)
 
 pub misfit-step : (chip : ChipData) (s : StateData) (k i n line : ℕ) (so_far : Option ℕ) (b : Bool) → IsSound s → Some (n, line) ≡ kept_at s k i → b ≡ fits_as_kept chip (segment_pages s k) n
-    → least_with so_far (misfit_lines_of chip (drop i (segment_pages s k))) ≡ least_with (if b then so_far else Some (lesser so_far line)) (misfit_lines_of chip (drop (i + 1) (segment_pages s k)))
+    → least_with so_far (misfit_lines_of chip (segment_pages s k) (drop i (segment_pages s k)))
+    ≡ least_with (if b then so_far else Some (lesser so_far line)) (misfit_lines_of chip (segment_pages s k) (drop (i + 1) (segment_pages s k)))
 misfit-step chip s k i n line so_far b sound e is =
     let pages : List Kept = segment_pages s k in
     let t : (kept : Kept) × (slice_get pages i ≡ Some kept) × (kept.page ≡ n) × (kept.line ≡ line) = told-some (slice_get pages i) n line (e ∙ kept-in (segment_of s k) i) in
     let kept : Kept = t.0 in
-    let found : fits_as_kept chip pages kept.page ≡ fits_chip chip kept = ap (λ o. option_map_or (fits_chip chip) o false) (once-found pages i kept (sound-pages s k sound) t.1) in
-    let fits : b ≡ fits_chip chip kept = is ∙ ap (λ m. fits_as_kept chip pages m) (sym t.2) ∙ found in
-    ap (λ rest. least_with so_far (misfit_lines_of chip rest)) (drop-at pages i kept t.1)
-    ∙ misfit-one chip kept (drop (i + 1) pages) so_far b fits
-    ∙ ap (λ m. least_with (if b then so_far else Some (lesser so_far m)) (misfit_lines_of chip (drop (i + 1) pages))) t.3
+    let found : fits_as_kept chip pages kept.page ≡ fits_among chip pages kept = ap (λ o. option_map_or (fits_among chip pages) o false) (once-found pages i kept (sound-pages s k sound) t.1) in
+    let fits : b ≡ fits_among chip pages kept = is ∙ ap (λ m. fits_as_kept chip pages m) (sym t.2) ∙ found in
+    ap (λ rest. least_with so_far (misfit_lines_of chip pages rest)) (drop-at pages i kept t.1)
+    ∙ misfit-one chip pages kept (drop (i + 1) pages) so_far b fits
+    ∙ ap (λ m. least_with (if b then so_far else Some (lesser so_far m)) (misfit_lines_of chip pages (drop (i + 1) pages))) t.3
 
-pub misfit-end : (chip : ChipData) (s : StateData) (k i : ℕ) (so_far : Option ℕ) → None ≡ kept_at s k i → least_with so_far (misfit_lines_of chip (drop i (segment_pages s k))) ≡ so_far
+pub misfit-end : (chip : ChipData) (s : StateData) (k i : ℕ) (so_far : Option ℕ) → None ≡ kept_at s k i
+    → least_with so_far (misfit_lines_of chip (segment_pages s k) (drop i (segment_pages s k))) ≡ so_far
 misfit-end chip s k i so_far e = elim (slice_get_cases (segment_pages s k) i).1 [
   | inl some ↦ absurd (let none = told-none (slice_get (segment_pages s k) i) (e ∙ kept-in (segment_of s k) i) in cc (none, some.2))
-  | inr past ↦ ap (λ rest. least_with so_far (misfit_lines_of chip rest)) (drop_of_length-le (segment_pages s k) past.0)
+  | inr past ↦ ap (λ rest. least_with so_far (misfit_lines_of chip (segment_pages s k) rest)) (drop_of_length-le (segment_pages s k) past.0)
 ]
 
 -- the i-th page line has one of the numbers that are left
@@ -226,63 +243,19 @@ newer-segment s newer h =
     ap (λ b. if b then slice_get s.stack (length s.stack - (length s.stack - newer)) else None) (segment-tested s.stack newer h) ∙ ap (slice_get s.stack) place
 
 pub stack-step : (chip : ChipData) (s : StateData) (newer : ℕ) (so_far : Option ℕ) → newer < length s.stack
-    → least_with so_far (misfit_lines chip (drop newer s.stack)) ≡ least_with (least_with so_far (misfit_lines_of chip (segment_pages s (length s.stack - newer)))) (misfit_lines chip (drop (newer + 1) s.stack))
+    → least_with so_far (misfit_lines chip (drop newer s.stack))
+    ≡ least_with (least_with so_far (misfit_lines_of chip (segment_pages s (length s.stack - newer)) (segment_pages s (length s.stack - newer)))) (misfit_lines chip (drop (newer + 1) s.stack))
 stack-step chip s newer so_far h = elim (slice_get_cases s.stack newer).1 [
   | inl some ↦
       let segment : SegmentData = some.0 in
       let rest : List ℕ = misfit_lines chip (drop (newer + 1) s.stack) in
       let pages : segment_pages s (length s.stack - newer) ≡ segment.pages = ap pages_kept (newer-segment s newer h ∙ some.2) in
       ap (λ stack. least_with so_far (misfit_lines chip stack)) (drop-at s.stack newer segment some.2)
-      ∙ fold-append (λ least line. Some (lesser least line)) so_far (misfit_lines_of chip segment.pages) rest
-      ∙ ap (λ kept. least_with (least_with so_far (misfit_lines_of chip kept)) rest) (sym pages)
+      ∙ fold-append (λ least line. Some (lesser least line)) so_far (misfit_lines_of chip segment.pages segment.pages) rest
+      ∙ ap (λ kept. least_with (least_with so_far (misfit_lines_of chip kept kept)) rest) (sym pages)
   | inr past ↦ absurd (let within : length s.stack ≤ newer = past.0 in omega arith)
 ]
 
--- where there is no such line, each page fits
-least-some : (least : ℕ) (lines : List ℕ) → least_with (Some least) lines ≡ None → ⊥
-least-some least [] e = cc
-least-some least (line ∷ lines) e = least-some (lesser (Some least) line) lines e
-
-no-lines : (lines : List ℕ) → option_map (λ line. BadJournal line) (least lines) ≡ None → lines ≡ []
-no-lines [] e = refl
-no-lines (line ∷ lines) e = absurd (least-some line lines (unmapped (least_with (Some line) lines) e))
-  where
-    unmapped : (o : Option ℕ) → option_map (λ line. BadJournal line) o ≡ None → o ≡ None
-    unmapped None e = refl
-    unmapped (Some line) e = absurd (cc)
-
-both-empty : (xs ys : List ℕ) → xs ++ ys ≡ [] → (xs ≡ []) × (ys ≡ [])
-both-empty [] ys e = (refl, e)
-both-empty (x ∷ xs) ys e = absurd (cc)
-
-and-both : (a b : Bool) → (a && b) ≡ true → (a ≡ true) × (b ≡ true)
-and-both true b h = (refl, h)
-and-both false b h = absurd (true≢false (sym h))
-
-no-line : (b : Bool) (line : ℕ) → (if b then [] else line ∷ []) ≡ [] → b ≡ true
-no-line true line e = refl
-no-line false line e = absurd (cc)
-
-less-tested : (a b : ℕ) → nat_lt a b ≡ true → a < b
-less-tested a b h = grind (arith, nat_tests)
-
-fits-tested : (chip : ChipData) (kept : Kept) → fits_chip chip kept ≡ true → FitsChip chip kept
-fits-tested chip kept is =
-    let both = and-both (nat_lt kept.page (page_count chip)) (length kept.bytes == page_size chip kept.page) is in
-    record { exists = less-tested kept.page (page_count chip) both.0; size = same-tested (length kept.bytes) (page_size chip kept.page) both.1 }
-
-kept-fit : (chip : ChipData) (pages : List Kept) → misfit_lines_of chip pages ≡ [] → AllKeptFit chip pages
-kept-fit chip [] e = tt
-kept-fit chip (kept ∷ pages) e =
-    let both = both-empty (if fits_chip chip kept then [] else kept.line ∷ []) (misfit_lines_of chip pages) e in
-    (fits-tested chip kept (no-line (fits_chip chip kept) kept.line both.0), kept-fit chip pages both.1)
-
-all-fit : (chip : ChipData) (stack : List SegmentData) → misfit_lines chip stack ≡ [] → AllFit chip stack
-all-fit chip [] e = tt
-all-fit chip (segment ∷ below) e =
-    let both = both-empty (misfit_lines_of chip segment.pages) (misfit_lines chip below) e in
-    (kept-fit chip segment.pages both.0, all-fit chip below both.1)
-
--- a journal that isn't refused for its pages keeps pages of the chip
-pub unrefused-fits : (chip : ChipData) (s : StateData) → misfit_refusal chip s ≡ None → AllFit chip s.stack
-unrefused-fits chip s e = all-fit chip s.stack (no-lines (misfit_lines chip s.stack) e)
+-- the header's line comes before those of the pages
+pub header-first : (chip : ChipData) (s : StateData) → least (header_misfits chip s.header ++ misfit_lines chip s.stack) ≡ least_with (least (header_misfits chip s.header)) (misfit_lines chip s.stack)
+header-first chip s = fold-append (λ least line. Some (lesser least line)) None (header_misfits chip s.header) (misfit_lines chip s.stack)

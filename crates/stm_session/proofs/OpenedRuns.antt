@@ -1,8 +1,8 @@
 -- What follows of an opened session.
-use Rattle.std.proofs.Common.{◌≡◌, ◌⊎◌, inl, inr, ⊎_elim, true, false, List, [], ◌∷◌, map, Option, Some, None, Result, Ok, Err, IsErrAnd, IfOk, take, refl, sym, ◌∙◌, ap, ap₂, subst}
+use Rattle.std.proofs.Common.{◌≡◌, ◌⊎◌, inl, inr, ⊎_elim, true, false, List, [], ◌∷◌, map, Option, Some, None, Result, Ok, Err, IsErrAnd, IfOk, OnOk, take, refl, sym, ◌∙◌, ap, ap₂, subst}
 use Rattle.std.specs.List.{list_all}
 use Rattle.stm_wire.specs.Chip.{ChipData}
-use Rattle.stm_wire.specs.Device.{Device}
+use Rattle.stm_wire.specs.Device.{Device, IsSettled}
 use Rattle.stm_wire.specs.MomentLaws.{joined}
 use Rattle.stm_wire.specs.Rig.{RigState}
 use Rattle.stm_chip.specs.Document.{IsChipWith}
@@ -15,11 +15,12 @@ use Rattle.stm_session.specs.declared.fault.Fault.{Fault}
 use Rattle.stm_session.specs.declared.fault.Fault.TheVariants.{OutOfFlash}
 use Rattle.stm_session.specs.Fault.{IsOutsideFault}
 use Rattle.stm_session.specs.Information.{Informs}
-use Rattle.stm_session.specs.Moments.{AsksOnly, IsUnbegun}
+use Rattle.stm_session.specs.Asking.{Asks, IsStill}
+use Rattle.stm_session.specs.Moments.{IsUnbegun}
 use Rattle.stm_session.specs.Opening.{IsCoherent, Opens}
 use Rattle.stm_session.specs.Refusal.{Refuses, chip_with, first_refusal, is_in_flash, opening_refusal, range_refusal, refusal_of}
 use Rattle.stm_session.specs.Running.{AreRead, RunsReads, bytes_read}
-use Rattle.stm_session.proofs.Asking.{further}
+use Rattle.stm_session.proofs.Unbegun.{further, still_is_unbegun}
 use Rattle.stm_session.proofs.Openings.{has_chip, refused_nothing}
 
 -- a session that wasn't opened tells nothing
@@ -27,13 +28,14 @@ pub informs_nothing : (table : List ChipData) (old new : RigState) (e : Fault) (
 informs_nothing table old new e (Ok x) opens is = absurd is
 informs_nothing table old new e (Err x) opens is =
     let P : Fault → Type 0 = λ y. IsOutsideFault y ⊎ (opening_refusal (journal_of old.journal) old.device table ≡ Some y) in
-    record { moments = opens.moments; left = opens.left; told = tt; settled = tt; accepted = tt; fails = subst P (sym is) opens.answers }
+    record { moments = opens.moments; honest = opens.honest; left = opens.left; told = tt; settled = tt; accepted = tt; fails = subst P (sym is) opens.answers }
 
 pub informs_all : (table : List ChipData) (old new : RigState) (opened : Opened) (info : Info) → Opens table old new (Ok opened) → info.id ≡ opened.chip.now.id → info.commands ≡ opened.commands
     → Informs table old new (Ok info)
 informs_all table old new opened info opens id commands =
     record {
       moments = opens.moments;
+      honest = opens.honest;
       left = opens.left;
       told = record {
         id = id ∙ opens.answers.id;
@@ -70,6 +72,7 @@ module _ {T : Type 0} (table : List ChipData) (commands : List Command) (old new
       with_result (Ok x) was = absurd was
       with_result (Err x) was = record {
         moments = opens.moments;
+        honest = opens.honest;
         left = opens.left;
         answers = subst P (sym was)
             (⊎_elim (λ outside. inr outside) (λ first. inl (same_refusal _ e fault (opening_first (journal_of old.journal) old.device table commands e first) said)) opens.answers);
@@ -82,6 +85,7 @@ module _ {T : Type 0} (table : List ChipData) (commands : List Command) (old new
       with_result (Ok x) was = absurd was
       with_result (Err x) was = record {
         moments = opens.moments;
+        honest = opens.honest;
         left = opens.left;
         fails = subst IsOutsideFault (sym was)
             (⊎_elim (λ outside. outside) (λ first. refused_nothing _ e none (opening_first (journal_of old.journal) old.device table commands e first)) opens.answers);
@@ -107,7 +111,7 @@ module _ (table : List ChipData) (commands : List Command) (old mid : RigState) 
 
   pub refuses_outside : {T : Type 0} (fault : Fault) → list_all (is_in_flash opened.chip.now) commands ≡ false → refusal_of (journal_of old.journal) old.device table commands ≡ Some fault
       → Refuses {T = T} (IsUnbegun old) fault old mid (Err OutOfFlash)
-  refuses_outside fault outside said = record { moments = opens.moments; left = opens.left; answers = inl (same_refusal _ OutOfFlash fault (outside_is_refused outside) said) }
+  refuses_outside fault outside said = record { moments = opens.moments; honest = opens.honest; left = opens.left; answers = inl (same_refusal _ OutOfFlash fault (outside_is_refused outside) said) }
 
   -- the table's chip is the device's
   pub chip_is : IsChipWith table old.device.chip.id old.device.chip → mid.device.chip ≡ opened.chip.now
@@ -116,18 +120,23 @@ module _ (table : List ChipData) (commands : List Command) (old mid : RigState) 
       own_chip : old.device.chip ≡ opened.chip.now
       own_chip = coherent.chip.only old.device.chip own.held (sym opens.answers.id)
 
-  pub runs_reads : {T U : Type 0} {Done : T → Type 0} (new : RigState) (outcomes_of : U → List Outcome) (asked : Result T Fault) (result : Result U Fault) → AsksOnly mid new asked Done
-      → (AsksOnly mid new asked Done → AsksOnly mid new result (λ x. AreRead mid.device commands (outcomes_of x))) → RunsReads commands old new result outcomes_of
+  pub runs_reads : {T U : Type 0} {Done : T → Type 0} (new : RigState) (outcomes_of : U → List Outcome) (asked : Result T Fault) (result : Result U Fault) → Asks mid new asked Done
+      → (Asks mid new asked Done → Asks mid new result (λ x. AreRead mid.device commands (outcomes_of x))) → RunsReads commands old new result outcomes_of
   runs_reads {U = U} new outcomes_of asked result asks as_result =
       let next = as_result asks in
       record {
-        moments = joined (IsUnbegun old) (IsUnbegun mid) (IsUnbegun old) old mid new opens.moments next.moments (λ d journal u. u) (further old mid opens.left);
-        left = further old mid opens.left new.device new.journal next.left;
+        moments = joined (IsUnbegun old) (IsStill mid) (IsUnbegun old) old mid new opens.moments next.moments (λ d journal u. u) (λ d journal u. further old mid opens.left d journal (still_is_unbegun mid d journal u));
+        honest = next.honest;
+        left = further old mid opens.left new.device new.journal (still_is_unbegun mid new.device new.journal next.left);
         fails = next.fails;
         outcomes = read_first result next.done;
-        settled = next.settled;
+        settled = settled_too result next.same;
       }
     where
+      settled_too : (r : Result U Fault) → OnOk r (new.device ≡ mid.device) → OnOk r (IsSettled new.device)
+      settled_too (Ok y) same = let P : Device → Type 0 = λ d. IsSettled d in subst P (sym same) opens.answers.settled
+      settled_too (Err e) same = tt
+
       read_first : (r : Result U Fault) → IfOk r (λ x. AreRead mid.device commands (outcomes_of x)) → IfOk r (λ x. AreRead old.device commands (outcomes_of x))
       read_first (Err e) p = tt
       read_first (Ok x) p = p ∙ ap₂ (λ (c : ChipData) flash. map (bytes_read c flash) commands) opens.left.make.chip opens.left.flash

@@ -11,6 +11,9 @@ use Rattle.stm_wire.specs.MomentLaws.{joined, weaker}
 use Rattle.stm_wire.specs.Rig.{RigState}
 use Rattle.stm_wire.specs.Stopped.{LossStaysHarmless}
 use Rattle.stm_journal.specs.States.{StateData, is_unfinished, names_other}
+use Rattle.stm_journal.specs.InMemory.{forget_state}
+use Rattle.stm_journal.specs.ForgetLaws.{is_unfinished-forgets}
+use Rattle.stm_session.proofs.Forgetting.{device-forgets}
 use Rattle.stm_journal.specs.Journals.{JournalData, Loaded, IsLoaded, journal_of, good, bad}
 use Rattle.stm_journal.specs.declared.fault.JournalFault.{JournalFault}
 use Rattle.stm_journal.specs.declared.fault.JournalFault.TheVariants.{File, Bad, OtherDevice as OtherJournal, Memory as JournalMemory}
@@ -21,11 +24,11 @@ use Rattle.stm_session.specs.declared.contact.Told.{Told}
 use Rattle.stm_session.specs.declared.opening.Opened.{Opened}
 use Rattle.stm_session.specs.declared.fault.Fault.{Fault}
 use Rattle.stm_session.specs.declared.fault.Fault.TheVariants.{BadJournal, InSession, Memory, Unfinished}
-use Rattle.stm_session.specs.Fault.{IsOfLine, IsOutsideFault, fault_of_journal}
-use Rattle.stm_session.specs.Moments.{AsksOnly, IsSafe, IsUnbegun}
+use Rattle.stm_session.specs.Fault.{Cause, IsJournalOrMemory, IsOfLine, IsOutside, IsOutsideFault, IsLaterRefusal, IsUnheard, cause_of, fault_of_journal, of_file, of_line, of_memory, of_protocol, of_refusal, of_session}
+use Rattle.stm_session.specs.Moments.{BeginsNothing, IsSafe, IsUnbegun}
 use Rattle.stm_session.specs.Opening.{AreCommandsOf, LoadsUnless, Opens, Tells}
-use Rattle.stm_session.specs.Refusal.{IsOfDevice, Refuses, chip_with, device_refusals, first_refusal, table_refusal, unsent_refusal, open_refusal, opening_refusal}
-use Rattle.stm_session.proofs.Asking.{further}
+use Rattle.stm_session.specs.Refusal.{chip_with, device_refusals, first_refusal, table_refusal, unsent_refusal, open_refusal, opening_refusal}
+use Rattle.stm_session.proofs.Unbegun.{further}
 
 -- what a device tells of itself is what it would have told before
 pub tells_first : (a b : RigState) → IsUnbegun a b.device b.journal → (told : Told) → Tells b.device told → Tells a.device told
@@ -77,7 +80,7 @@ pub load_failed : {T : Type 0} (refusal : JournalData → Option Fault) (says : 
     → Loads old new (Err e) → IsErrAnd result (λ x. x ≡ fault_of_journal e) → LoadsUnless (refusal (journal_of old.journal)) old new result
 load_failed refusal says old new e (Ok x) loads is = absurd is
 load_failed refusal says old new e (Err x) loads is =
-    let P : Fault → Type 0 = λ y. IsOutsideFault y ⊎ (refusal (journal_of old.journal) ≡ Some y) in
+    let P : Fault → Type 0 = λ y. IsJournalOrMemory y ⊎ (refusal (journal_of old.journal) ≡ Some y) in
     record {
       moments = loads.moments;
       honest = loads.honest;
@@ -93,22 +96,27 @@ load_failed refusal says old new e (Err x) loads is =
     lost OtherJournal kept = (0, kept)
     lost JournalMemory kept = (0, kept)
 
-    by_fault : (e : JournalFault) → IsFaultOf old.journal e → IsOutsideFault (fault_of_journal e) ⊎ (refusal (journal_of old.journal) ≡ Some (fault_of_journal e))
+    by_fault : (e : JournalFault) → IsFaultOf old.journal e → IsJournalOrMemory (fault_of_journal e) ⊎ (refusal (journal_of old.journal) ≡ Some (fault_of_journal e))
     by_fault File f = inl tt
     by_fault (Bad line) f = inr (ap refusal f ∙ says line)
     by_fault OtherJournal f = absurd f
     by_fault JournalMemory f = inl tt
 
--- it was read, and is refused or isn't
-pub load_refused : {T : Type 0} (refusal : JournalData → Option Fault) (old new : RigState) (l : Loaded) (fault : Fault) → Loads old new (Ok l) → refusal (good l.state) ≡ Some fault
-    → LoadsUnless {T = T} (refusal (journal_of old.journal)) old new (Err fault)
-load_refused refusal old new l fault loads says =
-    record { moments = loads.moments; honest = loads.honest; left = (loads.journal, (0, loads.same_device)); same = tt; accepted = tt; refused = inr (ap refusal loads.loaded.state ∙ says) }
+-- what needs no bytes of pages refuses a journal and its state in memory alike
+loaded_refusal : (refusal : JournalData → Option Fault) → ((s : StateData) → refusal (good (forget_state s)) ≡ refusal (good s)) → (journal : List ℕ) (l : Loaded) → IsLoaded l journal
+    → refusal (journal_of journal) ≡ refusal (good l.state)
+loaded_refusal refusal blind journal l is = ap refusal is.means ∙ sym (blind is.text) ∙ ap (λ (s : StateData). refusal (good s)) (sym is.state)
 
-pub load_accepted : {T : Type 0} (refusal : JournalData → Option Fault) (old new : RigState) (l : Loaded) (x : T) → Loads old new (Ok l) → refusal (good l.state) ≡ None
+-- it was read, and is refused or isn't
+pub load_refused : {T : Type 0} (refusal : JournalData → Option Fault) → ((s : StateData) → refusal (good (forget_state s)) ≡ refusal (good s)) → (old new : RigState) (l : Loaded) (fault : Fault) → Loads old new (Ok l) → refusal (good l.state) ≡ Some fault
+    → LoadsUnless {T = T} (refusal (journal_of old.journal)) old new (Err fault)
+load_refused refusal blind old new l fault loads says =
+    record { moments = loads.moments; honest = loads.honest; left = (loads.journal, (0, loads.same_device)); same = tt; accepted = tt; refused = inr (loaded_refusal refusal blind old.journal l loads.loaded ∙ says) }
+
+pub load_accepted : {T : Type 0} (refusal : JournalData → Option Fault) → ((s : StateData) → refusal (good (forget_state s)) ≡ refusal (good s)) → (old new : RigState) (l : Loaded) (x : T) → Loads old new (Ok l) → refusal (good l.state) ≡ None
     → LoadsUnless (refusal (journal_of old.journal)) old new (Ok x)
-load_accepted refusal old new l x loads says =
-    record { moments = loads.moments; honest = loads.honest; left = (loads.journal, (0, loads.same_device)); same = loads.same_device; accepted = ap refusal loads.loaded.state ∙ says; refused = tt }
+load_accepted refusal blind old new l x loads says =
+    record { moments = loads.moments; honest = loads.honest; left = (loads.journal, (0, loads.same_device)); same = loads.same_device; accepted = loaded_refusal refusal blind old.journal l loads.loaded ∙ says; refused = tt }
 
 -- of an empty journal there is no want of memory
 pub load_spared : {T : Type 0} (old new : RigState) (e : JournalFault) (result : Result T Fault) → Loads old new (Err e) → old.journal ≡ [] → IsErrAnd result (λ x. x ≡ fault_of_journal e)
@@ -143,27 +151,24 @@ pub device_refusal : (s : StateData) (id : ℕ) (table : List ChipData) (found :
     → first_refusal (device_refusals s id table) ≡ table_refusal s id found
 device_refusal s id table found own e = rw (own, e) (alone (table_refusal s id found))
 
--- the same of a call that hands the fault on
-pub loads_as : {T U : Type 0} (refusal : Option Fault) (old new : RigState) (e : Fault) (result : Result U Fault) → LoadsUnless {T = T} refusal old new (Err e) → IsErrAnd result (λ x. x ≡ e)
-    → LoadsUnless refusal old new result
-loads_as refusal old new e (Ok x) loads is = absurd is
-loads_as refusal old new e (Err x) loads is =
-    let P : Fault → Type 0 = λ y. IsOutsideFault y ⊎ (refusal ≡ Some y) in
-    record { moments = loads.moments; honest = loads.honest; left = loads.left; same = tt; accepted = tt; refused = subst P (sym is) loads.refused }
-
--- what is refused before a byte is sent
-pub refuses_unsent : {T : Type 0} (refusal : Option Fault) (fault : Fault) (old new : RigState) (result : Result T Fault) → refusal ≡ Some fault → LoadsUnless refusal old new result
-    → Refuses (IsUntouched old) fault old new result
-refuses_unsent refusal fault old new (Ok x) is loads = absurd (let h : None ≡ Some fault = sym loads.accepted ∙ is in cc)
-refuses_unsent refusal fault old new (Err x) is loads =
-    record { moments = loads.moments; left = loads.left; answers = ⊎_elim (λ outside. inr outside) (λ said. inl (let h : Some x ≡ Some fault = sym said ∙ is in cc)) loads.refused }
-
 -- a journal that isn't refused
 pub refused_nothing : {A : Type 0} (refusal : Option Fault) (fault : Fault) → refusal ≡ None → refusal ≡ Some fault → A
 refused_nothing refusal fault none some = absurd (let h : None ≡ Some fault = sym none ∙ some in cc)
 
 first_given : (x : Option Fault) (rest : List (Option Fault)) (fault : Fault) → x ≡ Some fault → first_refusal (x ∷ rest) ≡ Some fault
 first_given x rest fault e = rw e refl
+
+-- a failure of the journal or of memory is one outside
+unheard_outside : (cause : Cause) → IsUnheard cause → IsOutside cause
+unheard_outside of_line of = tt
+unheard_outside of_protocol of = of
+unheard_outside of_file of = tt
+unheard_outside of_memory of = tt
+unheard_outside of_session of = of
+unheard_outside of_refusal of = of
+
+pub unsent_outside : (e : Fault) → IsJournalOrMemory e → IsOutsideFault e
+unsent_outside e of = unheard_outside (cause_of e) of
 
 -- what is refused before a byte is sent is refused
 pub unsent_is_first : (j : JournalData) (d : Device) (table : List ChipData) (fault : Fault) → unsent_refusal j ≡ Some fault → opening_refusal j d table ≡ Some fault
@@ -191,47 +196,54 @@ module _ (law : LossStaysHarmless) (old mid : RigState) (safe : IsSafe old.devic
       let P : Fault → Type 0 = λ z. IsOutsideFault z ⊎ (opening_refusal (journal_of old.journal) old.device table ≡ Some z) in
       record {
         moments = moments_of_loading (unsent_refusal (journal_of old.journal)) (Err e) loads;
+        honest = loads.honest;
         left = untouched_is_unbegun law old safe mid.device mid.journal loads.left;
-        answers = subst P (sym is) (⊎_elim (λ outside. inl outside) (λ said. inr (unsent_is_first (journal_of old.journal) old.device table e said)) loads.refused);
+        answers = subst P (sym is) (⊎_elim (λ unsent. inl (unsent_outside e unsent)) (λ said. inr (unsent_is_first (journal_of old.journal) old.device table e said)) loads.refused);
       }
 
   -- the moments of reading the journal, and of asking the device then
-  pub moments_of_asking : {T U : Type 0} {Done : U → Type 0} (refusal : Option Fault) (new : RigState) (x : T) (result : Result U Fault) → LoadsUnless refusal old mid (Ok x) → AsksOnly mid new result Done
+  pub moments_of_asking : {T U : Type 0} {Done : U → Type 0} (refusal : Option Fault) (new : RigState) (x : T) (result : Result U Fault) → LoadsUnless refusal old mid (Ok x) → BeginsNothing mid new result Done
       → LeavesOnly (IsUnbegun old) old new
   moments_of_asking refusal new x result loads asks =
       joined (IsUnbegun old) (IsUnbegun mid) (IsUnbegun old) old mid new (moments_of_loading refusal (Ok x) loads) asks.moments (λ d journal u. u) (further old mid (left_by_loading refusal x loads))
 
   -- or since the device couldn't be reached
   pub opens_unreached : {T U : Type 0} {Done : U → Type 0} (table : List ChipData) (new : RigState) (x : T) (e : Fault) (opened : Result Opened Fault)
-      → LoadsUnless (unsent_refusal (journal_of old.journal)) old mid (Ok x) → AsksOnly {T = U} mid new (Err e) Done → IsErrAnd opened (λ y. y ≡ e) → Opens table old new opened
+      → LoadsUnless (unsent_refusal (journal_of old.journal)) old mid (Ok x) → BeginsNothing {T = U} mid new (Err e) Done → IsErrAnd opened (λ y. y ≡ e) → Opens table old new opened
   opens_unreached table new x e (Ok o) loads asks is = absurd is
   opens_unreached table new x e (Err y) loads asks is =
       let P : Fault → Type 0 = λ z. IsOutsideFault z ⊎ (opening_refusal (journal_of old.journal) old.device table ≡ Some z) in
-      record { moments = moments_of_asking (unsent_refusal (journal_of old.journal)) new x (Err e) loads asks; left = further old mid (left_by_loading (unsent_refusal (journal_of old.journal)) x loads) new.device new.journal asks.left; answers = subst P (sym is) (inl asks.fails) }
+      record { moments = moments_of_asking (unsent_refusal (journal_of old.journal)) new x (Err e) loads asks; honest = asks.honest; left = further old mid (left_by_loading (unsent_refusal (journal_of old.journal)) x loads) new.device new.journal asks.left; answers = subst P (sym is) (inl asks.fails) }
 
   -- the device told who it is
   module _ (l : Loaded) (loaded : IsLoaded l old.journal) (finished : is_unfinished l.state ≡ false) (new : RigState) (table : List ChipData) (told : Told)
-      (loads : LoadsUnless (unsent_refusal (journal_of old.journal)) old mid (Ok l)) (asks : AsksOnly mid new (Ok told) (Tells mid.device)) where
+      (loads : LoadsUnless (unsent_refusal (journal_of old.journal)) old mid (Ok l)) (asks : BeginsNothing mid new (Ok told) (Tells mid.device)) where
     tells : Tells old.device told
     tells = tells_first old mid (left_by_loading (unsent_refusal (journal_of old.journal)) l loads) told asks.done
 
     refusal_is : (x : Option Fault) → first_refusal (device_refusals l.state told.id table) ≡ x → opening_refusal (journal_of old.journal) old.device table ≡ x
-    refusal_is x e = ap (λ (j : JournalData). opening_refusal j old.device table) loaded.state ∙ opening_of l.state old.device table told.id x finished tells.id e
+    refusal_is x e =
+        let ended : is_unfinished loaded.text ≡ false = sym (is_unfinished-forgets loaded.text) ∙ ap (λ (s : StateData). is_unfinished s) (sym loaded.state) ∙ finished in
+        let same : device_refusals loaded.text told.id table ≡ device_refusals l.state told.id table =
+        sym (device-forgets loaded.text told.id table) ∙ ap (λ (s : StateData). device_refusals s told.id table) (sym loaded.state)
+        in
+        ap (λ (j : JournalData). opening_refusal j old.device table) loaded.means
+        ∙ opening_of loaded.text old.device table told.id x ended tells.id (ap (λ refusals. first_refusal refusals) same ∙ e)
 
     pub opens_refused : (e : Fault) (opened : Result Opened Fault) → first_refusal (device_refusals l.state told.id table) ≡ Some e → IsErrAnd opened (λ y. y ≡ e) → Opens table old new opened
     opens_refused e (Ok o) said is = absurd is
     opens_refused e (Err y) said is =
         let P : Fault → Type 0 = λ z. IsOutsideFault z ⊎ (opening_refusal (journal_of old.journal) old.device table ≡ Some z) in
-        record { moments = moments_of_asking (unsent_refusal (journal_of old.journal)) new l (Ok told) loads asks; left = further old mid (left_by_loading (unsent_refusal (journal_of old.journal)) l loads) new.device new.journal asks.left; answers = subst P (sym is) (inr (refusal_is (Some e) said)) }
+        record { moments = moments_of_asking (unsent_refusal (journal_of old.journal)) new l (Ok told) loads asks; honest = asks.honest; left = further old mid (left_by_loading (unsent_refusal (journal_of old.journal)) l loads) new.device new.journal asks.left; answers = subst P (sym is) (inr (refusal_is (Some e) said)) }
 
     pub opens_all : (opened : Opened) → first_refusal (device_refusals l.state told.id table) ≡ None → opened.journal ≡ l → opened.chip.now.id ≡ told.id → opened.commands ≡ told.commands
         → Opens table old new (Ok opened)
     opens_all opened accepted journal id commands =
         record {
           moments = moments_of_asking (unsent_refusal (journal_of old.journal)) new l (Ok told) loads asks;
+          honest = asks.honest;
           left = further old mid (left_by_loading (unsent_refusal (journal_of old.journal)) l loads) new.device new.journal asks.left;
           answers = record {
-            honest = asks.honest;
             loaded = subst (λ (x : Loaded). IsLoaded x old.journal) (sym journal) loaded;
             settled = asks.settled;
             id = id ∙ tells.id;
@@ -247,11 +259,11 @@ line_is_no_memory e of is = subst IsOfLine is of
 pub line_is_no_journal : (e : Fault) → IsOfLine e → e ≡ Unfinished → ⊥
 line_is_no_journal e of is = subst IsOfLine is of
 
-pub device_is_no_memory : (e : Fault) → IsOfDevice e → e ≡ Memory → ⊥
-device_is_no_memory e of is = subst IsOfDevice is of
+pub device_is_no_memory : (e : Fault) → IsLaterRefusal e → e ≡ Memory → ⊥
+device_is_no_memory e of is = subst IsLaterRefusal is of
 
-pub device_is_no_journal : (e : Fault) → IsOfDevice e → e ≡ Unfinished → ⊥
-device_is_no_journal e of is = subst IsOfDevice is of
+pub device_is_no_journal : (e : Fault) → IsLaterRefusal e → e ≡ Unfinished → ⊥
+device_is_no_journal e of is = subst IsLaterRefusal is of
 
 -- a journal with a segment is open
 pub open_refused : (s : StateData) → nat_lt 0 (length s.stack) ≡ true → open_refusal (good s) ≡ Some InSession

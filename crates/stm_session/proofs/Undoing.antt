@@ -10,7 +10,7 @@ use Rattle.stm_journal.specs.declared.stage.Stage.TheVariants.{Open, Ended, Retu
 use Rattle.stm_journal.specs.States.{StateData, SegmentData, intent_of, is_unfinished, is_ended_stage, intent_at, names_other, newest_has, newest_intent}
 use Rattle.stm_journal.specs.Flashes.{flashes_before_segments}
 use Rattle.stm_session.specs.Moments.{IsSafe, SameMake}
-use Rattle.stm_session.specs.Undoable.{AllFit, Undoable, is_unfinished_at, risked_pages, state_at}
+use Rattle.stm_session.specs.Undoable.{IsJournalOf, Undoable, is_unfinished_at, risked_pages, state_at}
 
 -- a ready device is safe
 pub ready_is_safe : StoppedIsHarmless → FreshIsHarmless → (d : Device) → IsDevice d → IsReady d → IsSafe d
@@ -23,7 +23,7 @@ ready_is_safe stopped fresh d is ready = record { harmless = by_phase d.phase re
 
 -- with an empty journal there is nothing to take back
 pub empty_is_undoable : (d : Device) → IsSafe d → Undoable [] d []
-empty_is_undoable d safe = record { good_journal = refl; own = refl; fits = tt; keeps = refl; harmless = safe.harmless; owed = safe.owed }
+empty_is_undoable d safe = record { good_journal = refl; own = refl; fits = record { version = tt; pages = tt; companions = tt }; keeps = refl; harmless = safe.harmless; owed = safe.owed }
 
 pub reset_is_undoable : ResetStaysHarmless → (flashes : List (List ℕ)) (d : Device) (journal : List ℕ) → Undoable flashes d journal → Undoable flashes (reset d) journal
 reset_is_undoable law flashes d journal u =
@@ -58,7 +58,7 @@ finished_is_safe flashes d journal u finished =
 pub unbegun_is_undoable : (flashes : List (List ℕ)) (old d : Device) (journal : List ℕ) → Undoable flashes old journal → is_unfinished_at journal ≡ false → SameMake old d → d.flash ≡ old.flash → IsSafe d
     → Undoable flashes d journal
 unbegun_is_undoable flashes old d journal u finished make flash safe =
-    let fit : ChipData → Type 0 = λ c. AllFit c (state_at journal).stack in
+    let fit : ChipData → Type 0 = λ c. IsJournalOf c (state_at journal) in
     record {
       good_journal = u.good_journal;
       own = ap (λ (c : ChipData). names_other c.id (state_at journal)) make.chip ∙ u.own;

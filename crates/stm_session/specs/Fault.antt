@@ -22,72 +22,87 @@ fault_of_journal (journal.Bad line) = fault.BadJournal line
 fault_of_journal journal.OtherDevice = fault.OtherDevice
 fault_of_journal journal.Memory = fault.Memory
 
+-- What a fault comes of: the line failed, the device doesn't follow the protocol, the file of the journal or memory failed; or
+-- the journal has a segment that must be ended or taken back first; or something else is refused.
+pub data Cause : Type 0 where
+  of_line : Cause
+  of_protocol : Cause
+  of_file : Cause
+  of_memory : Cause
+  of_session : Cause
+  of_refusal : Cause
+
+abbrev pub cause_of : Fault → Cause
+cause_of fault.Line = of_line
+cause_of fault.Journal = of_file
+cause_of fault.Memory = of_memory
+cause_of fault.Unfinished = of_session
+cause_of (fault.UnknownChip id) = of_refusal
+cause_of fault.OutOfFlash = of_refusal
+cause_of fault.NoErase = of_refusal
+cause_of fault.InSession = of_session
+cause_of (fault.Differs address) = of_refusal
+cause_of fault.Device = of_protocol
+cause_of (fault.BadJournal line) = of_refusal
+cause_of fault.OtherDevice = of_refusal
+cause_of fault.Full = of_refusal
+
 -- the line, the file of the journal or memory failed, and nothing else is the matter
+abbrev pub IsOutside : Cause → Type 0
+IsOutside of_line = Unit {0}
+IsOutside of_file = Unit {0}
+IsOutside of_memory = Unit {0}
+IsOutside _ = ⊥
+
 abbrev pub IsOutsideFault : Fault → Type 0
-IsOutsideFault fault.Line = Unit {0}
-IsOutsideFault fault.Journal = Unit {0}
-IsOutsideFault fault.Memory = Unit {0}
-IsOutsideFault fault.Unfinished = ⊥
-IsOutsideFault (fault.UnknownChip id) = ⊥
-IsOutsideFault fault.OutOfFlash = ⊥
-IsOutsideFault fault.NoErase = ⊥
-IsOutsideFault fault.InSession = ⊥
-IsOutsideFault (fault.Differs address) = ⊥
-IsOutsideFault fault.Device = ⊥
-IsOutsideFault (fault.BadJournal line) = ⊥
-IsOutsideFault fault.OtherDevice = ⊥
-IsOutsideFault fault.Full = ⊥
+IsOutsideFault e = IsOutside (cause_of e)
+
+-- the file of the journal or memory failed: the line wasn't used
+abbrev pub IsUnheard : Cause → Type 0
+IsUnheard of_file = Unit {0}
+IsUnheard of_memory = Unit {0}
+IsUnheard _ = ⊥
+
+abbrev pub IsJournalOrMemory : Fault → Type 0
+IsJournalOrMemory e = IsUnheard (cause_of e)
+
+-- a fault of talking to a device
+abbrev pub IsHeard : Cause → Type 0
+IsHeard of_line = Unit {0}
+IsHeard of_protocol = Unit {0}
+IsHeard _ = ⊥
+
+abbrev pub IsOfLine : Fault → Type 0
+IsOfLine e = IsHeard (cause_of e)
+
+-- something is refused: for the state of the journal, or for what the table or a command makes of it
+abbrev pub IsRefused : Cause → Type 0
+IsRefused of_session = Unit {0}
+IsRefused of_refusal = Unit {0}
+IsRefused _ = ⊥
+
+abbrev pub IsRefusal : Fault → Type 0
+IsRefusal e = IsRefused (cause_of e)
+
+-- something is refused for what the table or a command makes of it
+abbrev pub IsRefusedLater : Cause → Type 0
+IsRefusedLater of_refusal = Unit {0}
+IsRefusedLater _ = ⊥
+
+abbrev pub IsLaterRefusal : Fault → Type 0
+IsLaterRefusal e = IsRefusedLater (cause_of e)
 
 -- the count of such failures rose
+abbrev pub RisesBy : RigState → RigState → Cause → Type 0
+RisesBy old new of_line = Rises old.line_failures new.line_failures
+RisesBy old new of_file = Rises old.journal_failures new.journal_failures
+RisesBy old new _ = Unit {0}
+
 abbrev pub RisesFor : RigState → RigState → Fault → Type 0
-RisesFor old new fault.Line = Rises old.line_failures new.line_failures
-RisesFor old new fault.Journal = Rises old.journal_failures new.journal_failures
-RisesFor old new fault.Memory = Unit {0}
-RisesFor old new fault.Unfinished = Unit {0}
-RisesFor old new (fault.UnknownChip id) = Unit {0}
-RisesFor old new fault.OutOfFlash = Unit {0}
-RisesFor old new fault.NoErase = Unit {0}
-RisesFor old new fault.InSession = Unit {0}
-RisesFor old new (fault.Differs address) = Unit {0}
-RisesFor old new fault.Device = Unit {0}
-RisesFor old new (fault.BadJournal line) = Unit {0}
-RisesFor old new fault.OtherDevice = Unit {0}
-RisesFor old new fault.Full = Unit {0}
+RisesFor old new e = RisesBy old new (cause_of e)
 
 -- On any line: a fault of the line or of the journal is answered only where the count of such failures rose.
 pub record HasSessionCause {T : Type 0} (old new : RigState) (result : Result T Fault) : Type 0 where
   pub line_later : old.line_failures ≤ new.line_failures
   pub journal_later : old.journal_failures ≤ new.journal_failures
   pub failed : IfErr result (RisesFor old new)
-
--- a fault of talking to a device
-abbrev pub IsOfLine : Fault → Type 0
-IsOfLine fault.Line = Unit {0}
-IsOfLine fault.Journal = ⊥
-IsOfLine fault.Memory = ⊥
-IsOfLine fault.Unfinished = ⊥
-IsOfLine (fault.UnknownChip id) = ⊥
-IsOfLine fault.OutOfFlash = ⊥
-IsOfLine fault.NoErase = ⊥
-IsOfLine fault.InSession = ⊥
-IsOfLine (fault.Differs address) = ⊥
-IsOfLine fault.Device = Unit {0}
-IsOfLine (fault.BadJournal line) = ⊥
-IsOfLine fault.OtherDevice = ⊥
-IsOfLine fault.Full = ⊥
-
--- a fault that only the state of a journal gives
-abbrev pub IsOfJournal : Fault → Type 0
-IsOfJournal fault.Line = ⊥
-IsOfJournal fault.Journal = ⊥
-IsOfJournal fault.Memory = ⊥
-IsOfJournal fault.Unfinished = Unit {0}
-IsOfJournal (fault.UnknownChip id) = ⊥
-IsOfJournal fault.OutOfFlash = ⊥
-IsOfJournal fault.NoErase = ⊥
-IsOfJournal fault.InSession = Unit {0}
-IsOfJournal (fault.Differs address) = ⊥
-IsOfJournal fault.Device = ⊥
-IsOfJournal (fault.BadJournal line) = Unit {0}
-IsOfJournal fault.OtherDevice = ⊥
-IsOfJournal fault.Full = ⊥

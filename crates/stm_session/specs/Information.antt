@@ -30,6 +30,7 @@ pub record IsInfoOf (d : Device) (info : Info) : Type 0 where
 -- The device is told; or it is refused, or a call failed. No segment is begun at any moment.
 pub record Informs (table : List ChipData) (old new : RigState) (result : Result Info Fault) : Type 0 where
   pub moments : LeavesOnly (IsUnbegun old) old new
+  pub honest : new.is_honest
   pub left : IsUnbegun old new.device new.journal
   pub told : IfOk result (IsInfoOf old.device)
   pub settled : OnOk result (IsSettled new.device)

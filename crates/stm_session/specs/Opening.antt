@@ -12,7 +12,7 @@ use Rattle.stm_journal.specs.Journals.{IsLoaded, journal_of}
 use Rattle.stm_session.specs.declared.contact.Told.{Told}
 use Rattle.stm_session.specs.declared.opening.Opened.{Opened}
 use Rattle.stm_session.specs.declared.fault.Fault.{Fault}
-use Rattle.stm_session.specs.Fault.{IsOutsideFault}
+use Rattle.stm_session.specs.Fault.{IsJournalOrMemory, IsOutsideFault}
 use Rattle.stm_session.specs.Moments.{IsUnbegun}
 use Rattle.stm_session.specs.Refusal.{misfit_refusal, opening_refusal}
 
@@ -23,7 +23,7 @@ pub record LoadsUnless {T : Type 0} (refusal : Option Fault) (old new : RigState
   pub left : IsUntouched old new.device new.journal
   pub same : OnOk result (new.device ≡ old.device)
   pub accepted : OnOk result (refusal ≡ None)
-  pub refused : IfErr result (λ fault. IsOutsideFault fault ⊎ (refusal ≡ Some fault))
+  pub refused : IfErr result (λ fault. IsJournalOrMemory fault ⊎ (refusal ≡ Some fault))
 
 -- these are the version and the codes of the device
 pub record AreCommandsOf (d : Device) (commands : Commands) : Type 0 where
@@ -44,7 +44,6 @@ pub record IsCoherent (table : List ChipData) (opened : Opened) : Type 0 where
 
 -- The journal in memory is the Rig's, the device is settled and told what it is, nothing was changed, and nothing is refused.
 pub record IsOpened (table : List ChipData) (old new : RigState) (opened : Opened) : Type 0 where
-  pub honest : new.is_honest
   pub loaded : IsLoaded opened.journal old.journal
   pub settled : IsSettled new.device
   pub id : opened.chip.now.id ≡ old.device.chip.id
@@ -54,6 +53,7 @@ pub record IsOpened (table : List ChipData) (old new : RigState) (opened : Opene
 -- A session is opened; or it is refused, or failed. No segment is begun at any moment.
 pub record Opens (table : List ChipData) (old new : RigState) (result : Result Opened Fault) : Type 0 where
   pub moments : LeavesOnly (IsUnbegun old) old new
+  pub honest : new.is_honest
   pub left : IsUnbegun old new.device new.journal
   pub answers : MatchResult result (IsOpened table old new)
       (λ fault. IsOutsideFault fault ⊎ (opening_refusal (journal_of old.journal) old.device table ≡ Some fault))

@@ -1,19 +1,21 @@
 -- What a session refuses before it does anything to a device, in the order of its steps.
-use Rattle.std.specs.Prelude.{◌≡◌, ◌⊎◌, ℕ, not, ◌&&◌, ◌||◌, ◌==◌, Bool, false, nat_lt, min, if◌then◌else◌, List, [], ◌∷◌, length, fold, Option, Some, None, option_map, Result, Ok, Err}
-use Rattle.std.specs.List.{list_all, find, flat_map}
+use Rattle.std.specs.Prelude.{◌≡◌, ◌⊎◌, ℕ, not, ◌&&◌, ◌||◌, ◌==◌, Bool, false, nat_lt, min, if◌then◌else◌, List, [], ◌∷◌, ◌++◌, length, fold, Option, Some, None, option_map, Result, Ok, Err}
+use Rattle.std.specs.List.{list_all, list_any, find, flat_map}
 use Rattle.std.specs.Option.{option_map_or}
 use Rattle.stm_wire.specs.Chip.{ChipData, page_count, page_size, fits_inside}
 use Rattle.stm_wire.specs.Device.{Device}
 use Rattle.stm_wire.specs.Rig.{RigState}
 use Rattle.stm_wire.specs.Moments.{LeavesOnly}
+use Rattle.stm_journal.specs.declared.header.JournalHeader.{JournalHeader}
 use Rattle.stm_journal.specs.declared.kept.Kept.{Kept}
 use Rattle.stm_journal.specs.States.{StateData, SegmentData, segment_of, is_unfinished, names_other}
 use Rattle.stm_journal.specs.Journals.{JournalData, good, bad}
 use Rattle.stm_session.specs.declared.command.Command.{Command}
 use Rattle.stm_session.specs.declared.command.Command.TheVariants.{Read}
 use Rattle.stm_session.specs.declared.fault.Fault.{Fault}
-use Rattle.stm_session.specs.declared.fault.Fault.TheVariants.{Line, Journal, Memory, Unfinished, UnknownChip, OutOfFlash, NoErase, InSession, Differs, Device as DeviceFault, BadJournal, OtherDevice, Full}
-use Rattle.stm_session.specs.Fault.{IsOutsideFault}
+use Rattle.stm_session.specs.declared.fault.Fault.TheVariants.{Unfinished, UnknownChip, OutOfFlash, InSession, BadJournal, OtherDevice}
+use Rattle.stm_session.specs.Fault.{IsJournalOrMemory, IsOutsideFault}
+use Rattle.stm_session.specs.Undoable.{has_companion}
 
 -- refused where the test fails
 abbrev pub refused_unless : Bool → Fault → Option Fault
@@ -41,16 +43,29 @@ pages_kept (Some segment) = segment.pages
 abbrev pub segment_pages : StateData → ℕ → List Kept
 segment_pages s k = pages_kept (segment_of s k)
 
--- these pages have page n, and the chip has it in the size of the first of them
-abbrev pub fits_as_kept : ChipData → List Kept → ℕ → Bool
-fits_as_kept chip pages n = option_map_or (fits_chip chip) (find (λ kept. kept.page == n) pages) false
+-- page n is kept among these pages without its companion
+abbrev pub lacks_companion : ChipData → List Kept → ℕ → Bool
+lacks_companion chip among n = n == 1 && has_companion chip && not (list_any (λ kept. kept.page == 257) among)
 
--- the lines of the kept pages that a chip lacks or has in another size
-abbrev pub misfit_lines_of : ChipData → List Kept → List ℕ
-misfit_lines_of chip pages = flat_map (λ kept. if fits_chip chip kept then [] else kept.line ∷ []) pages
+-- the chip has this page, which is kept among these
+abbrev pub fits_among : ChipData → List Kept → Kept → Bool
+fits_among chip among kept = fits_chip chip kept && not (lacks_companion chip among kept.page)
+
+-- these pages have page n, and the first of them is one of the chip
+abbrev pub fits_as_kept : ChipData → List Kept → ℕ → Bool
+fits_as_kept chip pages n = option_map_or (fits_among chip pages) (find (λ kept. kept.page == n) pages) false
+
+-- the lines of those of the pages, kept among these, that a chip lacks, has in another size, or hasn't without another
+abbrev pub misfit_lines_of : ChipData → List Kept → List Kept → List ℕ
+misfit_lines_of chip among pages = flat_map (λ kept. if fits_among chip among kept then [] else kept.line ∷ []) pages
 
 abbrev pub misfit_lines : ChipData → List SegmentData → List ℕ
-misfit_lines chip stack = flat_map (λ segment. misfit_lines_of chip segment.pages) stack
+misfit_lines chip stack = flat_map (λ segment. misfit_lines_of chip segment.pages segment.pages) stack
+
+-- the line of a header whose version is none of a chip with so many pages
+abbrev pub header_misfits : ChipData → Option JournalHeader → List ℕ
+header_misfits chip None = []
+header_misfits chip (Some header) = if nat_lt 256 (page_count chip) && not (header.version == 2) then header.line ∷ [] else []
 
 abbrev pub lesser : Option ℕ → ℕ → ℕ
 lesser None line = line
@@ -63,9 +78,9 @@ least_with so_far lines = fold (λ so_far line. Some (lesser so_far line)) so_fa
 abbrev pub least : List ℕ → Option ℕ
 least lines = fold (λ so_far line. Some (lesser so_far line)) None lines
 
--- a page that the journal keeps doesn't fit the chip; the least such line is told
+-- the journal's header, or a page that it keeps, isn't one of the chip; the least such line is told
 abbrev pub misfit_refusal : ChipData → StateData → Option Fault
-misfit_refusal chip s = option_map (λ line. BadJournal line) (least (misfit_lines chip s.stack))
+misfit_refusal chip s = option_map (λ line. BadJournal line) (least (header_misfits chip s.header ++ misfit_lines chip s.stack))
 
 -- the table hasn't the device's id, or the journal isn't one of its chip
 abbrev pub table_refusal : StateData → ℕ → Option ChipData → Option Fault
@@ -75,22 +90,6 @@ table_refusal s id (Some chip) = misfit_refusal chip s
 -- the journal can't go on with a device of this id
 abbrev pub device_refusals : StateData → ℕ → List ChipData → List (Option Fault)
 device_refusals s id table = refused_unless (not (names_other id s)) OtherDevice ∷ table_refusal s id (chip_with table id) ∷ []
-
--- a fault that these give
-abbrev pub IsOfDevice : Fault → Type 0
-IsOfDevice Line = ⊥
-IsOfDevice Journal = ⊥
-IsOfDevice Memory = ⊥
-IsOfDevice Unfinished = ⊥
-IsOfDevice (UnknownChip id) = Unit {0}
-IsOfDevice OutOfFlash = ⊥
-IsOfDevice NoErase = ⊥
-IsOfDevice InSession = ⊥
-IsOfDevice (Differs address) = ⊥
-IsOfDevice DeviceFault = ⊥
-IsOfDevice (BadJournal line) = Unit {0}
-IsOfDevice OtherDevice = Unit {0}
-IsOfDevice Full = ⊥
 
 -- what is refused before any command is looked at
 abbrev pub opening_refusal : JournalData → Device → List ChipData → Option Fault
@@ -128,5 +127,18 @@ AnswersRefusal fault (Err e) = (e ≡ fault) ⊎ IsOutsideFault e
 -- each moment leaves what has P, the last one too, and the answer is this refusal
 pub record Refuses {T : Type 0} (P : Device → List ℕ → Type 0) (fault : Fault) (old new : RigState) (result : Result T Fault) : Type 0 where
   pub moments : LeavesOnly P old new
+  pub honest : new.is_honest
   pub left : P new.device new.journal
   pub answers : AnswersRefusal fault result
+
+-- this refusal is answered, or a failure of the journal or of memory
+abbrev pub AnswersUnsent : {T : Type 0} → Fault → Result T Fault → Type 0
+AnswersUnsent fault (Ok x) = ⊥
+AnswersUnsent fault (Err e) = (e ≡ fault) ⊎ IsJournalOrMemory e
+
+-- the same before a byte is sent: the line isn't used, so that it can't fail
+pub record RefusesUnsent {T : Type 0} (P : Device → List ℕ → Type 0) (fault : Fault) (old new : RigState) (result : Result T Fault) : Type 0 where
+  pub moments : LeavesOnly P old new
+  pub honest : new.is_honest
+  pub left : P new.device new.journal
+  pub answers : AnswersUnsent fault result

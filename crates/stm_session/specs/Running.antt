@@ -38,6 +38,7 @@ AreRead d commands outcomes = map bytes_of outcomes ≡ map (bytes_read d.chip d
 -- A run that is refused nothing: no segment is begun at any moment, and the outcomes are those of the flash.
 pub record RunsReads {T : Type 0} (commands : List Command) (old new : RigState) (result : Result T Fault) (outcomes_of : T → List Outcome) : Type 0 where
   pub moments : LeavesOnly (IsUnbegun old) old new
+  pub honest : new.is_honest
   pub left : IsUnbegun old new.device new.journal
   pub fails : IfErr result IsOutsideFault
   pub outcomes : IfOk result (λ x. AreRead old.device commands (outcomes_of x))

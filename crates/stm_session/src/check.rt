@@ -1,15 +1,28 @@
 // What is checked before the first command is done.
-ghost use Rattle.std.specs.Prelude.{◌≡◌, ◌<◌, None, Some, MatchResult};
+ghost use Rattle.std.specs.Prelude.{◌≡◌, ◌<◌, ◌++◌, None, Some, MatchResult};
 ghost use Rattle.std.specs.List.{list_all};
 ghost use Rattle.stm_journal.specs.States.{IsSound};
-ghost use Rattle.stm_session.specs.Refusal.{segment_pages, fits_as_kept, lesser, least, least_with, misfit_lines, misfit_lines_of, misfit_refusal, is_in_flash};
+ghost use Rattle.stm_session.specs.Refusal.{segment_pages, fits_as_kept, header_misfits, lacks_companion, lesser, least, least_with, misfit_lines, misfit_lines_of, misfit_refusal, is_in_flash};
 
 use crate::reading::is_within;
 use crate::{Command, Fault};
 use stm_journal::Journal;
 use stm_wire::Chip;
 
-/// Whether the chip has page `n`, in the size in which segment `k` keeps it.
+/// Whether segment `k` lacks page 257, which has to be kept with page `n`: where that is page 1 and the chip has both.
+fn lacks_companion(journal: &Journal, chip: &Chip, k: u32, n: u16) -> bool
+    ensures { result ≡ lacks_companion chip.now (segment_pages journal.now.state k) n }
+{
+    if n != 1 || chip.pages() <= 257 {
+        return false;
+    }
+    match journal.page(k, 257) {
+        Some(_) => false,
+        None => true,
+    }
+}
+
+/// Whether the chip has page `n`, in the size in which segment `k` keeps it, and what has to be kept with it is.
 fn fits(journal: &Journal, chip: &Chip, k: u32, n: u16) -> bool
     ensures value { result ≡ fits_as_kept chip.now (segment_pages journal.now.state k) n }
     // A page number has 16 bits, so that a segment, which keeps a page once, has no more pages than an index can count.
@@ -19,7 +32,11 @@ fn fits(journal: &Journal, chip: &Chip, k: u32, n: u16) -> bool
         return false;
     }
     match journal.page(k, n) {
-        Some(bytes) => bytes.len() == chip.page_size(n) as usize,
+        Some(place) => {
+            let alone = lacks_companion(journal, chip, k, n);
+            let size = u64::from(chip.page_size(n));
+            place.length == size && !alone
+        }
         None => false,
     }
 }
@@ -37,7 +54,8 @@ fn lesser(so_far: Option<u64>, line: u64) -> u64
 /// The least line of segment `k` that keeps a page which the chip hasn't, or has in another size, or the least so far.
 fn misfit_line_of(journal: &Journal, chip: &Chip, k: u32, so_far: Option<u64>) -> Option<u64>
     requires { IsSound journal.now.state }
-    ensures { result ≡ least_with so_far (misfit_lines_of chip.now (segment_pages journal.now.state k)) }
+    ensures { let pages = segment_pages journal.now.state k in
+        result ≡ least_with so_far (misfit_lines_of chip.now pages pages) }
 {
     let mut least = so_far;
     let mut i = 0;
@@ -50,12 +68,25 @@ fn misfit_line_of(journal: &Journal, chip: &Chip, k: u32, so_far: Option<u64>) -
     least
 }
 
-/// The least line of the journal that keeps a page which the chip hasn't, or has in another size.
+/// The line of the journal's header, where its version is none of a chip with so many pages.
+fn header_misfit(journal: &Journal, chip: &Chip) -> Option<u64>
+    ensures { result ≡ least (header_misfits chip.now journal.now.state.header) }
+{
+    let (version, line) = journal.header()?;
+    if chip.pages() > 256 && version != 2 {
+        return Some(line);
+    }
+    None
+}
+
+/// The least line of the journal that can't be of the chip: that of its header, or one that keeps a page which the chip
+/// hasn't, has in another size, or hasn't without another.
 fn misfit_line(journal: &Journal, chip: &Chip) -> Option<u64>
-    ensures { result ≡ least (misfit_lines chip.now journal.now.state.stack) }
+    ensures { let state = journal.now.state in
+        result ≡ least (header_misfits chip.now state.header ++ misfit_lines chip.now state.stack) }
 {
     let depth = journal.depth();
-    let mut least = None;
+    let mut least = header_misfit(journal, chip);
     // The newest segment has none that are newer.
     for newer in 0..depth {
         least = misfit_line_of(journal, chip, depth - newer, least);
@@ -63,9 +94,11 @@ fn misfit_line(journal: &Journal, chip: &Chip) -> Option<u64>
     least
 }
 
-/// Each page that the journal keeps must be one of the chip, in its size.
+/// The journal's header must be one of such a chip, and each page that it keeps must be one of the chip, in its size.
 pub fn check_kept(journal: &Journal, chip: &Chip) -> Result<(), Fault>
-    ensures { MatchResult result (λ _. misfit_refusal chip.now journal.now.state ≡ None) (λ fault. (misfit_refusal chip.now journal.now.state ≡ Some fault)) }
+    ensures { MatchResult result
+        (λ _. misfit_refusal chip.now journal.now.state ≡ None)
+        (λ fault. misfit_refusal chip.now journal.now.state ≡ Some fault) }
 {
     match misfit_line(journal, chip) {
         None => Ok(()),

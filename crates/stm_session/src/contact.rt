@@ -1,11 +1,14 @@
 // How a session reaches a device: whatever it was sent before is ended, and it is asked who it is.
-ghost use Rattle.std.specs.Prelude.{◌≡◌, ⊤, IfErr, OnOk};
+ghost use Rattle.std.specs.Prelude.{◌≡◌, ⊤, IfErr, None};
 ghost use Rattle.stm_wire.specs.Device.{IsSettled};
 ghost use Rattle.stm_wire.specs.Dialogue.{GoesOn};
+ghost use Rattle.stm_wire.specs.Parts.{IsPart};
 ghost use Rattle.stm_wire.specs.Settling.{SettlesWithin};
 ghost use Rattle.stm_session.specs.Fault.{HasSessionCause, IsOfLine};
-ghost use Rattle.stm_session.specs.Moments.{AsksOnly, IsSafe};
-ghost use Rattle.stm_session.specs.Opening.{Tells};
+ghost use Rattle.stm_session.specs.Asking.{Asks};
+ghost use Rattle.stm_session.specs.Moments.{BeginsNothing, IsSafe};
+ghost use Rattle.stm_session.specs.Opening.{AreCommandsOf, Tells};
+ghost use Rattle.stm_session.specs.Sending.{is_whole};
 
 use crate::Fault;
 use stm_wire::{
@@ -21,15 +24,48 @@ const SETTLING_LIMIT: u32 = 131_072;
 
 /// Settles a device with 7F, which is known to do it no harm.
 pub fn settle_safe<R: Rig>(rig: &mut R) -> Result<(), Fault>
-    ensures cause { HasSessionCause (R.view rig.old) (R.view rig.new) result }
-    ensures calls { OnOk result (GoesOn (SettlesWithin 0x7F 131072) (R.view rig.old).calls (R.view rig.new).calls) }
+    ensures cause { let old = R.view rig.old in let new = R.view rig.new in
+        HasSessionCause old new result }
+    ensures calls { let old = R.view rig.old in let new = R.view rig.new in
+        GoesOn (SettlesWithin 0x7F 131072) old.calls new.calls }
     ensures sent { IfErr result IsOfLine }
-    ensures honest { (R.view rig.old).is_honest → IsSafe (R.view rig.old).device
-        → AsksOnly (R.view rig.old) (R.view rig.new) result (λ _. ⊤) }
+    ensures honest { let old = R.view rig.old in let new = R.view rig.new in
+        old.is_honest → IsSafe old.device → BeginsNothing old new result (λ _. ⊤) }
 {
     pages_are_the_flash();
     settle(rig, CONNECT, SETTLING_LIMIT)?;
     Ok(())
+}
+
+/// Asks a settled device for its commands.
+pub fn ask_commands<R: Rig>(rig: &mut R) -> Result<Commands, Fault>
+    ensures cause { let old = R.view rig.old in let new = R.view rig.new in
+        HasSessionCause old new result }
+    ensures puts { let old = R.view rig.old in let new = R.view rig.new in
+        GoesOn (IsPart None (is_whole result) 261) old.calls new.calls }
+    ensures sent { IfErr result IsOfLine }
+    ensures honest { let old = R.view rig.old in let new = R.view rig.new in
+        old.is_honest → IsSettled old.device → Asks old new result (AreCommandsOf old.device) }
+{
+    sending_is_harmless();
+    let commands = get_commands(rig)?;
+    Ok(commands)
+}
+
+/// Asks a settled device for its product id.
+pub fn ask_id<R: Rig>(rig: &mut R) -> Result<u16, Fault>
+    ensures cause { let old = R.view rig.old in let new = R.view rig.new in
+        HasSessionCause old new result }
+    ensures puts { let old = R.view rig.old in let new = R.view rig.new in
+        GoesOn (IsPart None (is_whole result) 7) old.calls new.calls }
+    ensures sent { IfErr result IsOfLine }
+    ensures honest { let old = R.view rig.old in let new = R.view rig.new in
+        old.is_honest → IsSettled old.device
+        → Asks old new result (λ id. id ≡ old.device.chip.id) }
+{
+    sending_is_harmless();
+    let id = get_id(rig)?;
+    Ok(id)
 }
 
 /// What a device tells of itself.
@@ -41,13 +77,15 @@ pub struct Told {
 
 /// Asks a settled device for its commands, and for its product id.
 pub fn ask<R: Rig>(rig: &mut R) -> Result<Told, Fault>
-    ensures cause { HasSessionCause (R.view rig.old) (R.view rig.new) result }
+    ensures cause { let old = R.view rig.old in let new = R.view rig.new in
+        HasSessionCause old new result }
+    ensures puts { let old = R.view rig.old in let new = R.view rig.new in
+        GoesOn (IsPart None (is_whole result) 268) old.calls new.calls }
     ensures sent { IfErr result IsOfLine }
-    ensures honest { (R.view rig.old).is_honest → IsSettled (R.view rig.old).device
-        → AsksOnly (R.view rig.old) (R.view rig.new) result (Tells (R.view rig.old).device) }
+    ensures honest { let old = R.view rig.old in let new = R.view rig.new in
+        old.is_honest → IsSettled old.device → Asks old new result (Tells old.device) }
 {
-    sending_is_harmless();
-    let commands = get_commands(rig)?;
-    let id = get_id(rig)?;
+    let commands = ask_commands(rig)?;
+    let id = ask_id(rig)?;
     Ok(Told { commands, id })
 }

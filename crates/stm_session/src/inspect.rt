@@ -1,11 +1,13 @@
 // Asking a device what it is.
-ghost use Rattle.std.specs.Prelude.{◌≡◌, ◌≢◌, [], IfErr, IfOk, Some};
+ghost use Rattle.std.specs.Prelude.{◌≡◌, ◌≢◌, [], IfErr, IfOk, None, Some};
 ghost use Rattle.stm_wire.specs.Dialogue.{GoesOn};
+ghost use Rattle.stm_wire.specs.Parts.{IsSession};
 ghost use Rattle.stm_journal.specs.Calls.{AreFetches, IsUntouched};
 ghost use Rattle.stm_journal.specs.Journals.{journal_of};
 ghost use Rattle.stm_session.specs.Fault.{HasSessionCause};
 ghost use Rattle.stm_session.specs.Moments.{IsSafe};
-ghost use Rattle.stm_session.specs.Refusal.{Refuses, unsent_refusal};
+ghost use Rattle.stm_session.specs.Refusal.{RefusesUnsent, unsent_refusal};
+ghost use Rattle.stm_session.specs.Sending.{is_whole, most_calls};
 ghost use Rattle.stm_session.specs.Information.{Describes, Informs};
 
 use crate::opening::open;
@@ -16,15 +18,23 @@ use stm_wire::Rig;
 
 /// Tells what the device is.
 pub fn info<R: Rig>(alloc: Global, rig: &mut R, table: &Table) -> Result<Info, Fault>
-    ensures cause { HasSessionCause (R.view rig.old) (R.view rig.new) result }
+    ensures cause { let old = R.view rig.old in let new = R.view rig.new in
+        HasSessionCause old new result }
+    ensures puts { let old = R.view rig.old in let new = R.view rig.new in
+        GoesOn (IsSession None 0x7F 131072 (is_whole result) (most_calls 0)) old.calls new.calls }
     ensures told { IfOk result (Describes table.now) }
-    ensures silent { IfErr result (λ fault. fault ≡ Fault.Unfinished → GoesOn AreFetches (R.view rig.old).calls (R.view rig.new).calls) }
-    ensures unsent { (R.view rig.old).is_honest → (fault : Fault) → unsent_refusal (journal_of (R.view rig.old).journal) ≡ Some fault
-        → Refuses (IsUntouched (R.view rig.old)) fault (R.view rig.old) (R.view rig.new) result }
-    ensures unsent_calls { (R.view rig.old).is_honest → (fault : Fault) → unsent_refusal (journal_of (R.view rig.old).journal) ≡ Some fault
-        → GoesOn AreFetches (R.view rig.old).calls (R.view rig.new).calls }
-    ensures honest { (R.view rig.old).is_honest → IsSafe (R.view rig.old).device → Informs table.now (R.view rig.old) (R.view rig.new) result }
-    ensures spared { (R.view rig.old).is_honest → (R.view rig.old).journal ≡ [] → IfErr result (λ fault. fault ≢ Fault.Memory) }
+    ensures silent { let old = R.view rig.old in let new = R.view rig.new in
+        IfErr result (λ fault. fault ≡ Fault.Unfinished → GoesOn AreFetches old.calls new.calls) }
+    ensures unsent { let old = R.view rig.old in let new = R.view rig.new in
+        old.is_honest → (fault : Fault) → unsent_refusal (journal_of old.journal) ≡ Some fault
+        → RefusesUnsent (IsUntouched old) fault old new result }
+    ensures unsent_calls { let old = R.view rig.old in let new = R.view rig.new in
+        old.is_honest → (fault : Fault) → unsent_refusal (journal_of old.journal) ≡ Some fault
+        → GoesOn AreFetches old.calls new.calls }
+    ensures honest { let old = R.view rig.old in let new = R.view rig.new in
+        old.is_honest → IsSafe old.device → Informs table.now old new result }
+    ensures spared { let old = R.view rig.old in
+        old.is_honest → old.journal ≡ [] → IfErr result (λ fault. fault ≢ Fault.Memory) }
 {
     let opened = open(alloc, rig, table)?;
     Ok(Info {

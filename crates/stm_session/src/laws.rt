@@ -1,8 +1,12 @@
 //! Laws of what can be taken back: each is the contract of a function that does nothing.
-ghost use Rattle.std.specs.Prelude.{◌≡◌, ℕ, List, [], false};
+ghost use Rattle.std.specs.Prelude.{◌≡◌, ℕ, List, [], Some, None, false};
+ghost use Rattle.stm_wire.specs.Chip.{ChipData};
 ghost use Rattle.stm_wire.specs.Device.{Device, IsDevice, IsReady, reset};
+ghost use Rattle.stm_chip.specs.Document.{IsChipWith, IsNewId};
+ghost use Rattle.stm_journal.specs.States.{StateData};
 ghost use Rattle.stm_session.specs.Moments.{IsSafe, SameMake};
-ghost use Rattle.stm_session.specs.Undoable.{Undoable, is_unfinished_at};
+ghost use Rattle.stm_session.specs.Refusal.{chip_with, misfit_refusal};
+ghost use Rattle.stm_session.specs.Undoable.{IsJournalOf, Undoable, is_unfinished_at};
 
 use stm_wire::{harmless_is_kept, stopped_is_harmless};
 
@@ -16,7 +20,8 @@ pub fn a_ready_device_can_begin()
 
 /// What can be taken back, still can after a reset of the device.
 pub fn a_reset_keeps_what_can_be_taken_back()
-    ensures { (flashes : List (List ℕ)) (d : Device) (journal : List ℕ) → Undoable flashes d journal → Undoable flashes (reset d) journal }
+    ensures { (flashes : List (List ℕ)) (d : Device) (journal : List ℕ)
+        → Undoable flashes d journal → Undoable flashes (reset d) journal }
 {
     harmless_is_kept();
 }
@@ -24,7 +29,25 @@ pub fn a_reset_keeps_what_can_be_taken_back()
 /// Where the journal is finished, the device is safe, and at any moment of calls that begin no segment, what could be taken
 /// back still can.
 pub fn asking_keeps_what_can_be_taken_back()
-    ensures safe { (flashes : List (List ℕ)) (d : Device) (journal : List ℕ) → Undoable flashes d journal → is_unfinished_at journal ≡ false → IsSafe d }
-    ensures undoable { (flashes : List (List ℕ)) (old d : Device) (journal : List ℕ) → Undoable flashes old journal → is_unfinished_at journal ≡ false
+    ensures safe { (flashes : List (List ℕ)) (d : Device) (journal : List ℕ)
+        → Undoable flashes d journal → is_unfinished_at journal ≡ false → IsSafe d }
+    ensures undoable { (flashes : List (List ℕ)) (old d : Device) (journal : List ℕ)
+        → Undoable flashes old journal → is_unfinished_at journal ≡ false
         → SameMake old d → d.flash ≡ old.flash → IsSafe d → Undoable flashes d journal }
+{}
+
+/// What a refusal looks up in a table is the chip that the table holds under an id, or none where none has that id.
+pub fn a_chip_is_looked_up_by_its_id()
+    ensures held { (table : List ChipData) (id : ℕ) (chip : ChipData)
+        → IsChipWith table id chip → chip_with table id ≡ Some chip }
+    ensures lacking { (table : List ChipData) (id : ℕ)
+        → IsNewId table id → chip_with table id ≡ None }
+{}
+
+/// A journal is refused for its header or for the pages that it keeps exactly where it isn't a journal of the chip.
+pub fn a_journal_of_the_chip_is_not_refused()
+    ensures unrefused { (chip : ChipData) (s : StateData)
+        → IsJournalOf chip s → misfit_refusal chip s ≡ None }
+    ensures fits { (chip : ChipData) (s : StateData)
+        → misfit_refusal chip s ≡ None → IsJournalOf chip s }
 {}

@@ -1,29 +1,50 @@
 //! A session with a device, over any line and journal: everything is checked before the first command is begun.
 #![tactic(auto)]
 
+mod beginning;
+mod change;
+mod changing;
 mod check;
+mod closing;
 mod command;
+mod commanding;
 mod contact;
+mod content;
+mod erasing;
 mod fault;
+mod finding;
+mod going_back;
+mod headline;
 mod information;
 mod inspect;
 mod laws;
+mod laws_of_steps;
 mod leave;
+mod meeting;
 mod opening;
 mod outcome;
+mod programming;
 mod reading;
+mod restoring;
+mod returning;
+mod reversal;
+mod rewriting;
 mod running;
-#[cfg(test)]
-mod tests;
+mod saving;
+mod settling;
+mod taking_back;
+mod turning;
 
 pub use command::Command;
 pub use fault::Fault;
+pub use headline::{a_session_can_be_taken_back, the_first_difference_is_the_first};
 pub use information::Info;
 pub use inspect::info;
 pub use laws::{
-    a_ready_device_can_begin, a_reset_keeps_what_can_be_taken_back,
-    asking_keeps_what_can_be_taken_back,
+    a_chip_is_looked_up_by_its_id, a_journal_of_the_chip_is_not_refused, a_ready_device_can_begin,
+    a_reset_keeps_what_can_be_taken_back, asking_keeps_what_can_be_taken_back,
 };
 pub use leave::{go, protect};
 pub use outcome::{Outcome, Report};
+pub use reversal::undo;
 pub use running::run;

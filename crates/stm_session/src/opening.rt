@@ -1,13 +1,15 @@
 // How a session begins: the journal is loaded, the device is reached, and both must fit the table and each other.
 ghost use Rattle.std.specs.Prelude.{◌≡◌, ◌≢◌, [], IfOk, IfErr, OnOk, Some, None, false, not};
 ghost use Rattle.stm_wire.specs.Dialogue.{GoesOn};
+ghost use Rattle.stm_wire.specs.Parts.{IsSession};
 ghost use Rattle.stm_journal.specs.Calls.{AreFetches, IsUntouched};
 ghost use Rattle.stm_chip.specs.Document.{IsChipWith};
 ghost use Rattle.stm_journal.specs.Journals.{IsLoaded, journal_of};
 ghost use Rattle.stm_journal.specs.States.{is_unfinished, names_other};
-ghost use Rattle.stm_session.specs.Fault.{HasSessionCause, IsOfLine};
-ghost use Rattle.stm_session.specs.Moments.{AsksOnly, IsSafe};
-ghost use Rattle.stm_session.specs.Refusal.{IsOfDevice, Refuses, device_refusals, first_refusal, misfit_refusal, unsent_refusal};
+ghost use Rattle.stm_session.specs.Fault.{HasSessionCause, IsOfLine, IsLaterRefusal};
+ghost use Rattle.stm_session.specs.Moments.{BeginsNothing, IsSafe};
+ghost use Rattle.stm_session.specs.Refusal.{RefusesUnsent, device_refusals, first_refusal, misfit_refusal, unsent_refusal};
+ghost use Rattle.stm_session.specs.Sending.{is_whole, most_calls};
 ghost use Rattle.stm_session.specs.Opening.{IsCoherent, LoadsUnless, Opens, Tells};
 
 use crate::Fault;
@@ -28,13 +30,17 @@ pub struct Opened<'t> {
 
 /// Reads the journal, which must be finished.
 fn load_finished<R: Rig>(alloc: Global, rig: &mut R) -> Result<Journal, Fault>
-    ensures cause { HasSessionCause (R.view rig.old) (R.view rig.new) result }
-    ensures calls { GoesOn AreFetches (R.view rig.old).calls (R.view rig.new).calls }
+    ensures cause { let old = R.view rig.old in let new = R.view rig.new in
+        HasSessionCause old new result }
+    ensures calls { let old = R.view rig.old in let new = R.view rig.new in
+        GoesOn AreFetches old.calls new.calls }
     ensures finished { IfOk result (λ journal. is_unfinished journal.state ≡ false) }
-    ensures honest { (R.view rig.old).is_honest
-        → LoadsUnless (unsent_refusal (journal_of (R.view rig.old).journal)) (R.view rig.old) (R.view rig.new) result }
-    ensures loaded { (R.view rig.old).is_honest → IfOk result (λ journal. IsLoaded journal (R.view rig.old).journal) }
-    ensures memory { (R.view rig.old).is_honest → (R.view rig.old).journal ≡ [] → IfErr result (λ fault. fault ≢ Fault.Memory) }
+    ensures honest { let old = R.view rig.old in let new = R.view rig.new in
+        old.is_honest → LoadsUnless (unsent_refusal (journal_of old.journal)) old new result }
+    ensures loaded { let old = R.view rig.old in
+        old.is_honest → IfOk result (λ journal. IsLoaded journal old.journal) }
+    ensures memory { let old = R.view rig.old in
+        old.is_honest → old.journal ≡ [] → IfErr result (λ fault. fault ≢ Fault.Memory) }
 {
     let journal = Journal::load(alloc, rig)?;
     if journal.is_unfinished() {
@@ -45,10 +51,13 @@ fn load_finished<R: Rig>(alloc: Global, rig: &mut R) -> Result<Journal, Fault>
 
 /// Settles a device with 7F, and asks who it is.
 fn reach<R: Rig>(rig: &mut R) -> Result<Told, Fault>
-    ensures cause { HasSessionCause (R.view rig.old) (R.view rig.new) result }
+    ensures cause { let old = R.view rig.old in let new = R.view rig.new in
+        HasSessionCause old new result }
+    ensures puts { let old = R.view rig.old in let new = R.view rig.new in
+        GoesOn (IsSession None 0x7F 131072 (is_whole result) (most_calls 0)) old.calls new.calls }
     ensures sent { IfErr result IsOfLine }
-    ensures honest { (R.view rig.old).is_honest → IsSafe (R.view rig.old).device
-        → AsksOnly (R.view rig.old) (R.view rig.new) result (Tells (R.view rig.old).device) }
+    ensures honest { let old = R.view rig.old in let new = R.view rig.new in
+        old.is_honest → IsSafe old.device → BeginsNothing old new result (Tells old.device) }
 {
     settle_safe(rig)?;
     ask(rig)
@@ -58,8 +67,8 @@ fn reach<R: Rig>(rig: &mut R) -> Result<Told, Fault>
 fn is_of(journal: &Journal, id: u16) -> bool
     ensures { result ≡ not (names_other id journal.now.state) }
 {
-    match journal.header() {
-        Some(header) => header.id == id,
+    match journal.id() {
+        Some(own) => own == id,
         None => true,
     }
 }
@@ -70,9 +79,11 @@ fn find_chip<'t>(journal: &Journal, table: &'t Table, id: u16) -> Result<&'t Chi
     ensures chip { IfOk result (λ chip. IsChipWith table.now chip.now.id chip.now) }
     ensures id { IfOk result (λ chip. chip.now.id ≡ id) }
     ensures fits { IfOk result (λ chip. misfit_refusal chip.now journal.now.state ≡ None) }
-    ensures accepted { OnOk result (first_refusal (device_refusals journal.now.state id table.now) ≡ None) }
-    ensures refused { IfErr result (λ fault. first_refusal (device_refusals journal.now.state id table.now) ≡ Some fault) }
-    ensures named { IfErr result IsOfDevice }
+    ensures accepted { OnOk result
+        (first_refusal (device_refusals journal.now.state id table.now) ≡ None) }
+    ensures refused { IfErr result
+        (λ fault. first_refusal (device_refusals journal.now.state id table.now) ≡ Some fault) }
+    ensures named { IfErr result IsLaterRefusal }
 {
     if !is_of(journal, id) {
         return Err(Fault::OtherDevice);
@@ -87,15 +98,23 @@ fn find_chip<'t>(journal: &Journal, table: &'t Table, id: u16) -> Result<&'t Chi
 /// Loads the journal, which must be finished; settles the device with 7F; and asks who it is. The journal must be of that
 /// device, the table must have its chip, and each page that the journal keeps must be one of that chip.
 pub fn open<'t, R: Rig>(alloc: Global, rig: &mut R, table: &'t Table) -> Result<Opened<'t>, Fault>
-    ensures cause { HasSessionCause (R.view rig.old) (R.view rig.new) result }
+    ensures cause { let old = R.view rig.old in let new = R.view rig.new in
+        HasSessionCause old new result }
+    ensures puts { let old = R.view rig.old in let new = R.view rig.new in
+        GoesOn (IsSession None 0x7F 131072 (is_whole result) (most_calls 0)) old.calls new.calls }
     ensures coherent { IfOk result (IsCoherent table.now) }
-    ensures silent { IfErr result (λ fault. fault ≡ Fault.Unfinished → GoesOn AreFetches (R.view rig.old).calls (R.view rig.new).calls) }
-    ensures unsent { (R.view rig.old).is_honest → (fault : Fault) → unsent_refusal (journal_of (R.view rig.old).journal) ≡ Some fault
-        → Refuses (IsUntouched (R.view rig.old)) fault (R.view rig.old) (R.view rig.new) result }
-    ensures unsent_calls { (R.view rig.old).is_honest → (fault : Fault) → unsent_refusal (journal_of (R.view rig.old).journal) ≡ Some fault
-        → GoesOn AreFetches (R.view rig.old).calls (R.view rig.new).calls }
-    ensures honest { (R.view rig.old).is_honest → IsSafe (R.view rig.old).device → Opens table.now (R.view rig.old) (R.view rig.new) result }
-    ensures memory { (R.view rig.old).is_honest → (R.view rig.old).journal ≡ [] → IfErr result (λ fault. fault ≢ Fault.Memory) }
+    ensures silent { let old = R.view rig.old in let new = R.view rig.new in
+        IfErr result (λ fault. fault ≡ Fault.Unfinished → GoesOn AreFetches old.calls new.calls) }
+    ensures unsent { let old = R.view rig.old in let new = R.view rig.new in
+        old.is_honest → (fault : Fault) → unsent_refusal (journal_of old.journal) ≡ Some fault
+        → RefusesUnsent (IsUntouched old) fault old new result }
+    ensures unsent_calls { let old = R.view rig.old in let new = R.view rig.new in
+        old.is_honest → (fault : Fault) → unsent_refusal (journal_of old.journal) ≡ Some fault
+        → GoesOn AreFetches old.calls new.calls }
+    ensures honest { let old = R.view rig.old in let new = R.view rig.new in
+        old.is_honest → IsSafe old.device → Opens table.now old new result }
+    ensures memory { let old = R.view rig.old in
+        old.is_honest → old.journal ≡ [] → IfErr result (λ fault. fault ≢ Fault.Memory) }
 {
     harmless_is_kept();
     let journal = load_finished(alloc, rig)?;

@@ -1,10 +1,14 @@
 // Reads any part of the flash, in calls that the bootloader takes.
-ghost use Rattle.std.specs.Prelude.{◌≡◌, ◌+◌, ◌-◌, ◌<◌, ◌≤◌, ◌||◌, ◌==◌, ◌++◌, IsTrue, IfErr, IfOk, OnOk, length, vec_len};
+ghost use Rattle.std.specs.Prelude.{◌≡◌, ℕ, ◌+◌, ◌-◌, ◌<◌, ◌≤◌, ◌||◌, ◌==◌, ◌++◌, IsTrue, IfErr, IfOk, OnOk, length, vec_len, Some};
 ghost use Rattle.stm_wire.specs.Chip.{fits_inside, is_inside};
 ghost use Rattle.stm_wire.specs.Device.{IsSettled};
-ghost use Rattle.stm_session.specs.Fault.{HasSessionCause, IsOfJournal};
-ghost use Rattle.stm_session.specs.Moments.{AsksOnly};
-ghost use Rattle.stm_session.specs.Reading.{IsPageRest, IsBlock};
+ghost use Rattle.stm_wire.specs.Dialogue.{GoesOn};
+ghost use Rattle.stm_wire.specs.Intents.{InPage};
+ghost use Rattle.stm_wire.specs.Parts.{IsPart};
+ghost use Rattle.stm_session.specs.Fault.{HasSessionCause, IsRefusal};
+ghost use Rattle.stm_session.specs.Asking.{Asks};
+ghost use Rattle.stm_session.specs.Reading.{HoldsAddress, IsBlock, IsNotBehind};
+ghost use Rattle.stm_session.specs.Sending.{is_whole, most_of_command};
 ghost use Rattle.stm_session.specs.Running.{bytes_at};
 
 use crate::Fault;
@@ -18,33 +22,44 @@ const BLOCK: u32 = 256;
 pub fn is_within(chip: &Chip, start: u32, size: u32) -> bool
     ensures { result ≡ (size == 0 || fits_inside chip.now start size) }
 {
-    let end = u64::from(chip.base()) + u64::from(chip.flash_size());
-    size == 0 || (chip.base() <= start && u64::from(start) + u64::from(size) <= end)
+    size == 0 || (chip.base() <= start && u64::from(start) + u64::from(size) <= chip.end())
 }
 
-/// How many bytes are left, from this address on, of the page that holds it.
-fn page_rest(chip: &Chip, address: u32) -> u32
-    requires { IsTrue (is_inside chip.now address) }
-    ensures { IsPageRest chip.now address result }
+/// A page, and how many bytes of the flash lie before it.
+#[derive(Clone, Copy)]
+struct Place {
+    page: u16,
+    before: u32,
+}
+
+/// The page that holds an address, looked for from one on that doesn't lie behind it.
+fn page_at(chip: &Chip, address: u32, from: Place) -> Place
+    requires inside { IsTrue (is_inside chip.now address) }
+    requires from { IsNotBehind chip.now address from }
+    ensures { HoldsAddress chip.now address result }
 {
     chip.keeps_limits();
     let offset = address - chip.base();
-    let mut end = 0;
-    for n in 0..chip.pages() {
-        end += chip.page_size(n);
+    let mut before = from.before;
+    for page in from.page..chip.pages() {
+        let end = before + chip.page_size(page);
         if offset < end {
-            return end - offset;
+            return Place { page, before };
         }
+        before = end;
     }
     unreachable!()
 }
 
-/// How many bytes the next call reads, where so many are left to read from this address on.
-fn block_size(chip: &Chip, address: u32, left: u32) -> u32
-    requires { IsTrue (is_inside chip.now address) }
+/// How many bytes the next call reads, where so many are left to read from this address on, which lies in this page.
+fn block_size(chip: &Chip, address: u32, place: Place, left: u32) -> u32
+    requires { HoldsAddress chip.now address place }
     ensures { IsBlock chip.now address left result }
 {
-    BLOCK.min(page_rest(chip, address)).min(left)
+    chip.keeps_limits();
+    let end = place.before + chip.page_size(place.page);
+    let rest = end - (address - chip.base());
+    BLOCK.min(rest).min(left)
 }
 
 /// Reads 1 to 256 bytes of flash into the buffer.
@@ -52,12 +67,18 @@ fn read_part<R: Rig>(rig: &mut R, chip: &Chip, address: u32, buf: &mut [u8]) -> 
     requires some { 1 ≤ length buf.old }
     requires limit { length buf.old ≤ 256 }
     ensures size { length buf.new ≡ length buf.old }
-    ensures cause { HasSessionCause (R.view rig.old) (R.view rig.new) result }
-    ensures sent { IfErr result (λ fault. IsOfJournal fault → ⊥) }
-    ensures honest { (R.view rig.old).is_honest → IsSettled (R.view rig.old).device → (R.view rig.old).device.chip ≡ chip.now
+    ensures cause { let old = R.view rig.old in let new = R.view rig.new in
+        HasSessionCause old new result }
+    ensures puts { let old = R.view rig.old in let new = R.view rig.new in
+        (page : ℕ) → InPage chip.now page address (length buf.old)
+        → GoesOn (IsPart (Some chip.now) (is_whole result) (12 + length buf.old))
+        old.calls new.calls }
+    ensures sent { IfErr result (λ fault. IsRefusal fault → ⊥) }
+    ensures honest { let old = R.view rig.old in let new = R.view rig.new in
+        old.is_honest → IsSettled old.device → old.device.chip ≡ chip.now
         → IsTrue (fits_inside chip.now address (length buf.old))
-        → AsksOnly (R.view rig.old) (R.view rig.new) result
-        (λ _. buf.new ≡ bytes_at chip.now (R.view rig.old).device.flash address (length buf.old)) }
+        → Asks old new result
+        (λ _. buf.new ≡ bytes_at chip.now old.device.flash address (length buf.old)) }
 {
     sending_is_harmless();
     stm_wire::read(rig, address, buf)?;
@@ -75,12 +96,18 @@ fn read_block<R: Rig>(
     requires some { 1 ≤ size }
     requires limit { size ≤ 256 }
     ensures size { OnOk result (vec_len bytes.new ≡ vec_len bytes.old + size) }
-    ensures cause { HasSessionCause (R.view rig.old) (R.view rig.new) result }
-    ensures sent { IfErr result (λ fault. IsOfJournal fault → ⊥) }
-    ensures honest { (R.view rig.old).is_honest → IsSettled (R.view rig.old).device → (R.view rig.old).device.chip ≡ chip.now
+    ensures cause { let old = R.view rig.old in let new = R.view rig.new in
+        HasSessionCause old new result }
+    ensures puts { let old = R.view rig.old in let new = R.view rig.new in
+        (page : ℕ) → InPage chip.now page address size
+        → GoesOn (IsPart (Some chip.now) (is_whole result) (12 + size)) old.calls new.calls }
+    ensures sent { IfErr result (λ fault. IsRefusal fault → ⊥) }
+    ensures honest { let old = R.view rig.old in let new = R.view rig.new in
+        old.is_honest → IsSettled old.device → old.device.chip ≡ chip.now
         → IsTrue (fits_inside chip.now address size)
-        → AsksOnly (R.view rig.old) (R.view rig.new) result
-        (λ _. bytes.new.items ≡ bytes.old.items ++ bytes_at chip.now (R.view rig.old).device.flash address size) }
+        → Asks old new result
+        (λ _. bytes.new.items
+        ≡ bytes.old.items ++ bytes_at chip.now old.device.flash address size) }
 {
     let mut block = [0; 256];
     let part = &mut block[..size as usize];
@@ -99,19 +126,25 @@ pub fn read_range<R: Rig>(
 ) -> Result<Vec<u8>, Fault>
     requires { IsTrue (size == 0 || fits_inside chip.now start size) }
     ensures size { IfOk result (λ bytes. vec_len bytes ≡ size) }
-    ensures cause { HasSessionCause (R.view rig.old) (R.view rig.new) result }
-    ensures sent { IfErr result (λ fault. IsOfJournal fault → ⊥) }
-    ensures honest { (R.view rig.old).is_honest → IsSettled (R.view rig.old).device → (R.view rig.old).device.chip ≡ chip.now
-        → AsksOnly (R.view rig.old) (R.view rig.new) result
-        (λ bytes. bytes.items ≡ bytes_at chip.now (R.view rig.old).device.flash start size) }
+    ensures puts { let old = R.view rig.old in let new = R.view rig.new in
+        GoesOn (IsPart (Some chip.now) (is_whole result) most_of_command) old.calls new.calls }
+    ensures cause { let old = R.view rig.old in let new = R.view rig.new in
+        HasSessionCause old new result }
+    ensures sent { IfErr result (λ fault. IsRefusal fault → ⊥) }
+    ensures honest { let old = R.view rig.old in let new = R.view rig.new in
+        old.is_honest → IsSettled old.device → old.device.chip ≡ chip.now
+        → Asks old new result
+        (λ bytes. bytes.items ≡ bytes_at chip.now old.device.flash start size) }
 {
     chip.keeps_limits();
     sending_is_harmless();
     let mut bytes = Vec::with_capacity(alloc, size as usize)?;
+    let mut place = Place { page: 0, before: 0 };
     let mut done = 0;
     while done < size {
         let address = start + done;
-        let block = block_size(chip, address, size - done);
+        place = page_at(chip, address, place);
+        let block = block_size(chip, address, place, size - done);
         read_block(rig, chip, address, block, &mut bytes)?;
         done += block;
     }

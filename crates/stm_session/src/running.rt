@@ -1,14 +1,17 @@
 // A run: everything is checked before the first command is begun, and then the commands are done in their order.
-ghost use Rattle.std.specs.Prelude.{◌≡◌, ◌≢◌, [], IfOk, IfErr, Some, None, true, map};
+ghost use Rattle.std.specs.Prelude.{◌≡◌, ◌≢◌, ◌*◌, length, [], IfOk, IfErr, Some, None, true, map};
 ghost use Rattle.std.specs.List.{list_all};
 ghost use Rattle.stm_wire.specs.Device.{IsSettled};
 ghost use Rattle.stm_wire.specs.Dialogue.{GoesOn};
+ghost use Rattle.stm_wire.specs.Parts.{IsPart};
 ghost use Rattle.stm_chip.specs.Document.{IsChipWith};
 ghost use Rattle.stm_journal.specs.Calls.{AreFetches, IsUntouched};
 ghost use Rattle.stm_journal.specs.Journals.{journal_of};
-ghost use Rattle.stm_session.specs.Fault.{HasSessionCause, IsOfJournal};
-ghost use Rattle.stm_session.specs.Moments.{AsksOnly, IsSafe, IsUnbegun};
-ghost use Rattle.stm_session.specs.Refusal.{Refuses, is_in_flash, refusal_of, unsent_refusal};
+ghost use Rattle.stm_session.specs.Fault.{HasSessionCause, IsRefusal};
+ghost use Rattle.stm_session.specs.Asking.{Asks};
+ghost use Rattle.stm_session.specs.Moments.{IsSafe, IsUnbegun};
+ghost use Rattle.stm_session.specs.Refusal.{Refuses, RefusesUnsent, is_in_flash, refusal_of, unsent_refusal};
+ghost use Rattle.stm_session.specs.Sending.{SendsAsRun, is_whole, most_of_command};
 ghost use Rattle.stm_session.specs.Running.{AreRead, bytes_of, bytes_read, RunsReads, size_asked, size_of};
 
 use crate::check::are_in_flash;
@@ -27,12 +30,16 @@ fn run_command<R: Rig>(
     command: &Command,
 ) -> Result<Outcome, Fault>
     requires { is_in_flash chip.now command.now ≡ true }
+    ensures puts { let old = R.view rig.old in let new = R.view rig.new in
+        GoesOn (IsPart (Some chip.now) (is_whole result) most_of_command) old.calls new.calls }
     ensures size { IfOk result (λ outcome. size_of outcome ≡ size_asked command.now) }
-    ensures cause { HasSessionCause (R.view rig.old) (R.view rig.new) result }
-    ensures sent { IfErr result (λ fault. IsOfJournal fault → ⊥) }
-    ensures honest { (R.view rig.old).is_honest → IsSettled (R.view rig.old).device → (R.view rig.old).device.chip ≡ chip.now
-        → AsksOnly (R.view rig.old) (R.view rig.new) result
-        (λ outcome. bytes_of outcome ≡ bytes_read chip.now (R.view rig.old).device.flash command.now) }
+    ensures cause { let old = R.view rig.old in let new = R.view rig.new in
+        HasSessionCause old new result }
+    ensures sent { IfErr result (λ fault. IsRefusal fault → ⊥) }
+    ensures honest { let old = R.view rig.old in let new = R.view rig.new in
+        old.is_honest → IsSettled old.device → old.device.chip ≡ chip.now
+        → Asks old new result
+        (λ outcome. bytes_of outcome ≡ bytes_read chip.now old.device.flash command.now) }
 {
     match command {
         Command::Read { start, length } => {
@@ -50,13 +57,18 @@ fn run_reads<R: Rig>(
     commands: &[Command],
 ) -> Result<Vec<Outcome>, Fault>
     requires { list_all (is_in_flash chip.now) commands.now ≡ true }
-    ensures sizes { IfOk result (λ outcomes. map size_of outcomes.items ≡ map size_asked commands.now) }
+    ensures puts { let old = R.view rig.old in let new = R.view rig.new in
+        GoesOn (IsPart (Some chip.now) (is_whole result) (length commands.now * most_of_command))
+        old.calls new.calls }
+    ensures sizes { IfOk result
+        (λ outcomes. map size_of outcomes.items ≡ map size_asked commands.now) }
     ensures nothing { commands.now ≡ [] → IfErr result (λ _. ⊥) }
-    ensures cause { HasSessionCause (R.view rig.old) (R.view rig.new) result }
-    ensures sent { IfErr result (λ fault. IsOfJournal fault → ⊥) }
-    ensures honest { (R.view rig.old).is_honest → IsSettled (R.view rig.old).device → (R.view rig.old).device.chip ≡ chip.now
-        → AsksOnly (R.view rig.old) (R.view rig.new) result
-        (λ outcomes. AreRead (R.view rig.old).device commands.now outcomes.items) }
+    ensures cause { let old = R.view rig.old in let new = R.view rig.new in
+        HasSessionCause old new result }
+    ensures sent { IfErr result (λ fault. IsRefusal fault → ⊥) }
+    ensures honest { let old = R.view rig.old in let new = R.view rig.new in
+        old.is_honest → IsSettled old.device → old.device.chip ≡ chip.now
+        → Asks old new result (λ outcomes. AreRead old.device commands.now outcomes.items) }
 {
     sending_is_harmless();
     let mut outcomes = Vec::new(alloc);
@@ -74,21 +86,32 @@ pub fn run<R: Rig>(
     table: &Table,
     commands: &[Command],
 ) -> Result<Report, Fault>
-    ensures cause { HasSessionCause (R.view rig.old) (R.view rig.new) result }
-    ensures sizes { IfOk result (λ report. map size_of report.outcomes.items ≡ map size_asked commands.now) }
-    ensures silent { IfErr result (λ fault. fault ≡ Fault.Unfinished → GoesOn AreFetches (R.view rig.old).calls (R.view rig.new).calls) }
-    ensures unsent { (R.view rig.old).is_honest → (fault : Fault) → unsent_refusal (journal_of (R.view rig.old).journal) ≡ Some fault
-        → Refuses (IsUntouched (R.view rig.old)) fault (R.view rig.old) (R.view rig.new) result }
-    ensures unsent_calls { (R.view rig.old).is_honest → (fault : Fault) → unsent_refusal (journal_of (R.view rig.old).journal) ≡ Some fault
-        → GoesOn AreFetches (R.view rig.old).calls (R.view rig.new).calls }
-    ensures refused { (R.view rig.old).is_honest → IsSafe (R.view rig.old).device → (fault : Fault)
-        → refusal_of (journal_of (R.view rig.old).journal) (R.view rig.old).device table.now commands.now ≡ Some fault
-        → Refuses (IsUnbegun (R.view rig.old)) fault (R.view rig.old) (R.view rig.new) result }
-    ensures reads { (R.view rig.old).is_honest → IsSafe (R.view rig.old).device
-        → IsChipWith table.now (R.view rig.old).device.chip.id (R.view rig.old).device.chip
-        → refusal_of (journal_of (R.view rig.old).journal) (R.view rig.old).device table.now commands.now ≡ None
-        → RunsReads commands.now (R.view rig.old) (R.view rig.new) result (λ report. report.outcomes.items) }
-    ensures spared { (R.view rig.old).is_honest → (R.view rig.old).journal ≡ [] → commands.now ≡ [] → IfErr result (λ fault. fault ≢ Fault.Memory) }
+    ensures cause { let old = R.view rig.old in let new = R.view rig.new in
+        HasSessionCause old new result }
+    ensures puts { let old = R.view rig.old in let new = R.view rig.new in
+        SendsAsRun table.now (is_whole result) (length commands.now) old new }
+    ensures sizes { IfOk result
+        (λ report. map size_of report.outcomes.items ≡ map size_asked commands.now) }
+    ensures silent { let old = R.view rig.old in let new = R.view rig.new in
+        IfErr result (λ fault. fault ≡ Fault.Unfinished → GoesOn AreFetches old.calls new.calls) }
+    ensures unsent { let old = R.view rig.old in let new = R.view rig.new in
+        old.is_honest → (fault : Fault) → unsent_refusal (journal_of old.journal) ≡ Some fault
+        → RefusesUnsent (IsUntouched old) fault old new result }
+    ensures unsent_calls { let old = R.view rig.old in let new = R.view rig.new in
+        old.is_honest → (fault : Fault) → unsent_refusal (journal_of old.journal) ≡ Some fault
+        → GoesOn AreFetches old.calls new.calls }
+    ensures refused { let old = R.view rig.old in let new = R.view rig.new in
+        old.is_honest → IsSafe old.device → (fault : Fault)
+        → refusal_of (journal_of old.journal) old.device table.now commands.now ≡ Some fault
+        → Refuses (IsUnbegun old) fault old new result }
+    ensures reads { let old = R.view rig.old in let new = R.view rig.new in
+        old.is_honest → IsSafe old.device
+        → IsChipWith table.now old.device.chip.id old.device.chip
+        → refusal_of (journal_of old.journal) old.device table.now commands.now ≡ None
+        → RunsReads commands.now old new result (λ report. report.outcomes.items) }
+    ensures spared { let old = R.view rig.old in
+        old.is_honest → old.journal ≡ [] → commands.now ≡ []
+        → IfErr result (λ fault. fault ≢ Fault.Memory) }
 {
     let opened = open(alloc, rig, table)?;
     if !are_in_flash(opened.chip, commands) {

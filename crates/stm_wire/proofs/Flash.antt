@@ -1,40 +1,12 @@
 -- A change within some pages leaves every other page as it was.
-use Rattle.std.proofs.Common.{◌≡◌, ◌≢◌, ℕ, suc, ◌+◌, ◌-◌, ◌<◌, ◌≤◌, ◌⊎◌, inl, inr, List, [], ◌∷◌, length, get_or, take, drop, replicate, refl, sym, ap, ◌∙◌, subst, arith, rules, sum}
+use Rattle.std.proofs.Common.{◌≡◌, ℕ, suc, ◌+◌, ◌-◌, ◌≤◌, List, [], ◌∷◌, length, take, drop, replicate, refl, sym, ap, ◌∙◌, subst, arith}
 use Rattle.std.specs.Prelude.{⊤}
 use Rattle.std.specs.List.{Contains}
-use Rattle.std.proofs.lemmas.Bool.{cases_order}
-use Rattle.std.proofs.lemmas.List.Sums.{sum_by_more, sum_by-take-le}
-use Rattle.std.proofs.lemmas.List.{places, same_lists, take-take, length-replicate}
-use Rattle.stm_wire.specs.Chip.{ChipData, flash_size, page_count, page_size, page_offset, page_of, with_bytes, erased_byte}
-use Rattle.stm_wire.specs.PageLaws.{page_within, length-with_bytes}
+use Rattle.std.proofs.lemmas.List.{length-replicate}
+use Rattle.stm_wire.specs.Chip.{ChipData, flash_size, page_size, page_offset, page_of, with_bytes, erased_byte}
+use Rattle.stm_wire.specs.PageLaws.{page_within, length-with_bytes, other_page}
 use Rattle.stm_wire.specs.Effect.{Change, Nothing, ErasePages, EraseAll, Write, Effect, Stores, erased_pages}
 use Rattle.stm_wire.specs.Harmless.{SameOutside}
-
-apart : (at : ℕ) (bytes flash : List ℕ) (s z : ℕ) → at + length bytes ≤ length flash → (s + z ≤ at) ⊎ (at + length bytes ≤ s) →
-    take z (drop s (with_bytes at bytes flash)) ≡ take z (drop s flash)
-apart at bytes flash s z h d = same_lists _ _ (search (rules, places)) (λ k e l. grind (arith, places))
-
--- a page ends where the next begins, or before
-page_end : (sizes : List ℕ) (n p : ℕ) → n < p → n < length sizes → sum (take n sizes) + get_or sizes n 0 ≤ sum (take p sizes)
-page_end sizes n p lt here =
-    let more = sum_by_more (λ x. x) sizes n 0 here in
-    let le : sum (take (n + 1) (take p sizes)) ≤ sum (take p sizes) = sum_by-take-le (λ x. x) (take p sizes) (n + 1) in
-    let same : take (n + 1) (take p sizes) ≡ take (n + 1) sizes = take-take (n + 1) p sizes (omega arith) in
-    let le2 : sum (take (n + 1) sizes) ≤ sum (take p sizes) = rw same at le in
-    omega arith
-
--- bytes put within page p leave page n as it was
-pub other_page : (chip : ChipData) (flash bytes : List ℕ) (at n p : ℕ) → length flash ≡ flash_size chip →
-    page_offset chip p ≤ at → at + length bytes ≤ page_offset chip p + page_size chip p → n < page_count chip → n ≢ p →
-    page_of chip (with_bytes at bytes flash) n ≡ page_of chip flash n
-other_page chip flash bytes at n p size from to here ne =
-    let within = page_within chip.sizes p in
-    apart at bytes flash (page_offset chip n) (page_size chip n) (omega arith) (sides (cases_order n p))
-  where
-    sides : (n ≡ p) ⊎ ((n < p) ⊎ (p < n)) → (page_offset chip n + page_size chip n ≤ at) ⊎ (at + length bytes ≤ page_offset chip n)
-    sides (inl e) = absurd (ne e)
-    sides (inr (inl lt)) = inl (let h = page_end chip.sizes n p lt here in omega arith)
-    sides (inr (inr gt)) = inr (let h = page_end chip.sizes p n gt (omega arith) in omega arith)
 
 -- each of these
 abbrev pub Every : (ℕ → Type 0) → List ℕ → Type 0

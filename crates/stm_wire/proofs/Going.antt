@@ -1,7 +1,7 @@
 -- The loop of settling: what holds before each byte, and what the byte leaves.
-use Rattle.std.proofs.Common.{lit≤, ◌≡◌, ℕ, suc, ◌<◌, ◌≤◌, ◌⊎◌, inl, inr, ⊎_elim, Bool, true, false, cond, eqb, List, [], ◌∷◌, ◌++◌, length, drop, refl, sym, ap, ◌∙◌, subst, arith, Some}
-use Rattle.std.proofs.lemmas.Bool.{cond_both, eq-eqb, eqb-true}
-use Rattle.std.proofs.lemmas.List.{length-drop, drop_all}
+use Rattle.std.proofs.Common.{lit≤, ◌≡◌, ◌≢◌, ℕ, suc, ◌+◌, ◌<◌, ◌≤◌, ◌⊎◌, inl, inr, ⊎_elim, Bool, true, false, cond, eqb, List, [], ◌∷◌, ◌++◌, length, drop, refl, sym, ap, ◌∙◌, subst, arith, Some}
+use Rattle.std.proofs.lemmas.Bool.{cond_both, eq-eqb, eqb-true, ne_eqb}
+use Rattle.std.proofs.lemmas.List.{length-drop, length-append, drop_all}
 use Rattle.stm_wire.specs.Chip.{ChipData}
 use Rattle.stm_wire.specs.declared.verdict.Verdict.TheVariants.{Refused}
 use Rattle.stm_wire.specs.Exchange.{verdict}
@@ -184,3 +184,71 @@ refuses byte d new at f =
     let t : Takes d bytes (verdict d.chip d.codes bytes) new = subst (λ (p : Phase). Receives d p byte new) at f.receives in
     let u : Takes d bytes (Some Refused) new = subst (λ w. Takes d bytes w new) v t in
     u ∙ ap (λ r. record d { owed = d.owed ++ r; phase = Connected [] }) (ap (λ w. reply_to w d.chip d.version d.codes d.flash bytes) v)
+
+-- Bytes fed without a get between, as long as two are kept back: n bytes may be owed, and what is due
+abbrev pub due_at : ℕ → Phase → ℕ
+due_at byte Fresh = 0
+due_at byte (Connected rest) = due byte rest
+due_at byte Gone = 0
+
+pub record InBatch (byte : ℕ) (pages : List ℕ) (start : Device) (left n : ℕ) (d : Device) : Type 0 where
+  pub settling : IsSettling byte pages start d
+  pub within : IsWithin byte left d.phase
+  pub owes : length d.owed + due_at byte d.phase ≤ n
+
+pub batch_step : (byte : ℕ) (pages : List ℕ) (start : Device) (left n : ℕ) (d new : Device) → IsDevice d → byte < 256 → byte ≢ 0x7F → 2 ≤ left → n < 4096 →
+    InBatch byte pages start (suc left) n d → Feeds byte d new → InBatch byte pages start left (suc n) new
+batch_step byte pages start left n d new is small not_connect two room b f = go d.phase refl b.within b.owes
+  where
+    go : (p : Phase) → d.phase ≡ p → IsWithin byte (suc left) p → length d.owed + due_at byte p ≤ n → InBatch byte pages start left (suc n) new
+    go Fresh at w o =
+        let r : Receives d Fresh byte new = subst (λ (p : Phase). Receives d p byte new) at f.receives in
+        let t = ne_eqb byte 0x7F not_connect in
+        let same : new ≡ d = rw t at r in
+        let few : length new.owed ≤ n = rw same (omega arith) in
+        record {
+          settling = settling_fed byte pages start d new b.settling f (omega arith);
+          within = subst (IsWithin byte left) (sym (ap (λ (x : Device). x.phase) same ∙ at)) (λ e. absurd (not_connect e));
+          owes = rw (same, at) (omega arith);
+        }
+    go (Connected rest) at w o = ⊎_elim over on (fed byte pages rest d new is at small b.settling.harmless f)
+      where
+        over : Refuses d new → InBatch byte pages start left (suc n) new
+        over r =
+            let more = ap (λ (x : Device). length x.owed) r.is in
+            let one = length-append d.owed (nack ∷ []) in
+            let phase : new.phase ≡ Connected [] = ap (λ (x : Device). x.phase) r.is in
+            record {
+              settling = settling_fed byte pages start d new b.settling f (omega arith);
+              within = subst (IsWithin byte left) (sym phase) two;
+              owes = rw phase (omega arith);
+            }
+
+        on : Advances byte rest d new → InBatch byte pages start left (suc n) new
+        on a =
+            let owes = a.owes in
+            let nearer = a.nearer in
+            let awaits = w in
+            let phase = a.phase in
+            record {
+              settling = settling_fed byte pages start d new b.settling f (omega arith);
+              within = subst (IsWithin byte left) (sym phase) (omega arith);
+              owes = rw phase (omega arith);
+            }
+    go Gone at w o = absurd w
+
+-- a batch begins on a device that owes nothing, and its replies are taken at the end
+pub batch_begins : (byte : ℕ) (pages : List ℕ) (start : Device) (left : ℕ) (d : Device) → IsGoing byte pages start left d → InBatch byte pages start left 259 d
+batch_begins byte pages start left d g = record { settling = g.settling; within = g.within; owes = rw g.quiet (most d.phase) }
+  where
+    most : (p : Phase) → 0 + due_at byte p ≤ 259
+    most Fresh = lit≤ tt
+    most (Connected rest) = let m = due_most byte rest in omega arith
+    most Gone = lit≤ tt
+
+pub batch_ends : (byte : ℕ) (pages : List ℕ) (start : Device) (left n : ℕ) (d : Device) → InBatch byte pages start left n d → IsGoing byte pages start left (with_nothing_owed d)
+batch_ends byte pages start left n d b = record {
+  settling = settling_loses byte pages start d (with_nothing_owed d) b.settling (length d.owed, ap (λ o. record d { owed = o }) (sym (drop_all (length d.owed) d.owed (omega arith))));
+  quiet = refl;
+  within = b.within;
+}

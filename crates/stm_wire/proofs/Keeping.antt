@@ -1,8 +1,6 @@
 -- What settling keeps, from call to call.
-use Rattle.std.proofs.Common.{eqb, inl, inr, true, false, ◌≡◌, ⊎_elim, ℕ, suc, ◌+◌, ◌-◌, ◌<◌, ◌≤◌, List, [], ◌∷◌, ◌++◌, length, drop, Option, Some, None, Result, Ok, Err, refl, sym, ◌∙◌, ap, subst, arith}
+use Rattle.std.proofs.Common.{eqb, inl, inr, ◌≡◌, ◌≢◌, ⊎_elim, ℕ, suc, ◌+◌, ◌-◌, ◌<◌, ◌≤◌, List, [], ◌∷◌, ◌++◌, length, drop, Option, Some, None, Result, Ok, Err, refl, sym, ◌∙◌, ap, subst, arith}
 use Rattle.std.proofs.lemmas.List.{drop-drop, length-drop}
-use Rattle.std.proofs.lemmas.Bool.{false≢true}
-use Rattle.std.specs.Option.{is_some}
 use Rattle.stm_wire.specs.declared.fault.RigFault.{RigFault}
 use Rattle.stm_wire.specs.Device.{Device, Feeds, LosesOwed, IsSettled, Fresh, Connected}
 use Rattle.std.specs.Prelude.{MatchBool}
@@ -13,7 +11,7 @@ use Rattle.stm_wire.specs.Settling.{IsSettling, IsGoing, LeftBySettling, KeepsSe
 use Rattle.stm_wire.specs.Command.{with_rest}
 use Rattle.stm_wire.specs.MomentLaws.{started, joined, elapsed}
 use Rattle.stm_wire.specs.Reply.{ack, nack}
-use Rattle.stm_wire.proofs.Going.{going, settling_loses, settling_fed, connects, waits, refuses, step, Steps, IsOver, IsNoRefusal}
+use Rattle.stm_wire.proofs.Going.{going, settling_loses, settling_fed, connects, waits, refuses, step, Steps, IsOver, IsNoRefusal, InBatch, batch_step, batch_begins, batch_ends}
 
 -- a moment is one of those that it keeps
 pub here : (byte : ℕ) (pages : List ℕ) (start : Device) (a b : RigState) → IsModel b → KeepsSettling byte pages start a b → LeftBySettling byte pages start a.journal b.device b.journal
@@ -83,14 +81,6 @@ taken_more n byte old mid new t e =
 pub taken_all : (n : ℕ) (old mid new : Device) → IsTaken n old mid → GetsFirst None mid new → new ≡ with_nothing_owed old
 taken_all n old mid new t e = e.1 ∙ t.is ∙ ap (λ (o : List ℕ). let r : Device = record old { owed = o } in r) (sym (ap (λ (x : Device). x.owed) t.is) ∙ e.0)
 
-pub taken_some : (n : ℕ) (o : Option ℕ) (old mid new : Device) → is_some o ≡ true → IsTaken n old mid → GetsFirst o mid new → IsTaken (n + 1) old new
-taken_some n None old mid new e t = λ p. absurd (false≢true e)
-taken_some n (Some byte) old mid new e t = λ p. taken_more n byte old mid new t p
-
-pub taken_none : (n : ℕ) (o : Option ℕ) (old mid new : Device) → is_some o ≡ false → IsTaken n old mid → GetsFirst o mid new → new ≡ with_nothing_owed old
-taken_none n None old mid new e t = λ p. taken_all n old mid new t p
-taken_none n (Some byte) old mid new e t = λ p. absurd (false≢true (sym e))
-
 -- the byte of the loop, put
 pub going_put : {T : Type 0} (byte : ℕ) (pages : List ℕ) (start : Device) (left : ℕ) (result : Result T RigFault) (a b : RigState) → IsModel a → byte < 256 → IsGoing byte pages start (suc left) a.device →
     PutsHonestly byte result a b → KeepsSettling byte pages start a b
@@ -149,9 +139,6 @@ taken_one byte d new e first t =
     let none : new.owed ≡ [] = cc in
     (f, ap (λ (o : List ℕ). let r : Device = record new { owed = o } in r) none ∙ ap (λ (x : Device). let r : Device = record x { owed = [] } in r) (sym t))
 
-pub not_quiet : (byte : ℕ) (d new : Device) → d.owed ≡ byte ∷ [] → GetsFirst None d new → ⊥
-not_quiet byte d new e t = let h = sym e ∙ t.0 in cc
-
 pub not_owed : (first : ℕ) (d new : Device) → d.owed ≡ [] → GetsFirst (Some first) d new → ⊥
 not_owed first d new e t = let h = sym e ∙ ap (λ (x : Device). x.owed) t in cc
 
@@ -183,3 +170,39 @@ pub going_drained : (byte limit : ℕ) (pages : List ℕ) (d new : Device) → 1
 going_drained byte limit pages d new many h few e =
     let P : Device → Type 0 = IsGoing byte pages d limit in
     subst P (sym e) (going byte pages d limit many h few)
+
+-- a byte of a batch, put
+pub batch_put : {T : Type 0} (byte : ℕ) (pages : List ℕ) (start : Device) (left n : ℕ) (result : Result T RigFault) (a b : RigState) → IsModel a → byte < 256 → byte ≢ 0x7F → 2 ≤ left → n < 4096 →
+    InBatch byte pages start (suc left) n a.device → PutsHonestly byte result a b → KeepsSettling byte pages start a b
+batch_put byte pages start left n result a b model small other two room g p =
+    keeps_put byte byte pages start result a b model g.settling (λ d f. (batch_step byte pages start left n a.device d model.device small other two room g f).settling) p
+
+pub batch_next : (byte : ℕ) (pages : List ℕ) (start : Device) (left count sent : ℕ) (d : Device) → sent < count → InBatch byte pages start (left + (count - sent)) (259 + sent) d → InBatch byte pages start (suc (left + (count - (sent + 1)))) (259 + sent) d
+batch_next byte pages start left count sent d lt g =
+    let e : left + (count - sent) ≡ suc (left + (count - (sent + 1))) = omega arith in
+    let P : ℕ → Type 0 = λ n. InBatch byte pages start n (259 + sent) d in
+    subst P e g
+
+pub batch_count : (byte : ℕ) (pages : List ℕ) (start : Device) (left sent : ℕ) (d : Device) → InBatch byte pages start left (suc (259 + sent)) d → InBatch byte pages start left (259 + (sent + 1)) d
+batch_count byte pages start left sent d g =
+    let e : suc (259 + sent) ≡ 259 + (sent + 1) = omega arith in
+    let P : ℕ → Type 0 = λ n. InBatch byte pages start left n d in
+    subst P e g
+
+pub batch_first : (byte : ℕ) (pages : List ℕ) (start : Device) (left count : ℕ) (d : Device) → IsGoing byte pages start (left + count) d → InBatch byte pages start (left + (count - 0)) (259 + 0) d
+batch_first byte pages start left count d g =
+    let e : left + count ≡ left + (count - 0) = omega arith in
+    let P : ℕ → Type 0 = λ n. InBatch byte pages start n (259 + 0) d in
+    subst P e (batch_begins byte pages start (left + count) d g)
+
+pub batch_last : (byte : ℕ) (pages : List ℕ) (start : Device) (left count sent : ℕ) (d new : Device) → count ≤ sent → InBatch byte pages start (left + (count - sent)) (259 + sent) d → new ≡ with_nothing_owed d → IsGoing byte pages start left new
+batch_last byte pages start left count sent d new le g e =
+    let same : left + (count - sent) ≡ left = omega arith in
+    let P : ℕ → Type 0 = λ n. InBatch byte pages start n (259 + sent) d in
+    subst (IsGoing byte pages start left) (sym e) (batch_ends byte pages start left (259 + sent) d (subst P same g))
+
+pub going_split : (byte left count : ℕ) (pages : List ℕ) (start d : Device) → count ≤ left → IsGoing byte pages start left d → IsGoing byte pages start (left - count + count) d
+going_split byte left count pages start d le g =
+    let e : left ≡ left - count + count = omega arith in
+    let P : ℕ → Type 0 = λ n. IsGoing byte pages start n d in
+    subst P e g

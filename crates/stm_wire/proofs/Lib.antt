@@ -5,6 +5,7 @@ mod Awaited
 mod Bound
 mod Checks
 mod Closed
+mod EraseHigh
 mod ErasePage
 mod ErasePair
 mod Erasing
@@ -22,8 +23,9 @@ mod Plain
 mod Protecting
 mod Reading
 mod Receiving
-mod Refusals
 mod SentLists
+mod SettlingCalls
+mod SettlingFaults
 mod Simulating
 mod Steps
 mod Stopped

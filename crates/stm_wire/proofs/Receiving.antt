@@ -1,5 +1,5 @@
 -- The data that follow an acknowledgement, byte by byte.
-use Rattle.std.proofs.Common.{◌≡◌, ℕ, List, [], ◌∷◌, ◌++◌, length, replicate, refl, sym, ◌∙◌, ap, subst, arith, length-append}
+use Rattle.std.proofs.Common.{◌≡◌, ◌<◌, ℕ, List, [], ◌∷◌, ◌++◌, length, replicate, refl, sym, ◌∙◌, ap, subst, arith, length-append}
 use Rattle.std.proofs.lemmas.List.{length-replicate}
 use Rattle.stm_wire.specs.declared.fault.WireFault.{WireFault}
 use Rattle.std.proofs.Common.{ap₂, take}
@@ -32,22 +32,23 @@ broken_more fault xs ys a b p =
 
 -- the answer of Get, broken off at its count, at its version, in its codes
 abbrev pub IsBrokenAnswer : WireFault → RigState → RigState → Type 0
-IsBrokenAnswer fault a b = (version : ℕ) × (codes : List ℕ) × BreaksOff fault [] (learns (length codes ∷ version ∷ codes)) a b
+IsBrokenAnswer fault a b = (version : ℕ) × (codes : List ℕ) × (length codes < 256) × BreaksOff fault [] (learns (length codes ∷ version ∷ codes)) a b
 
 pub broken_at_count : (fault : WireFault) (a b : RigState) → ((byte : ℕ) → BreaksOff fault [] (learns (byte ∷ [])) a b) → IsBrokenAnswer fault a b
-broken_at_count fault a b p = (0, [], broken_more fault (0 ∷ []) (0 ∷ []) a b (p 0))
+broken_at_count fault a b p = (0, [], omega arith, broken_more fault (0 ∷ []) (0 ∷ []) a b (p 0))
 
-pub broken_at_version : (fault : WireFault) (count : ℕ) (a b c : RigState) → Holds [] (learns (count ∷ [])) a b → ((byte : ℕ) → BreaksOff fault [] (learns (byte ∷ [])) b c) → IsBrokenAnswer fault a c
-broken_at_version fault count a b c p q =
-    let codes = replicate count 0 in
+pub broken_at_version : (fault : WireFault) (count : ℕ) (a b c : RigState) → count < 256 → Holds [] (learns (count ∷ [])) a b → ((byte : ℕ) → BreaksOff fault [] (learns (byte ∷ [])) b c) → IsBrokenAnswer fault a c
+broken_at_version fault count a b c small p q =
+    let codes : List ℕ = replicate count 0 in
+    let size : length codes ≡ count = length-replicate count 0 in
     let H : ℕ → Type 0 = λ n. BreaksOff fault [] (learns (n ∷ 0 ∷ codes)) a c in
-    (0, codes, subst H (sym (length-replicate count 0)) (broken_more fault (count ∷ 0 ∷ []) codes a c (broken_learned fault (count ∷ []) (0 ∷ []) a b c p (q 0))))
+    (0, codes, omega (arith, small, size), subst H (sym size) (broken_more fault (count ∷ 0 ∷ []) codes a c (broken_learned fault (count ∷ []) (0 ∷ []) a b c p (q 0))))
 
 module _ (count version : ℕ) (a b c d : RigState) (p : Holds [] (learns (count ∷ [])) a b) (q : Holds [] (learns (version ∷ [])) b c) where
-  pub broken_at_codes : (fault : WireFault) → (answer : List ℕ) × (length answer ≡ count) × BreaksOff fault [] (learns answer) c d → IsBrokenAnswer fault a d
-  broken_at_codes fault (answer, size, r) =
+  pub broken_at_codes : (fault : WireFault) → count < 256 → (answer : List ℕ) × (length answer ≡ count) × BreaksOff fault [] (learns answer) c d → IsBrokenAnswer fault a d
+  broken_at_codes fault small (answer, size, r) =
       let H : ℕ → Type 0 = λ n. BreaksOff fault [] (learns (n ∷ version ∷ answer)) a d in
-      (version, answer, subst H (sym size) (broken_learned fault (count ∷ version ∷ []) answer a c d (held_learned (count ∷ []) (version ∷ []) a b c p q) r))
+      (version, answer, omega (arith, small, size), subst H (sym size) (broken_learned fault (count ∷ version ∷ []) answer a c d (held_learned (count ∷ []) (version ∷ []) a b c p q) r))
 
   pub held_codes : (codes : List ℕ) → length codes ≡ count → Holds [] (learns codes) c d → Holds [] (learns (length codes ∷ version ∷ codes)) a d
   held_codes codes size r =

@@ -1,11 +1,13 @@
 -- The four lines: whatever a stopped host left, the settling byte of its intent is harmless outside the intent's page.
-use Rattle.std.proofs.Common.{◌≡◌, ℕ, zero, suc, ◌+◌, ◌-◌, ◌*◌, ◌/◌, ◌%◌, ◌<◌, ◌≤◌, List, [], ◌∷◌, ◌++◌, length, take, bit_xor, refl, sym, subst, arith, Option, Some, None}
+use Rattle.std.proofs.Common.{nat_lt, if◌then◌else◌, true, false, ⊎_elim, ◌∙◌, ap, ◌≡◌, ℕ, ◌+◌, ◌-◌, ◌/◌, ◌%◌, ◌<◌, ◌≤◌, List, [], ◌∷◌, ◌++◌, length, take, bit_xor, refl, sym, subst, arith, Option, Some, None}
 use Rattle.std.specs.List.{Contains}
 use Rattle.std.specs.Int.Bits.{xor_zero_l}
+use Rattle.std.proofs.lemmas.Bool.{cases_lt}
+use Rattle.std.proofs.lemmas.Bool.Decides.{nat_tests}
 use Rattle.std.proofs.lemmas.List.{length-take}
 use Rattle.stm_wire.specs.declared.chip.EraseKind.{EraseKind}
 use Rattle.stm_wire.specs.declared.chip.EraseKind.TheVariants.{Page, Extended}
-use Rattle.stm_wire.specs.Chip.{ChipData, page_count}
+use Rattle.stm_wire.specs.Chip.{ChipData, page_count, page_limit}
 use Rattle.stm_wire.specs.Exchange.{number_of, xor}
 use Rattle.stm_wire.specs.Effect.{Write}
 use Rattle.stm_wire.specs.Device.{Device, Connected, IsDevice, IsReadyRest}
@@ -18,6 +20,7 @@ use Rattle.stm_wire.specs.Stopped.{in_get, in_get_id, in_read, in_ready, in_eras
 use Rattle.stm_wire.proofs.Flash.{IsConfined}
 use Rattle.stm_wire.proofs.Mild.{Mild, Tame, harmless, mild_empty}
 use Rattle.stm_wire.proofs.Plain.{mild_get, mild_id, mild_read, mild_ready}
+use Rattle.stm_wire.proofs.EraseHigh.{companion, high_page, mild_high, or_none, page_named}
 use Rattle.stm_wire.proofs.ErasePage.{mild_erase, contains_first}
 use Rattle.stm_wire.proofs.ErasePair.{mild_extended, named_by}
 use Rattle.stm_wire.proofs.WriteData.{mild_write}
@@ -34,12 +37,6 @@ fewer d byte pages more f h = record {
   };
 }
 
--- a pair of bytes N names page N, or none of a chip with at most 256 pages
-one_of : (N n : ℕ) → n < 256 → Contains (named_by N) n → Contains (N ∷ []) n
-one_of N n small (zero, k, e) = (0, omega arith, e)
-one_of N n small (suc zero, k, e) = let s : N * 256 + N ≡ n = e in let z : N ≡ n = omega arith in (0, omega arith, z)
-one_of N n small (suc (suc j), k, e) = absurd (omega arith)
-
 number_of_bytes : (address : ℕ) → number_of (address / 16777216) (address / 65536 % 256) (address / 256 % 256) (address % 256) ≡ address
 number_of_bytes address = omega arith
 
@@ -50,18 +47,56 @@ erase_extended N small =
     let same : bit_xor 0 N ≡ N = xor_zero_l N in
     rw (high, low, same) refl
 
+-- from page 256 on
+erase_extended_high : (L : ℕ) → L < 256 → erase_frame Extended (256 + L) ≡ 0x44 ∷ 0xBB ∷ 0 ∷ 0 ∷ 1 ∷ L ∷ xor (0 ∷ 0 ∷ 1 ∷ L ∷ []) ∷ []
+erase_extended_high L small =
+    let high : (256 + L) / 256 ≡ 1 = omega arith in
+    let low : (256 + L) % 256 ≡ L = omega arith in
+    rw (high, low) refl
+
+-- the byte that settles it
+abbrev pub byte_of : ℕ → ℕ
+byte_of N = settling_byte (Some (Erase N))
+
+low_byte : (N : ℕ) → N < 256 → byte_of N ≡ N
+low_byte N small = let t : nat_lt N 256 ≡ true = grind (arith, nat_tests) in rw t refl
+
+high_byte : (N : ℕ) → 256 ≤ N → byte_of N ≡ 2
+high_byte N large = let t : nat_lt N 256 ≡ false = grind (arith, nat_tests) in rw t refl
+
 -- the pages that an erase of page N can come to, by the kind of the chip
 abbrev pub erasable : EraseKind → ℕ → List ℕ
 erasable Page N = N ∷ []
-erasable Extended N = named_by N
+erasable Extended N = if nat_lt N 256 then named_by N else or_none N
 
-pub one_erasable : (kind : EraseKind) (N n : ℕ) → n < 256 → Contains (erasable kind N) n → Contains (N ∷ []) n
-one_erasable Page N n small c = c
-one_erasable Extended N n small c = one_of N n small c
+-- on a chip of its kind these are page N alone, and page 257 with page 1
+pub one_erasable : (kind : EraseKind) (N n : ℕ) → n < page_limit kind → Contains (erasable kind N) n → Contains (intended_pages (Some (Erase N))) n
+one_erasable Page N n small c = page_named N n c
+one_erasable Extended N n small c =
+    ⊎_elim
+    (λ low. let t : nat_lt N 256 ≡ true = grind (arith, nat_tests) in let named : Contains (named_by N) n = subst (λ b. Contains (if b then named_by N else or_none N) n) t c in companion N n small named)
+    (λ high. let t : nat_lt N 256 ≡ false = grind (arith, nat_tests) in let named : Contains (or_none N) n = subst (λ b. Contains (if b then named_by N else or_none N) n) t c in page_named N n (high_page N n small named))
+    (cases_lt N 256)
 
-pub mild_erase_frame : (chip : ChipData) (codes : List ℕ) (kind : EraseKind) (N : ℕ) → N < 256 → (n : ℕ) → Mild chip codes N (erasable kind N) (take n (erase_frame kind N))
-mild_erase_frame chip codes Page N small n = rw (xor_zero_l N) (mild_erase chip codes N n)
-mild_erase_frame chip codes Extended N small n = subst (λ (frame : List ℕ). Mild chip codes N (named_by N) (take n frame)) (sym (erase_extended N small)) (mild_extended chip codes N small n)
+pub mild_erase_frame : (chip : ChipData) (codes : List ℕ) (kind : EraseKind) (N : ℕ) → N < page_limit kind → (n : ℕ) → Mild chip codes (byte_of N) (erasable kind N) (take n (erase_frame kind N))
+mild_erase_frame chip codes Page N small n = rw (low_byte N small, xor_zero_l N) (mild_erase chip codes N n)
+mild_erase_frame chip codes Extended N small n = ⊎_elim low high (cases_lt N 256)
+  where
+    low : N < 256 → Mild chip codes (byte_of N) (erasable Extended N) (take n (erase_frame Extended N))
+    low h =
+        let t : nat_lt N 256 ≡ true = grind (arith, nat_tests) in
+        let m : Mild chip codes N (named_by N) (take n (erase_frame Extended N)) = subst (λ (frame : List ℕ). Mild chip codes N (named_by N) (take n frame)) (sym (erase_extended N h)) (mild_extended chip codes N h n) in
+        rw t m
+
+    high : 256 ≤ N → Mild chip codes (byte_of N) (erasable Extended N) (take n (erase_frame Extended N))
+    high h =
+        let L = N - 256 in
+        let e : 256 + L ≡ N = omega (arith, h) in
+        let t : nat_lt N 256 ≡ false = grind (arith, nat_tests) in
+        let frame : erase_frame Extended N ≡ 0x44 ∷ 0xBB ∷ 0 ∷ 0 ∷ 1 ∷ L ∷ xor (0 ∷ 0 ∷ 1 ∷ L ∷ []) ∷ [] = ap (erase_frame Extended) (sym e) ∙ erase_extended_high L (omega (arith, small, e)) in
+        let m : Mild chip codes 2 (or_none N) (take n (erase_frame Extended N)) = subst (λ (x : ℕ). Mild chip codes 2 (or_none x) (take n (erase_frame Extended N))) e
+        (subst (λ (f : List ℕ). Mild chip codes 2 (or_none (256 + L)) (take n f)) (sym frame) (mild_high chip codes L (xor (0 ∷ 0 ∷ 1 ∷ L ∷ [])) n)) in
+        rw t m
 
 pub mild_write_frame : (chip : ChipData) (codes : List ℕ) (N address : ℕ) (sent : List ℕ) → 1 ≤ length sent → InPage chip N address (length sent) →
     (n : ℕ) → Mild chip codes 2 (N ∷ []) (take n (write_frame address sent))
@@ -94,12 +129,12 @@ begun : (d : Device) (byte : ℕ) (pages rest frame : List ℕ) (n : ℕ) → Is
 begun d byte pages rest frame n is at e m = stopped d byte pages rest is at (subst (Mild d.chip d.codes byte pages) (sym e) (m n))
 
 erase_stopped : (d : Device) (N n : ℕ) (rest : List ℕ) → IsDevice d → d.phase ≡ Connected rest → N < page_count d.chip →
-    rest ≡ take n (erase_frame d.chip.kind N) → Harmless d N (N ∷ [])
+    rest ≡ take n (erase_frame d.chip.kind N) → Harmless d (settling_byte (Some (Erase N))) (intended_pages (Some (Erase N)))
 erase_stopped d N n rest is at here e =
     let most = is.chip.last_page in
-    let small : N < 256 = omega arith in
-    fewer d N (N ∷ []) (erasable d.chip.kind N) (λ m le c. one_erasable d.chip.kind N m (omega arith) c)
-    (begun d N (erasable d.chip.kind N) rest (erase_frame d.chip.kind N) n is at e (mild_erase_frame d.chip d.codes d.chip.kind N small))
+    let small : N < page_limit d.chip.kind = omega (arith, here, most) in
+    fewer d (byte_of N) (intended_pages (Some (Erase N))) (erasable d.chip.kind N) (λ m le c. one_erasable d.chip.kind N m (omega (arith, le, most)) c)
+    (begun d (byte_of N) (erasable d.chip.kind N) rest (erase_frame d.chip.kind N) n is at e (mild_erase_frame d.chip d.codes d.chip.kind N small))
 
 -- one byte, or none, of a Ready device
 ready_mild : (d : Device) (rest : List ℕ) → IsReadyRest d.codes rest → Mild d.chip d.codes 0x7F [] rest

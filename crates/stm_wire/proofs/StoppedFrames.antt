@@ -8,7 +8,7 @@ use Rattle.stm_wire.specs.declared.chip.EraseKind.{EraseKind}
 use Rattle.stm_wire.specs.declared.chip.EraseKind.TheVariants.{Page, Extended}
 use Rattle.stm_wire.specs.declared.verdict.Verdict.{Verdict}
 use Rattle.stm_wire.specs.declared.verdict.Verdict.TheVariants.{Done}
-use Rattle.stm_wire.specs.Chip.{ChipData, page_count, fits_inside, is_inside}
+use Rattle.stm_wire.specs.Chip.{ChipData, page_count, page_limit, fits_inside, is_inside}
 use Rattle.stm_wire.specs.Exchange.{done_if, read_verdict, write_verdict, complement, number_of, xor, pair_of}
 use Rattle.stm_wire.specs.Device.{Device, IsDevice, IsSettled, ListsKind}
 use Rattle.stm_wire.specs.Frames.{command, with_checksum, address_bytes, erase_frame}
@@ -20,8 +20,9 @@ use Rattle.stm_wire.proofs.Address.{verdict-listed, command-waits, after_address
 use Rattle.stm_wire.proofs.Writing.{data-waits}
 use Rattle.stm_wire.proofs.Reading.{fits-inside}
 use Rattle.stm_wire.proofs.Mild.{Mild}
-use Rattle.stm_wire.proofs.Stopped.{fewer, fewer_outside, erasable, one_erasable, mild_get_frame, mild_id_frame, mild_read_frame, mild_erase_frame, mild_write_frame}
-use Rattle.stm_wire.proofs.Pages.{page_inside, same_all}
+use Rattle.stm_wire.proofs.Stopped.{byte_of, fewer, fewer_outside, erasable, one_erasable, mild_get_frame, mild_id_frame, mild_read_frame, mild_erase_frame, mild_write_frame}
+use Rattle.stm_wire.specs.FlashLaws.{same_all}
+use Rattle.stm_wire.proofs.Pages.{page_inside}
 use Rattle.stm_wire.proofs.Stops.{IsWhole, along-append, stopped_safely}
 
 module _ (d : Device) (is : IsDevice d) where
@@ -172,21 +173,24 @@ asking_changes_nothing old d byte frame is settled question fed =
     let s = question_safely old d byte [] frame is settled question fed in
     (s, same_all old.chip old.flash d.flash is.size s.flash)
 
-erase_safely : (old d : Device) (N : ℕ) (frame : List ℕ) → IsDevice old → IsSettled old → N < page_count old.chip → frame ≡ erase_frame old.chip.kind N → PartlyFed frame old d → IsStoppedSafely old N (N ∷ []) d
+erase_safely : (old d : Device) (N : ℕ) (frame : List ℕ) → IsDevice old → IsSettled old → N < page_count old.chip → frame ≡ erase_frame old.chip.kind N → PartlyFed frame old d
+    → IsStoppedSafely old (settling_byte (Some (Erase N))) (intended_pages (Some (Erase N))) d
 erase_safely old d N frame is settled here e fed =
     let most = is.chip.last_page in
-    let small : N < 256 = omega arith in
     let kind = old.chip.kind in
+    let small : N < page_limit kind = omega (arith, here, most) in
+    let byte = byte_of N in
+    let named = intended_pages (Some (Erase N)) in
     let pages = erasable kind N in
-    let s = safely old d N pages frame (erase_body kind N) (erase_check kind N) is settled (erase_whole old kind N is.erase here) (e ∙ sym (frame_of kind N))
-    (λ j. subst (λ (f : List ℕ). Mild old.chip old.codes N pages (take j f)) (sym (frame_of kind N)) (mild_erase_frame old.chip old.codes kind N small j)) fed in
-    let one : (n : ℕ) → n < page_count old.chip → Contains pages n → Contains (N ∷ []) n = λ n le c. one_erasable kind N n (omega (arith, most, le)) c in
+    let s = safely old d byte pages frame (erase_body kind N) (erase_check kind N) is settled (erase_whole old kind N is.erase here) (e ∙ sym (frame_of kind N))
+    (λ j. subst (λ (f : List ℕ). Mild old.chip old.codes byte pages (take j f)) (sym (frame_of kind N)) (mild_erase_frame old.chip old.codes kind N small j)) fed in
+    let one : (n : ℕ) → n < page_count old.chip → Contains pages n → Contains named n = λ n le c. one_erasable kind N n (omega (arith, most, le)) c in
     record {
       same_chip = s.same_chip;
       same_version = s.same_version;
       same_codes = s.same_codes;
-      harmless = fewer d N (N ∷ []) pages (λ n le c. one n (subst (λ (chip : ChipData). n < page_count chip) s.same_chip le) c) s.harmless;
-      flash = fewer_outside old.chip (N ∷ []) pages old.flash d.flash one s.flash;
+      harmless = fewer d byte named pages (λ n le c. one n (subst (λ (chip : ChipData). n < page_count chip) s.same_chip le) c) s.harmless;
+      flash = fewer_outside old.chip named pages old.flash d.flash one s.flash;
       owed = s.owed;
     }
 

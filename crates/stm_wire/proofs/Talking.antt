@@ -1,18 +1,17 @@
 -- Runs of puts and gets join, on any line.
-use Rattle.std.proofs.Common.{◌≡◌, ◌≢◌, ⊎_elim, ℕ, zero, suc, ◌+◌, ◌*◌, ◌-◌, ◌≤◌, min, List, [], ◌∷◌, ◌++◌, length, take, replicate, Option, Some, None, Result, Ok, Err, IfErr, IsErrAnd, refl, sym, ◌∙◌, ap, subst, arith, append_assoc, append-nil, take_all}
+use Rattle.std.proofs.Common.{◌≡◌, ◌≢◌, ⊎_elim, ℕ, zero, suc, ◌+◌, ◌*◌, ◌-◌, ◌<◌, ◌≤◌, min, List, [], ◌∷◌, ◌++◌, length, take, replicate, Option, Some, None, Result, Ok, Err, IsErrAnd, refl, sym, ◌∙◌, ap, subst, arith, append_assoc, append-nil, take_all}
 use Rattle.std.proofs.Math.Seq.{take-append-add}
 use Rattle.std.proofs.lemmas.List.{take_min, take-append-le, length-append}
 use Rattle.stm_wire.specs.declared.rig.RigCall.{RigCall}
 use Rattle.stm_wire.specs.declared.rig.RigCall.TheVariants.{Put, Get, Append, Fetch}
 use Rattle.stm_wire.specs.declared.fault.RigFault.{RigFault}
 use Rattle.stm_wire.specs.declared.fault.WireFault.{WireFault}
-use Rattle.stm_wire.specs.declared.fault.WireFault.TheVariants.{Line, Quiet}
+use Rattle.stm_wire.specs.declared.fault.WireFault.TheVariants.{Line}
 use Rattle.stm_wire.specs.Rig.{RigState, Rises, HasCause, Records}
 use Rattle.stm_wire.specs.Dialogue.{GoesOn, puts_of, AreLineCalls}
 use Rattle.stm_wire.specs.SentList.{settling_run}
-use Rattle.stm_wire.specs.Settling.{Talks, PutsAll, PutsPart, HasAskedAll, HasLineCause, IsNotQuiet, Speaks}
+use Rattle.stm_wire.specs.Settling.{Talks, PutsAll, PutsPart, HasLineCause, Speaks, SpeaksBatches}
 use Rattle.stm_wire.proofs.Turns.{GoesOn-append, GoesOn-weaker}
-use Rattle.stm_wire.proofs.Holding.{on_fault}
 
 pub puts_of-append : (xs ys : List RigCall) → puts_of (xs ++ ys) ≡ puts_of xs ++ puts_of ys
 puts_of-append [] ys = refl
@@ -199,7 +198,7 @@ pub speaks_went : {T : Type 0} (bytes : List ℕ) (most : ℕ) (u : T) (a b : Ri
 speaks_went bytes most u a b p = record { line = p.cause.done; journal = p.cause.journal_count; all = p.whole }
 
 -- one copy more
-replicate-more : (k x : ℕ) → replicate k x ++ x ∷ [] ≡ replicate (suc k) x
+pub replicate-more : {T : Type 0} (k : ℕ) (x : T) → replicate k x ++ x ∷ [] ≡ replicate (suc k) x
 replicate-more zero x = refl
 replicate-more (suc k) x = ap (λ xs. x ∷ xs) (replicate-more k x)
 
@@ -229,7 +228,7 @@ cause_then xs m (Err fault) a b c p q = record {
 pub part_up : (xs : List ℕ) (m n : ℕ) (a b : Option (List RigCall)) → m ≤ n → GoesOn (PutsPart xs m) a b → GoesOn (PutsPart xs n) a b
 part_up xs m n a b le p = GoesOn-weaker (PutsPart xs m) (PutsPart xs n) a b p (λ us u. talks_more (λ us. (k : ℕ) × (us ≡ take k xs)) (λ us. (k : ℕ) × (us ≡ take k xs)) m n us le (λ s e. e) u)
 
-replicate-add : (m n x : ℕ) → replicate (m + n) x ≡ replicate m x ++ replicate n x
+pub replicate-add : (m n x : ℕ) → replicate (m + n) x ≡ replicate m x ++ replicate n x
 replicate-add zero n x = ap (λ k. replicate k x) (omega arith)
 replicate-add (suc m) n x =
     let e : suc m + n ≡ suc (m + n) = omega arith in
@@ -258,17 +257,90 @@ pub cause_fault : {T U : Type 0} (fault : WireFault) (r : Result U WireFault) (a
 cause_fault fault (Ok u) a b e p = absurd e
 cause_fault fault (Err f) a b e p = record { later = p.later; done = tt; failed = λ g. p.failed (sym e ∙ g); journal_count = p.journal_count }
 
-pub never_quiet : {T : Type 0} (P : Type 0) (r : Result T WireFault) → IsNotQuiet r → IfErr r (λ fault. fault ≡ Quiet → P)
-never_quiet P (Ok u) n = tt
-never_quiet P (Err fault) n = λ e. absurd (n e)
+-- Bytes in batches:
 
-pub never_fault : {T : Type 0} (P : Type 0) (fault : WireFault) (r : Result T WireFault) → IsErrAnd r (λ e. e ≡ fault) → fault ≢ Quiet → IfErr r (λ f. f ≡ Quiet → P)
-never_fault P fault r e n = on_fault (λ f. f ≡ Quiet → P) r fault e (λ q. absurd (n q))
+-- one copy more, of calls that are counted otherwise
+pub went_copy : (byte sent m n : ℕ) (a b c : RigState) → Went (replicate sent byte) m a b → Went (byte ∷ []) n b c → Went (replicate (sent + 1) byte) (m + n) a c
+went_copy byte sent m n a b c p q =
+    let one : suc sent ≡ sent + 1 = omega arith in
+    let same : replicate sent byte ++ byte ∷ [] ≡ replicate (sent + 1) byte = replicate-more sent byte ∙ ap (λ k. replicate k byte) one in
+    subst (λ xs. Went xs (m + n) a c) same (went_then (replicate sent byte) (byte ∷ []) m n a b c p q)
 
--- all of the limit, and 7F, which stayed without a reply
-pub asked_all : (byte limit m n : ℕ) (a b c : Option (List RigCall)) → GoesOn (PutsAll (replicate limit byte) m) a b → GoesOn (PutsAll (0x7F ∷ []) n) b c → GoesOn (HasAskedAll byte limit) a c
-asked_all byte limit m n a b c p q = GoesOn-weaker (PutsAll (replicate limit byte ++ 0x7F ∷ []) (m + n)) (HasAskedAll byte limit) a c (all_then (replicate limit byte) (0x7F ∷ []) m n a b c p q) (λ us u. u.puts)
+replicate-fits : (sent limit x : ℕ) → sent ≤ limit → replicate sent x ++ replicate (limit - sent) x ≡ replicate limit x
+replicate-fits sent limit x le =
+    let e : sent + (limit - sent) ≡ limit = omega arith in
+    sym (replicate-add sent (limit - sent) x) ∙ ap (λ k. replicate k x) e
 
-pub asked_after : (byte limit m : ℕ) (a b c : Option (List RigCall)) → GoesOn (PutsAll [] m) a b → GoesOn (HasAskedAll byte limit) b c → GoesOn (HasAskedAll byte limit) a c
-asked_after byte limit m a b c p q = GoesOn-append (PutsAll [] m) (HasAskedAll byte limit) (HasAskedAll byte limit) a b c p q
-    (λ us vs u v. puts_of-append us vs ∙ ap (λ z. z ++ puts_of vs) u.puts ∙ v)
+-- copies are a beginning of more copies
+pub part_fits : (byte sent limit m n : ℕ) (a b : Option (List RigCall)) → sent ≤ limit → m ≤ n → GoesOn (PutsPart (replicate sent byte) m) a b → GoesOn (PutsPart (replicate limit byte) n) a b
+part_fits byte sent limit m n a b le le' p =
+    subst (λ xs. GoesOn (PutsPart xs n) a b) (replicate-fits sent limit byte le) (part_more (replicate sent byte) (replicate (limit - sent) byte) m n a b le' p)
+
+-- the line failed at a byte of a batch
+pub batch_line : {T : Type 0} (byte sent count n : ℕ) (r : Result T WireFault) (a b c : RigState) → sent < count → sent + 1 ≤ n → Went (replicate sent byte) sent a b → Failed (byte ∷ []) 1 b c → IsErrAnd r (λ fault. fault ≡ Line)
+    → Speaks (replicate count byte) n r a c
+batch_line byte sent count n r a b c lt le p q e =
+    let one : suc sent ≡ sent + 1 = omega arith in
+    let same : replicate sent byte ++ byte ∷ [] ≡ replicate (sent + 1) byte = replicate-more sent byte ∙ ap (λ k. replicate k byte) one in
+    let failed = subst (λ xs. Failed xs (sent + 1) a c) same (failed_then (replicate sent byte) (byte ∷ []) sent 1 a b c p q) in
+    subst (λ xs. Speaks xs n r a c) (replicate-fits (sent + 1) count byte (omega arith)) (speaks_line (replicate (sent + 1) byte) (replicate (count - (sent + 1)) byte) (sent + 1) n r a c le failed e)
+
+-- all bytes of a batch, and a draining
+pub batch_drained : {T : Type 0} (byte sent count : ℕ) (r : Result T WireFault) (a b c : RigState) → sent ≡ count → Went (replicate sent byte) sent a b → Speaks [] 4097 r b c → Speaks (replicate count byte) (count + 4097) r a c
+batch_drained byte sent count r a b c e p q =
+    let both = subst (λ xs. Speaks xs (sent + 4097) r a c) (append-nil (replicate sent byte)) (speaks_then (replicate sent byte) [] sent 4097 r a b c p q) in
+    subst (λ k. Speaks (replicate k byte) (k + 4097) r a c) e both
+
+-- no batch
+pub batches_nowhere : (byte limit : ℕ) (a : RigState) → Went (replicate (limit - limit) byte) (4099 * (limit - limit)) a a
+batches_nowhere byte limit a =
+    let e : 0 ≡ limit - limit = omega arith in
+    subst (λ k. Went (replicate k byte) (4099 * k) a a) e (went_nowhere a)
+
+-- a batch more
+pub batches_went_on : (byte limit left count : ℕ) (a b c : RigState) → 1 ≤ count → count ≤ left → left ≤ limit → Went (replicate (limit - left) byte) (4099 * (limit - left)) a b → Went (replicate count byte) (count + 4097) b c
+    → Went (replicate (limit - (left - count)) byte) (4099 * (limit - (left - count))) a c
+batches_went_on byte limit left count a b c some le le' p q =
+    let sent = limit - left in
+    let e : sent + count ≡ limit - (left - count) = omega arith in
+    let both = went_then (replicate sent byte) (replicate count byte) (4099 * sent) (count + 4097) a b c p q in
+    let same = subst (λ xs. Went xs (4099 * sent + (count + 4097)) a c) (sym (replicate-add sent count byte)) both in
+    subst (λ k. Went (replicate k byte) (4099 * k) a c) e (went_up (replicate (sent + count) byte) (4099 * sent + (count + 4097)) (4099 * (sent + count)) a c (omega arith) same)
+
+-- so batches end: with Ok,
+pub batches_ok : (byte limit left : ℕ) (a b : RigState) → left ≤ limit → Went (replicate (limit - left) byte) (4099 * (limit - left)) a b → SpeaksBatches byte limit (Ok left) a b
+batches_ok byte limit left a b le p = record {
+  cause = record { later = omega (arith, p.line); done = p.line; failed = tt; journal_count = p.journal };
+  part = part_fits byte (limit - left) limit (4099 * (limit - left)) (4099 * limit) a.calls b.calls (omega arith) (omega arith) (all_part (replicate (limit - left) byte) (4099 * (limit - left)) a.calls b.calls p.all);
+  within = le;
+  whole = p.all;
+}
+
+-- or with a fault of one of them
+pub batches_fault : {T : Type 0} (byte limit left count : ℕ) (fault : WireFault) (r : Result ℕ WireFault) (a b c : RigState) → 1 ≤ count → count ≤ left → left ≤ limit
+    → Went (replicate (limit - left) byte) (4099 * (limit - left)) a b → Speaks {T = T} (replicate count byte) (count + 4097) (Err fault) b c → IsErrAnd r (λ e. e ≡ fault) → SpeaksBatches byte limit r a c
+batches_fault {T} byte limit left count fault (Ok u) a b c some le le' p q e = absurd e
+batches_fault {T} byte limit left count fault (Err f) a b c some le le' p q e =
+    let sent = limit - left in
+    let failed : Result T WireFault = Err fault in
+    let both = speaks_then (replicate sent byte) (replicate count byte) (4099 * sent) (count + 4097) failed a b c p q in
+    let handed : Result ℕ WireFault = Err f in
+    let same = subst (λ xs. GoesOn (PutsPart xs (4099 * sent + (count + 4097))) a.calls c.calls) (sym (replicate-add sent count byte)) both.part in
+    record {
+      cause = cause_fault {T = T} fault handed a c e both.cause;
+      part = part_fits byte (sent + count) limit (4099 * sent + (count + 4097)) (4099 * limit) a.calls c.calls (omega arith) (omega arith) same;
+      within = tt;
+      whole = tt;
+    }
+
+pub batches_went : (byte limit left : ℕ) (a b : RigState) → SpeaksBatches byte limit (Ok left) a b → Went (replicate (limit - left) byte) (4099 * (limit - left)) a b
+batches_went byte limit left a b p = record { line = p.cause.done; journal = p.cause.journal_count; all = p.whole }
+
+-- the bytes of batches and those after them
+pub run_after : (byte limit left m n : ℕ) (a b c : Option (List RigCall)) → left ≤ limit → GoesOn (PutsAll (replicate (limit - left) byte) m) a b → GoesOn (PutsPart (settling_run byte left) n) b c → GoesOn (PutsPart (settling_run byte limit) (m + n)) a c
+run_after byte limit left m n a b c le p q =
+    let rest = 0x7F ∷ byte ∷ byte ∷ [] in
+    let e : (limit - left) + left ≡ limit = omega arith in
+    let same : replicate (limit - left) byte ++ settling_run byte left ≡ settling_run byte limit =
+    sym (append_assoc (replicate (limit - left) byte) (replicate left byte) rest) ∙ ap (λ xs. xs ++ rest) (sym (replicate-add (limit - left) left byte) ∙ ap (λ k. replicate k byte) e) in
+    subst (λ xs. GoesOn (PutsPart xs (m + n)) a c) same (part_then (replicate (limit - left) byte) (settling_run byte left) m n a b c p q)

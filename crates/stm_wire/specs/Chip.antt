@@ -1,6 +1,7 @@
 -- A chip, and its flash: one list of bytes from the chip's base on, parted into pages.
-use Rattle.std.specs.Prelude.{◌≡◌, ℕ, ◌+◌, ◌%◌, ◌^◌, ◌<◌, ◌≤◌, Bool, ◌&&◌, nat_lt, nat_le, List, ◌++◌, length, take, drop, slice_index, sum, All}
+use Rattle.std.specs.Prelude.{◌≡◌, ℕ, ◌+◌, ◌%◌, ◌^◌, ◌<◌, ◌≤◌, ◌⊎◌, Bool, ◌&&◌, nat_lt, nat_le, List, ◌++◌, length, take, drop, replicate, slice_index, sum, All}
 use Rattle.stm_wire.specs.declared.chip.EraseKind.{EraseKind}
+use Rattle.stm_wire.specs.declared.chip.EraseKind.TheVariants.{Page, Extended}
 
 pub record ChipData : Type 0 where
   pub id : ℕ
@@ -9,9 +10,11 @@ pub record ChipData : Type 0 where
   -- the sizes of the pages, in order
   pub sizes : List ℕ
   pub kind : EraseKind
+  -- what an erased place holds
+  pub erased : ℕ
 
-abbrev pub chip_of : ℕ → ℕ → List ℕ → EraseKind → ChipData
-chip_of id base sizes kind = record { id = id; base = base; sizes = sizes; kind = kind }
+abbrev pub chip_of : ℕ → ℕ → List ℕ → EraseKind → ℕ → ChipData
+chip_of id base sizes kind erased = record { id = id; base = base; sizes = sizes; kind = kind; erased = erased }
 
 abbrev pub page_count : ChipData → ℕ
 page_count chip = length chip.sizes
@@ -24,7 +27,7 @@ page_size chip n = slice_index chip.sizes n
 
 -- what an erased place holds
 abbrev pub erased_byte : ChipData → ℕ
-erased_byte chip = 0xFF
+erased_byte chip = chip.erased
 
 -- where page n begins, counted from the flash's first byte
 abbrev pub page_offset : ChipData → ℕ → ℕ
@@ -38,6 +41,13 @@ page_of chip flash n = take (page_size chip n) (drop (page_offset chip n) flash)
 abbrev pub with_bytes : ℕ → List ℕ → List ℕ → List ℕ
 with_bytes at bytes flash = take at flash ++ bytes ++ drop (at + length bytes) flash
 
+-- the flash with these bytes as page n
+abbrev pub with_page : ChipData → ℕ → List ℕ → List ℕ → List ℕ
+with_page chip n bytes flash = with_bytes (page_offset chip n) bytes flash
+
+abbrev pub erased_page : ChipData → ℕ → List ℕ
+erased_page chip n = replicate (page_size chip n) (erased_byte chip)
+
 -- n bytes from this address lie inside the flash
 abbrev pub fits_inside : ChipData → ℕ → ℕ → Bool
 fits_inside chip address n = nat_le chip.base address && nat_le (address + n) (chip.base + flash_size chip)
@@ -46,12 +56,17 @@ fits_inside chip address n = nat_le chip.base address && nat_le (address + n) (c
 abbrev pub is_inside : ChipData → ℕ → Bool
 is_inside chip address = nat_le chip.base address && nat_lt address (chip.base + flash_size chip)
 
+-- an erased place has each of its bits set, or none
+abbrev pub IsErasedByte : ℕ → Type 0
+IsErasedByte byte = (byte ≡ 0) ⊎ (byte ≡ 0xFF)
+
 abbrev pub IsPageSize : ℕ → Type 0
 IsPageSize size = (256 ≤ size) × (size % 256 ≡ 0)
 
--- how many pages a chip of this kind may have
+-- how many pages a chip of this kind may have: a number of one byte, or of two
 abbrev pub page_limit : EraseKind → ℕ
-page_limit kind = 256
+page_limit Page = 256
+page_limit Extended = 512
 
 -- the limits of a chip
 pub record IsChip (chip : ChipData) : Type 0 where
@@ -63,3 +78,4 @@ pub record IsChip (chip : ChipData) : Type 0 where
   pub above : 0x01000000 ≤ chip.base
   pub aligned : chip.base % 256 ≡ 0
   pub end : chip.base + flash_size chip ≤ 2 ^ 32
+  pub erased : IsErasedByte chip.erased

@@ -1,6 +1,6 @@
 -- What a done list does to the flash.
 use Rattle.std.specs.Prelude.{◌≡◌, ℕ, ◌+◌, ◌-◌, ◌*◌, ◌<◌, ◌==◌, if◌then◌else◌, List, [], ◌∷◌, length, take, drop, replicate}
-use Rattle.stm_wire.specs.Chip.{ChipData, erased_byte, page_offset, page_size, with_bytes}
+use Rattle.stm_wire.specs.Chip.{ChipData, erased_byte, erased_page, with_bytes, with_page}
 use Rattle.stm_wire.specs.Exchange.{number_of, pair_of, pairs_of}
 
 -- the change that a list asks for
@@ -36,7 +36,7 @@ change_of bytes = Nothing
 
 abbrev pub erased_pages : ChipData → List ℕ → List ℕ → List ℕ
 erased_pages chip [] flash = flash
-erased_pages chip (n ∷ pages) flash = erased_pages chip pages (with_bytes (page_offset chip n) (replicate (page_size chip n) (erased_byte chip)) flash)
+erased_pages chip (n ∷ pages) flash = erased_pages chip pages (with_page chip n (erased_page chip n) flash)
 
 -- Place by place, a byte written over an erased one becomes the byte sent; over another it may become any byte.
 abbrev pub Stores : ℕ → List ℕ → List ℕ → List ℕ → Type 0

@@ -10,14 +10,18 @@ use Rattle.stm_wire.specs.Frames.{read_frame, write_frame, erase_frame}
 
 -- 32 pages of 1 KiB, erased by 43
 abbrev pub medium_chip : ChipData
-medium_chip = record { id = 0x412; base = 0x08000000; sizes = replicate 32 1024; kind = Page }
+medium_chip = record { id = 0x412; base = 0x08000000; sizes = replicate 32 1024; kind = Page; erased = 0xFF }
 
 abbrev pub medium_codes : List ℕ
 medium_codes = 0x00 ∷ 0x02 ∷ 0x11 ∷ 0x21 ∷ 0x31 ∷ 0x43 ∷ 0x73 ∷ 0x82 ∷ 0x92 ∷ []
 
 -- 256 pages of 256 bytes, erased by 44
 abbrev pub extended_chip : ChipData
-extended_chip = record { id = 0xA01; base = 0x08000000; sizes = replicate 256 256; kind = Extended }
+extended_chip = record { id = 0xA01; base = 0x08000000; sizes = replicate 256 256; kind = Extended; erased = 0xFF }
+
+-- 512 pages of 256 bytes, erased by 44
+abbrev pub large_chip : ChipData
+large_chip = record { id = 0xA02; base = 0x08000000; sizes = replicate 512 256; kind = Extended; erased = 0xFF }
 
 abbrev pub extended_codes : List ℕ
 extended_codes = 0x00 ∷ 0x02 ∷ 0x11 ∷ 0x21 ∷ 0x31 ∷ 0x44 ∷ 0x73 ∷ 0x82 ∷ 0x92 ∷ []
@@ -100,6 +104,27 @@ extended_erase_missing_pages = refl
 
 extended_erase_bank : verdict extended_chip extended_codes (0x44 ∷ 0xBB ∷ 0xFF ∷ 0xFE ∷ 0x01 ∷ []) ≡ Some Loose
 extended_erase_bank = refl
+
+-- a list that an erase of page 1 began, and bytes 01 finished: page 257, twice
+extended_erase_companion : verdict large_chip extended_codes (0x44 ∷ 0xBB ∷ 0x00 ∷ replicate 6 0x01) ≡ Some Done
+extended_erase_companion = refl
+
+extended_erase_companion_change : change_of (0x44 ∷ 0xBB ∷ 0x00 ∷ replicate 6 0x01) ≡ ErasePages (257 ∷ 257 ∷ [])
+extended_erase_companion_change = refl
+
+-- a chip of 256 pages hasn't it
+extended_erase_no_companion : verdict extended_chip extended_codes (0x44 ∷ 0xBB ∷ 0x00 ∷ replicate 6 0x01) ≡ Some Refused
+extended_erase_no_companion = refl
+
+-- lists that an erase of page 258 began, and bytes 02 ended
+extended_erase_page_258_sent : erase_frame Extended 258 ≡ 0x44 ∷ 0xBB ∷ 0x00 ∷ 0x00 ∷ 0x01 ∷ 0x02 ∷ 0x03 ∷ []
+extended_erase_page_258_sent = refl
+
+extended_erase_page_258_settled : verdict large_chip extended_codes (0x44 ∷ 0xBB ∷ 0x00 ∷ 0x00 ∷ 0x01 ∷ 0x02 ∷ 0x02 ∷ []) ≡ Some Refused
+extended_erase_page_258_settled = refl
+
+extended_erase_page_514 : verdict large_chip extended_codes (0x44 ∷ 0xBB ∷ 0x00 ∷ 0x00 ∷ replicate 3 0x02) ≡ Some Refused
+extended_erase_page_514 = refl
 
 -- Write Unprotect, 3.10: two acknowledgements
 write_unprotect : reply medium_chip 0x22 medium_codes [] (0x73 ∷ 0x8C ∷ []) ≡ 0x79 ∷ 0x79 ∷ []

@@ -5,13 +5,18 @@ pub mod Effect
 pub mod Reply
 pub mod Device
 pub mod Harmless
+pub mod FlashLaws
 pub mod Frames
 pub mod Intents
 pub mod SentList
+pub mod Parts
+pub mod PartLaws
 pub mod Stopped
 pub mod Settling
+pub mod SettlingCalls
 pub mod Rig
 pub mod Dialogue
+pub mod DialogueLaws
 pub mod Moments
 pub mod MomentLaws
 pub mod Sending
@@ -26,3 +31,4 @@ pub mod Past
 pub mod Honest
 pub mod Examples
 pub mod Unmodelled
+pub mod BadLines

@@ -1,10 +1,8 @@
 -- What settling does to a Rig: on any line, and on one that follows the model.
-use Rattle.std.specs.Prelude.{◌≡◌, ◌≢◌, ℕ, ◌+◌, ◌-◌, ◌*◌, ◌≤◌, ◌==◌, if◌then◌else◌, List, [], ◌∷◌, ◌++◌, length, take, replicate, Bool, Some, None, Result, IfOk, OnOk, IfErr, MatchBool}
+use Rattle.std.specs.Prelude.{◌≡◌, ℕ, ◌+◌, ◌-◌, ◌*◌, ◌≤◌, ◌==◌, if◌then◌else◌, List, [], ◌∷◌, length, take, replicate, Bool, Result, IfOk, OnOk, IfErr, MatchBool}
 use Rattle.stm_wire.specs.declared.fault.WireFault.{WireFault}
-use Rattle.stm_wire.specs.declared.fault.WireFault.TheVariants.{Line, Quiet}
+use Rattle.stm_wire.specs.declared.fault.WireFault.TheVariants.{Line}
 use Rattle.stm_wire.specs.declared.rig.RigCall.{RigCall}
-use Rattle.stm_wire.specs.declared.rig.RigCall.TheVariants.{Put, Get, Append, Fetch}
-use Rattle.stm_wire.specs.Reply.{nack}
 use Rattle.stm_wire.specs.Device.{Device, Phase, Fresh, Connected, Gone, IsSettled}
 use Rattle.stm_wire.specs.Harmless.{SameOutside, Harmless}
 use Rattle.stm_wire.specs.Rig.{RigState, Rises}
@@ -33,38 +31,6 @@ PutsPart bytes most calls = Talks (λ puts. (n : ℕ) × (puts ≡ take n bytes)
 abbrev pub SettlesWithin : ℕ → ℕ → List RigCall → Type 0
 SettlesWithin byte limit calls = Talks (IsSettlingRun byte limit) (4100 * (limit + 4)) calls
 
--- all bytes of the limit were put, and 7F
-abbrev pub HasAskedAll : ℕ → ℕ → List RigCall → Type 0
-HasAskedAll byte limit calls = puts_of calls ≡ replicate limit byte ++ 0x7F ∷ []
-
--- first comes a get, and it brings no NACK
-abbrev pub HearsNoNack : List RigCall → Type 0
-HearsNoNack [] = ⊥
-HearsNoNack (Put byte ∷ calls) = ⊥
-HearsNoNack (Get answer ∷ calls) = answer ≢ Some nack
-HearsNoNack (Append n ∷ calls) = ⊥
-HearsNoNack (Fetch ∷ calls) = ⊥
-
--- no byte put was refused: after each came a get next, which brought no NACK
-abbrev pub IsUnrefused : List RigCall → Type 0
-IsUnrefused [] = Unit {0}
-IsUnrefused (Put byte ∷ calls) = HearsNoNack calls × IsUnrefused calls
-IsUnrefused (Get answer ∷ calls) = IsUnrefused calls
-IsUnrefused (Append n ∷ calls) = IsUnrefused calls
-IsUnrefused (Fetch ∷ calls) = IsUnrefused calls
-
--- the last byte put was this one, and the first byte that came after it says no; before it no byte was refused
-pub record EndsRefused (byte : ℕ) (calls : List RigCall) : Type 0 where
-  pub before : List RigCall
-  pub after : List RigCall
-  pub is : calls ≡ before ++ Put byte ∷ Get (Some nack) ∷ after
-  pub last : puts_of after ≡ []
-  pub first : IsUnrefused before
-
--- one get, which stayed quiet
-abbrev pub IsSilence : List RigCall → Type 0
-IsSilence calls = calls ≡ Get None ∷ []
-
 -- A fault of the line is answered only where its count rose, and at Ok the count is as it was. That of the journal
 -- always is.
 pub record HasLineCause {T : Type 0} (result : Result T WireFault) (old new : RigState) : Type 0 where
@@ -73,15 +39,20 @@ pub record HasLineCause {T : Type 0} (result : Result T WireFault) (old new : Ri
   pub failed : IfErr result (λ fault. fault ≡ Line → Rises old.line_failures new.line_failures)
   pub journal_count : new.journal_failures ≡ old.journal_failures
 
-abbrev pub IsNotQuiet : {T : Type 0} → Result T WireFault → Type 0
-IsNotQuiet result = IfErr result (λ fault. fault ≢ Quiet)
-
 -- a part of settling that puts these bytes
 pub record Speaks {T : Type 0} (bytes : List ℕ) (most : ℕ) (result : Result T WireFault)
     (old new : RigState) : Type 0 where
   pub cause : HasLineCause result old new
   pub part : GoesOn (PutsPart bytes most) old.calls new.calls
   pub whole : OnOk result (GoesOn (PutsAll bytes most) old.calls new.calls)
+
+-- batches of the byte, and how many bytes of the limit they leave
+pub record SpeaksBatches (byte limit : ℕ) (result : Result ℕ WireFault) (old new : RigState) : Type 0 where
+  pub cause : HasLineCause result old new
+  pub part : GoesOn (PutsPart (replicate limit byte) (4099 * limit)) old.calls new.calls
+  pub within : IfOk result (λ left. left ≤ limit)
+  pub whole : IfOk result (λ left. let sent = limit - left in
+      GoesOn (PutsAll (replicate sent byte) (4099 * sent)) old.calls new.calls)
 
 -- On a line that follows the model:
 
@@ -130,6 +101,20 @@ pub record SendsOnce (byte : ℕ) (pages : List ℕ) (start : Device) (left : �
     (old new : RigState) : Type 0 where
   pub keeps : KeepsSettling byte pages start old new
   pub ok : IfOk result (λ refused. MatchBool refused (IsSettled new.device) (IsGoing byte pages start left new.device))
+  pub fails : IsOkOrLine result
+
+-- what a batch does
+pub record SendsBatch {T : Type 0} (byte : ℕ) (pages : List ℕ) (start : Device) (left : ℕ) (result : Result T WireFault)
+    (old new : RigState) : Type 0 where
+  pub keeps : KeepsSettling byte pages start old new
+  pub ok : OnOk result (IsGoing byte pages start left new.device)
+  pub fails : IsOkOrLine result
+
+-- what all batches do, where so many bytes are left
+pub record SendsBatches (byte : ℕ) (pages : List ℕ) (start : Device) (result : Result ℕ WireFault)
+    (old new : RigState) : Type 0 where
+  pub keeps : KeepsSettling byte pages start old new
+  pub ok : IfOk result (λ left. IsGoing byte pages start left new.device)
   pub fails : IsOkOrLine result
 
 -- what settling does

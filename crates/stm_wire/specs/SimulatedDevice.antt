@@ -1,18 +1,18 @@
 -- After a byte, the simulator is a device of the model.
 use Rattle.std.proofs.Common.{take_all, length-append, ⊎_elim, ◌⊎◌, inl, inr, ◌||◌, replicate, ◌≡◌, ℕ, zero, suc, ◌+◌, ◌-◌, ◌<◌, ◌≤◌, Bool, true, false, ◌==◌, if◌then◌else◌, List, [], ◌∷◌, ◌++◌, length, take, drop, All, Option, Some, None, refl, ◌∙◌, ap, arith, length-take, length-drop}
 use Rattle.std.proofs.lemmas.List.Elements.{All-take, All-append, All-drop}
-use Rattle.std.proofs.lemmas.Nat.{and_le_r}
 use Rattle.std.proofs.lemmas.List.{length-replicate, take-append-le}
 use Rattle.stm_wire.specs.declared.verdict.Verdict.{Verdict}
 use Rattle.stm_wire.specs.declared.verdict.Verdict.TheVariants.{Done, Refused, Loose}
-use Rattle.stm_wire.specs.Chip.{ChipData, erased_byte, flash_size, page_offset, page_size, with_bytes}
-use Rattle.stm_wire.specs.PageLaws.{page_within, length-with_bytes, fits-end}
+use Rattle.stm_wire.specs.Chip.{ChipData, IsErasedByte, erased_byte, flash_size, page_offset, page_size, with_bytes}
+use Rattle.stm_wire.specs.PageLaws.{length-with_bytes, fits-end}
+use Rattle.stm_wire.specs.FlashLaws.{length-erased_pages}
 use Rattle.stm_wire.specs.Exchange.{verdict, IsOpen}
 use Rattle.stm_wire.specs.Effect.{erased_pages, Change, Nothing, ErasePages, EraseAll, Write, change_of}
 use Rattle.stm_wire.specs.Device.{Device, Phase, Fresh, Connected, Gone, IsOpenPhase, IsDevice, reply_of, phase_after}
 use Rattle.stm_wire.specs.Reply.{ack, nack}
-use Rattle.stm_wire.specs.Simulator.{simulated_device, Fits, common_bits, changed_flash, after_loose, after_verdict, after_byte}
-use Rattle.stm_wire.specs.Simulated.{Small, small-tail, small-change, done-change-fits, open-nothing, bytes-erased}
+use Rattle.stm_wire.specs.Simulator.{simulated_device, Fits, stored_bytes, changed_flash, after_loose, after_verdict, after_byte}
+use Rattle.stm_wire.specs.Simulated.{Small, small-tail, small-change, done-change-fits, open-nothing, bytes-erased, stored_byte-small}
 
 abbrev pub IsByte : ℕ → Type 0
 IsByte b = b < 256
@@ -21,30 +21,22 @@ bytes-with_bytes : (at : ℕ) (bytes flash : List ℕ) → All IsByte bytes → 
 bytes-with_bytes at bytes flash b f =
     All-append IsByte (take at flash ++ bytes) (drop (at + length bytes) flash) (All-append IsByte (take at flash) bytes (All-take IsByte at flash f) b) (All-drop IsByte (at + length bytes) flash f)
 
-pub length-erased_pages : (chip : ChipData) (pages flash : List ℕ) → length flash ≡ flash_size chip → length (erased_pages chip pages flash) ≡ length flash
-length-erased_pages chip [] flash size = refl
-length-erased_pages chip (n ∷ pages) flash size =
-    let page = replicate (page_size chip n) (erased_byte chip) in
-    let fits : page_offset chip n + length page ≤ length flash = omega (arith, page_within chip.sizes n, length-replicate (page_size chip n) (erased_byte chip), size) in
-    let one = length-with_bytes (page_offset chip n) page flash fits in
-    length-erased_pages chip pages (with_bytes (page_offset chip n) page flash) (one ∙ size) ∙ one
+bytes-erased_pages : (chip : ChipData) (pages flash : List ℕ) → IsErasedByte (erased_byte chip) → All IsByte flash → All IsByte (erased_pages chip pages flash)
+bytes-erased_pages chip [] flash one all = all
+bytes-erased_pages chip (n ∷ pages) flash one all =
+    bytes-erased_pages chip pages (with_bytes (page_offset chip n) (replicate (page_size chip n) (erased_byte chip)) flash) one (bytes-with_bytes (page_offset chip n) (replicate (page_size chip n) (erased_byte chip)) flash (bytes-erased (page_size chip n) (erased_byte chip) one) all)
 
-bytes-erased_pages : (chip : ChipData) (pages flash : List ℕ) → All IsByte flash → All IsByte (erased_pages chip pages flash)
-bytes-erased_pages chip [] flash all = all
-bytes-erased_pages chip (n ∷ pages) flash all =
-    bytes-erased_pages chip pages (with_bytes (page_offset chip n) (replicate (page_size chip n) (erased_byte chip)) flash) (bytes-with_bytes (page_offset chip n) (replicate (page_size chip n) (erased_byte chip)) flash (bytes-erased (page_size chip n)) all)
+length-stored_bytes : (erased : ℕ) (olds sents : List ℕ) → length olds ≡ length sents → length (stored_bytes erased olds sents) ≡ length sents
+length-stored_bytes erased [] [] e = refl
+length-stored_bytes erased [] (s ∷ sents) e = absurd (omega (arith, e))
+length-stored_bytes erased (o ∷ olds) [] e = absurd (omega (arith, e))
+length-stored_bytes erased (o ∷ olds) (s ∷ sents) e = ap suc (length-stored_bytes erased olds sents (omega (arith, e)))
 
-length-common_bits : (olds sents : List ℕ) → length olds ≡ length sents → length (common_bits olds sents) ≡ length sents
-length-common_bits [] [] e = refl
-length-common_bits [] (s ∷ sents) e = absurd (omega (arith, e))
-length-common_bits (o ∷ olds) [] e = absurd (omega (arith, e))
-length-common_bits (o ∷ olds) (s ∷ sents) e = ap suc (length-common_bits olds sents (omega (arith, e)))
-
-bytes-common_bits : (olds sents : List ℕ) → All IsByte sents → All IsByte (common_bits olds sents)
-bytes-common_bits [] sents all k e h = absurd (omega (arith, h))
-bytes-common_bits (o ∷ olds) [] all k e h = absurd (omega (arith, h))
-bytes-common_bits (o ∷ olds) (s ∷ sents) all zero e h = omega (arith, and_le_r o s, all 0 0 (omega arith))
-bytes-common_bits (o ∷ olds) (s ∷ sents) all (suc k) e h = bytes-common_bits olds sents (small-tail s sents all) k e (omega (arith, h))
+bytes-stored_bytes : (erased : ℕ) (olds sents : List ℕ) → All IsByte olds → All IsByte sents → All IsByte (stored_bytes erased olds sents)
+bytes-stored_bytes erased [] sents before all k e h = absurd (omega (arith, h))
+bytes-stored_bytes erased (o ∷ olds) [] before all k e h = absurd (omega (arith, h))
+bytes-stored_bytes erased (o ∷ olds) (s ∷ sents) before all zero e h = stored_byte-small erased o s (before 0 0 (omega arith)) (all 0 0 (omega arith))
+bytes-stored_bytes erased (o ∷ olds) (s ∷ sents) before all (suc k) e h = bytes-stored_bytes erased olds sents (small-tail o olds before) (small-tail s sents all) k e (omega (arith, h))
 
 length-changed : (chip : ChipData) (change : Change) (old : List ℕ) → length old ≡ flash_size chip → Fits chip change → length (changed_flash chip change old) ≡ length old
 length-changed chip Nothing old size fits = refl
@@ -54,14 +46,16 @@ length-changed chip (Write address sent) old size fits =
     let e = fits-end chip address (length sent) fits in
     let part = take (length sent) (drop (address - chip.base) old) in
     let same : length part ≡ length sent = simp (length-take, length-drop) (omega (arith, size, e.0, e.1)) in
-    length-with_bytes (address - chip.base) (common_bits part sent) old (omega (arith, length-common_bits part sent same, size, e.0, e.1))
+    length-with_bytes (address - chip.base) (stored_bytes (erased_byte chip) part sent) old (omega (arith, length-stored_bytes (erased_byte chip) part sent same, size, e.0, e.1))
 
-bytes-changed : (chip : ChipData) (change : Change) (old : List ℕ) → All IsByte old → Small change → All IsByte (changed_flash chip change old)
-bytes-changed chip Nothing old all small = all
-bytes-changed chip (ErasePages pages) old all small = bytes-erased_pages chip pages old all
-bytes-changed chip EraseAll old all small = bytes-erased (length old)
-bytes-changed chip (Write address sent) old all small =
-    bytes-with_bytes (address - chip.base) (common_bits (take (length sent) (drop (address - chip.base) old)) sent) old (bytes-common_bits (take (length sent) (drop (address - chip.base) old)) sent small) all
+bytes-changed : (chip : ChipData) (change : Change) (old : List ℕ) → IsErasedByte (erased_byte chip) → All IsByte old → Small change → All IsByte (changed_flash chip change old)
+bytes-changed chip Nothing old one all small = all
+bytes-changed chip (ErasePages pages) old one all small = bytes-erased_pages chip pages old one all
+bytes-changed chip EraseAll old one all small = bytes-erased (length old) (erased_byte chip) one
+bytes-changed chip (Write address sent) old one all small =
+    let part = take (length sent) (drop (address - chip.base) old) in
+    let before = All-take IsByte (length sent) (drop (address - chip.base) old) (All-drop IsByte (address - chip.base) old all) in
+    bytes-with_bytes (address - chip.base) (stored_bytes (erased_byte chip) part sent) old (bytes-stored_bytes (erased_byte chip) part sent before small) all
 
 -- another flash of bytes, other owed bytes and another phase
 with-parts : (d : Device) (flash owed : List ℕ) (phase : Phase) → IsDevice d → length flash ≡ length d.flash → All IsByte flash → IsOpenPhase d.chip d.codes phase → IsDevice (record d { flash = flash; owed = owed; phase = phase })
@@ -106,7 +100,7 @@ phase-after chip codes (code ∷ rest) = by_code (code == 0x21)
 
 loosened-device : (d : Device) (z xy : Bool) → IsDevice d → IsDevice (if z then record d { flash = replicate (length d.flash) (erased_byte d.chip); owed = d.owed ++ ack ∷ ack ∷ []; phase = Fresh }
     else (if xy then record d { owed = d.owed ++ ack ∷ ack ∷ []; phase = Fresh } else record d { owed = d.owed ++ nack ∷ []; phase = Connected [] }))
-loosened-device d true xy is = with-parts d (replicate (length d.flash) (erased_byte d.chip)) (d.owed ++ ack ∷ ack ∷ []) Fresh is (length-replicate (length d.flash) (erased_byte d.chip)) (bytes-erased (length d.flash)) tt
+loosened-device d true xy is = with-parts d (replicate (length d.flash) (erased_byte d.chip)) (d.owed ++ ack ∷ ack ∷ []) Fresh is (length-replicate (length d.flash) (erased_byte d.chip)) (bytes-erased (length d.flash) (erased_byte d.chip) is.chip.erased) tt
 loosened-device d false true is = with-parts d d.flash (d.owed ++ ack ∷ ack ∷ []) Fresh is refl is.flash tt
 loosened-device d false false is = with-parts d d.flash (d.owed ++ nack ∷ []) (Connected []) is refl is.flash (nothing-waits d.chip d.codes)
 
@@ -120,7 +114,7 @@ verdict-device d rest byte (Some Done) is waits small e =
     let bytes = rest ++ byte ∷ [] in
     with-parts d (changed_flash d.chip (change_of bytes) d.flash) (d.owed ++ reply_of d bytes) (phase_after bytes) is
     (length-changed d.chip (change_of bytes) d.flash is.size (done-change-fits d.chip d.codes bytes e))
-    (bytes-changed d.chip (change_of bytes) d.flash is.flash (small-change bytes small)) (phase-after d.chip d.codes bytes)
+    (bytes-changed d.chip (change_of bytes) d.flash is.chip.erased is.flash (small-change bytes small)) (phase-after d.chip d.codes bytes)
 verdict-device d rest byte (Some Loose) is waits small e = loosened-is (rest ++ byte ∷ [])
   where
     loosened-is : (bytes : List ℕ) → IsDevice (after_loose d bytes)

@@ -1,5 +1,5 @@
 -- The simulator: one device of the model, with every choice made.
-use Rattle.std.specs.Prelude.{ℕ, ◌-◌, ◌||◌, ◌==◌, if◌then◌else◌, List, [], ◌∷◌, ◌++◌, length, take, drop, replicate, bit_and, Option, Some, None, IsTrue}
+use Rattle.std.specs.Prelude.{ℕ, ◌-◌, ◌||◌, ◌==◌, if◌then◌else◌, List, [], ◌∷◌, ◌++◌, length, take, drop, replicate, bit_and, bit_or, Option, Some, None, IsTrue}
 use Rattle.stm_wire.specs.declared.verdict.Verdict.{Verdict}
 use Rattle.stm_wire.specs.declared.verdict.Verdict.TheVariants.{Done, Refused, Loose}
 use Rattle.stm_wire.specs.declared.chip.EraseKind.{EraseKind}
@@ -12,17 +12,22 @@ use Rattle.stm_wire.specs.Effect.{Change, Nothing, ErasePages, EraseAll, Write, 
 use Rattle.stm_wire.specs.Reply.{ack, nack}
 use Rattle.stm_wire.specs.Device.{Device, Phase, Fresh, Connected, Gone, reply_of, phase_after}
 
--- place by place, the bits that both have
-abbrev pub common_bits : List ℕ → List ℕ → List ℕ
-common_bits (old ∷ olds) (sent ∷ sents) = bit_and old sent ∷ common_bits olds sents
-common_bits olds sents = []
+-- A byte written over another: the bits that both have, since a write can only clear what an erase has set; where an
+-- erased byte is 00, the bits that either has.
+abbrev pub stored_byte : ℕ → ℕ → ℕ → ℕ
+stored_byte erased old sent = if erased == 0 then bit_or old sent else bit_and old sent
 
--- the flash after a done list: a byte written over another has the bits of both
+-- place by place
+abbrev pub stored_bytes : ℕ → List ℕ → List ℕ → List ℕ
+stored_bytes erased (old ∷ olds) (sent ∷ sents) = stored_byte erased old sent ∷ stored_bytes erased olds sents
+stored_bytes erased olds sents = []
+
+-- the flash after a done list
 abbrev pub changed_flash : ChipData → Change → List ℕ → List ℕ
 changed_flash chip Nothing flash = flash
 changed_flash chip (ErasePages pages) flash = erased_pages chip pages flash
 changed_flash chip EraseAll flash = replicate (length flash) (erased_byte chip)
-changed_flash chip (Write address sent) flash = with_bytes (address - chip.base) (common_bits (take (length sent) (drop (address - chip.base) flash)) sent) flash
+changed_flash chip (Write address sent) flash = with_bytes (address - chip.base) (stored_bytes (erased_byte chip) (take (length sent) (drop (address - chip.base) flash)) sent) flash
 
 -- a write that is done stays inside the flash
 abbrev pub Fits : ChipData → Change → Type 0

@@ -8,7 +8,7 @@ use Rattle.stm_wire.specs.Rig.{RigState}
 abbrev pub no_device : Device
 no_device =
     record {
-      chip = record { id = 0; base = 0; sizes = []; kind = Page };
+      chip = record { id = 0; base = 0; sizes = []; kind = Page; erased = 0xFF };
       version = 0;
       codes = [];
       flash = [];

@@ -1,7 +1,7 @@
 // A chip: its number, where its flash begins, and the sizes of the flash's pages.
 ghost use Rattle.std.specs.Prelude.{◌≡◌, ◌+◌, ◌^◌, ◌<◌, ◌≤◌, ◌↔◌, IsTrue, sum, All};
 ghost use Rattle.std.specs.Option.{SomeIff};
-ghost use Rattle.stm_wire.specs.Chip.{ChipData, chip_of, IsChip, IsPageSize, page_count, page_size, page_offset, page_limit, flash_size};
+ghost use Rattle.stm_wire.specs.Chip.{ChipData, chip_of, erased_byte, IsChip, IsErasedByte, IsPageSize, page_count, page_size, page_offset, page_limit, flash_size};
 
 use std::alloc::AllocError;
 use std::marker::Model;
@@ -19,10 +19,13 @@ pub enum EraseKind {
 const FLASH_LIMIT: u32 = 2097152;
 
 /// How many pages a chip of this kind may have.
-fn page_limit(_kind: EraseKind) -> usize
-    ensures { result ≡ page_limit _kind }
+fn page_limit(kind: EraseKind) -> usize
+    ensures { result ≡ page_limit kind }
 {
-    256
+    match kind {
+        EraseKind::Page => 256,
+        EraseKind::Extended => 512,
+    }
 }
 
 /// Whether each of these is the size of a page: a multiple of 256 bytes, and not none.
@@ -30,6 +33,13 @@ fn are_page_sizes(sizes: &[u32]) -> bool
     ensures { IsTrue result ↔ All IsPageSize sizes.now }
 {
     sizes.iter().all(|size| *size >= 256 && *size % 256 == 0)
+}
+
+/// Whether an erased place may hold this byte: it has all bits set, or none.
+fn is_erased_byte(byte: u8) -> bool
+    ensures { IsTrue result ↔ IsErasedByte byte }
+{
+    byte == 0 || byte == 0xFF
 }
 
 /// How many bytes these pages have, or None where those are more than a flash may have.
@@ -54,7 +64,8 @@ fn size_of(sizes: &[u32]) -> u32
     sizes.iter().sum()
 }
 
-/// One of the chips whose bootloader and flash this workspace knows: at most 256 pages, each a multiple of 256 bytes,
+/// One of the chips whose bootloader and flash this workspace knows: at most 256 pages, or 512 where they are
+/// erased by 44, each a multiple of 256 bytes,
 /// 2 MiB at most in all.
 #[derive(Debug, Drop)]
 pub struct Chip {
@@ -64,22 +75,24 @@ pub struct Chip {
     /// The sum of the sizes, since the flash's end is asked for with each address.
     total: u32,
     kind: EraseKind,
+    erased: u8,
 }
 
 impl Model for Chip {
     ghost Value = { ChipData };
 
-    ghost view = { λ c. chip_of c.id c.base c.sizes.items c.kind };
+    ghost view = { λ c. chip_of c.id c.base c.sizes.items c.kind c.erased };
 
-    ghost invariant = { λ c. IsChip (chip_of c.id c.base c.sizes.items c.kind) × (c.total ≡ sum c.sizes.items) };
+    ghost invariant = { λ c. IsChip (chip_of c.id c.base c.sizes.items c.kind c.erased) × (c.total ≡ sum c.sizes.items) };
 }
 
 impl Chip {
     /// A chip of these values, or None where one of its limits is broken.
     ///
-    /// `base` is the address of the flash's first byte, `sizes` has the bytes of each page from there on.
-    pub fn new(id: u16, base: u32, sizes: Vec<u32>, kind: EraseKind) -> Option<Chip>
-        ensures { let chip = chip_of id base sizes.items kind in SomeIff result (IsChip chip) chip }
+    /// `base` is the address of the flash's first byte, `sizes` has the bytes of each page from there on, and `erased`
+    /// is what an erased place holds: FF, or 00.
+    pub fn new(id: u16, base: u32, sizes: Vec<u32>, kind: EraseKind, erased: u8) -> Option<Chip>
+        ensures { let chip = chip_of id base sizes.items kind erased in SomeIff result (IsChip chip) chip }
     {
         if sizes.is_empty() || sizes.len() > page_limit(kind) {
             return None;
@@ -87,7 +100,7 @@ impl Chip {
         if base < 0x0100_0000 || base % 256 != 0 {
             return None;
         }
-        if !are_page_sizes(&sizes) {
+        if !are_page_sizes(&sizes) || !is_erased_byte(erased) {
             return None;
         }
         let total = flash_size_of(&sizes)?;
@@ -100,6 +113,7 @@ impl Chip {
             sizes,
             total,
             kind,
+            erased,
         })
     }
 
@@ -120,6 +134,14 @@ impl Chip {
         ensures { result ≡ self.now.kind }
     {
         self.kind
+    }
+
+    /// What an erased place of its flash holds: FF, or 00.
+    pub fn erased(&self) -> u8
+        ensures byte { result ≡ erased_byte self.now }
+        ensures one { IsErasedByte result }
+    {
+        self.erased
     }
 
     pub fn pages(&self) -> u16
@@ -155,6 +177,14 @@ impl Chip {
         self.total
     }
 
+    /// The address behind the flash's last byte, 2^32 at most.
+    pub fn end(&self) -> u64
+        ensures end { result ≡ self.now.base + flash_size self.now }
+        ensures limit { result ≤ 2 ^ 32 }
+    {
+        u64::from(self.base) + u64::from(self.total)
+    }
+
     /// A law, which does nothing: each chip keeps the limits, so it has no more pages than its kind allows.
     pub fn keeps_limits(&self)
         ensures chip { IsChip self.now }
@@ -174,6 +204,7 @@ impl Clone for Chip {
             sizes: self.sizes.clone()?,
             total: self.total,
             kind: self.kind,
+            erased: self.erased,
         })
     }
 }

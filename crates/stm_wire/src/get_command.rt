@@ -1,5 +1,5 @@
 // Get (AN3155, section 3.1): code 0x00, which tells the bootloader's version and the codes of its commands.
-ghost use Rattle.std.specs.Prelude.{◌≡◌, ◌++◌, ◌∷◌, [], ℕ, List, length, take, ◌≤◌, OnOk, IfOk, IfErr};
+ghost use Rattle.std.specs.Prelude.{◌≡◌, ◌++◌, ◌∷◌, [], ℕ, List, length, take, ◌<◌, ◌≤◌, OnOk, IfOk, IfErr};
 ghost use Rattle.stm_wire.specs.Device.{IsSettled};
 ghost use Rattle.stm_wire.specs.Dialogue.{learns};
 ghost use Rattle.stm_wire.specs.Sending.{Holds, BreaksOff};
@@ -29,7 +29,7 @@ pub struct Commands {
 /// is answered.
 pub fn get_commands<R: Rig>(rig: &mut R) -> Result<Commands, WireFault>
     ensures held { IfOk result (λ c. Holds (command 0x00) (get_turns c.version (take c.count c.codes)) (R.view rig.old) (R.view rig.new)) }
-    ensures broken { IfErr result (λ fault. (version : ℕ) × (codes : List ℕ) × BreaksOff fault (command 0x00) (get_turns version codes) (R.view rig.old) (R.view rig.new)) }
+    ensures broken { IfErr result (λ fault. (version : ℕ) × (codes : List ℕ) × (length codes < 256) × BreaksOff fault (command 0x00) (get_turns version codes) (R.view rig.old) (R.view rig.new)) }
     ensures honest { (R.view rig.old).is_honest → IsSettled (R.view rig.old).device
         → Does result (λ c. (c.version ≡ (R.view rig.old).device.version) × (take c.count c.codes ≡ (R.view rig.old).device.codes) × ((R.view rig.new).device ≡ (R.view rig.old).device)) }
 {
@@ -42,7 +42,7 @@ pub fn get_commands<R: Rig>(rig: &mut R) -> Result<Commands, WireFault>
 /// Takes the count, the version and the codes.
 fn receive_commands<R: Rig>(rig: &mut R) -> Result<Commands, WireFault>
     ensures held { IfOk result (λ c. Holds [] (learns (length (take c.count c.codes) ∷ c.version ∷ take c.count c.codes)) (R.view rig.old) (R.view rig.new)) }
-    ensures broken { IfErr result (λ fault. (version : ℕ) × (codes : List ℕ) × BreaksOff fault [] (learns (length codes ∷ version ∷ codes)) (R.view rig.old) (R.view rig.new)) }
+    ensures broken { IfErr result (λ fault. (version : ℕ) × (codes : List ℕ) × (length codes < 256) × BreaksOff fault [] (learns (length codes ∷ version ∷ codes)) (R.view rig.old) (R.view rig.new)) }
     ensures bytes { (R.view rig.old).is_honest → IfOk result (λ c. (R.view rig.old).device ≡ owing (length (take c.count c.codes) ∷ c.version ∷ take c.count c.codes) (R.view rig.new).device) }
     ensures line { (R.view rig.old).is_honest → (version : ℕ) (codes rest : List ℕ) → (R.view rig.old).device.owed ≡ length codes ∷ version ∷ (codes ++ rest) → IsOkOrLine result }
 {

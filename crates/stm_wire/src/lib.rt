@@ -1,16 +1,20 @@
 //! The line to the bootloader of an STM32: its chip, its frames, and what a device makes of them (ST AN3155).
 #![tactic(auto)]
 
+mod batch;
 mod bytes;
 mod chip;
 mod dialogue;
+mod draining;
 mod erase_memory;
 mod fault;
+mod flip_rig;
 mod get_command;
 mod get_id_command;
 mod go_command;
 mod harmless;
 mod intent;
+mod list_rig;
 mod memory_rig;
 mod past;
 mod plan;
@@ -20,16 +24,13 @@ mod rig;
 mod settling;
 mod simulator;
 mod stop;
-#[cfg(test)]
-mod stopped_devices;
-#[cfg(test)]
-mod unmodelled;
 mod verdict;
 mod write_memory;
 
 pub use chip::{Chip, EraseKind};
 pub use erase_memory::erase_page;
 pub use fault::{RigFault, WireFault};
+pub use flip_rig::FlipRig;
 pub use get_command::{Commands, get_commands};
 pub use get_id_command::get_id;
 pub use go_command::go;
@@ -37,6 +38,7 @@ pub use harmless::{
     harmless_is_kept, pages_are_the_flash, sending_is_harmless, stopped_is_harmless,
 };
 pub use intent::{Intent, settling_byte};
+pub use list_rig::ListRig;
 pub use memory_rig::MemoryRig;
 pub use past::PastStep;
 pub use plan::{Plan, Stop};
@@ -44,6 +46,6 @@ pub use protection::{Protection, protect};
 pub use read_memory::read;
 pub use rig::{Patience, Rig, RigCall};
 pub use settling::settle;
-pub use simulator::Stage;
+pub use simulator::{Simulator, Stage};
 pub use verdict::Verdict;
 pub use write_memory::program;

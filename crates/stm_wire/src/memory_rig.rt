@@ -7,13 +7,9 @@ ghost use Rattle.stm_wire.specs.Simulator.{device_of};
 ghost use Rattle.stm_wire.specs.Memory.{MemoryData, IsMemory, rig_state, memory_of, fresh_memory, begins};
 
 mod call;
-#[cfg(test)]
-mod commands;
 mod fault;
 mod record;
 mod rig;
-#[cfg(test)]
-mod tests;
 
 use crate::simulator::{Simulator, Stage};
 use crate::{Chip, PastStep, Plan, RigCall, Stop};
@@ -107,6 +103,20 @@ impl MemoryRig {
         ensures { IsTrue result ↔ (self.now.device.phase ≡ Gone) }
     {
         self.simulator.is_gone()
+    }
+
+    /// Whether a planned stop has come.
+    pub fn has_stopped(&self) -> bool
+        ensures { IsTrue result ↔ (self.now.plan.stop ≡ Stop.Fallen) }
+    {
+        matches!(self.plan.stop, Stop::Fallen)
+    }
+
+    /// The device, as it stands, without the record.
+    pub fn into_simulator(self) -> Simulator
+        ensures { result ≡ self.device }
+    {
+        self.simulator
     }
 
     /// All calls so far, in order.

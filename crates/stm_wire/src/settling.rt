@@ -1,46 +1,30 @@
 // Settling: ending whatever exchange a stopped host began, without harm.
-ghost use Rattle.std.specs.Prelude.{◌≡◌, ◌≤◌, ◌+◌, ◌*◌, ℕ, suc, List, length, OnOk, IfOk, IfErr, MatchBool, [], ◌∷◌};
-ghost use Rattle.stm_wire.specs.Command.{IsOkOrLine, with_rest};
-ghost use Rattle.stm_wire.specs.declared.fault.WireFault.TheVariants.{Quiet};
-ghost use Rattle.stm_wire.specs.Device.{Device, Phase, Fresh, Connected};
-ghost use Rattle.stm_wire.specs.Dialogue.{GoesOn};
+ghost use Rattle.std.specs.Prelude.{◌≡◌, ◌≤◌, ◌+◌, ◌*◌, ℕ, suc, List, length, OnOk, IfOk, IfErr, MatchBool, Some, None, [], ◌∷◌};
+ghost use Rattle.stm_wire.specs.Command.{with_rest};
+ghost use Rattle.stm_wire.specs.declared.rig.RigCall.TheVariants.{Put, Get};
+ghost use Rattle.stm_wire.specs.Device.{Device, Fresh, Connected};
+ghost use Rattle.stm_wire.specs.Dialogue.{Adds, GoesOn};
 ghost use Rattle.stm_wire.specs.Harmless.{Harmless};
+ghost use Rattle.stm_wire.specs.Reply.{ack, nack};
 ghost use Rattle.stm_wire.specs.SentList.{settling_run};
-ghost use Rattle.stm_wire.specs.Settling.{IsSettling, IsGoing, with_nothing_owed, KeepsSettling, LeadsTo, SendsOnce, Settles};
-ghost use Rattle.stm_wire.specs.Settling.{PutsAll, PutsPart, SettlesWithin, HasAskedAll, IsUnrefused, EndsRefused, IsSilence, HasLineCause, IsNotQuiet, Speaks};
+ghost use Rattle.stm_wire.specs.Settling.{IsSettling, IsGoing, LeadsTo, SendsOnce, Settles};
+ghost use Rattle.stm_wire.specs.Settling.{PutsPart, SettlesWithin, HasLineCause, Speaks};
+ghost use Rattle.stm_wire.specs.SettlingCalls.{AreUnrefused, IsRefused, reconnecting, EndsSingly, EndsSettled, EndsQuiet, EndsGarbled, FailsAs};
+ghost use Rattle.stm_wire.specs.SettlingCalls.{Never, Floods, IsAnswer, IsAnswerTo, IsUnanswered, IsNoAck, IsUnconfirmed, IsGarbled};
 
+use crate::batch::{CONNECT, send_batches};
 use crate::dialogue::{ACK, NACK};
+use crate::draining::drain;
 use crate::{Patience, Rig, WireFault};
-
-/// The byte that a device fresh from reset waits for (AN3155, section 2).
-const CONNECT: u8 = 0x7F;
-
-/// Takes bytes until it is quiet.
-fn drain<R: Rig>(rig: &mut R) -> Result<(), WireFault>
-    ensures speaks { Speaks [] 4097 result (R.view rig.old) (R.view rig.new) }
-    ensures loud { IsNotQuiet result }
-    ensures keeps { (R.view rig.old).is_honest → (byte : ℕ) (pages : List ℕ) (start : Device)
-        → IsSettling byte pages start (R.view rig.old).device
-        → KeepsSettling byte pages start (R.view rig.old) (R.view rig.new) }
-    ensures empty { (R.view rig.old).is_honest
-        → OnOk result ((R.view rig.new).device ≡ with_nothing_owed (R.view rig.old).device) }
-    ensures fails { (R.view rig.old).is_honest → length (R.view rig.old).device.owed ≤ 4096 → IsOkOrLine result }
-{
-    for _taken in 0..4097_u32 {
-        if rig.get(Patience::Brief)?.is_none() {
-            return Ok(());
-        }
-    }
-    Err(WireFault::Garbled)
-}
 
 /// Sends the byte once, and answers whether it was refused.
 fn send_once<R: Rig>(rig: &mut R, byte: u8) -> Result<bool, WireFault>
     ensures speaks { Speaks (byte ∷ []) 4099 result (R.view rig.old) (R.view rig.new) }
-    ensures loud { IsNotQuiet result }
-    ensures refused { IfOk result (λ refused. MatchBool refused
-        (GoesOn (EndsRefused byte) (R.view rig.old).calls (R.view rig.new).calls)
-        (GoesOn IsUnrefused (R.view rig.old).calls (R.view rig.new).calls)) }
+    ensures refused { let old = (R.view rig.old).calls in let new = (R.view rig.new).calls in
+        IfOk result (λ refused. MatchBool refused
+        (GoesOn (IsRefused byte) old new) (GoesOn (AreUnrefused byte 1) old new)) }
+    ensures fails { IfErr result
+        (FailsAs Never Floods (R.view rig.old).calls (R.view rig.new).calls) }
     ensures once { (R.view rig.old).is_honest → (pages : List ℕ) (start : Device) (left : ℕ)
         → IsGoing byte pages start (suc left) (R.view rig.old).device
         → SendsOnce byte pages start left result (R.view rig.old) (R.view rig.new) }
@@ -58,11 +42,14 @@ fn send_once<R: Rig>(rig: &mut R, byte: u8) -> Result<bool, WireFault>
 /// Nothing comes.
 fn expect_quiet<R: Rig>(rig: &mut R) -> Result<(), WireFault>
     ensures speaks { Speaks [] 1 result (R.view rig.old) (R.view rig.new) }
-    ensures loud { IsNotQuiet result }
-    ensures silence { OnOk result (GoesOn IsSilence (R.view rig.old).calls (R.view rig.new).calls) }
+    ensures quiet { OnOk result
+        (Adds (Get None ∷ []) (R.view rig.old).calls (R.view rig.new).calls) }
+    ensures fails { IfErr result
+        (FailsAs Never IsAnswer (R.view rig.old).calls (R.view rig.new).calls) }
     ensures honest { (R.view rig.old).is_honest → (byte : ℕ) (pages : List ℕ) (start : Device)
         → IsSettling byte pages start (R.view rig.old).device → (R.view rig.old).device.owed ≡ []
-        → LeadsTo byte pages start result (R.view rig.old) (R.view rig.new) (R.view rig.old).device }
+        → LeadsTo byte pages start result (R.view rig.old) (R.view rig.new)
+        (R.view rig.old).device }
 {
     match rig.get(Patience::Brief)? {
         None => Ok(()),
@@ -73,13 +60,15 @@ fn expect_quiet<R: Rig>(rig: &mut R) -> Result<(), WireFault>
 /// Connects a fresh device.
 fn connect<R: Rig>(rig: &mut R) -> Result<(), WireFault>
     ensures speaks { Speaks (0x7F ∷ []) 2 result (R.view rig.old) (R.view rig.new) }
-    ensures quiet { IfErr result (λ fault. fault ≡ Quiet
-        → GoesOn (PutsAll (0x7F ∷ []) 2) (R.view rig.old).calls (R.view rig.new).calls) }
-    ensures unrefused { OnOk result (GoesOn IsUnrefused (R.view rig.old).calls (R.view rig.new).calls) }
+    ensures answered { OnOk result
+        (Adds (Put 0x7F ∷ Get (Some ack) ∷ []) (R.view rig.old).calls (R.view rig.new).calls) }
+    ensures fails { IfErr result
+        (FailsAs IsUnanswered IsNoAck (R.view rig.old).calls (R.view rig.new).calls) }
     ensures honest { (R.view rig.old).is_honest → (byte : ℕ) (pages : List ℕ) (start : Device)
         → IsSettling byte pages start (R.view rig.old).device
         → (R.view rig.old).device.phase ≡ Fresh → (R.view rig.old).device.owed ≡ []
-        → LeadsTo byte pages start result (R.view rig.old) (R.view rig.new) (with_rest [] (R.view rig.old).device) }
+        → LeadsTo byte pages start result (R.view rig.old) (R.view rig.new)
+        (with_rest [] (R.view rig.old).device) }
 {
     rig.put(CONNECT)?;
     match rig.get(Patience::Long)? {
@@ -92,12 +81,15 @@ fn connect<R: Rig>(rig: &mut R) -> Result<(), WireFault>
 /// Sends the byte to a connected device, which then waits for the other byte of a pair.
 fn probe<R: Rig>(rig: &mut R, byte: u8) -> Result<(), WireFault>
     ensures speaks { Speaks (byte ∷ []) 2 result (R.view rig.old) (R.view rig.new) }
-    ensures loud { IsNotQuiet result }
-    ensures unrefused { OnOk result (GoesOn IsUnrefused (R.view rig.old).calls (R.view rig.new).calls) }
+    ensures quiet { OnOk result
+        (Adds (Put byte ∷ Get None ∷ []) (R.view rig.old).calls (R.view rig.new).calls) }
+    ensures fails { IfErr result
+        (FailsAs Never (IsAnswerTo byte) (R.view rig.old).calls (R.view rig.new).calls) }
     ensures honest { (R.view rig.old).is_honest → (pages : List ℕ) (start : Device)
         → IsSettling byte pages start (R.view rig.old).device
         → (R.view rig.old).device.phase ≡ Connected [] → (R.view rig.old).device.owed ≡ []
-        → LeadsTo byte pages start result (R.view rig.old) (R.view rig.new) (with_rest (byte ∷ []) (R.view rig.old).device) }
+        → LeadsTo byte pages start result (R.view rig.old) (R.view rig.new)
+        (with_rest (byte ∷ []) (R.view rig.old).device) }
 {
     rig.put(byte)?;
     expect_quiet(rig)
@@ -106,12 +98,15 @@ fn probe<R: Rig>(rig: &mut R, byte: u8) -> Result<(), WireFault>
 /// Sends the byte again, which makes no pair.
 fn confirm<R: Rig>(rig: &mut R, byte: u8) -> Result<(), WireFault>
     ensures speaks { Speaks (byte ∷ []) 3 result (R.view rig.old) (R.view rig.new) }
-    ensures loud { IsNotQuiet result }
-    ensures refused { OnOk result (GoesOn (EndsRefused byte) (R.view rig.old).calls (R.view rig.new).calls) }
+    ensures refused { OnOk result (Adds (Put byte ∷ Get (Some nack) ∷ Get None ∷ [])
+        (R.view rig.old).calls (R.view rig.new).calls) }
+    ensures fails { IfErr result
+        (FailsAs Never (IsUnconfirmed byte) (R.view rig.old).calls (R.view rig.new).calls) }
     ensures honest { (R.view rig.old).is_honest → (pages : List ℕ) (start : Device)
         → IsSettling byte pages start (R.view rig.old).device
         → (R.view rig.old).device.phase ≡ Connected (byte ∷ []) → (R.view rig.old).device.owed ≡ []
-        → LeadsTo byte pages start result (R.view rig.old) (R.view rig.new) (with_rest [] (R.view rig.old).device) }
+        → LeadsTo byte pages start result (R.view rig.old) (R.view rig.new)
+        (with_rest [] (R.view rig.old).device) }
 {
     rig.put(byte)?;
     match rig.get(Patience::Brief)? {
@@ -123,13 +118,15 @@ fn confirm<R: Rig>(rig: &mut R, byte: u8) -> Result<(), WireFault>
 /// Connects a device that has ignored the byte, and ends what the byte then begins.
 fn reconnect<R: Rig>(rig: &mut R, byte: u8) -> Result<(), WireFault>
     ensures speaks { Speaks (0x7F ∷ byte ∷ byte ∷ []) 7 result (R.view rig.old) (R.view rig.new) }
-    ensures quiet { IfErr result (λ fault. fault ≡ Quiet
-        → GoesOn (PutsAll (0x7F ∷ []) 2) (R.view rig.old).calls (R.view rig.new).calls) }
-    ensures refused { OnOk result (GoesOn (EndsRefused byte) (R.view rig.old).calls (R.view rig.new).calls) }
+    ensures settled { OnOk result
+        (Adds (reconnecting byte) (R.view rig.old).calls (R.view rig.new).calls) }
+    ensures fails { IfErr result (FailsAs IsUnanswered (IsGarbled byte)
+        (R.view rig.old).calls (R.view rig.new).calls) }
     ensures honest { (R.view rig.old).is_honest → (pages : List ℕ) (start : Device)
         → IsSettling byte pages start (R.view rig.old).device
         → (R.view rig.old).device.phase ≡ Fresh → (R.view rig.old).device.owed ≡ []
-        → LeadsTo byte pages start result (R.view rig.old) (R.view rig.new) (with_rest [] (R.view rig.old).device) }
+        → LeadsTo byte pages start result (R.view rig.old) (R.view rig.new)
+        (with_rest [] (R.view rig.old).device) }
 {
     connect(rig)?;
     probe(rig, byte)?;
@@ -141,9 +138,10 @@ fn send_bytes<R: Rig>(rig: &mut R, byte: u8, limit: u32) -> Result<(), WireFault
     ensures cause { HasLineCause result (R.view rig.old) (R.view rig.new) }
     ensures calls { GoesOn (PutsPart (settling_run byte limit) (4099 * limit + 7))
         (R.view rig.old).calls (R.view rig.new).calls }
-    ensures quiet { IfErr result (λ fault. fault ≡ Quiet
-        → GoesOn (HasAskedAll byte limit) (R.view rig.old).calls (R.view rig.new).calls) }
-    ensures refused { OnOk result (GoesOn (EndsRefused byte) (R.view rig.old).calls (R.view rig.new).calls) }
+    ensures settled { OnOk result
+        (GoesOn (EndsSingly byte limit) (R.view rig.old).calls (R.view rig.new).calls) }
+    ensures fails { IfErr result (FailsAs (EndsQuiet byte limit) (EndsGarbled byte limit)
+        (R.view rig.old).calls (R.view rig.new).calls) }
     ensures honest { (R.view rig.old).is_honest → (pages : List ℕ) (start : Device)
         → IsGoing byte pages start limit (R.view rig.old).device
         → Settles byte pages start result (R.view rig.old) (R.view rig.new) }
@@ -158,12 +156,15 @@ fn send_bytes<R: Rig>(rig: &mut R, byte: u8, limit: u32) -> Result<(), WireFault
 
 /// Brings a device to the end of whatever exchange a stopped host began, by sending it this byte until it refuses.
 ///
-/// It first takes what is still owed, 4,096 bytes at most. Then it sends the byte up to `limit` times, and is done where
-/// the first byte of a reply is NACK. A device that has refused none of them is fresh from reset or gone: it is sent 7F,
-/// and where it answers ACK, the byte twice, of which the second has to be refused.
+/// It first takes what is still owed, 4,096 bytes at most. Then, for every byte but 7F, it sends the byte in batches: 256
+/// with no get between, or as many as the limit leaves above two, and takes what is owed. It goes on so until NACK is
+/// among what it took, or two bytes of the limit are left. Then it sends the byte one at a time, as often as the limit
+/// leaves, and is done where the first byte of a reply is NACK. A device that has refused none of them is fresh from reset
+/// or gone: it is sent 7F, and where it answers ACK, the byte twice, of which the second has to be refused.
 ///
-/// On any line that keeps a record, what it puts is a beginning of the byte `limit` times, 7F, and the byte twice, and it
-/// answers Ok at the first refusal: no byte before the last one that it put was answered by NACK first.
+/// On any line that keeps a record, what it puts is a beginning of the byte `limit` times, 7F, and the byte twice. It
+/// answers Ok at the first refusal of a single byte: after each of those before it one reply was asked for next, which was
+/// no NACK. Where it fails otherwise than by the line, the record ends as the fault says.
 ///
 /// On a line that follows the model, from a device that is harmless for the byte and some pages and owes at most 4,096
 /// bytes, with a limit of 131,047 or more, each moment leaves such a device, with the same chip, version and codes, the same
@@ -171,17 +172,20 @@ fn send_bytes<R: Rig>(rig: &mut R, byte: u8, limit: u32) -> Result<(), WireFault
 ///
 /// # Errors
 /// `Line` where a call of the Rig failed, `Quiet` where 7F stayed without an answer, `Garbled` where more bytes were owed,
-/// or another byte came than step by step is due.
+/// or another byte came than step by step is due. It never answers `Nack`.
 pub fn settle<R: Rig>(rig: &mut R, byte: u8, limit: u32) -> Result<(), WireFault>
     ensures cause { HasLineCause result (R.view rig.old) (R.view rig.new) }
-    ensures calls { GoesOn (SettlesWithin byte limit) (R.view rig.old).calls (R.view rig.new).calls }
-    ensures quiet { IfErr result (λ fault. fault ≡ Quiet
-        → GoesOn (HasAskedAll byte limit) (R.view rig.old).calls (R.view rig.new).calls) }
-    ensures refused { OnOk result (GoesOn (EndsRefused byte) (R.view rig.old).calls (R.view rig.new).calls) }
+    ensures calls { GoesOn (SettlesWithin byte limit)
+        (R.view rig.old).calls (R.view rig.new).calls }
+    ensures settled { OnOk result
+        (GoesOn (EndsSettled byte limit) (R.view rig.old).calls (R.view rig.new).calls) }
+    ensures fails { IfErr result (FailsAs (EndsQuiet byte limit) (EndsGarbled byte limit)
+        (R.view rig.old).calls (R.view rig.new).calls) }
     ensures honest { (R.view rig.old).is_honest → 131047 ≤ limit → (pages : List ℕ)
         → Harmless (R.view rig.old).device byte pages → length (R.view rig.old).device.owed ≤ 4096
         → Settles byte pages (R.view rig.old).device result (R.view rig.old) (R.view rig.new) }
 {
     drain(rig)?;
-    send_bytes(rig, byte, limit)
+    let left = send_batches(rig, byte, limit)?;
+    send_bytes(rig, byte, left)
 }

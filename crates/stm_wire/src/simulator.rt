@@ -13,8 +13,6 @@ ghost use Rattle.stm_wire.specs.Simulator.{simulated_device, after_verdict, afte
 mod effect;
 mod reply;
 mod rest;
-#[cfg(test)]
-mod tests;
 
 use crate::verdict::Verdict;
 use crate::{Chip, EraseKind};
@@ -106,7 +104,7 @@ fn finish_loose(
     let code = rest.bytes()[0];
     if code == 0x73 || code == 0x82 || code == 0x92 {
         if code == 0x92 {
-            flash.fill(0xFF);
+            flash.fill(chip.erased());
         }
         owed.push_back_reserved(0x79);
         owed.push_back_reserved(0x79);

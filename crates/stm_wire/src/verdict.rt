@@ -43,16 +43,13 @@ fn xor_from(first: u8, bytes: &[u8]) -> u8
 fn is_inside(chip: &Chip, address: u32) -> bool
     ensures { result ≡ is_inside chip.now address }
 {
-    chip.base() <= address
-        && u64::from(address) < u64::from(chip.base()) + u64::from(chip.flash_size())
+    chip.base() <= address && u64::from(address) < chip.end()
 }
 
 pub fn fits_inside(chip: &Chip, address: u32, n: u16) -> bool
     ensures { result ≡ fits_inside chip.now address n }
 {
-    chip.base() <= address
-        && u64::from(address) + u64::from(n)
-            <= u64::from(chip.base()) + u64::from(chip.flash_size())
+    chip.base() <= address && u64::from(address) + u64::from(n) <= chip.end()
 }
 
 fn read_verdict(chip: &Chip, address: u32, bytes: &[u8]) -> Option<Verdict>

@@ -1,12 +1,12 @@
 -- An append to the journal in memory, and then to its file.
-use Rattle.std.proofs.Common.{◌≡◌, ℕ, List, [], ◌++◌, length, drop, true, Result, Ok, Err, sym, ap, subst, ◌∙◌, inl, inr, ⊎_elim, append-nil}
+use Rattle.std.proofs.Common.{◌≡◌, ℕ, List, [], ◌++◌, length, drop, true, false, true≢false, Result, Ok, Err, sym, ap, subst, ◌∙◌, inl, inr, ⊎_elim, append-nil}
 use Rattle.std.proofs.Math.Seq.{drop-append_seam}
 use Rattle.std.specs.Io.KnownBytes.{Appends}
 use Rattle.stm_wire.specs.declared.fault.RigFault.{RigFault}
 use Rattle.stm_wire.specs.declared.fault.RigFault.TheVariants.{Line, File, Stopped}
 use Rattle.stm_wire.specs.Memory.{MemoryData, AppendsInMemory}
 use Rattle.stmflash.specs.JournalFile.{JournalBytes}
-use Rattle.stmflash.specs.SimulatorRig.{SimulatorState, AppendsToFile}
+use Rattle.stmflash.specs.SimulatorRig.{SimulatorState, AppendsToBoth, AppendsToFile}
 
 -- the journal only grows
 grown-by : (bytes : List ℕ) (answer : Result (Unit {0}) RigFault) (old new : MemoryData) → AppendsInMemory bytes answer old new
@@ -38,7 +38,7 @@ module _ (bytes : List ℕ) (answer result : Result (Unit {0}) RigFault) (old ne
 
   -- the file took what the memory did
   pub taken : (journal : List ℕ) → journal ≡ old.memory.journal → result ≡ answer → Appends old.file.known file.known (drop (length journal) memory.journal)
-      → AppendsToFile bytes result old new
+      → AppendsToBoth bytes result old new
   taken journal journal_is same appends =
       let in_new : In new.memory = subst In (sym memory_is) does in
       record {
@@ -56,5 +56,11 @@ module _ (bytes : List ℕ) (answer result : Result (Unit {0}) RigFault) (old ne
       }
 
   -- the file failed
-  pub failed : result ≡ Err File → file.has_failed ≡ true → AppendsToFile bytes result old new
+  pub failed : result ≡ Err File → file.has_failed ≡ true → AppendsToBoth bytes result old new
   failed is has = record { answer = answer; in_memory = subst In (sym memory_is) does; in_file = inr (is, ap (λ f. f.has_failed) file_is ∙ has) }
+
+-- the file had not failed
+pub to_file : (bytes : List ℕ) (result : Result (Unit {0}) RigFault) (old new : SimulatorState) → old.file.has_failed ≡ false
+    → AppendsToBoth bytes result old new → AppendsToFile bytes result old new
+to_file bytes result old new works both =
+    record { failed = λ has. absurd (true≢false (sym has ∙ works)); appended = λ _. both }

@@ -1,3 +1,1 @@
-pub mod Subcommands
-pub mod Simple
 pub mod Growing

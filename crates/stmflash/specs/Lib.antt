@@ -1,5 +1,8 @@
-pub mod CommandSet
 pub mod JournalFile
-pub mod Number
 pub mod SimulatorFile
+pub mod SimulatorFileLaws
 pub mod SimulatorRig
+pub mod SimulatorRigLaws
+pub mod Protections
+pub mod SocketRig
+pub mod Standing

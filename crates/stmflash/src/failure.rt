@@ -5,6 +5,7 @@ use std::io;
 use std::io::ErrorKind;
 use stm_chip::TableFault;
 use stm_session::Fault;
+use stm_words::UsageFault;
 use thiserror::Error;
 
 /// Why the program failed. Names are those that the words gave.
@@ -34,19 +35,23 @@ pub enum Failure<'a> {
     /// The flash has another length than the chip's, or the line's file another form.
     #[error("bad simulator file {0}")]
     BadSimulatorFile(&'a str),
-    /// The word is no number.
-    #[error("usage: bad number {0}")]
-    BadNumber(&'a str),
-    /// The word names no device.
-    #[error("usage: bad device {0}")]
-    BadDevice(&'a str),
+    /// Nothing answers at a socket, or it can't be made.
+    #[error("cannot connect {0}")]
+    CannotConnect(&'a str),
+    /// The words can't be done.
+    #[error("{0}")]
+    Usage(UsageFault<'a>),
+    /// A simulator was stopped, as it was asked for.
+    #[error("stopped")]
+    Stopped,
 }
 
 impl<'a> Failure<'a> {
-    /// The program's exit status: 2 for what its words ask, 1 for all else.
+    /// The program's exit status: 2 for what its words ask, 3 for a stop that was asked for, 1 for all else.
     pub fn status(&self) -> u8 {
         match self {
-            Failure::BadDevice(_) | Failure::BadNumber(_) => 2,
+            Failure::Usage(_) => 2,
+            Failure::Stopped => 3,
             _ => 1,
         }
     }
@@ -64,6 +69,12 @@ impl<'a> Failure<'a> {
 impl From<Fault> for Failure<'_> {
     fn from(fault: Fault) -> Self {
         Failure::Session(fault)
+    }
+}
+
+impl<'a> From<UsageFault<'a>> for Failure<'a> {
+    fn from(fault: UsageFault<'a>) -> Self {
+        Failure::Usage(fault)
     }
 }
 

@@ -1,13 +1,12 @@
 // A journal in a file, for a Rig with any line.
-ghost use Rattle.std.specs.Prelude.{◌≡◌, true, false, OnErr, OnOk, length};
+ghost use Rattle.std.specs.Prelude.{◌≡◌, ◌≤◌, ◌-◌, ◌^◌, true, false, IfOk, OnErr, OnOk, length};
 ghost use Rattle.std.specs.Io.KnownBytes.{Appends};
 ghost use Rattle.stmflash.specs.JournalFile.{JournalBytes, journal_bytes};
 
-use crate::files::read_if_there;
+use crate::files::{read_if_there, sync_folder};
 use std::fs::{File, Files, OpenFile, OpenOptions};
-use std::io::{ErrorKind, Write};
+use std::io::{ErrorKind, Read, Seek, SeekFrom, Write};
 use std::marker::Model;
-use std::path::Path;
 use std::{io, mem};
 
 /// How far the writing of a file has come.
@@ -28,6 +27,8 @@ pub struct JournalFile<'a, R: Files> {
     rt: &'a R,
     name: &'a str,
     writing: Writing<R::File>,
+    /// The file as it is read, once it is open for that.
+    reading: Option<R::File>,
 }
 
 impl<'a, R: Files> Model for JournalFile<'a, R> {
@@ -45,7 +46,32 @@ impl<'a, R: Files> JournalFile<'a, R> {
             rt,
             name,
             writing: Writing::Unopened,
+            reading: None,
         }
+    }
+
+    /// Reads from a place on, and answers how many bytes; 0 at or past the end. A file that is not there is empty.
+    pub fn fetch(&mut self, at: u64, buf: &mut [u8]) -> io::Result<usize>
+        ensures same { self.new ≡ self.old }
+        ensures length { length buf.new ≡ length buf.old }
+        ensures within { IfOk result (λ n. n ≤ length buf.old) }
+        ensures last { 2 ^ 63 - 1 ≤ at → IfOk result (λ n. n ≡ 0) }
+    {
+        if at >= i64::MAX as u64 {
+            return Ok(0);
+        }
+        let mut file = match self.reading.take() {
+            Some(file) => file,
+            None => match File::open(self.rt, self.name) {
+                Ok(file) => file,
+                Err(e) if e.kind() == ErrorKind::NotFound => return Ok(0),
+                Err(e) => return Err(e),
+            },
+        };
+        file.seek(SeekFrom::Start(at))?;
+        let count = file.read(buf)?;
+        self.reading = Some(file);
+        Ok(count)
     }
 
     /// The journal's bytes. A file that is not there is an empty journal.
@@ -90,13 +116,4 @@ fn open_to_append<R: Files>(rt: &R, name: &str) -> io::Result<R::File> {
     let file = OpenOptions::new().append(true).create(true).open(rt, name)?;
     sync_folder(rt, name)?;
     Ok(file)
-}
-
-/// Puts on the disk which files the file's folder has.
-fn sync_folder<R: Files>(rt: &R, name: &str) -> io::Result<()> {
-    let folder = match Path::new(name).parent() {
-        Some(folder) if !folder.as_str().is_empty() => folder,
-        _ => Path::new("."),
-    };
-    File::open(rt, folder)?.sync_all()
 }

@@ -148,21 +148,21 @@ fn wants_the_journal_of_this_device(rt: HostRuntime) -> Result<(), Fail> {
     Ok(())
 }
 
-// The device's files come before the journal, and nothing is written.
+// The device's files come before the journal, and a device that was opened is stored.
 #[test]
 fn says_which_journal_it_cannot_read(rt: HostRuntime) -> Result<(), Fail> {
     let place = Place::new(&rt, "unread")?;
     fs::create_dir(&rt, place.journal.as_str())?;
     let unread = format!(in rt.alloc(); "stmflash: cannot read {}\n", place.journal)?;
     let said = place.call(&rt, "info", &[])?;
-    let is_untouched = fs::metadata(&rt, place.flash.as_str()).is_err();
+    let is_stored = stands(&rt, &place, "fresh\n")?;
     let bad = format!(in rt.alloc(); "stmflash: bad simulator file {}\n", place.flash)?;
     fs::write(&rt, place.line.as_str(), "neither")?;
     let said_first = place.call(&rt, "info", &[])?;
     fs::remove_dir(&rt, place.journal.as_str())?;
     place.remove(&rt);
     assert!(rt; said.is_fault(1, unread.as_str()));
-    assert!(rt; is_untouched);
+    assert!(rt; is_stored);
     assert!(rt; said_first.is_fault(1, bad.as_str()));
     Ok(())
 }

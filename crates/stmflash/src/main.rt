@@ -1,7 +1,7 @@
-//! Reads the flash of an STM32 through the bootloader in its ROM (ST AN3155), over a simulator of one.
+//! Reads the flash of an STM32 through the bootloader in its ROM (ST AN3155), over a Unix socket or a simulator of one.
 #![tactic(auto)]
 
-mod device;
+mod answer;
 mod failure;
 mod files;
 #[cfg(test)]
@@ -9,16 +9,24 @@ mod full_disk;
 mod journal_file;
 #[cfg(test)]
 mod journal_tests;
-mod number;
+mod on_device;
+#[cfg(test)]
+mod option_tests;
 mod program;
+mod restoring;
+mod serving;
 mod simulator_file;
 mod simulator_rig;
 #[cfg(test)]
 mod simulator_rig_tests;
+mod socket_line;
+mod socket_rig;
+#[cfg(test)]
+mod socket_tests;
+mod standing;
 mod task;
 #[cfg(test)]
 mod tests;
-mod words;
 
 use program::program;
 use std::io::ErrorKind;

@@ -1,51 +1,20 @@
 // A simulator between two runs of the program: its flash is in a file, and where it stands in another beside it.
-ghost use Rattle.std.specs.Prelude.{◌≡◌, length, IfOk, OnOk};
+ghost use Rattle.std.specs.Prelude.{◌≡◌, length, IfOk, IfSome};
 ghost use Rattle.stm_wire.specs.Chip.{flash_size};
-ghost use Rattle.stm_wire.specs.Memory.{rig_state};
-ghost use Rattle.stmflash.specs.SimulatorFile.{KeepsJournal};
+ghost use Rattle.stmflash.specs.SimulatorFile.{StandsSo, simulator_at};
+ghost use Rattle.stmflash.specs.Standing.{phase_of};
 
 use crate::failure::Failure;
-use crate::files::read_if_there;
+use crate::files::{read_if_there, replace};
+use crate::restoring::stand;
+use crate::standing::{Standing, line_of};
 use std::alloc::{AllocError, Global};
-use std::fs;
 use std::fs::Files;
-use stm_session::Fault;
-use stm_wire::{Chip, MemoryRig, Patience, Rig};
-
-/// What stands in the line's file of a device that waits for 7F.
-const FRESH: &str = "fresh\n";
-
-/// What stands there where the device is connected, and no byte came since its last verdict.
-const IDLE: &str = "idle\n";
-
-/// What stands there where the device left the bootloader.
-const GONE: &str = "gone\n";
-
-/// The byte that connects a device.
-const CONNECT: u8 = 0x7F;
+use stm_wire::{Chip, MemoryRig};
 
 /// The name of the file that tells where a simulator stands.
-fn line_name(alloc: Global, file: &str) -> Result<String, AllocError> {
+pub fn line_name(alloc: Global, file: &str) -> Result<String, AllocError> {
     format!(in alloc; "{file}.line")
-}
-
-/// Where a simulator stands between two runs.
-#[derive(Clone, Copy)]
-enum Standing {
-    Fresh,
-    Idle,
-    Gone,
-}
-
-/// What the file of a simulator's line says; without one the device is fresh.
-fn read_standing(line: Option<&[u8]>) -> Option<Standing> {
-    match line {
-        None => Some(Standing::Fresh),
-        Some(text) if text == FRESH.as_bytes() => Some(Standing::Fresh),
-        Some(text) if text == IDLE.as_bytes() => Some(Standing::Idle),
-        Some(text) if text == GONE.as_bytes() => Some(Standing::Gone),
-        Some(_) => None,
-    }
 }
 
 /// A simulator between two runs, as its two files hold it.
@@ -57,7 +26,8 @@ pub struct StoredSimulator {
     ghost is_whole: { length flash.items ≡ flash_size chip },
 }
 
-/// The simulator that the two files hold. A flash that isn't there is erased.
+/// The simulator that the two files hold. A flash that isn't there is erased, and without the other file the device is
+/// fresh.
 pub fn load<'a, R: Files + AllocGlobal>(
     rt: &R,
     chip: Chip,
@@ -67,14 +37,15 @@ pub fn load<'a, R: Files + AllocGlobal>(
     let size = chip.flash_size() as usize;
     let flash = match read_if_there(rt, file) {
         Ok(Some(flash)) => flash,
-        Ok(None) => vec![in alloc; 0xFF; size]?,
+        Ok(None) => vec![in alloc; chip.erased(); size]?,
         Err(e) => return Err(Failure::of_file(&e, Failure::CannotRead(file))),
     };
-    let line = match read_if_there(rt, line_name(alloc, file)?.as_str()) {
-        Ok(line) => line,
+    let standing = match read_if_there(rt, line_name(alloc, file)?.as_str()) {
+        Ok(Some(line)) => Standing::parse(alloc, line.as_slice())?,
+        Ok(None) => Some(Standing::Fresh),
         Err(e) => return Err(Failure::of_file(&e, Failure::CannotReadLine(file))),
     };
-    match read_standing(line.as_deref()) {
+    match standing {
         Some(standing) if flash.len() == size => Ok(StoredSimulator {
             chip,
             flash,
@@ -85,10 +56,10 @@ pub fn load<'a, R: Files + AllocGlobal>(
 }
 
 impl StoredSimulator {
-    /// The simulator, standing as it was left, beside a journal of these bytes.
-    pub fn start(self, alloc: Global, journal: Vec<u8>) -> Result<MemoryRig, Fault>
-        ensures honest { IfOk result (λ rig. (rig_state rig).is_honest) }
-        ensures journal { IfOk result (λ rig. rig.journal ≡ journal.items) }
+    /// The simulator, standing as it was left, beside a journal of these bytes. None where a device never stands so.
+    pub fn start(self, alloc: Global, journal: Vec<u8>) -> Result<Option<MemoryRig>, AllocError>
+        ensures { IfOk result (λ started. IfSome started (λ rig.
+            StandsSo (simulator_at self.chip self.flash.items (phase_of self.standing)) journal.items rig)) }
     {
         let StoredSimulator {
             chip,
@@ -99,68 +70,36 @@ impl StoredSimulator {
         let Some(mut rig) = MemoryRig::new(alloc, chip, flash, journal) else {
             unreachable!()
         };
-        stand(&mut rig, standing, base)?;
-        Ok(rig)
-    }
-}
-
-/// Brings a fresh simulator to where it stood; a device that is gone went to this address.
-fn stand(rig: &mut MemoryRig, standing: Standing, base: u32) -> Result<(), Fault>
-    ensures { OnOk result (KeepsJournal (rig_state rig.old) (rig_state rig.new)) }
-{
-    match standing {
-        Standing::Fresh => Ok(()),
-        Standing::Idle => feed(rig, CONNECT),
-        Standing::Gone => {
-            feed(rig, CONNECT)?;
-            stm_wire::go(rig, base)?;
-            Ok(())
+        if stand(&mut rig, &standing, base)? {
+            Ok(Some(rig))
+        } else {
+            Ok(None)
         }
     }
 }
 
-/// Feeds a byte to the simulator, and takes its replies.
-fn feed(rig: &mut MemoryRig, byte: u8) -> Result<(), Fault>
-    ensures { OnOk result (KeepsJournal (rig_state rig.old) (rig_state rig.new)) }
-{
-    match rig.put(byte) {
-        Ok(()) => take_replies(rig),
-        Err(_) => Err(Fault::Line),
-    }
-}
-
-/// Takes the bytes that the simulator owes.
-fn take_replies(rig: &mut MemoryRig) -> Result<(), Fault>
-    ensures { OnOk result (KeepsJournal (rig_state rig.old) (rig_state rig.new)) }
-{
-    for _ in 0..u64::MAX {
-        match rig.get(Patience::Brief) {
-            Ok(Some(_)) => {}
-            Ok(None) => break,
-            Err(_) => return Err(Fault::Line),
-        }
-    }
-    Ok(())
-}
-
-/// Writes both files. Bytes owed are lost.
-pub fn store<'a, R: Files + AllocGlobal>(
+/// Writes both files of a Rig in memory. Bytes owed are lost.
+pub fn store_rig<'a, R: Files + AllocGlobal>(
     rt: &R,
     rig: &MemoryRig,
     file: &'a str,
 ) -> Result<(), Failure<'a>> {
-    let line = line_name(rt.alloc(), file)?;
-    if let Err(e) = fs::write(rt, file, rig.flash()) {
+    let line = line_of(rt.alloc(), rig.is_gone(), rig.rest())?;
+    store(rt, file, rig.flash(), line.as_slice())
+}
+
+/// Writes both files, the one that tells where the simulator stands last.
+pub fn store<'a, R: Files + AllocGlobal>(
+    rt: &R,
+    file: &'a str,
+    flash: &[u8],
+    line: &[u8],
+) -> Result<(), Failure<'a>> {
+    let name = line_name(rt.alloc(), file)?;
+    if let Err(e) = replace(rt, file, flash) {
         return Err(Failure::of_file(&e, Failure::CannotWrite(file)));
     }
-    let state = if rig.is_gone() {
-        GONE
-    } else if rig.rest().is_some() {
-        IDLE
-    } else {
-        FRESH
-    };
-    match fs::write(rt, line.as_str(), state) {
+    match replace(rt, name.as_str(), line) {
         Ok(()) => Ok(()),
         Err(e) => Err(Failure::of_file(&e, Failure::CannotWriteLine(file))),
     }

@@ -2,9 +2,10 @@
 ghost use Rattle.std.specs.Prelude.{◌≡◌, ◌≤◌, drop, length, OnErr, OnOk, true};
 ghost use Rattle.std.specs.Io.KnownBytes.{Appends};
 ghost use Rattle.std.proofs.Common.{refl};
-ghost use Rattle.stm_wire.specs.Memory.{PutsInMemory, GetsInMemory};
+ghost use Rattle.stm_wire.specs.Memory.{PutsInMemory, GetsInMemory, rig_state};
 ghost use Rattle.stm_wire.specs.Rig.{AppendsHonestly, FetchesHonestly, FetchesWithin, GetsHonestly, HasCause, PutsHonestly, Records, entry_of_get};
 ghost use Rattle.stmflash.specs.SimulatorRig.{SimulatorState, simulator_rig_state, AppendsToFile, FetchesUnlessFailed};
+ghost use Rattle.stmflash.specs.SimulatorRigLaws.{follows};
 
 use crate::journal_file::JournalFile;
 use std::fs::Files;
@@ -14,7 +15,10 @@ use stm_wire::{MemoryRig, Patience, Rig, RigCall, RigFault};
 
 /// A simulated device, and a journal kept in a file. The device, the steps to a stop and the record are those of a Rig in
 /// memory, which also holds the journal's bytes: each append goes to it first, and by what its journal grew, the file
-/// grows too. After the file has failed once, no journal byte is added to it or told any more.
+/// grows too. After the file has failed once, no journal byte is added or told any more.
+///
+/// It follows the model, and the journal in memory is the model's. No contract says what a file holds: an append that the
+/// file refused stands whole in memory, and a beginning of it in the file.
 #[derive(Drop)]
 pub struct SimulatorRig<'a, R: Files> {
     memory: MemoryRig,
@@ -31,7 +35,8 @@ impl<'a, R: Files> Model for SimulatorRig<'a, R> {
 impl<'a, R: Files> SimulatorRig<'a, R> {
     /// A Rig with the device of this one in memory, whose journal has to be what the file holds.
     pub fn new(memory: MemoryRig, file: JournalFile<'a, R>) -> SimulatorRig<'a, R>
-        ensures { result ≡ record { memory = memory; file = file.entry; journal_failures = 0 } }
+        ensures starts { result ≡ record { memory = memory; file = file.entry; journal_failures = 0 } }
+        ensures honest { (rig_state memory).is_honest → (simulator_rig_state result).is_honest }
     {
         SimulatorRig {
             memory,
@@ -40,11 +45,11 @@ impl<'a, R: Files> SimulatorRig<'a, R> {
         }
     }
 
-    /// The Rig in memory.
-    pub fn memory(&self) -> &MemoryRig
-        ensures { result.now ≡ self.now.memory }
+    /// The Rig in memory; the file is closed.
+    pub fn into_memory(self) -> MemoryRig
+        ensures { result ≡ self.entry.memory }
     {
-        &self.memory
+        self.memory
     }
 
     /// Counts a failure of the journal, where the answer is one.
@@ -79,7 +84,7 @@ impl<'a, R: Files> SimulatorRig<'a, R> {
 impl<'a, R: Files> Rig for SimulatorRig<'a, R> {
     ghost view = { simulator_rig_state };
 
-    ghost model = { λ rig honest. absurd honest };
+    ghost model = { λ rig honest. follows rig honest };
 
     ghost places = { λ rig. refl };
 
@@ -112,6 +117,9 @@ impl<'a, R: Files> Rig for SimulatorRig<'a, R> {
         ensures honest { (simulator_rig_state self.old).is_honest → AppendsHonestly bytes.now result (simulator_rig_state self.old) (simulator_rig_state self.new) }
         ensures in_file { AppendsToFile bytes.now result self.old self.new }
     {
+        if self.file.has_failed() {
+            return self.count_journal(Err(RigFault::File));
+        }
         let start = self.memory.journal().len();
         let answer = self.memory.append(bytes);
         let answer = match self.append_to_file(start) {

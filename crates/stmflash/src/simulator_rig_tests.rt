@@ -16,7 +16,7 @@ fn memory(rt: &HostRuntime, journal: Vec<u8>, steps: u64) -> Result<MemoryRig, F
     let alloc = rt.alloc();
     let sizes = vec![in alloc; 1024; 32]?;
     let flash = vec![in alloc; 0xFF; 32768]?;
-    let chip = Chip::new(0x0412, 0x0800_0000, sizes, EraseKind::Page).ok_or("no chip")?;
+    let chip = Chip::new(0x0412, 0x0800_0000, sizes, EraseKind::Page, 0xFF).ok_or("no chip")?;
     let mut memory = MemoryRig::new(alloc, chip, flash, journal).ok_or("no rig")?;
     memory.stop_after(steps);
     Ok(memory)

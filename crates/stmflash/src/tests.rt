@@ -12,10 +12,10 @@ const TABLE: &str =
 
 /// What `info` prints of that chip.
 const INFO: &str =
-    "id 0412\nbase 08000000\npages 32\nsize 32768\nerase 43\nversion 22\ncodes 00 02 11 21 31 43 73 82 92\n";
+    "id 0412\nbase 08000000\npages 32\nsize 32768\nerase 43\nerased FF\nversion 22\ncodes 00 02 11 21 31 43 73 82 92\n";
 
 /// Words that name no device.
-const BAD_DEVICES: [&str; 5] = ["line", "sim:0412", "sim:0412:", "sim:412:F", "sim:041G:F"];
+const BAD_DEVICES: [&str; 5] = ["", "sim:0412", "sim:0412:", "sim:412:F", "sim:041G:F"];
 
 /// What the program answered and said.
 #[derive(Drop)]
@@ -81,7 +81,7 @@ impl Place {
     }
 
     /// Runs a subcommand on this device.
-    fn call_on<'x>(
+    pub fn call_on<'x>(
         &'x self,
         rt: &HostRuntime,
         name: &'x str,
@@ -103,7 +103,7 @@ impl Place {
     }
 
     /// Whether the simulator's files hold these bytes and this line.
-    fn holds(&self, rt: &HostRuntime, flash: &[u8], line: &str) -> Result<bool, Fail> {
+    pub fn holds(&self, rt: &HostRuntime, flash: &[u8], line: &str) -> Result<bool, Fail> {
         let held = fs::read(rt, self.flash.as_str())?;
         let state = fs::read(rt, self.line.as_str())?;
         Ok(held.as_slice() == flash && state.as_slice() == line.as_bytes())
@@ -114,11 +114,12 @@ impl Place {
         let _ = fs::remove_file(rt, self.table.as_str());
         let _ = fs::remove_file(rt, self.flash.as_str());
         let _ = fs::remove_file(rt, self.line.as_str());
+        let _ = fs::remove_file(rt, self.journal.as_str());
     }
 }
 
 /// Runs the program on these words, after its name.
-fn call(rt: &HostRuntime, words: &[&str]) -> Result<Said, AllocError> {
+pub fn call(rt: &HostRuntime, words: &[&str]) -> Result<Said, AllocError> {
     let mut all = vec![in rt.alloc(); "stmflash"]?;
     all.extend_from_slice(words)?;
     let mut out = Vec::new(rt.alloc());
@@ -135,7 +136,7 @@ pub fn file_name(rt: &HostRuntime, name: &str) -> Result<String, Fail> {
 }
 
 /// A flash whose byte i is i modulo 251.
-fn counting_flash(rt: &HostRuntime) -> Result<Vec<u8>, AllocError> {
+pub fn counting_flash(rt: &HostRuntime) -> Result<Vec<u8>, AllocError> {
     let mut flash = Vec::with_capacity(rt.alloc(), 32768)?;
     for i in 0..32768u32 {
         flash.push((i % 251) as u8)?;
@@ -172,6 +173,20 @@ fn tells_what_an_erased_device_is(rt: HostRuntime) -> Result<(), Fail> {
     Ok(())
 }
 
+// A flash that isn't there is all what the chip's erase leaves.
+#[test]
+fn a_missing_flash_is_erased_as_its_chip_erases(rt: HostRuntime) -> Result<(), Fail> {
+    let place = Place::new(&rt, "zeros")?;
+    let table = format!(in rt.alloc(); "{TABLE}erased = 0\n")?;
+    fs::write(&rt, place.table.as_str(), table.as_str())?;
+    let said = place.call(&rt, "info", &[])?;
+    assert_eq!(rt; said.status, 0);
+    let erased = vec![in rt.alloc(); 0x00; 32768]?;
+    assert!(rt; place.holds(&rt, erased.as_slice(), "idle\n")?);
+    place.remove(&rt);
+    Ok(())
+}
+
 #[test]
 fn refuses_a_flash_of_another_length(rt: HostRuntime) -> Result<(), Fail> {
     let place = Place::new(&rt, "short")?;
@@ -200,6 +215,71 @@ fn refuses_a_line_of_another_form(rt: HostRuntime) -> Result<(), Fail> {
     );
     assert!(rt; fs::read(&rt, place.flash.as_str()).is_err());
     assert!(rt; fs::read(&rt, place.line.as_str())?.as_slice() == b"fresh\n\n".as_slice());
+    place.remove(&rt);
+    Ok(())
+}
+
+/// Lines that no simulator's file has.
+const BAD_LINES: [&str; 7] = [
+    "rest 43BD\n",
+    "rest 43bc\n",
+    "rest \n",
+    "rest 4\n",
+    "rest 43BC",
+    "rest 43BC\n\n",
+    "rest 02FD\n",
+];
+
+#[test]
+fn refuses_a_rest_that_does_not_stay(rt: HostRuntime) -> Result<(), Fail> {
+    let place = Place::new(&rt, "bad-rest")?;
+    let text = format!(in rt.alloc(); "stmflash: bad simulator file {}\n", place.flash)?;
+    for line in BAD_LINES {
+        fs::write(&rt, place.line.as_str(), line)?;
+        assert!(rt;
+            place.call(&rt, "info", &[])?.is_fault(1, text.as_str()),
+            "at {line}"
+        );
+        assert!(rt; fs::read(&rt, place.flash.as_str()).is_err());
+        assert!(rt; fs::read(&rt, place.line.as_str())?.as_slice() == line.as_bytes());
+    }
+    place.remove(&rt);
+    Ok(())
+}
+
+// What stood in the rest is settled by the session, and a session that sends nothing leaves it.
+#[test]
+fn goes_on_from_a_rest(rt: HostRuntime) -> Result<(), Fail> {
+    let place = Place::new(&rt, "rest")?;
+    let erased = vec![in rt.alloc(); 0xFF; 32768]?;
+    fs::write(&rt, place.line.as_str(), "rest 11EE08\n")?;
+    fs::write(&rt, place.journal.as_str(), "stmjournal 1 0412\nopen 1\n")?;
+    let said = place.call(&rt, "info", &[])?;
+    assert!(rt; said.is_fault(1, "stmflash: unfinished command, undo first\n"));
+    assert!(rt; place.holds(&rt, erased.as_slice(), "rest 11EE08\n")?);
+    fs::remove_file(&rt, place.journal.as_str())?;
+    assert_eq!(rt; place.call(&rt, "info", &[])?.status, 0);
+    assert!(rt; place.holds(&rt, erased.as_slice(), "idle\n")?);
+    place.remove(&rt);
+    Ok(())
+}
+
+// The link stays, and what it names is written.
+#[test]
+fn follows_a_link_to_the_flash(rt: HostRuntime) -> Result<(), Fail> {
+    let place = Place::new(&rt, "link")?;
+    let target = file_name(&rt, "link-target")?;
+    fs::write(&rt, target.as_str(), counting_flash(&rt)?.as_slice())?;
+    std::os::unix::fs::symlink(&rt, target.as_str(), place.flash.as_str())?;
+    assert!(rt;
+        place
+            .call(&rt, "protect", &["readout-unprotect"])?
+            .is_silent()
+    );
+    let erased = vec![in rt.alloc(); 0xFF; 32768]?;
+    assert!(rt; fs::read(&rt, target.as_str())? == erased);
+    assert!(rt; fs::symlink_metadata(&rt, place.flash.as_str())?.is_symlink());
+    fs::remove_file(&rt, target.as_str())?;
     place.remove(&rt);
     Ok(())
 }

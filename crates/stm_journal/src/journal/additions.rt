@@ -2,8 +2,11 @@
 ghost use Rattle.std.specs.Prelude.{◌≡◌, ◌∷◌, [], length, OnOk, IfOk, IfErr, IsTrue};
 ghost use Rattle.stm_wire.specs.Dialogue.{GoesOn};
 ghost use Rattle.stm_journal.specs.States.{empty_state, allows};
+ghost use Rattle.stm_journal.specs.InMemory.{forget_entry, filled};
 ghost use Rattle.stm_journal.specs.Journals.{IsLoaded, IsPrintable, mark, added_bytes, past_mark, loaded_after, LeavesLoaded};
-ghost use Rattle.stm_journal.specs.Calls.{HasJournalCause, AppendsOnce, Appends};
+ghost use Rattle.stm_journal.specs.Calls.{HasJournalCause, AppendsOnce, Appends, InText};
+ghost use Rattle.stm_journal.specs.Newest.{HasBegun};
+ghost use Rattle.stm_journal.specs.Added.{HasAdded};
 
 use crate::append::append;
 use crate::print::print;
@@ -45,19 +48,21 @@ impl Journal {
         Ok(text)
     }
 
-    /// Makes it what it is after the line of an entry, and gives the bytes of that line.
-    fn prepare(&mut self, entry: Entry) -> Result<Vec<u8>, JournalFault>
-        requires { IsTrue (allows self.old.state entry) }
-        ensures text { IfOk result (λ text. text.items ≡ added_bytes self.old.is_torn (entry ∷ [])) }
-        ensures after { OnOk result (self.new ≡ loaded_after (entry ∷ []) self.old) }
+    /// Makes it what it is after the line of an entry, and gives the bytes of that line; `held` are those of a page.
+    fn prepare(&mut self, entry: Entry, held: &[u8]) -> Result<Vec<u8>, JournalFault>
+        requires allowed { IsTrue (allows self.old.state entry) }
+        requires held { forget_entry (filled entry held.now) ≡ entry }
+        ensures text { IfOk result (λ text. text.items ≡ added_bytes self.old.is_torn (filled entry held.now ∷ [])) }
+        ensures after { OnOk result (self.new ≡ loaded_after (filled entry held.now ∷ []) self.old) }
         ensures err { IfErr result (λ e. (e ≡ JournalFault.Memory) × (self.new ≡ self.old)) }
     {
         let mut text = self.marked_text()?;
         let marked = text.len();
-        print(&mut text, self.alloc, &entry)?;
+        print(&mut text, self.alloc, &entry, held)?;
         let line = self.marked_lines().saturating_add(1);
         let size = self.marked_size();
         let length = (text.len() - marked) as u64;
+        self.state.mark(self.alloc, &entry);
         self.state
             .apply(self.alloc, line, size.saturating_add(length - 1), entry)?;
         self.lines = line;
@@ -69,23 +74,23 @@ impl Journal {
     /// Makes it what it is after the header and the line of the first segment, and gives the bytes of these.
     fn prepare_first(&mut self, id: u16) -> Result<Vec<u8>, JournalFault>
         requires { self.old.state ≡ empty_state }
-        ensures text { IfOk result (λ text. text.items ≡ added_bytes self.old.is_torn (Entry.Names 1 id ∷ Entry.Opens 1 ∷ [])) }
-        ensures after { OnOk result (self.new ≡ loaded_after (Entry.Names 1 id ∷ Entry.Opens 1 ∷ []) self.old) }
+        ensures text { IfOk result (λ text. text.items ≡ added_bytes self.old.is_torn (Entry.Names 2 id ∷ Entry.Opens 1 ∷ [])) }
+        ensures after { OnOk result (self.new ≡ loaded_after (Entry.Names 2 id ∷ Entry.Opens 1 ∷ []) self.old) }
         ensures err { IfErr result (λ e. (e ≡ JournalFault.Memory) × (self.new ≡ self.old)) }
     {
         let mut text = self.marked_text()?;
         let marked = text.len();
-        let header = Entry::Names(1, id);
-        print(&mut text, self.alloc, &header)?;
+        let header = Entry::Names(2, id);
+        print(&mut text, self.alloc, &header, &[])?;
         let named = text.len();
         let first = Entry::Opens(1);
-        print(&mut text, self.alloc, &first)?;
+        print(&mut text, self.alloc, &first, &[])?;
         let line = self.marked_lines().saturating_add(1);
         let size = self.marked_size().saturating_add((named - marked) as u64);
         self.state.open(
             self.alloc,
             Some(JournalHeader {
-                version: 1,
+                version: 2,
                 id,
                 line,
             }),
@@ -96,29 +101,39 @@ impl Journal {
         Ok(text)
     }
 
-    /// Adds the line of an entry that the line rules allow.
-    pub(super) fn add<R: Rig>(&mut self, rig: &mut R, entry: Entry) -> Result<(), JournalFault>
-        requires { IsTrue (allows self.old.state entry) }
-        ensures after { OnOk result (self.new ≡ loaded_after (entry ∷ []) self.old) }
+    /// Adds the line of an entry that the line rules allow; `held` are the bytes of a page.
+    pub(super) fn add<R: Rig>(
+        &mut self,
+        rig: &mut R,
+        entry: Entry,
+        held: &[u8],
+    ) -> Result<(), JournalFault>
+        requires allowed { IsTrue (allows self.old.state entry) }
+        requires held { forget_entry (filled entry held.now) ≡ entry }
+        ensures after { OnOk result (self.new ≡ loaded_after (filled entry held.now ∷ []) self.old) }
         ensures left { IfErr result (LeavesLoaded self.old self.new) }
         ensures cause { HasJournalCause (R.view rig.old) (R.view rig.new) result }
-        ensures calls { GoesOn (AppendsOnce (length (added_bytes self.old.is_torn (entry ∷ []))) result) (R.view rig.old).calls (R.view rig.new).calls }
-        ensures honest { (R.view rig.old).is_honest → IsLoaded self.old (R.view rig.old).journal → IsPrintable entry
-            → Appends (entry ∷ []) self.old self.new (R.view rig.old) (R.view rig.new) result }
+        ensures calls { GoesOn (AppendsOnce (length (added_bytes self.old.is_torn (filled entry held.now ∷ []))) result) (R.view rig.old).calls (R.view rig.new).calls }
+        ensures honest { (R.view rig.old).is_honest → IsLoaded self.old (R.view rig.old).journal → IsPrintable (filled entry held.now)
+            → Appends (filled entry held.now ∷ []) self.old self.new (R.view rig.old) (R.view rig.new) result }
+        ensures text { (R.view rig.old).is_honest → IsLoaded self.old (R.view rig.old).journal → IsPrintable (filled entry held.now)
+            → OnOk result (InText (HasAdded (filled entry held.now)) (R.view rig.old).journal (R.view rig.new).journal) }
     {
-        let text = self.prepare(entry)?;
+        let text = self.prepare(entry, held)?;
         append(rig, &text)
     }
 
     /// Adds the header and the line of the first segment.
     pub(super) fn add_first<R: Rig>(&mut self, rig: &mut R, id: u16) -> Result<(), JournalFault>
         requires { self.old.state ≡ empty_state }
-        ensures after { OnOk result (self.new ≡ loaded_after (Entry.Names 1 id ∷ Entry.Opens 1 ∷ []) self.old) }
+        ensures after { OnOk result (self.new ≡ loaded_after (Entry.Names 2 id ∷ Entry.Opens 1 ∷ []) self.old) }
         ensures left { IfErr result (LeavesLoaded self.old self.new) }
         ensures cause { HasJournalCause (R.view rig.old) (R.view rig.new) result }
-        ensures calls { GoesOn (AppendsOnce (length (added_bytes self.old.is_torn (Entry.Names 1 id ∷ Entry.Opens 1 ∷ []))) result) (R.view rig.old).calls (R.view rig.new).calls }
+        ensures calls { GoesOn (AppendsOnce (length (added_bytes self.old.is_torn (Entry.Names 2 id ∷ Entry.Opens 1 ∷ []))) result) (R.view rig.old).calls (R.view rig.new).calls }
         ensures honest { (R.view rig.old).is_honest → IsLoaded self.old (R.view rig.old).journal
-            → Appends (Entry.Names 1 id ∷ Entry.Opens 1 ∷ []) self.old self.new (R.view rig.old) (R.view rig.new) result }
+            → Appends (Entry.Names 2 id ∷ Entry.Opens 1 ∷ []) self.old self.new (R.view rig.old) (R.view rig.new) result }
+        ensures text { (R.view rig.old).is_honest → IsLoaded self.old (R.view rig.old).journal
+            → OnOk result (InText (HasBegun id) (R.view rig.old).journal (R.view rig.new).journal) }
     {
         let text = self.prepare_first(id)?;
         append(rig, &text)

@@ -2,9 +2,10 @@
 ghost use Rattle.std.specs.Prelude.{◌≡◌, ◌<◌, ◌∷◌, [], length, OnOk, IfErr, IsTrue};
 ghost use Rattle.stm_wire.specs.Dialogue.{GoesOn};
 ghost use Rattle.stm_journal.specs.States.{newest_keeps, newest_may_keep};
+ghost use Rattle.stm_journal.specs.Blank.{blank};
 ghost use Rattle.stm_journal.specs.Newest.{HasKept, HasIntended};
 ghost use Rattle.stm_journal.specs.Journals.{IsLoaded, added_bytes, loaded_after, LeavesLoaded};
-ghost use Rattle.stm_journal.specs.Calls.{HasJournalCause, AppendsOnce, Appends};
+ghost use Rattle.stm_journal.specs.Calls.{HasJournalCause, AppendsOnce, Appends, InText};
 
 use crate::{Entry, Intent, Journal, JournalFault, PageBytes};
 use stm_wire::Rig;
@@ -20,16 +21,18 @@ impl Journal {
         requires open { IsTrue (newest_may_keep n self.old.state) }
         requires some { 0 < length bytes.now }
         ensures after { OnOk result (self.new ≡ loaded_after (Entry.Keeps n bytes.now ∷ []) self.old) }
-        ensures kept { OnOk result (HasKept n bytes.now self.old.state self.new.state) }
+        ensures kept { OnOk result (HasKept n (blank (length bytes.now)) self.old.state self.new.state) }
         ensures left { IfErr result (LeavesLoaded self.old self.new) }
         ensures cause { HasJournalCause (R.view rig.old) (R.view rig.new) result }
         ensures calls { GoesOn (AppendsOnce (length (added_bytes self.old.is_torn (Entry.Keeps n bytes.now ∷ []))) result) (R.view rig.old).calls (R.view rig.new).calls }
         ensures honest { (R.view rig.old).is_honest → IsLoaded self.old (R.view rig.old).journal
             → Appends (Entry.Keeps n bytes.now ∷ []) self.old self.new (R.view rig.old) (R.view rig.new) result }
+        ensures text { (R.view rig.old).is_honest → IsLoaded self.old (R.view rig.old).journal
+            → OnOk result (InText (HasKept n bytes.now) (R.view rig.old).journal (R.view rig.new).journal) }
     {
         let _depth = self.state.depth();
-        let bytes = PageBytes::new(Vec::from_slice(self.alloc, bytes)?);
-        self.add(rig, Entry::Keeps(n, bytes))
+        let length = PageBytes::new(bytes.len() as u64);
+        self.add(rig, Entry::Keeps(n, length), bytes)
     }
 
     /// Says that page `n`, which the newest segment keeps, is about to be erased.
@@ -42,9 +45,11 @@ impl Journal {
         ensures calls { GoesOn (AppendsOnce (length (added_bytes self.old.is_torn (Entry.Erases n ∷ []))) result) (R.view rig.old).calls (R.view rig.new).calls }
         ensures honest { (R.view rig.old).is_honest → IsLoaded self.old (R.view rig.old).journal
             → Appends (Entry.Erases n ∷ []) self.old self.new (R.view rig.old) (R.view rig.new) result }
+        ensures text { (R.view rig.old).is_honest → IsLoaded self.old (R.view rig.old).journal
+            → OnOk result (InText (HasIntended n (Intent.Erase n)) (R.view rig.old).journal (R.view rig.new).journal) }
     {
         let _depth = self.state.depth();
-        self.add(rig, Entry::Erases(n))
+        self.add(rig, Entry::Erases(n), &[])
     }
 
     /// Says that page `n`, which the newest segment keeps, is about to be written.
@@ -57,8 +62,10 @@ impl Journal {
         ensures calls { GoesOn (AppendsOnce (length (added_bytes self.old.is_torn (Entry.Programs n ∷ []))) result) (R.view rig.old).calls (R.view rig.new).calls }
         ensures honest { (R.view rig.old).is_honest → IsLoaded self.old (R.view rig.old).journal
             → Appends (Entry.Programs n ∷ []) self.old self.new (R.view rig.old) (R.view rig.new) result }
+        ensures text { (R.view rig.old).is_honest → IsLoaded self.old (R.view rig.old).journal
+            → OnOk result (InText (HasIntended n (Intent.Program n)) (R.view rig.old).journal (R.view rig.new).journal) }
     {
         let _depth = self.state.depth();
-        self.add(rig, Entry::Programs(n))
+        self.add(rig, Entry::Programs(n), &[])
     }
 }

@@ -1,15 +1,40 @@
 // What a journal answers of its segments and its header.
-ghost use Rattle.std.specs.Prelude.{◌≡◌, ◌<◌, nat_lt, length, option_map};
-ghost use Rattle.stm_journal.specs.States.{is_unfinished, intent_of, page_bytes, kept_at, IsSound};
+ghost use Rattle.std.specs.Prelude.{◌≡◌, nat_lt, length, option_map, IfSome};
+ghost use Rattle.stm_journal.specs.States.{is_unfinished, intent_of, kept_at, IsSound};
+ghost use Rattle.stm_journal.specs.KeptPlaces.{page_place, kept_place, kept_count, entries_of, IsPlaceIn};
+ghost use Rattle.stm_journal.specs.Journals.{capped};
 
-use crate::{Intent, Journal, JournalHeader};
+use crate::{Intent, Journal, PagePlace};
 
 impl Journal {
-    /// What segment `k`, counted from the oldest, which is 1, keeps of page `n`.
-    pub fn page(&self, k: u32, n: u16) -> Option<&[u8]>
-        ensures { option_map (λ b. b.now) result ≡ page_bytes self.now.state k n }
+    /// Where page `n` stands in the journal, if segment `k`, counted from the oldest, which is 1, keeps that page.
+    pub fn page(&self, k: u32, n: u16) -> Option<PagePlace>
+        ensures place { result ≡ page_place self.now.state k n }
+        ensures kept { IfSome result (IsPlaceIn self.now.state) }
     {
         self.state.page(k, n)
+    }
+
+    /// Where the page of the i-th page line of segment `k` stands, from 0. Nothing is searched for it.
+    pub fn kept_place(&self, k: u32, i: usize) -> Option<PagePlace>
+        ensures place { result ≡ kept_place self.now.state k i }
+        ensures kept { IfSome result (IsPlaceIn self.now.state) }
+    {
+        self.state.kept_place(k, i)
+    }
+
+    /// How many pages segment `k` keeps.
+    pub fn kept_count(&self, k: u32) -> usize
+        ensures { result ≡ kept_count self.now.state k }
+    {
+        self.state.kept_count(k)
+    }
+
+    /// How many pages the segments keep.
+    pub fn entries(&self) -> usize
+        ensures { result ≡ capped (entries_of self.now.state) }
+    {
+        self.state.entries()
     }
 
     /// The page and the line number of the i-th page line of segment `k`, from 0.
@@ -48,11 +73,14 @@ impl Journal {
         self.state.depth()
     }
 
-    /// The line that names the device.
-    pub fn header(&self) -> Option<JournalHeader>
-        ensures { result ≡ self.now.state.header }
+    /// The version of the header and the number of its line, where there is one.
+    pub fn header(&self) -> Option<(u8, u64)>
+        ensures { result ≡ option_map (λ header. (header.version, header.line)) self.now.state.header }
     {
-        self.state.header()
+        match self.state.header() {
+            Some(header) => Some((header.version, header.line)),
+            None => None,
+        }
     }
 
     /// The product id of the device.

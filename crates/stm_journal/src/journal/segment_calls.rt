@@ -4,7 +4,7 @@ ghost use Rattle.stm_wire.specs.Dialogue.{GoesOn};
 ghost use Rattle.stm_journal.specs.States.{is_unfinished, newest_is_open, names_other};
 ghost use Rattle.stm_journal.specs.Newest.{HasBegun, HasEnded, HasUndone};
 ghost use Rattle.stm_journal.specs.Journals.{IsLoaded, added_bytes, loaded_after, begin_entries, LeavesLoaded, LeavesUnbegun};
-ghost use Rattle.stm_journal.specs.Calls.{HasJournalCause, AppendsOnce, Appends};
+ghost use Rattle.stm_journal.specs.Calls.{HasJournalCause, AppendsOnce, Appends, InText};
 
 use crate::{Entry, Journal, JournalFault};
 use stm_wire::Rig;
@@ -25,6 +25,8 @@ impl Journal {
         ensures calls { GoesOn (AppendsOnce (length (added_bytes self.old.is_torn (begin_entries id self.old.state))) result) (R.view rig.old).calls (R.view rig.new).calls }
         ensures honest { (R.view rig.old).is_honest → IsLoaded self.old (R.view rig.old).journal
             → Appends (begin_entries id self.old.state) self.old self.new (R.view rig.old) (R.view rig.new) result }
+        ensures text { (R.view rig.old).is_honest → IsLoaded self.old (R.view rig.old).journal
+            → OnOk result (InText (HasBegun id) (R.view rig.old).journal (R.view rig.new).journal) }
     {
         let k = self.state.depth() + 1;
         match self.state.header() {
@@ -32,7 +34,7 @@ impl Journal {
                 if header.id != id {
                     return Err(JournalFault::OtherDevice);
                 }
-                self.add(rig, Entry::Opens(k as u16))?;
+                self.add(rig, Entry::Opens(k as u16), &[])?;
                 Ok(k)
             }
             None => {
@@ -52,9 +54,11 @@ impl Journal {
         ensures calls { GoesOn (AppendsOnce (length (added_bytes self.old.is_torn (Entry.Ends (length self.old.state.stack) ∷ []))) result) (R.view rig.old).calls (R.view rig.new).calls }
         ensures honest { (R.view rig.old).is_honest → IsLoaded self.old (R.view rig.old).journal
             → Appends (Entry.Ends (length self.old.state.stack) ∷ []) self.old self.new (R.view rig.old) (R.view rig.new) result }
+        ensures text { (R.view rig.old).is_honest → IsLoaded self.old (R.view rig.old).journal
+            → OnOk result (InText HasEnded (R.view rig.old).journal (R.view rig.new).journal) }
     {
         let k = self.state.depth();
-        self.add(rig, Entry::Ends(k as u16))
+        self.add(rig, Entry::Ends(k as u16), &[])
     }
 
     /// Says that the newest segment was taken back.
@@ -67,8 +71,10 @@ impl Journal {
         ensures calls { GoesOn (AppendsOnce (length (added_bytes self.old.is_torn (Entry.Undoes (length self.old.state.stack) ∷ []))) result) (R.view rig.old).calls (R.view rig.new).calls }
         ensures honest { (R.view rig.old).is_honest → IsLoaded self.old (R.view rig.old).journal
             → Appends (Entry.Undoes (length self.old.state.stack) ∷ []) self.old self.new (R.view rig.old) (R.view rig.new) result }
+        ensures text { (R.view rig.old).is_honest → IsLoaded self.old (R.view rig.old).journal
+            → OnOk result (InText HasUndone (R.view rig.old).journal (R.view rig.new).journal) }
     {
         let k = self.state.depth();
-        self.add(rig, Entry::Undoes(k as u16))
+        self.add(rig, Entry::Undoes(k as u16), &[])
     }
 }

@@ -13,7 +13,10 @@ use std::alloc::{AllocError, Global};
 fn reserve_entry(calls: &mut Vec<RigCall>, past: &mut Vec<PastStep>) -> Result<(), AllocError>
     ensures calls { calls.new.items ≡ calls.old.items }
     ensures past { past.new.items ≡ past.old.items }
-    ensures room { OnOk result ((vec_len calls.new < vec_capacity calls.new) × (vec_len past.new < vec_capacity past.new)) }
+    ensures room { OnOk result ((vec_len calls.new < vec_capacity calls.new)
+        × (vec_len past.new < vec_capacity past.new)) }
+    ensures full { OnErr result ((vec_capacity calls.old ≤ vec_len calls.old)
+        ⊎ (vec_capacity past.old ≤ vec_len past.old)) }
 {
     calls.reserve(1)?;
     past.reserve(1)
@@ -30,15 +33,26 @@ fn keep_first(alloc: Global, first: &mut Option<Vec<u8>>, flash: &[u8]) -> Resul
     Ok(())
 }
 
+/// Enters a call that did nothing in the record: left out is none for which there is room.
+fn enter_failed(calls: &mut Vec<RigCall>, past: &mut Vec<PastStep>, call: RigCall)
+    ensures { let steps = past.old.items ++ PastStep.Nothing ∷ [] in
+        let entered = (calls.new.items ≡ calls.old.items ++ call ∷ []) × (past.new.items ≡ steps) in
+        let left_out = (calls.new.items ≡ calls.old.items) × (past.new.items ≡ past.old.items) in
+        entered ⊎ (left_out × ((vec_capacity calls.old ≤ vec_len calls.old)
+        ⊎ (vec_capacity past.old ≤ vec_len past.old))) }
+{
+    if reserve_entry(calls, past).is_ok() {
+        calls.push_reserved(call);
+        past.push_reserved(PastStep::Nothing);
+    }
+}
+
 impl MemoryRig {
     /// Adds the entry of a call that did nothing, where there is memory for it.
     pub(super) fn add_failed(&mut self, call: RigCall)
         ensures { Fails call self.old self.new }
     {
-        if reserve_entry(&mut self.calls, &mut self.past).is_ok() {
-            self.calls.push_reserved(call);
-            self.past.push_reserved(PastStep::Nothing);
-        }
+        enter_failed(&mut self.calls, &mut self.past, call);
     }
 
     /// Feeds a byte to the device, or changes nothing.

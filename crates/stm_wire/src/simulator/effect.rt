@@ -1,47 +1,56 @@
 // What a done list does to the simulator's flash.
 ghost use Rattle.std.specs.Prelude.{◌≡◌, ◌+◌, ◌<◌, ◌≤◌, length, take, drop, replicate, IsTrue};
-ghost use Rattle.stm_wire.specs.Chip.{erased_byte, flash_size, fits_inside, page_count, page_offset, page_size, with_bytes};
+ghost use Rattle.stm_wire.specs.Chip.{erased_page, flash_size, page_count, with_bytes, with_page};
 ghost use Rattle.stm_wire.specs.Exchange.{pairs_of};
 ghost use Rattle.stm_wire.specs.Effect.{change_of, write_change, erase_change, extended_change, erased_pages};
-ghost use Rattle.stm_wire.specs.Simulator.{common_bits, changed_flash, Fits};
+ghost use Rattle.stm_wire.specs.Simulator.{stored_byte, stored_bytes, changed_flash, Fits};
 
 use crate::Chip;
 use crate::bytes::part;
 
-/// Place by place, leaves the bits that both have.
-fn keep_common_bits(part: &mut [u8], sent: &[u8])
+/// What a place holds that held `old` once `sent` is written over it: a write can only turn bits from what an erase has
+/// made of them.
+fn stored_byte(erased: u8, old: u8, sent: u8) -> u8
+    ensures { result ≡ stored_byte erased old sent }
+{
+    if erased == 0 { old | sent } else { old & sent }
+}
+
+/// Stores bytes over others, place by place.
+fn store_over(erased: u8, part: &mut [u8], sent: &[u8])
     requires { length part.old ≡ length sent.now }
-    ensures { part.new ≡ common_bits part.old sent.now }
+    ensures { part.new ≡ stored_bytes erased part.old sent.now }
 {
     for (i, byte) in sent.iter().enumerate() {
-        part[i] &= *byte;
+        part[i] = stored_byte(erased, part[i], *byte);
     }
 }
 
 /// Writes bytes over those from a place on.
-fn write_over(flash: &mut [u8], at: usize, sent: &[u8])
+fn write_over(erased: u8, flash: &mut [u8], at: usize, sent: &[u8])
     requires { at + length sent.now ≤ length flash.old }
-    ensures { flash.new ≡ with_bytes at (common_bits (take (length sent.now) (drop at flash.old)) sent.now) flash.old }
+    ensures { let olds = take (length sent.now) (drop at flash.old) in
+        flash.new ≡ with_bytes at (stored_bytes erased olds sent.now) flash.old }
 {
-    keep_common_bits(&mut flash[at..at + sent.len()], sent);
+    store_over(erased, &mut flash[at..at + sent.len()], sent);
 }
 
 /// Erases a page.
 fn erase_page(chip: &Chip, flash: &mut [u8], page: u16)
     requires exists { page < page_count chip.now }
     requires size { length flash.old ≡ flash_size chip.now }
-    ensures erased { flash.new ≡ with_bytes (page_offset chip.now page) (replicate (page_size chip.now page) (erased_byte chip.now)) flash.old }
+    ensures erased { flash.new ≡ with_page chip.now page (erased_page chip.now page) flash.old }
     ensures length { length flash.new ≡ length flash.old }
 {
     let at = (chip.page_start(page) - chip.base()) as usize;
     let size = chip.page_size(page) as usize;
-    flash[at..at + size].fill(0xFF);
+    flash[at..at + size].fill(chip.erased());
 }
 
 /// Erases a page, where it is there.
 fn erase_existing(chip: &Chip, flash: &mut [u8], page: u16)
     requires { length flash.old ≡ flash_size chip.now }
-    ensures erased { flash.new ≡ with_bytes (page_offset chip.now page) (replicate (page_size chip.now page) (erased_byte chip.now)) flash.old }
+    ensures erased { flash.new ≡ with_page chip.now page (erased_page chip.now page) flash.old }
     ensures length { length flash.new ≡ length flash.old }
 {
     if page < chip.pages() {
@@ -80,7 +89,7 @@ fn write_memory(chip: &Chip, flash: &mut [u8], bytes: &[u8])
     if let [a, b, c, d, _, n, data @ ..] = bytes {
         let address = u32::from_be_bytes([*a, *b, *c, *d]);
         let sent = part(data, 0, usize::from(*n) + 1);
-        write_over(flash, (address - chip.base()) as usize, sent);
+        write_over(chip.erased(), flash, (address - chip.base()) as usize, sent);
     }
 }
 
@@ -90,7 +99,7 @@ fn erase_memory(chip: &Chip, flash: &mut [u8], bytes: &[u8])
     ensures { flash.new ≡ changed_flash chip.now (erase_change bytes.now) flash.old }
 {
     match bytes {
-        [0xFF, ..] => flash.fill(0xFF),
+        [0xFF, ..] => flash.fill(chip.erased()),
         [n, pages @ ..] => erase_bytes(chip, flash, part(pages, 0, usize::from(*n) + 1)),
         [] => {}
     }
@@ -104,7 +113,7 @@ fn extended_erase_memory(chip: &Chip, flash: &mut [u8], bytes: &[u8])
     if let [high, low, pages @ ..] = bytes {
         let count = usize::from(*high) * 256 + usize::from(*low);
         if count == 0xFFFF {
-            flash.fill(0xFF);
+            flash.fill(chip.erased());
         } else {
             erase_pairs(chip, flash, part(pages, 0, 2 * (count + 1)));
         }

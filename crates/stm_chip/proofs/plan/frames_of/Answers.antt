@@ -1,7 +1,7 @@
 -- Each block adds its frame, or none.
 use Rattle.std.proofs.Common.{◌∙◌, ◌+◌, ◌*◌, ◌++◌, refl, sym, ap}
 use Rattle.std.proofs.lemmas.List.{append-nil}
-use Rattle.stm_chip.specs.Plan.{erased_byte, frames_of}
+use Rattle.stm_chip.specs.Plan.{frames_of}
 use Rattle.stm_chip.proofs.Programming.{frames_more}
 use Rattle.stm_chip.proofs.plan.frames_of.Goals as goal
 use Rattle.stm_chip.proofs.plan.frames_of.Goals.{in-Some+in_ok-push, in_default}
@@ -13,9 +13,9 @@ loop-n-init c = c.new-frames.ensures.items
 pub loop-n-preserved : goal.loop-n-preserved
 loop-n-preserved c =
     let n = c.loop-n.n in
-    let more = frames_more erased_byte c.args.page.now n (256 * n + 256) refl in
+    let more = frames_more c.args.erased c.args.page.now n (256 * n + 256) refl in
     let frames = c.loop-n.frames.items in
     elim c.match-frame_of.branch [
       | in-Some+in_ok-push w ↦ cc (more, w.in_ok-push.ensures.items, w.in-Some.ensures)
-      | in_default w ↦ rw w.frames-is (c.loop-n.invariant ∙ sym (append-nil (frames_of erased_byte c.args.page.now n)) ∙ ap (λ xs. frames_of erased_byte c.args.page.now n ++ xs) w.in_default.ensures ∙ sym more)
+      | in_default w ↦ rw w.frames-is (c.loop-n.invariant ∙ sym (append-nil (frames_of c.args.erased c.args.page.now n)) ∙ ap (λ xs. frames_of c.args.erased c.args.page.now n ++ xs) w.in_default.ensures ∙ sym more)
     ]

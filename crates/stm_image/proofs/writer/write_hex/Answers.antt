@@ -1,44 +1,68 @@
-use Rattle.std.proofs.Common.{◌≡◌, ◌/◌, ◌%◌, ◌++◌, ◌∷◌, List, ℕ, [], length, take, drop, sym, ap, ap₂, ◌∙◌, refl, append_assoc, arith}
-use Rattle.std.proofs.lemmas.Bool.{eqb-true}
-use Rattle.stm_image.specs.Canon.{canon, lines, line, upper_line, parts_of, runs_of}
-use Rattle.stm_image.specs.Pairs.{Pairs}
-use Rattle.stm_image.specs.Parts.{address_in, bytes_in}
-use Rattle.stm_image.proofs.Cutting.{lines_front, address_front}
+use Rattle.std.proofs.Common.{◌≡◌, ◌+◌, ◌<◌, ◌++◌, List, ℕ, suc, length, drop, get_or, sym, ap, ap₂, subst, ◌∙◌, arith}
+use Rattle.std.specs.Prelude.{Contains}
+use Rattle.std.proofs.lemmas.List.{drop_all, drop_more}
+use Rattle.stm_image.specs.Canon.{canon, lines, parts_of, runs_of}
+use Rattle.stm_image.specs.Pairs.{raw_pairs}
+use Rattle.stm_image.specs.Pieces.{Apart, pairs_at, size_of}
+use Rattle.stm_image.specs.Parts.{IsBehind}
+use Rattle.stm_image.specs.declared.pieces.Piece.{Piece}
+use Rattle.stm_image.proofs.Lying.{length-bytes_at}
+use Rattle.stm_image.proofs.Running.{behind_piece, stand_read, within_read}
 use Rattle.stm_image.proofs.writer.write_hex.Goals as goal
 
-pub parts-init : goal.parts-init
+pub loop-run-init : goal.loop-run-init
 unfolding canon
-parts-init c = ap₂ (λ text pairs. text ++ lines 0 (parts_of (runs_of pairs))) c.in_ok-text.ensures.items c.pairs-rest.ensures.value
+loop-run-init c =
+    ap₂ (λ text pairs. text ++ lines 0 (parts_of (runs_of pairs))) c.in_ok-text.ensures.items (ap₂ pairs_at c.as_slice-bytes.ensures.value c.as_slice-list.ensures.value ∙ c.runs-runs.ensures.value)
 
--- the lines of one part
-pub parts-preserved : goal.parts-preserved
-parts-preserved c =
-    let rest = c.parts.rest.now in
-    let count = c.part_len.result in
-    let part = c.part_len.ensures in
-    let front = c.split_at.ensures.front in
-    let high = address_in rest 0 / 65536 in
-    let low = address_in rest 0 % 65536 in
-    let bytes = bytes_in (take count rest) in
-    let more = lines high (parts_of (runs_of (drop count rest))) in
-    let first : address_in c.split_at.result.0.now 0 ≡ address_in rest 0 = ap (λ ps. address_in ps 0) front ∙ address_front rest count part.some in
-    let added = c.in_ok-upper.ensures.lines ∙ ap₂ (λ a ps. c.parts.text.items ++ upper_line c.parts.upper (a / 65536) ++ line (a % 65536) 0 (bytes_in ps)) first front in
-    let now = ap₂ (λ u ps. lines u (parts_of (runs_of ps))) (c.in_ok-upper.ensures.upper ∙ ap (λ a. a / 65536) first) c.split_at.ensures.back in
-    let all = ap₂ (λ text ls. text ++ ls) added now in
-    let regrouped : (c.parts.text.items ++ upper_line c.parts.upper high ++ line low 0 bytes) ++ more ≡ c.parts.text.items ++ (upper_line c.parts.upper high ++ line low 0 bytes ++ more) =
-    regroup c.parts.text.items (upper_line c.parts.upper high) (line low 0 bytes) more in
-    all ∙ regrouped ∙ ap (λ ls. c.parts.text.items ++ ls) (sym (lines_front c.parts.upper rest count part)) ∙ c.parts.invariant
-  where
-    regroup : (a b c d : List ℕ) → ((a ++ b) ++ c) ++ d ≡ a ++ ((b ++ c) ++ d)
-    regroup a b c d = simp append_assoc
+pub bytes_in-requires : goal.bytes_in-requires
+bytes_in-requires c =
+    within_read c.runs-runs.result.now c.as_slice-bytes.result.now c.as_slice-list.result.now c.loop-run.run-index _ c.as_slice-bytes.ensures.value c.as_slice-list.ensures.value c.runs-runs.ensures.runs.stand c.loop-run-test.true
 
--- nothing is left
+pub put_run-requires : goal.put_run-requires
+put_run-requires c =
+    let bytes = c.as_slice-bytes.result.now in
+    let list = c.as_slice-list.result.now in
+    let p : Piece = get_or list c.loop-run.run-index record { first = 0; last = 0; place = 0 } in
+    let within = within_read c.runs-runs.result.now bytes list c.loop-run.run-index record { first = 0; last = 0; place = 0 } c.as_slice-bytes.ensures.value c.as_slice-list.ensures.value c.runs-runs.ensures.runs.stand c.loop-run-test.true in
+    let fits = within.fits in
+    let order = within.order in
+    let long : length c.bytes_in.result.now ≡ size_of p = ap (λ (b : List ℕ). length b) c.bytes_in.ensures ∙ length-bytes_at bytes p within.ends in
+    omega arith
+
+-- the lines of one run
+pub loop-run-preserved : goal.loop-run-preserved
+loop-run-preserved c =
+    let runs = c.runs-runs.result.now in
+    let bytes = c.as_slice-bytes.result.now in
+    let list = c.as_slice-list.result.now in
+    let i = c.loop-run.run-index in
+    let d : Piece = record { first = 0; last = 0; place = 0 } in
+    let p : Piece = get_or list i d in
+    let lt = c.loop-run-test.true in
+    let text = c.loop-run.text.items in
+    let later = pairs_at bytes (drop (i + 1) list) in
+    let own = c.bytes_in.result.now in
+    let stand = stand_read runs bytes list c.as_slice-bytes.ensures.value c.as_slice-list.ensures.value c.runs-runs.ensures.runs.stand in
+    let A : List Piece → Type 0 = λ l. Apart 0 l in
+    let apart = subst A (sym c.as_slice-list.ensures.value) c.runs-runs.ensures.runs.apart in
+    let within = within_read runs bytes list i d c.as_slice-bytes.ensures.value c.as_slice-list.ensures.value c.runs-runs.ensures.runs.stand lt in
+    let order = within.order in
+    let long : length own ≡ size_of p = ap (λ (b : List ℕ). length b) c.bytes_in.ensures ∙ length-bytes_at bytes p within.ends in
+    let next : i + 1 ≡ suc i = omega arith in
+    let behind : IsBehind (p.first + length own) later = λ q held.
+    let C : ℕ → Type 0 = λ n. Contains (pairs_at bytes (drop n list)) q in
+    let up = behind_piece bytes 0 (length bytes) 0 list i d q stand apart lt (subst C next held) in
+    let r : p.first + length own < q.0 = omega arith in r in
+    let whole : pairs_at bytes (drop i list) ≡ raw_pairs p.first own ++ later =
+    ap (pairs_at bytes) (drop_more list i d lt) ∙ ap (λ b. raw_pairs p.first b ++ later) (sym c.bytes_in.ensures) in
+    c.in_ok-upper.ensures later behind ∙ ap (λ ps. text ++ lines c.loop-run.upper (parts_of (runs_of ps))) (sym whole) ∙ c.loop-run.invariant
+
+-- none is left
 pub returns : goal.returns
 unfolding lines
 returns c =
-    let none = no_pairs c.parts.rest.now (eqb-true _ 0 (sym c.is_empty.ensures ∙ c.parts-test.false)) in
-    c.in_ok-put_line.ensures ∙ ap (λ ps. c.parts.text.items ++ lines c.parts.upper (parts_of (runs_of ps))) (sym none) ∙ c.parts.invariant
-  where
-    no_pairs : (pairs : Pairs) → length pairs ≡ 0 → pairs ≡ []
-    no_pairs [] e = refl
-    no_pairs (p ∷ pairs) e = absurd (omega arith)
+    let bytes = c.as_slice-bytes.result.now in
+    let list = c.as_slice-list.result.now in
+    let none = drop_all c.loop-run.run-index list c.loop-run-test.false in
+    c.in_ok-put_line.ensures ∙ ap (λ l. c.loop-run.text.items ++ lines c.loop-run.upper (parts_of (runs_of (pairs_at bytes l)))) (sym none) ∙ c.loop-run.invariant

@@ -23,7 +23,7 @@ pub returns-in_err-take-clause-honest : goal.returns-in_err-take-clause-honest
 returns-in_err-take-clause-honest g c = λ honest.
     let V = g.R.Rig.view in
     let l = c.loop-loader.loader.journal in
-    let tail = c.loop-loader.loader.tail.items in
+    let tail = c.loop-loader.loader.tail in
     let n = c.in_ok-n.n in
     let before = c.loop-loader.buf in
     let after = c.fetch.new.buf in
@@ -43,7 +43,7 @@ pub loop-loader-preserved : goal.loop-loader-preserved
 loop-loader-preserved g c =
     let V = g.R.Rig.view in
     let l = c.loop-loader.loader.journal in
-    let tail = c.loop-loader.loader.tail.items in
+    let tail = c.loop-loader.loader.tail in
     let n = c.in_ok-n.n in
     let before = c.loop-loader.buf in
     let after = c.fetch.new.buf in
@@ -64,7 +64,7 @@ loop-loader-preserved g c =
           let got = subst F c.size.ensures (c.in_ok-n.ensures.honest has.honest) in
           let within : n ≤ length after = omega (arith, c.in_ok-n.ensures.within, c.fetch.auto.buf) in
           let read = c.in_ok-take.ensures.takes (take l.size a.journal) has.read (short-read l tail n before after a b d (g.met.R.Rig.model c.args.rig.now honest) has got within) in
-          HasRead-more l c.take.new.self.journal tail c.take.new.self.tail.items n before after (take n after) a b d has got within refl read;
+          HasRead-more l c.take.new.self.journal tail c.take.new.self.tail n before after (take n after) a b d has got within refl read;
       some = omega (arith, c.loop-loader.invariant.some, c.fetch.auto.buf);
       few = omega (arith, c.loop-loader.invariant.few, c.fetch.auto.buf);
     }

@@ -9,6 +9,6 @@ loop-newer-preserved c =
     let s : StateData = c.args.journal.now.state in
     let within : c.loop-newer.newer < length s.stack = omega (arith, c.depth-depth.ensures.value) in
     ap (λ o. least_with o (misfit_lines c.args.chip.now (drop (c.loop-newer.newer + 1) s.stack)))
-    (c.misfit_line_of-least.ensures ∙ ap (λ depth. least_with c.loop-newer.least (misfit_lines_of c.args.chip.now (segment_pages s (depth - c.loop-newer.newer)))) c.depth-depth.ensures.value)
+    (c.misfit_line_of-least.ensures ∙ ap (λ depth. least_with c.loop-newer.least (misfit_lines_of c.args.chip.now (segment_pages s (depth - c.loop-newer.newer)) (segment_pages s (depth - c.loop-newer.newer)))) c.depth-depth.ensures.value)
     ∙ sym (stack-step c.args.chip.now s c.loop-newer.newer c.loop-newer.least within)
     ∙ c.loop-newer.invariant

@@ -27,7 +27,7 @@ loop-n-preserved c =
     ] in
     record {
       line =
-          ap (λ o. least_with o (misfit_lines_of c.args.chip.now (drop (c.loop-n.i + 1) pages))) least
+          ap (λ o. least_with o (misfit_lines_of c.args.chip.now pages (drop (c.loop-n.i + 1) pages))) least
           ∙ sym (misfit-step c.args.chip.now s c.args.k c.loop-n.i c.in-Some.n c.in-Some.line c.loop-n.least c.fits.result c.requires c.in-Some.ensures c.fits.ensures.value)
           ∙ c.loop-n.invariant.line;
       count = omega (arith, below-step s c.args.k c.loop-n.i c.in-Some.n c.in-Some.line c.fits.ensures.number c.in-Some.ensures);

@@ -1,35 +1,51 @@
-use Rattle.std.proofs.Common.{refl, ◌∙◌, ap}
+use Rattle.std.proofs.Common.{arith, Bool, None, true, ◌∙◌, ap}
 use Rattle.stm_wire.specs.Device.{Device}
-use Rattle.stm_wire.specs.Stopped.{get, get_id}
-use Rattle.stm_session.proofs.Asking.{asked, asks_then, broken_off}
+use Rattle.stm_wire.specs.Dialogue.{GoesOn}
+use Rattle.stm_wire.specs.Parts.{IsPart}
+use Rattle.stm_wire.specs.PartLaws.{part_longer, parts_join}
+use Rattle.stm_session.proofs.Asking.{asks_failed, asks_ok, asks_then, settled_still}
+use Rattle.stm_session.proofs.Sending.{same_fault}
 use Rattle.stm_session.proofs.contact.ask.Goals as goal
 
 pub returns-in_err-commands-clause-honest : goal.returns-in_err-commands-clause-honest
 returns-in_err-commands-clause-honest g c h settled =
     let V = g.R.Rig.view in
-    let does = c.in_err-commands.ensures.honest h settled in
-    broken_off c.sending_is_harmless.ensures.asking (V c.args.rig.now) (V c.get_commands.new.rig) c.from_residual.result _ h
-    (g.met.R.Rig.model c.args.rig.now h).device settled (get refl) c.in_err-commands.ensures.broken.2 does.fails c.from_residual.ensures.1
+    asks_failed (V c.args.rig.now) (V c.ask_commands.new.rig) _ c.from_residual.result (c.in_err-commands.ensures.honest h settled) c.from_residual.ensures.1
 
 pub returns-in_err-id-clause-honest : goal.returns-in_err-id-clause-honest
 returns-in_err-id-clause-honest g c h settled =
     let V = g.R.Rig.view in
-    let law = c.sending_is_harmless.ensures.asking in
-    let told = (c.in_ok-commands.ensures.honest h settled).done in
-    let first = asked law (V c.args.rig.now) (V c.get_commands.new.rig) (tt {0}) (λ x. Unit {0}) h (g.met.R.Rig.model c.args.rig.now h).device settled (get refl) c.in_ok-commands.ensures.held told.2 tt in
-    let does = c.in_err-id.ensures.honest first.honest first.settled in
-    asks_then (V c.args.rig.now) (V c.get_commands.new.rig) (V c.get_id.new.rig) (tt {0}) c.from_residual-in_err-id.result first
-    (broken_off law (V c.get_commands.new.rig) (V c.get_id.new.rig) c.from_residual-in_err-id.result _ first.honest
-    (g.met.R.Rig.model c.get_commands.new.rig first.honest).device first.settled (get_id refl) c.in_err-id.ensures.broken.2 does.fails c.from_residual-in_err-id.ensures.1) (λ y done. done)
+    let first = c.in_ok-commands.ensures.honest h settled in
+    let second = c.in_err-id.ensures.honest first.honest (settled_still (V c.args.rig.now) (V c.ask_commands.new.rig) _ settled first) in
+    asks_then (V c.args.rig.now) (V c.ask_commands.new.rig) (V c.ask_id.new.rig) _ c.from_residual-in_err-id.result first
+    (asks_failed (V c.ask_commands.new.rig) (V c.ask_id.new.rig) _ c.from_residual-in_err-id.result second c.from_residual-in_err-id.ensures.1) (λ y done. done)
 
 pub returns-clause-honest : goal.returns-clause-honest
 returns-clause-honest g c h settled =
     let V = g.R.Rig.view in
-    let law = c.sending_is_harmless.ensures.asking in
-    let told = (c.in_ok-commands.ensures.honest h settled).done in
-    let first = asked law (V c.args.rig.now) (V c.get_commands.new.rig) (tt {0}) (λ x. Unit {0}) h (g.met.R.Rig.model c.args.rig.now h).device settled (get refl) c.in_ok-commands.ensures.held told.2 tt in
-    let id = (c.in_ok-id.ensures.honest first.honest first.settled).done in
-    asks_then (V c.args.rig.now) (V c.get_commands.new.rig) (V c.get_id.new.rig) (tt {0}) _ first
-    (asked law (V c.get_commands.new.rig) (V c.get_id.new.rig) _ _ first.honest
-    (g.met.R.Rig.model c.get_commands.new.rig first.honest).device first.settled (get_id refl) c.in_ok-id.ensures.held id.1
-    (record { commands = record { version = told.0; codes = told.1 }; id = id.0 ∙ ap (λ (d : Device). d.chip.id) told.2 })) (λ y done. done)
+    let first = c.in_ok-commands.ensures.honest h settled in
+    let second = c.in_ok-id.ensures.honest first.honest (settled_still (V c.args.rig.now) (V c.ask_commands.new.rig) _ settled first) in
+    asks_then (V c.args.rig.now) (V c.ask_commands.new.rig) (V c.ask_id.new.rig) _ _ first
+    (asks_ok (V c.ask_commands.new.rig) (V c.ask_id.new.rig) _ _ second (λ id. record { commands = first.done; id = id ∙ ap (λ (d : Device). d.chip.id) first.same })) (λ y done. done)
+
+pub returns-in_err-commands-clause-puts : goal.returns-in_err-commands-clause-puts
+returns-in_err-commands-clause-puts g c =
+    let V = g.R.Rig.view in
+    let a = (V c.args.rig.now).calls in
+    let b = (V c.ask_commands.new.rig).calls in
+    let P : Bool → Type 0 = λ w. GoesOn (IsPart None w 268) a b in
+    same_fault P _ c.from_residual.result c.from_residual.ensures.1 (part_longer None _ 261 268 a b (omega arith) c.in_err-commands.ensures.puts)
+
+pub returns-in_err-id-clause-puts : goal.returns-in_err-id-clause-puts
+returns-in_err-id-clause-puts g c =
+    let V = g.R.Rig.view in
+    let a = (V c.args.rig.now).calls in
+    let b = (V c.ask_commands.new.rig).calls in
+    let d = (V c.ask_id.new.rig).calls in
+    let P : Bool → Type 0 = λ w. GoesOn (IsPart None w 268) a d in
+    same_fault P _ c.from_residual-in_err-id.result c.from_residual-in_err-id.ensures.1 (parts_join None _ 261 7 a b d c.in_ok-commands.ensures.puts c.in_err-id.ensures.puts)
+
+pub returns-clause-puts : goal.returns-clause-puts
+returns-clause-puts g c =
+    let V = g.R.Rig.view in
+    parts_join None true 261 7 (V c.args.rig.now).calls (V c.ask_commands.new.rig).calls (V c.ask_id.new.rig).calls c.in_ok-commands.ensures.puts c.in_ok-id.ensures.puts

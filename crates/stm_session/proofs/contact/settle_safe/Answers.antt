@@ -1,5 +1,5 @@
 use Rattle.std.proofs.Common.{[], arith}
-use Rattle.stm_session.proofs.Asking.{settled_safely, stopped_safely}
+use Rattle.stm_session.proofs.Unbegun.{settled_safely, stopped_safely}
 use Rattle.stm_session.proofs.contact.settle_safe.Goals as goal
 
 pub returns-in_err-settle-clause-honest : goal.returns-in_err-settle-clause-honest

@@ -1,5 +1,11 @@
-use Rattle.std.proofs.Common.{refl}
+use Rattle.std.proofs.Common.{arith, Bool, None, true, refl}
 use Rattle.stm_session.proofs.Openings.{left_by_loading, opens_all, opens_refused, opens_unreached, opens_unread}
+use Rattle.stm_wire.specs.Dialogue.{GoesOn}
+use Rattle.stm_wire.specs.Parts.{IsSession}
+use Rattle.stm_wire.specs.PartLaws.{session_weaker, silent_is_session, silent_then_session}
+use Rattle.stm_journal.specs.Calls.{AreFetches}
+use Rattle.stm_session.specs.Sending.{is_whole, most_calls}
+use Rattle.stm_session.proofs.Sending.{fetches_get, fetches_put, same_fault}
 use Rattle.stm_session.proofs.opening.open.Goals as goal
 
 pub returns-in_err-journal-clause-honest : goal.returns-in_err-journal-clause-honest
@@ -33,3 +39,35 @@ returns-clause-honest g c h safe =
     let left = left_by_loading law (V c.args.rig.now) (V c.load_finished.new.rig) safe _ c.in_ok-journal.journal loads in
     opens_all law (V c.args.rig.now) (V c.load_finished.new.rig) safe c.in_ok-journal.journal (c.in_ok-journal.ensures.loaded h) c.in_ok-journal.ensures.finished
     (V c.reach.new.rig) c.args.table.now c.in_ok-told.told loads (c.in_ok-told.ensures.honest loads.honest left.safe) _ c.in_ok-chip.ensures.accepted refl c.in_ok-chip.ensures.id refl
+
+pub returns-in_err-journal-clause-puts : goal.returns-in_err-journal-clause-puts
+returns-in_err-journal-clause-puts g c =
+    let V = g.R.Rig.view in
+    silent_is_session None 0x7F 131072 (is_whole c.from_residual.result) (most_calls 0) AreFetches (V c.args.rig.now).calls (V c.load_finished.new.rig).calls fetches_put fetches_get c.load_finished.ensures.calls
+
+pub returns-in_err-told-clause-puts : goal.returns-in_err-told-clause-puts
+returns-in_err-told-clause-puts g c =
+    let V = g.R.Rig.view in
+    let a = (V c.args.rig.now).calls in
+    let b = (V c.load_finished.new.rig).calls in
+    let d = (V c.reach.new.rig).calls in
+    let P : Bool → Type 0 = λ w. GoesOn (IsSession None 0x7F 131072 w (most_calls 0)) a d in
+    same_fault P _ c.from_residual-in_err-told.result c.from_residual-in_err-told.ensures.1
+    (silent_then_session None 0x7F 131072 _ (most_calls 0) AreFetches a b d fetches_put fetches_get c.load_finished.ensures.calls c.in_err-told.ensures.puts)
+
+pub returns-in_err-chip-clause-puts : goal.returns-in_err-chip-clause-puts
+returns-in_err-chip-clause-puts g c =
+    let V = g.R.Rig.view in
+    let a = (V c.args.rig.now).calls in
+    let b = (V c.load_finished.new.rig).calls in
+    let d = (V c.reach.new.rig).calls in
+    session_weaker None 0x7F 131072 (is_whole c.from_residual-in_err-chip.result) (most_calls 0) (most_calls 0) a d (omega arith)
+    (silent_then_session None 0x7F 131072 true (most_calls 0) AreFetches a b d fetches_put fetches_get c.load_finished.ensures.calls c.in_ok-told.ensures.puts)
+
+pub returns-clause-puts : goal.returns-clause-puts
+returns-clause-puts g c =
+    let V = g.R.Rig.view in
+    let a = (V c.args.rig.now).calls in
+    let b = (V c.load_finished.new.rig).calls in
+    let d = (V c.reach.new.rig).calls in
+    silent_then_session None 0x7F 131072 true (most_calls 0) AreFetches a b d fetches_put fetches_get c.load_finished.ensures.calls c.in_ok-told.ensures.puts

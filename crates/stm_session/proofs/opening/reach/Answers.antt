@@ -1,15 +1,34 @@
-use Rattle.stm_session.proofs.Asking.{asks_failed, asks_then}
+use Rattle.stm_session.proofs.Unbegun.{begins_failed, then_asks}
 use Rattle.stm_session.proofs.Openings.{tells_first}
+use Rattle.std.proofs.Common.{arith, None, true}
+use Rattle.stm_wire.specs.PartLaws.{session_joins, session_longer, settling_is_session}
+use Rattle.stm_session.specs.Sending.{is_whole, most_calls}
 use Rattle.stm_session.proofs.opening.reach.Goals as goal
 
 pub returns-in_err-settle_safe-clause-honest : goal.returns-in_err-settle_safe-clause-honest
 returns-in_err-settle_safe-clause-honest g c h safe =
     let V = g.R.Rig.view in
-    asks_failed (V c.args.rig.now) (V c.settle_safe.new.rig) _ c.from_residual.result (c.in_err-settle_safe.ensures.honest h safe) c.from_residual.ensures.1
+    begins_failed (V c.args.rig.now) (V c.settle_safe.new.rig) _ c.from_residual.result (c.in_err-settle_safe.ensures.honest h safe) c.from_residual.ensures.1
 
 pub returns-clause-honest : goal.returns-clause-honest
 returns-clause-honest g c h safe =
     let V = g.R.Rig.view in
     let first = c.in_ok-settle_safe.ensures.honest h safe in
-    asks_then (V c.args.rig.now) (V c.settle_safe.new.rig) (V c.ask.new.rig) _ c.ask.result first (c.ask.ensures.honest first.honest first.settled)
+    then_asks (V c.args.rig.now) (V c.settle_safe.new.rig) (V c.ask.new.rig) _ c.ask.result first (c.ask.ensures.honest first.honest first.settled)
     (tells_first (V c.args.rig.now) (V c.settle_safe.new.rig) first.left)
+
+pub returns-in_err-settle_safe-clause-puts : goal.returns-in_err-settle_safe-clause-puts
+returns-in_err-settle_safe-clause-puts g c =
+    let V = g.R.Rig.view in
+    let a = (V c.args.rig.now).calls in
+    let b = (V c.settle_safe.new.rig).calls in
+    let whole = is_whole c.from_residual.result in
+    session_longer None 0x7F 131072 whole 537411600 (most_calls 0) a b (omega arith) (settling_is_session None 0x7F 131072 whole 537411600 a b c.settle_safe.ensures.calls)
+
+pub returns-clause-puts : goal.returns-clause-puts
+returns-clause-puts g c =
+    let V = g.R.Rig.view in
+    let a = (V c.args.rig.now).calls in
+    let b = (V c.settle_safe.new.rig).calls in
+    let d = (V c.ask.new.rig).calls in
+    session_joins None 0x7F 131072 (is_whole c.ask.result) 537411600 268 a b d (settling_is_session None 0x7F 131072 true 537411600 a b c.settle_safe.ensures.calls) c.ask.ensures.puts

@@ -1,7 +1,11 @@
-use Rattle.std.proofs.Common.{◌≡◌, rules, refl, sym, ◌∙◌, ap, subst, IsTrue, length, take, drop, ℕ, ◌-◌}
+use Rattle.std.proofs.Common.{◌≡◌, rules, refl, sym, ◌∙◌, ap, subst, IsTrue, length, take, drop, ℕ, ◌-◌, ◌+◌, Bool, Some}
 use Rattle.stm_wire.specs.Chip.{ChipData, fits_inside}
 use Rattle.stm_wire.specs.Stopped.{read}
 use Rattle.stm_session.proofs.Asking.{asked, broken_off}
+use Rattle.stm_wire.specs.Dialogue.{GoesOn}
+use Rattle.stm_wire.specs.Parts.{IsPart}
+use Rattle.stm_wire.specs.PartLaws.{read_broken, read_held}
+use Rattle.stm_session.proofs.Sending.{with_fault}
 use Rattle.stm_session.proofs.reading.read_part.Goals as goal
 
 pub returns-in_err-read-clause-honest : goal.returns-in_err-read-clause-honest
@@ -24,3 +28,22 @@ returns-clause-honest g c h settled chip fits =
     (g.met.R.Rig.model c.args.rig.now h).device settled (read c.args.address (length c.args.buf.now) c.requires.some c.requires.limit inside refl) c.in_ok-read.ensures.held does.same
     (does.read ∙ ap (λ (n : ℕ). take n (drop (c.args.address - (V c.args.rig.now).device.chip.base) (V c.args.rig.now).device.flash)) size
     ∙ ap (λ (p : ChipData). take (length c.args.buf.now) (drop (c.args.address - p.base) (V c.args.rig.now).device.flash)) chip)
+
+pub returns-in_err-read-clause-puts : goal.returns-in_err-read-clause-puts
+returns-in_err-read-clause-puts g c page within =
+    let V = g.R.Rig.view in
+    let a = (V c.args.rig.now).calls in
+    let b = (V c.read.new.rig).calls in
+    let n = length c.args.buf.now in
+    let broken = c.in_err-read.ensures.broken in
+    let P : Bool → Type 0 = λ w. GoesOn (IsPart (Some c.args.chip.now) w (12 + n)) a b in
+    with_fault P _ c.from_residual.result c.from_residual.ensures.1
+    (read_broken c.args.chip.now page c.args.address n c.requires.some c.requires.limit within broken.0 _ a b broken.1 broken.2.recorded)
+
+pub returns-clause-puts : goal.returns-clause-puts
+returns-clause-puts g c page within =
+    let V = g.R.Rig.view in
+    let a = (V c.args.rig.now).calls in
+    let b = (V c.read.new.rig).calls in
+    let size : length c.read.new.buf ≡ length c.args.buf.now = search rules in
+    read_held c.args.chip.now page c.args.address (length c.args.buf.now) c.requires.some c.requires.limit within c.read.new.buf a b size c.in_ok-read.ensures.held.recorded

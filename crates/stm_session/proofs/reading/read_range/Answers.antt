@@ -1,8 +1,14 @@
 -- A round of the loop reads a block more.
-use Rattle.std.proofs.Common.{◌≡◌, arith, ap, ◌∙◌, ℕ}
+use Rattle.std.proofs.Common.{◌≡◌, ◌≤◌, ◌*◌, arith, ap, ◌∙◌, ℕ, Bool, Some, true, refl}
 use Rattle.stm_session.specs.Running.{bytes_at}
 use Rattle.stm_session.proofs.Asking.{asks_failed, asks_ok, memory_refused, nothing_asked}
-use Rattle.stm_session.proofs.Ranges.{block_adds, block_asks}
+use Rattle.stm_session.proofs.Ranges.{block_adds, block_asks, size-limit}
+use Rattle.stm_wire.specs.Dialogue.{GoesOn}
+use Rattle.stm_wire.specs.Parts.{IsPart}
+use Rattle.stm_wire.specs.PartLaws.{nothing_is_part, part_longer}
+use Rattle.stm_session.specs.Sending.{is_whole, most_of_command}
+use Rattle.stm_session.proofs.Sending.{same_fault}
+use Rattle.stm_session.proofs.Ranges.{block_part}
 use Rattle.stm_session.proofs.reading.read_range.Goals as goal
 
 pub returns-in_err-bytes-clause-honest : goal.returns-in_err-bytes-clause-honest
@@ -19,8 +25,10 @@ loop-done-init g c =
         within = omega arith;
         line = omega arith;
         journal = omega arith;
+        parts = nothing_is_part (Some c.args.chip.now) true 0 (V c.args.rig.now).calls;
         honest = λ h settled chip. nothing_asked c.sending_is_harmless.ensures.asking (V c.args.rig.now) (tt {0}) _ h (g.met.R.Rig.model c.args.rig.now h) settled c.in_ok-bytes.ensures.items;
       },
+      record { exists = omega arith; before = refl; begins = omega arith },
     )
 
 pub loop-done-preserved : goal.loop-done-preserved
@@ -32,6 +40,8 @@ loop-done-preserved g c =
         within = omega (arith, c.block_size-block.ensures.cut, c.loop-done-test.true);
         line = omega (arith, so_far.line, c.in_ok-read_block.ensures.cause.line_later);
         journal = omega (arith, so_far.journal, c.in_ok-read_block.ensures.cause.journal_later);
+        parts = block_part c.args.chip.now c.args.start c.args.size c.loop-done.done c.block_size-block.result c.loop-done.bytes.items (V c.args.rig.now) (V c.loop-done.rig) (V c.read_block.new.rig) true
+            c.loop-done-test.true so_far c.block_size-block.ensures c.in_ok-read_block.ensures.puts;
         honest = λ h settled chip.
             block_asks c.args.chip.now c.args.start c.args.size c.loop-done.done c.block_size-block.result c.loop-done.bytes.items
             (V c.args.rig.now) (V c.loop-done.rig) (V c.read_block.new.rig) so_far c.loop-done-test.true c.requires c.block_size-block.ensures h settled chip
@@ -40,6 +50,7 @@ loop-done-preserved g c =
             (block_adds c.args.chip.now c.args.start c.args.size c.loop-done.done c.block_size-block.result c.loop-done.bytes.items
             (V c.args.rig.now) (V c.loop-done.rig) (V c.read_block.new.rig) so_far c.loop-done-test.true c.requires c.block_size-block.ensures h settled chip c.read_block.new.bytes.items));
       },
+      record { exists = omega (arith, c.page_at-place.ensures.exists); before = c.page_at-place.ensures.before; begins = omega (arith, c.page_at-place.ensures.begins) },
     )
 
 pub returns-in_err-read_block-clause-honest : goal.returns-in_err-read_block-clause-honest
@@ -57,3 +68,25 @@ returns-clause-honest g c h settled chip =
     let all : c.loop-done.done ≡ c.args.size = omega (arith, so_far.within, c.loop-done-test.false) in
     asks_ok (V c.args.rig.now) (V c.loop-done.rig) (tt {0}) c.loop-done.bytes (so_far.honest h settled chip)
     (λ bytes. bytes ∙ ap (λ (n : ℕ). bytes_at c.args.chip.now (V c.args.rig.now).device.flash c.args.start n) all)
+
+pub returns-in_err-bytes-clause-puts : goal.returns-in_err-bytes-clause-puts
+returns-in_err-bytes-clause-puts g c = nothing_is_part (Some c.args.chip.now) (is_whole c.from_residual.result) most_of_command (g.R.Rig.view c.args.rig.now).calls
+
+pub returns-in_err-read_block-clause-puts : goal.returns-in_err-read_block-clause-puts
+returns-in_err-read_block-clause-puts g c =
+    let V = g.R.Rig.view in
+    let a = (V c.args.rig.now).calls in
+    let d = (V c.read_block.new.rig).calls in
+    let limit : c.args.size ≤ 2097152 = size-limit c.args.chip.now c.args.start c.args.size c.keeps_limits.ensures.chip c.requires in
+    let P : Bool → Type 0 = λ w. GoesOn (IsPart (Some c.args.chip.now) w most_of_command) a d in
+    same_fault P _ c.from_residual-in_err-read_block.result c.from_residual-in_err-read_block.ensures.1
+    (part_longer (Some c.args.chip.now) _ _ most_of_command a d (omega (arith, limit, c.loop-done-test.true, c.block_size-block.ensures.cut))
+    (block_part c.args.chip.now c.args.start c.args.size c.loop-done.done c.block_size-block.result c.loop-done.bytes.items (V c.args.rig.now) (V c.loop-done.rig) (V c.read_block.new.rig) _
+    c.loop-done-test.true c.loop-done.invariant.1 c.block_size-block.ensures c.in_err-read_block.ensures.puts))
+
+pub returns-clause-puts : goal.returns-clause-puts
+returns-clause-puts g c =
+    let V = g.R.Rig.view in
+    let so_far = c.loop-done.invariant.1 in
+    let limit : c.args.size ≤ 2097152 = size-limit c.args.chip.now c.args.start c.args.size c.keeps_limits.ensures.chip c.requires in
+    part_longer (Some c.args.chip.now) true (13 * c.loop-done.done) most_of_command (V c.args.rig.now).calls (V c.loop-done.rig).calls (omega (arith, limit, so_far.within)) so_far.parts

@@ -1,9 +1,15 @@
-use Rattle.std.proofs.Common.{refl, arith, List, subst}
+use Rattle.std.proofs.Common.{◌+◌, ◌*◌, length, Bool, Some, true, refl, arith, List, subst}
 use Rattle.std.proofs.lemmas.List.{take_all}
 use Rattle.stm_session.specs.declared.command.Command.{Command}
 use Rattle.stm_session.specs.Running.{AreRead, bytes_of, bytes_read, size_asked, size_of}
 use Rattle.stm_session.proofs.Asking.{asks_failed, asks_ok, memory_refused, nothing_asked}
-use Rattle.stm_session.proofs.ReadCommands.{grows, read_asks, read_first}
+use Rattle.stm_session.proofs.ReadCommands.{command_part, grows, read_asks, read_first}
+use Rattle.stm_wire.specs.Dialogue.{GoesOn}
+use Rattle.stm_wire.specs.Parts.{IsPart}
+use Rattle.stm_wire.specs.PartLaws.{nothing_is_part, part_weaker}
+use Rattle.stm_session.specs.Sending.{is_whole, most_of_command}
+use Rattle.stm_session.proofs.ReadCommands.{taken_part}
+use Rattle.stm_session.proofs.Sending.{same_fault}
 use Rattle.stm_session.proofs.running.run_reads.Goals as goal
 
 pub loop-command-init : goal.loop-command-init
@@ -13,6 +19,7 @@ loop-command-init g c =
       record {
         line = omega arith;
         journal = omega arith;
+        parts = nothing_is_part (Some c.args.chip.now) true 0 (V c.args.rig.now).calls;
         honest = λ h settled chip. nothing_asked c.sending_is_harmless.ensures.asking (V c.args.rig.now) (tt {0}) _ h (g.met.R.Rig.model c.args.rig.now h) settled (rw c.new-outcomes.ensures.items refl);
       },
     )
@@ -26,6 +33,8 @@ loop-command-preserved g c =
       record {
         line = omega (arith, so_far.line, c.in_ok-outcome.ensures.cause.line_later);
         journal = omega (arith, so_far.journal, c.in_ok-outcome.ensures.cause.journal_later);
+        parts = command_part c.args.chip.now c.args.commands.now c.loop-command.command-index c.loop-command.outcomes.items (V c.args.rig.now) (V c.loop-command.rig) (V c.run_command.new.rig) true c.loop-command-test.true so_far
+            c.in_ok-outcome.ensures.puts;
         honest = λ h settled chip.
             read_asks c.args.chip.now _ c.loop-command.outcomes.items (V c.args.rig.now) (V c.loop-command.rig) (V c.run_command.new.rig) so_far h settled chip
             _ _ _ c.in_ok-outcome.ensures.honest
@@ -53,3 +62,28 @@ returns-clause-honest g c h settled chip =
     let V = g.R.Rig.view in
     asks_ok (V c.args.rig.now) (V c.loop-command.rig) (tt {0}) c.loop-command.outcomes (c.loop-command.invariant.1.honest h settled chip)
     (λ read. subst (λ (cs : List Command). AreRead (V c.args.rig.now).device cs c.loop-command.outcomes.items) (take_all c.loop-command.command-index c.args.commands.now (omega (arith, c.loop-command-test.false))) read)
+
+pub returns-in_err-outcome-clause-puts : goal.returns-in_err-outcome-clause-puts
+returns-in_err-outcome-clause-puts g c =
+    let V = g.R.Rig.view in
+    let P : Bool → Type 0 = λ w. GoesOn (IsPart (Some c.args.chip.now) w (length c.args.commands.now * most_of_command)) (V c.args.rig.now).calls (V c.run_command.new.rig).calls in
+    same_fault P _ c.from_residual.result c.from_residual.ensures.1
+    (taken_part c.args.chip.now c.args.commands.now (c.loop-command.command-index + 1) _ (V c.args.rig.now).calls (V c.run_command.new.rig).calls
+    (command_part c.args.chip.now c.args.commands.now c.loop-command.command-index c.loop-command.outcomes.items (V c.args.rig.now) (V c.loop-command.rig) (V c.run_command.new.rig) _ c.loop-command-test.true
+    c.loop-command.invariant.1 c.in_err-outcome.ensures.puts))
+
+pub returns-in_err-push-clause-puts : goal.returns-in_err-push-clause-puts
+returns-in_err-push-clause-puts g c =
+    let V = g.R.Rig.view in
+    let a = (V c.args.rig.now).calls in
+    let d = (V c.run_command.new.rig).calls in
+    let most = length c.args.commands.now * most_of_command in
+    part_weaker (Some c.args.chip.now) (is_whole c.from_residual-in_err-push.result) most most a d (omega arith)
+    (taken_part c.args.chip.now c.args.commands.now (c.loop-command.command-index + 1) true a d
+    (command_part c.args.chip.now c.args.commands.now c.loop-command.command-index c.loop-command.outcomes.items (V c.args.rig.now) (V c.loop-command.rig) (V c.run_command.new.rig) true c.loop-command-test.true
+    c.loop-command.invariant.1 c.in_ok-outcome.ensures.puts))
+
+pub returns-clause-puts : goal.returns-clause-puts
+returns-clause-puts g c =
+    let V = g.R.Rig.view in
+    taken_part c.args.chip.now c.args.commands.now c.loop-command.command-index true (V c.args.rig.now).calls (V c.loop-command.rig).calls c.loop-command.invariant.1.parts

@@ -1,4 +1,4 @@
-use Rattle.std.proofs.Common.{◌≡◌, ◌∷◌, [], ◌++◌, ℕ, List, length, take, refl, ap}
+use Rattle.std.proofs.Common.{rules, ◌≡◌, ◌<◌, arith, ◌∷◌, [], ◌++◌, ℕ, List, length, take, refl, ap}
 use Rattle.stm_wire.specs.declared.fault.WireFault.{WireFault}
 use Rattle.stm_wire.specs.declared.get_command.Commands.{Commands}
 use Rattle.stm_wire.specs.Reply.{ack}
@@ -15,10 +15,10 @@ pub returns-in_err-send_step-clause-broken : goal.returns-in_err-send_step-claus
 returns-in_err-send_step-clause-broken g c =
     let V = g.R.Rig.view in
     let e = c.in_err-send_step.field-0.0 in
-    let P : WireFault → Type 0 = λ fault. (version : ℕ) × (codes : List ℕ) × BreaksOff fault (command 0x00) (get_turns version codes) (V c.args.rig.now) (V c.send_step.new.rig) in
+    let P : WireFault → Type 0 = λ fault. (version : ℕ) × (codes : List ℕ) × (length codes < 256) × BreaksOff fault (command 0x00) (get_turns version codes) (V c.args.rig.now) (V c.send_step.new.rig) in
     let sent = BreaksOff-early e (command 0x00) (step_turns (command 0x00)) (learns (0 ∷ 0 ∷ [])) (V c.args.rig.now) (V c.send_step.new.rig) c.in_err-send_step.ensures.broken in
     on_fault P c.from_residual.result e c.from_residual.ensures.1
-    (0, [], BreaksOff-early e (command 0x00) (step_turns (command 0x00) ++ learns (0 ∷ 0 ∷ [])) (Expects ack ∷ []) (V c.args.rig.now) (V c.send_step.new.rig) sent)
+    (0, [], omega arith, BreaksOff-early e (command 0x00) (step_turns (command 0x00) ++ learns (0 ∷ 0 ∷ [])) (Expects ack ∷ []) (V c.args.rig.now) (V c.send_step.new.rig) sent)
 
 pub returns-in_err-send_step-clause-honest : goal.returns-in_err-send_step-clause-honest
 returns-in_err-send_step-clause-honest g c h settled =
@@ -35,14 +35,15 @@ returns-in_err-commands-clause-broken g c =
     let e = c.in_err-commands.field-0.0 in
     let old = V c.args.rig.now in
     let new = V c.receive_commands.new.rig in
-    let P : WireFault → Type 0 = λ fault. (version : ℕ) × (codes : List ℕ) × BreaksOff fault (command 0x00) (get_turns version codes) old new in
+    let P : WireFault → Type 0 = λ fault. (version : ℕ) × (codes : List ℕ) × (length codes < 256) × BreaksOff fault (command 0x00) (get_turns version codes) old new in
     let p = c.in_err-commands.ensures.broken in
     let answer = learns (length p.1 ∷ p.0 ∷ p.1) in
     on_fault P c.from_residual-in_err-commands.result e c.from_residual-in_err-commands.ensures.1 (
       p.0,
       p.1,
+      p.2,
       BreaksOff-early e (command 0x00) (step_turns (command 0x00) ++ answer) (Expects ack ∷ []) old new
-          (BreaksOff-then e (command 0x00) (step_turns (command 0x00)) answer old (V c.send_step.new.rig) new c.in_ok-send_step.ensures.held p.2),
+          (BreaksOff-then e (command 0x00) (step_turns (command 0x00)) answer old (V c.send_step.new.rig) new c.in_ok-send_step.ensures.held p.3),
     )
 
 pub returns-in_err-commands-clause-honest : goal.returns-in_err-commands-clause-honest
@@ -60,17 +61,18 @@ returns-in_err-commands-clause-honest g c h settled =
 pub returns-in_err-expect_byte-clause-broken : goal.returns-in_err-expect_byte-clause-broken
 returns-in_err-expect_byte-clause-broken g c =
     let V = g.R.Rig.view in
+    let small : length (take c.in_ok-commands.commands.count c.in_ok-commands.commands.codes) < 256 = search rules in
     let e = c.in_err-expect_byte.field-0.0 in
     let old = V c.args.rig.now in
     let mid = V c.receive_commands.new.rig in
     let new = V c.expect_byte.new.rig in
     let version : ℕ = c.in_ok-commands.commands.version in
     let codes : List ℕ = take c.in_ok-commands.commands.count c.in_ok-commands.commands.codes in
-    let P : WireFault → Type 0 = λ fault. (version : ℕ) × (codes : List ℕ) × BreaksOff fault (command 0x00) (get_turns version codes) old new in
+    let P : WireFault → Type 0 = λ fault. (version : ℕ) × (codes : List ℕ) × (length codes < 256) × BreaksOff fault (command 0x00) (get_turns version codes) old new in
     let answer = learns (length codes ∷ version ∷ codes) in
     let first = Holds-then (command 0x00) (step_turns (command 0x00)) answer old (V c.send_step.new.rig) mid c.in_ok-send_step.ensures.held c.in_ok-commands.ensures.held in
     on_fault P c.from_residual-in_err-expect_byte.result e c.from_residual-in_err-expect_byte.ensures.1
-    (version, codes, BreaksOff-then e (command 0x00) (step_turns (command 0x00) ++ answer) (Expects ack ∷ []) old mid new first c.in_err-expect_byte.ensures.broken)
+    (version, codes, small, BreaksOff-then e (command 0x00) (step_turns (command 0x00) ++ answer) (Expects ack ∷ []) old mid new first c.in_err-expect_byte.ensures.broken)
 
 pub returns-in_err-expect_byte-clause-honest : goal.returns-in_err-expect_byte-clause-honest
 returns-in_err-expect_byte-clause-honest g c h settled =

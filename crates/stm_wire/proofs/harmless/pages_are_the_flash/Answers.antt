@@ -1,4 +1,5 @@
-use Rattle.stm_wire.proofs.Pages.{page_inside, same_all}
+use Rattle.stm_wire.specs.FlashLaws.{same_all}
+use Rattle.stm_wire.proofs.Pages.{page_inside}
 use Rattle.stm_wire.proofs.harmless.pages_are_the_flash.Goals as goal
 
 pub returns-clause-inside : goal.returns-clause-inside

@@ -1,4 +1,4 @@
-use Rattle.std.proofs.Common.{rules, ℕ, [], ◌∷◌, ◌∙◌, ap, lit≤, subst, Option}
+use Rattle.std.proofs.Common.{rules, ◌≢◌, refl, ℕ, Some, None, [], ◌∷◌, ◌++◌, ◌∙◌, ap, lit≤, subst, Option}
 use Rattle.std.proofs.lemmas.Result.{on_ok_weaker}
 use Rattle.stm_wire.specs.Rig.{GetsFirst}
 use Rattle.stm_wire.specs.Reply.{nack}
@@ -6,7 +6,11 @@ use Rattle.stm_wire.specs.Device.{Device, Connected}
 use Rattle.stm_wire.specs.Settling.{with_nothing_owed}
 use Rattle.stm_wire.proofs.Keeping.{keeps_get, keeps_then, keeps_known, here, taken_one, confirmed}
 use Rattle.stm_wire.proofs.Talking.{failed_put, speaks_line, speaks_then, went_both}
-use Rattle.stm_wire.proofs.Refusals.{refused_calls, refused_then}
+use Rattle.stm_wire.specs.SettlingCalls.{Never, IsAnswer, IsUnconfirmed, unrefused, answered_on}
+use Rattle.stm_wire.specs.declared.rig.RigCall.TheVariants.{Put, Get}
+use Rattle.stm_wire.proofs.SettlingCalls.{adds_both}
+use Rattle.stm_wire.proofs.SettlingFaults.{fails_garbled, fails_all_weaker, adds_before}
+use Rattle.stm_wire.proofs.Turns.{Adds-append, Adds-GoesOn}
 use Rattle.stm_wire.proofs.settling.confirm.Goals as goal
 
 pub returns-in_err-put-clause-honest : goal.returns-in_err-put-clause-honest
@@ -78,7 +82,47 @@ returns-in-Some-eq31-clause-speaks g c =
 pub returns-in-Some-eq31-clause-refused : goal.returns-in-Some-eq31-clause-refused
 returns-in-Some-eq31-clause-refused g c =
     let V = g.R.Rig.view in
-    let byte = c.args.byte in
     let u : Unit {0} = tt in
-    let ends = refused_calls byte c.in-Some-eq31.field-0 u c.in_ok-get.field-0 (V c.args.rig.now).calls (V c.put.new.self).calls (V c.get.new.self).calls c.in-Some-eq31.is c.in-Some-eq31.field-0-test c.in_ok-put.ensures.recorded c.in_ok-get.ensures.recorded in
-    on_ok_weaker c.expect_quiet.result (λ w. refused_then byte 1 (V c.args.rig.now).calls (V c.get.new.self).calls (V c.expect_quiet.new.rig).calls ends w) c.expect_quiet.ensures.speaks.whole
+    let byte = c.args.byte in
+    let a = (V c.args.rig.now).calls in
+    let b = (V c.get.new.self).calls in
+    let d = (V c.expect_quiet.new.rig).calls in
+    let both = adds_both byte u c.in_ok-get.field-0 (Some nack) a (V c.put.new.self).calls b (c.in-Some-eq31.is ∙ ap (λ n. Some n) c.in-Some-eq31.field-0-test) c.in_ok-put.ensures.recorded c.in_ok-get.ensures.recorded in
+    on_ok_weaker c.expect_quiet.result (λ quiet. Adds-append (Put byte ∷ Get (Some nack) ∷ []) (Get None ∷ []) a b d both quiet) c.expect_quiet.ensures.quiet
+
+pub returns-in-Some-eq31-clause-fails : goal.returns-in-Some-eq31-clause-fails
+returns-in-Some-eq31-clause-fails g c =
+    let V = g.R.Rig.view in
+    let u : Unit {0} = tt in
+    let byte = c.args.byte in
+    let a = (V c.args.rig.now).calls in
+    let b = (V c.get.new.self).calls in
+    let d = (V c.expect_quiet.new.rig).calls in
+    let head = Put byte ∷ Get (Some nack) ∷ [] in
+    let both = adds_both byte u c.in_ok-get.field-0 (Some nack) a (V c.put.new.self).calls b (c.in-Some-eq31.is ∙ ap (λ n. Some n) c.in-Some-eq31.field-0-test) c.in_ok-put.ensures.recorded c.in_ok-get.ensures.recorded in
+    fails_all_weaker Never IsAnswer Never (IsUnconfirmed byte) b d a d c.expect_quiet.result
+    (λ p. adds_before head Never Never a b d both p (λ vs v. v))
+    (λ p. adds_before head IsAnswer (IsUnconfirmed byte) a b d both p (λ vs v. answered_on v.0 (ap (λ z. head ++ z) v.1)))
+    c.expect_quiet.ensures.fails
+
+pub returns-in_default-clause-fails : goal.returns-in_default-clause-fails
+returns-in_default-clause-fails g c =
+    let V = g.R.Rig.view in
+    let u : Unit {0} = tt in
+    let byte = c.args.byte in
+    let a = (V c.args.rig.now).calls in
+    let d = (V c.get.new.self).calls in
+    let x = c.in_default.field-0 in
+    let both = adds_both byte u c.in_ok-get.field-0 (Some x) a (V c.put.new.self).calls d c.in_default.is c.in_ok-put.ensures.recorded c.in_ok-get.ensures.recorded in
+    let other : Some x ≢ Some nack = (λ e. c.in_default.field-0-test.1 (let h = e in cc)) in
+    fails_garbled Never (IsUnconfirmed byte) a d (Adds-GoesOn (IsUnconfirmed byte) (Put byte ∷ Get (Some x) ∷ []) a d both (unrefused (Some x) other refl))
+
+pub returns-in_default-2-clause-fails : goal.returns-in_default-2-clause-fails
+returns-in_default-2-clause-fails g c =
+    let V = g.R.Rig.view in
+    let u : Unit {0} = tt in
+    let byte = c.args.byte in
+    let a = (V c.args.rig.now).calls in
+    let d = (V c.get.new.self).calls in
+    let both = adds_both byte u c.in_ok-get.field-0 None a (V c.put.new.self).calls d c.in_default.is c.in_ok-put.ensures.recorded c.in_ok-get.ensures.recorded in
+    fails_garbled Never (IsUnconfirmed byte) a d (Adds-GoesOn (IsUnconfirmed byte) (Put byte ∷ Get None ∷ []) a d both (unrefused None (λ e. cc) refl))

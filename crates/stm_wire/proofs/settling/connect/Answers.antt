@@ -1,4 +1,4 @@
-use Rattle.std.proofs.Common.{rules, ℕ, ◌∙◌, ap, subst, Option, Some, [], ◌∷◌, lit≤}
+use Rattle.std.proofs.Common.{rules, ℕ, refl, ◌∙◌, ap, subst, Option, Some, None, [], ◌∷◌, lit≤}
 use Rattle.stm_wire.specs.Rig.{GetsFirst}
 use Rattle.stm_wire.specs.Reply.{ack}
 use Rattle.stm_wire.specs.Device.{Device}
@@ -7,7 +7,11 @@ use Rattle.stm_wire.proofs.Keeping.{keeps_get, keeps_then, keeps_put, here, take
 use Rattle.stm_wire.proofs.Going.{settling_connects}
 use Rattle.stm_wire.specs.declared.fault.WireFault.TheVariants.{Garbled, Quiet}
 use Rattle.stm_wire.proofs.Talking.{went_put, failed_put, failed_then, failed_get, speaks_ok, speaks_line, speaks_other, went_both}
-use Rattle.stm_wire.proofs.Refusals.{unrefused_first}
+use Rattle.stm_wire.specs.SettlingCalls.{IsUnanswered, IsNoAck}
+use Rattle.stm_wire.specs.declared.rig.RigCall.TheVariants.{Put, Get}
+use Rattle.stm_wire.proofs.SettlingCalls.{adds_both}
+use Rattle.stm_wire.proofs.SettlingFaults.{fails_quiet, fails_garbled}
+use Rattle.stm_wire.proofs.Turns.{Adds-GoesOn}
 use Rattle.stm_wire.proofs.settling.connect.Goals as goal
 
 pub returns-in_err-put-clause-honest : goal.returns-in_err-put-clause-honest
@@ -93,16 +97,27 @@ returns-in-None-clause-speaks g c =
     speaks_other (0x7F ∷ []) [] 2 2 Quiet (V c.args.rig.now) (V c.get.new.self) (lit≤ tt) (λ same. cc)
     (went_both 0x7F u c.in_ok-get.field-0 (V c.args.rig.now) (V c.put.new.self) (V c.get.new.self) e.cause e.journal_count e.recorded f.cause f.journal_count f.recorded)
 
-pub returns-in-None-clause-quiet : goal.returns-in-None-clause-quiet
-returns-in-None-clause-quiet g c same =
+pub returns-in-Some-eq121-clause-answered : goal.returns-in-Some-eq121-clause-answered
+returns-in-Some-eq121-clause-answered g c =
     let V = g.R.Rig.view in
-    let e = c.in_ok-put.ensures in
-    let f = c.in_ok-get.ensures in
     let u : Unit {0} = tt in
-    (went_both 0x7F u c.in_ok-get.field-0 (V c.args.rig.now) (V c.put.new.self) (V c.get.new.self) e.cause e.journal_count e.recorded f.cause f.journal_count f.recorded).all
+    adds_both 0x7F u c.in_ok-get.field-0 (Some ack) (V c.args.rig.now).calls (V c.put.new.self).calls (V c.get.new.self).calls (c.in-Some-eq121.is ∙ ap (λ n. Some n) c.in-Some-eq121.field-0-test) c.in_ok-put.ensures.recorded c.in_ok-get.ensures.recorded
 
-pub returns-in-Some-eq121-clause-unrefused : goal.returns-in-Some-eq121-clause-unrefused
-returns-in-Some-eq121-clause-unrefused g c =
+pub returns-in-Some-clause-fails : goal.returns-in-Some-clause-fails
+returns-in-Some-clause-fails g c =
     let V = g.R.Rig.view in
     let u : Unit {0} = tt in
-    unrefused_first 0x7F ack u c.in_ok-get.field-0 (V c.args.rig.now).calls (V c.put.new.self).calls (V c.get.new.self).calls (λ same. cc) (c.in-Some-eq121.is ∙ ap (λ n. Some n) c.in-Some-eq121.field-0-test) c.in_ok-put.ensures.recorded c.in_ok-get.ensures.recorded
+    let a = (V c.args.rig.now).calls in
+    let d = (V c.get.new.self).calls in
+    let x = c.in-Some.field-0 in
+    let both = adds_both 0x7F u c.in_ok-get.field-0 (Some x) a (V c.put.new.self).calls d c.in-Some.is c.in_ok-put.ensures.recorded c.in_ok-get.ensures.recorded in
+    fails_garbled IsUnanswered IsNoAck a d (Adds-GoesOn IsNoAck (Put 0x7F ∷ Get (Some x) ∷ []) a d both (x, c.in-Some.field-0-test.1, refl))
+
+pub returns-in-None-clause-fails : goal.returns-in-None-clause-fails
+returns-in-None-clause-fails g c =
+    let V = g.R.Rig.view in
+    let u : Unit {0} = tt in
+    let a = (V c.args.rig.now).calls in
+    let d = (V c.get.new.self).calls in
+    let both = adds_both 0x7F u c.in_ok-get.field-0 None a (V c.put.new.self).calls d c.in-None.is c.in_ok-put.ensures.recorded c.in_ok-get.ensures.recorded in
+    fails_quiet IsUnanswered IsNoAck a d (Adds-GoesOn IsUnanswered (Put 0x7F ∷ Get None ∷ []) a d both refl)

@@ -1,9 +1,13 @@
-use Rattle.std.proofs.Common.{rules, ℕ, subst, Option, [], arith}
+use Rattle.std.proofs.Common.{rules, ℕ, ◌∷◌, subst, refl, Option, Some, None, [], arith}
 use Rattle.stm_wire.specs.Rig.{GetsFirst}
 use Rattle.stm_wire.proofs.Keeping.{keeps_get, not_owed}
 use Rattle.stm_wire.specs.declared.fault.WireFault.TheVariants.{Garbled}
 use Rattle.stm_wire.proofs.Talking.{went_get, failed_get, speaks_ok, speaks_line, speaks_other}
-use Rattle.stm_wire.proofs.Refusals.{heard_silence}
+use Rattle.stm_wire.specs.SettlingCalls.{Never, IsAnswer}
+use Rattle.stm_wire.specs.declared.rig.RigCall.TheVariants.{Get}
+use Rattle.stm_wire.proofs.SettlingCalls.{adds_get}
+use Rattle.stm_wire.proofs.SettlingFaults.{fails_garbled}
+use Rattle.stm_wire.proofs.Turns.{Adds-GoesOn}
 use Rattle.stm_wire.proofs.settling.expect_quiet.Goals as goal
 
 pub returns-in_err-get-clause-honest : goal.returns-in_err-get-clause-honest
@@ -49,7 +53,15 @@ returns-in-Some-clause-speaks g c =
     let e = c.in_ok-get.ensures in
     speaks_other [] [] 1 1 Garbled (V c.args.rig.now) (V c.get.new.self) (omega arith) (λ e. cc) (went_get c.in_ok-get.field-0 (V c.args.rig.now) (V c.get.new.self) e.cause e.journal_count e.recorded)
 
-pub returns-in-None-clause-silence : goal.returns-in-None-clause-silence
-returns-in-None-clause-silence g c =
+pub returns-in-None-clause-quiet : goal.returns-in-None-clause-quiet
+returns-in-None-clause-quiet g c =
     let V = g.R.Rig.view in
-    heard_silence c.in_ok-get.field-0 (V c.args.rig.now).calls (V c.get.new.self).calls c.in-None.is c.in_ok-get.ensures.recorded
+    adds_get c.in_ok-get.field-0 None (V c.args.rig.now).calls (V c.get.new.self).calls c.in-None.is c.in_ok-get.ensures.recorded
+
+pub returns-in-Some-clause-fails : goal.returns-in-Some-clause-fails
+returns-in-Some-clause-fails g c =
+    let V = g.R.Rig.view in
+    let a = (V c.args.rig.now).calls in
+    let b = (V c.get.new.self).calls in
+    let x = c.in-Some.field-0 in
+    fails_garbled Never IsAnswer a b (Adds-GoesOn IsAnswer (Get (Some x) ∷ []) a b (adds_get c.in_ok-get.field-0 (Some x) a b c.in-Some.is c.in_ok-get.ensures.recorded) (x, refl))

@@ -1,10 +1,14 @@
-use Rattle.std.proofs.Common.{rules, [], ◌∷◌, ◌∙◌, ap, lit≤}
+use Rattle.std.proofs.Common.{rules, None, [], ◌∷◌, ◌++◌, ◌∙◌, ap, lit≤}
 use Rattle.std.proofs.lemmas.Result.{on_ok_weaker}
 use Rattle.stm_wire.specs.Device.{Device}
 use Rattle.stm_wire.specs.Command.{with_rest}
 use Rattle.stm_wire.proofs.Keeping.{keeps_then, keeps_known, here, probed}
 use Rattle.stm_wire.proofs.Talking.{went_put, failed_put, speaks_line, speaks_then}
-use Rattle.stm_wire.proofs.Refusals.{unrefused_silence}
+use Rattle.stm_wire.specs.SettlingCalls.{Never, IsAnswer, IsAnswerTo}
+use Rattle.stm_wire.specs.declared.rig.RigCall.TheVariants.{Put, Get}
+use Rattle.stm_wire.proofs.SettlingCalls.{adds_one}
+use Rattle.stm_wire.proofs.SettlingFaults.{fails_all_weaker, adds_before}
+use Rattle.stm_wire.proofs.Turns.{Adds-append}
 use Rattle.stm_wire.proofs.settling.probe.Goals as goal
 
 pub returns-in_err-put-clause-honest : goal.returns-in_err-put-clause-honest
@@ -45,8 +49,27 @@ returns-clause-speaks g c =
     let u : Unit {0} = tt in
     speaks_then (byte ∷ []) [] 1 1 c.expect_quiet.result (V c.args.rig.now) (V c.put.new.self) (V c.expect_quiet.new.rig) (went_put byte u (V c.args.rig.now) (V c.put.new.self) e.cause e.journal_count e.recorded) c.expect_quiet.ensures.speaks
 
-pub returns-clause-unrefused : goal.returns-clause-unrefused
-returns-clause-unrefused g c =
+pub returns-clause-quiet : goal.returns-clause-quiet
+returns-clause-quiet g c =
     let V = g.R.Rig.view in
     let u : Unit {0} = tt in
-    on_ok_weaker c.expect_quiet.result (λ quiet. unrefused_silence c.args.byte u (V c.args.rig.now).calls (V c.put.new.self).calls (V c.expect_quiet.new.rig).calls c.in_ok-put.ensures.recorded quiet) c.expect_quiet.ensures.silence
+    let byte = c.args.byte in
+    let a = (V c.args.rig.now).calls in
+    let b = (V c.put.new.self).calls in
+    let d = (V c.expect_quiet.new.rig).calls in
+    on_ok_weaker c.expect_quiet.result (λ quiet. Adds-append (Put byte ∷ []) (Get None ∷ []) a b d (adds_one (Put byte) u a b c.in_ok-put.ensures.recorded) quiet) c.expect_quiet.ensures.quiet
+
+pub returns-clause-fails : goal.returns-clause-fails
+returns-clause-fails g c =
+    let V = g.R.Rig.view in
+    let u : Unit {0} = tt in
+    let byte = c.args.byte in
+    let a = (V c.args.rig.now).calls in
+    let b = (V c.put.new.self).calls in
+    let d = (V c.expect_quiet.new.rig).calls in
+    let one = Put byte ∷ [] in
+    let put = adds_one (Put byte) u a b c.in_ok-put.ensures.recorded in
+    fails_all_weaker Never IsAnswer Never (IsAnswerTo byte) b d a d c.expect_quiet.result
+    (λ p. adds_before one Never Never a b d put p (λ vs v. v))
+    (λ p. adds_before one IsAnswer (IsAnswerTo byte) a b d put p (λ vs v. (v.0, ap (λ z. one ++ z) v.1)))
+    c.expect_quiet.ensures.fails

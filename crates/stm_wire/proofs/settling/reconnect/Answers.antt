@@ -1,16 +1,15 @@
-use Rattle.std.proofs.Common.{rules, ◌≡◌, Result, Err, [], ◌∷◌, ◌∙◌, ap, lit≤}
+use Rattle.std.proofs.Common.{rules, Result, Err, Some, None, [], ◌∷◌, ◌∙◌, ap, lit≤}
 use Rattle.stm_wire.specs.declared.fault.WireFault.{WireFault}
-use Rattle.stm_wire.specs.Dialogue.{GoesOn}
-use Rattle.stm_wire.specs.Settling.{PutsAll}
-use Rattle.stm_wire.proofs.Holding.{on_fault}
-use Rattle.stm_wire.proofs.Talking.{never_quiet, never_fault}
+use Rattle.stm_wire.specs.declared.rig.RigCall.TheVariants.{Put, Get}
+use Rattle.stm_wire.specs.Reply.{ack, nack}
+use Rattle.stm_wire.specs.SettlingCalls.{Never, IsAnswerTo, IsUnanswered, IsNoAck, IsUnconfirmed, IsGarbled}
+use Rattle.stm_wire.proofs.SettlingFaults.{fails_on, fails_all_weaker, adds_before, garbled_first, garbled_second, garbled_third}
+use Rattle.stm_wire.proofs.Turns.{Adds-append}
 use Rattle.std.proofs.lemmas.Result.{on_ok_weaker}
 use Rattle.stm_wire.specs.Device.{Device}
 use Rattle.stm_wire.specs.Command.{with_rest}
 use Rattle.stm_wire.proofs.Keeping.{keeps_then, here}
-use Rattle.stm_wire.specs.declared.fault.WireFault.TheVariants.{Quiet}
 use Rattle.stm_wire.proofs.Talking.{went_then, speaks_then, speaks_fault, speaks_went}
-use Rattle.stm_wire.proofs.Refusals.{unrefused_then, refused_after}
 use Rattle.stm_wire.proofs.settling.reconnect.Goals as goal
 
 pub returns-in_err-connect-clause-honest : goal.returns-in_err-connect-clause-honest
@@ -63,12 +62,6 @@ returns-in_err-connect-clause-speaks g c =
     let byte = c.args.byte in
     speaks_fault (0x7F ∷ []) (byte ∷ byte ∷ []) 2 7 c.in_err-connect.field-0.0 c.from_residual.result (V c.args.rig.now) (V c.connect.new.rig) (lit≤ tt) c.from_residual.ensures.1 c.in_err-connect.ensures.speaks
 
-pub returns-in_err-connect-clause-quiet : goal.returns-in_err-connect-clause-quiet
-returns-in_err-connect-clause-quiet g c =
-    let V = g.R.Rig.view in
-    let P : WireFault → Type 0 = λ fault. fault ≡ Quiet → GoesOn (PutsAll (0x7F ∷ []) 2) (V c.args.rig.now).calls (V c.connect.new.rig).calls in
-    on_fault P c.from_residual.result c.in_err-connect.field-0.0 c.from_residual.ensures.1 c.in_err-connect.ensures.quiet
-
 pub returns-in_err-probe-clause-speaks : goal.returns-in_err-probe-clause-speaks
 returns-in_err-probe-clause-speaks g c =
     let V = g.R.Rig.view in
@@ -82,11 +75,6 @@ returns-in_err-probe-clause-speaks g c =
     speaks_fault (0x7F ∷ byte ∷ []) (byte ∷ []) 4 7 fault c.from_residual-in_err-probe.result a d (lit≤ tt) c.from_residual-in_err-probe.ensures.1
     (speaks_then (0x7F ∷ []) (byte ∷ []) 2 2 failed a b d (speaks_went (0x7F ∷ []) 2 u a b c.in_ok-connect.ensures.speaks) c.in_err-probe.ensures.speaks)
 
-pub returns-in_err-probe-clause-quiet : goal.returns-in_err-probe-clause-quiet
-returns-in_err-probe-clause-quiet g c =
-    let V = g.R.Rig.view in
-    never_fault (GoesOn (PutsAll (0x7F ∷ []) 2) (V c.args.rig.now).calls (V c.probe.new.rig).calls) c.in_err-probe.field-0.0 c.from_residual-in_err-probe.result c.from_residual-in_err-probe.ensures.1 c.in_err-probe.ensures.loud
-
 pub returns-clause-speaks : goal.returns-clause-speaks
 returns-clause-speaks g c =
     let V = g.R.Rig.view in
@@ -98,15 +86,51 @@ returns-clause-speaks g c =
     let two = went_then (0x7F ∷ []) (byte ∷ []) 2 2 a b d (speaks_went (0x7F ∷ []) 2 u a b c.in_ok-connect.ensures.speaks) (speaks_went (byte ∷ []) 2 u b d c.in_ok-probe.ensures.speaks) in
     speaks_then (0x7F ∷ byte ∷ []) (byte ∷ []) 4 3 c.confirm.result a d (V c.confirm.new.rig) two c.confirm.ensures.speaks
 
-pub returns-clause-quiet : goal.returns-clause-quiet
-returns-clause-quiet g c =
+pub returns-in_err-connect-clause-fails : goal.returns-in_err-connect-clause-fails
+returns-in_err-connect-clause-fails g c =
     let V = g.R.Rig.view in
-    never_quiet (GoesOn (PutsAll (0x7F ∷ []) 2) (V c.args.rig.now).calls (V c.confirm.new.rig).calls) c.confirm.result c.confirm.ensures.loud
+    let byte = c.args.byte in
+    let a = (V c.args.rig.now).calls in
+    let b = (V c.connect.new.rig).calls in
+    fails_on IsUnanswered IsNoAck IsUnanswered (IsGarbled byte) a b a b c.in_err-connect.field-0.0 c.from_residual.result (λ p. p) (λ p. garbled_first byte a b p)
+    c.in_err-connect.ensures.fails c.from_residual.ensures.1
 
-pub returns-clause-refused : goal.returns-clause-refused
-returns-clause-refused g c =
+pub returns-in_err-probe-clause-fails : goal.returns-in_err-probe-clause-fails
+returns-in_err-probe-clause-fails g c =
     let V = g.R.Rig.view in
+    let byte = c.args.byte in
     let a = (V c.args.rig.now).calls in
     let b = (V c.connect.new.rig).calls in
     let d = (V c.probe.new.rig).calls in
-    on_ok_weaker c.confirm.result (λ w. refused_after c.args.byte a d (V c.confirm.new.rig).calls (unrefused_then a b d c.in_ok-connect.ensures.unrefused c.in_ok-probe.ensures.unrefused) w) c.confirm.ensures.refused
+    let head = Put 0x7F ∷ Get (Some ack) ∷ [] in
+    fails_on Never (IsAnswerTo byte) IsUnanswered (IsGarbled byte) b d a d c.in_err-probe.field-0.0 c.from_residual-in_err-probe.result
+    (λ p. adds_before head Never IsUnanswered a b d c.in_ok-connect.ensures.answered p (λ vs v. absurd v))
+    (λ p. garbled_second byte a b d c.in_ok-connect.ensures.answered p)
+    c.in_err-probe.ensures.fails c.from_residual-in_err-probe.ensures.1
+
+pub returns-clause-fails : goal.returns-clause-fails
+returns-clause-fails g c =
+    let V = g.R.Rig.view in
+    let byte = c.args.byte in
+    let a = (V c.args.rig.now).calls in
+    let b = (V c.connect.new.rig).calls in
+    let d = (V c.probe.new.rig).calls in
+    let e = (V c.confirm.new.rig).calls in
+    let head = Put 0x7F ∷ Get (Some ack) ∷ Put byte ∷ Get None ∷ [] in
+    let two = Adds-append (Put 0x7F ∷ Get (Some ack) ∷ []) (Put byte ∷ Get None ∷ []) a b d c.in_ok-connect.ensures.answered c.in_ok-probe.ensures.quiet in
+    fails_all_weaker Never (IsUnconfirmed byte) IsUnanswered (IsGarbled byte) d e a e c.confirm.result
+    (λ p. adds_before head Never IsUnanswered a d e two p (λ vs v. absurd v))
+    (λ p. garbled_third byte a d e two p)
+    c.confirm.ensures.fails
+
+pub returns-clause-settled : goal.returns-clause-settled
+returns-clause-settled g c =
+    let V = g.R.Rig.view in
+    let byte = c.args.byte in
+    let a = (V c.args.rig.now).calls in
+    let b = (V c.connect.new.rig).calls in
+    let d = (V c.probe.new.rig).calls in
+    let e = (V c.confirm.new.rig).calls in
+    let head = Put 0x7F ∷ Get (Some ack) ∷ Put byte ∷ Get None ∷ [] in
+    let two = Adds-append (Put 0x7F ∷ Get (Some ack) ∷ []) (Put byte ∷ Get None ∷ []) a b d c.in_ok-connect.ensures.answered c.in_ok-probe.ensures.quiet in
+    on_ok_weaker c.confirm.result (λ w. Adds-append head (Put byte ∷ Get (Some nack) ∷ Get None ∷ []) a d e two w) c.confirm.ensures.refused

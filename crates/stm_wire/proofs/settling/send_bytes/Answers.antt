@@ -2,18 +2,18 @@ use Rattle.std.proofs.Common.{rules, ◌≡◌, ◌+◌, ◌-◌, ◌*◌, arith
 use Rattle.stm_wire.specs.declared.fault.WireFault.{WireFault}
 use Rattle.stm_wire.specs.Dialogue.{GoesOn}
 use Rattle.stm_wire.specs.SentList.{settling_run}
-use Rattle.stm_wire.specs.Settling.{PutsAll, PutsPart, HasAskedAll, IsUnrefused, EndsRefused}
-use Rattle.stm_wire.proofs.Holding.{if_err_weaker}
-use Rattle.stm_wire.proofs.Talking.{went_nowhere, all_part, part_run, speaks_more, cause_fault, never_fault, asked_all}
+use Rattle.stm_wire.specs.Settling.{PutsAll, PutsPart}
+use Rattle.stm_wire.specs.SettlingCalls.{AreUnrefused, IsRefused, IsUnanswered, IsGarbled, EndsQuiet, EndsGarbled, Floods, Never}
+use Rattle.stm_wire.proofs.Talking.{went_nowhere, all_part, part_run, speaks_more, cause_fault}
 use Rattle.std.proofs.lemmas.Bool.{MatchBool-at_true, MatchBool-at_false}
 use Rattle.std.proofs.lemmas.Result.{on_ok_weaker}
 use Rattle.stm_wire.specs.Device.{IsSettled}
 use Rattle.stm_wire.specs.Settling.{IsGoing}
 use Rattle.stm_wire.proofs.Going.{fresh_at_last}
 use Rattle.stm_wire.proofs.Keeping.{keeps_start, keeps_then, going_begin, going_next, going_last, settled_waiting}
-use Rattle.stm_wire.specs.declared.fault.WireFault.TheVariants.{Quiet}
 use Rattle.stm_wire.proofs.Talking.{went_more, speaks_ok, speaks_then, speaks_went}
-use Rattle.stm_wire.proofs.Refusals.{unrefused_nowhere, unrefused_then, refused_after}
+use Rattle.stm_wire.proofs.SettlingCalls.{unrefused_nowhere, unrefused_more, singly_refused, singly_reconnected}
+use Rattle.stm_wire.proofs.SettlingFaults.{fails_on, fails_all_weaker, never_after, floods_after, garbled_flood, garbled_past, past_now}
 use Rattle.stm_wire.proofs.settling.send_bytes.Goals as goal
 
 pub loop-sent-init : goal.loop-sent-init
@@ -21,7 +21,7 @@ loop-sent-init g c =
     let V = g.R.Rig.view in
     record {
       went = went_nowhere (V c.args.rig.now);
-      unrefused = unrefused_nowhere (V c.args.rig.now).calls;
+      unrefused = unrefused_nowhere c.args.byte (V c.args.rig.now).calls;
       honest = λ h pages start going. (
         keeps_start c.args.byte pages start (V c.args.rig.now) (g.met.R.Rig.model c.args.rig.now h) h going.settling,
         going_begin c.args.byte c.args.limit pages start (V c.args.rig.now).device going,
@@ -69,8 +69,8 @@ loop-sent-preserved g c =
           let a = (V c.args.rig.now).calls in
           let b = (V c.loop-sent.rig).calls in
           let d = (V c.send_once.new.rig).calls in
-          unrefused_then a b d c.loop-sent.invariant.unrefused
-          (MatchBool-at_false (GoesOn (EndsRefused c.args.byte) b d) (GoesOn IsUnrefused b d) c.if-branch.false c.in_ok-send_once.ensures.refused));
+          unrefused_more c.args.byte c.loop-sent._sent a b d c.loop-sent.invariant.unrefused
+          (MatchBool-at_false (GoesOn (IsRefused c.args.byte) b d) (GoesOn (AreUnrefused c.args.byte 1) b d) c.if-branch.false c.in_ok-send_once.ensures.refused));
       honest = λ h pages start going.
           let V = g.R.Rig.view in
           let a = V c.args.rig.now in
@@ -119,11 +119,6 @@ returns-in_err-send_once-clause-calls g c =
     let s = speaks_more c.args.byte n failed (V c.args.rig.now) (V c.loop-sent.rig) (V c.send_once.new.rig) c.loop-sent.invariant.went c.in_err-send_once.ensures.speaks in
     part_run c.args.byte c.args.limit (n + 1) (4099 * (n + 1)) (4099 * c.args.limit + 7) (V c.args.rig.now).calls (V c.send_once.new.rig).calls (omega (arith, c.loop-sent-test.true)) (omega (arith, c.loop-sent-test.true)) s.part
 
-pub returns-in_err-send_once-clause-quiet : goal.returns-in_err-send_once-clause-quiet
-returns-in_err-send_once-clause-quiet g c =
-    let V = g.R.Rig.view in
-    never_fault (GoesOn (HasAskedAll c.args.byte c.args.limit) (V c.args.rig.now).calls (V c.send_once.new.rig).calls) c.in_err-send_once.field-0.0 c.from_residual.result c.from_residual.ensures.1 c.in_err-send_once.ensures.loud
-
 pub returns-then-branch-clause-cause : goal.returns-then-branch-clause-cause
 returns-then-branch-clause-cause g c =
     let V = g.R.Rig.view in
@@ -142,14 +137,6 @@ returns-then-branch-clause-calls g c =
     part_run c.args.byte c.args.limit (n + 1) (4099 * (n + 1)) (4099 * c.args.limit + 7) (V c.args.rig.now).calls (V c.send_once.new.rig).calls (omega (arith, c.loop-sent-test.true)) (omega (arith, c.loop-sent-test.true))
     (all_part (replicate (n + 1) c.args.byte) (4099 * (n + 1)) (V c.args.rig.now).calls (V c.send_once.new.rig).calls w.all)
 
-pub returns-then-branch-clause-refused : goal.returns-then-branch-clause-refused
-returns-then-branch-clause-refused g c =
-    let V = g.R.Rig.view in
-    let b = (V c.loop-sent.rig).calls in
-    let d = (V c.send_once.new.rig).calls in
-    refused_after c.args.byte (V c.args.rig.now).calls b d c.loop-sent.invariant.unrefused
-    (MatchBool-at_true (GoesOn (EndsRefused c.args.byte) b d) (GoesOn IsUnrefused b d) c.if-branch.true c.in_ok-send_once.ensures.refused)
-
 pub returns-clause-cause : goal.returns-clause-cause
 returns-clause-cause g c =
     let V = g.R.Rig.view in
@@ -164,16 +151,49 @@ returns-clause-calls g c =
     let P : ℕ → Type 0 = λ k. GoesOn (PutsPart (settling_run c.args.byte k) (4099 * k + 7)) (V c.args.rig.now).calls (V c.reconnect.new.rig).calls in
     subst P all (speaks_then (replicate n c.args.byte) (0x7F ∷ c.args.byte ∷ c.args.byte ∷ []) (4099 * n) 7 c.reconnect.result (V c.args.rig.now) (V c.loop-sent.rig) (V c.reconnect.new.rig) c.loop-sent.invariant.went c.reconnect.ensures.speaks).part
 
-pub returns-clause-quiet : goal.returns-clause-quiet
-returns-clause-quiet g c =
+pub returns-then-branch-clause-settled : goal.returns-then-branch-clause-settled
+returns-then-branch-clause-settled g c =
     let V = g.R.Rig.view in
-    let n = c.loop-sent._sent in
-    let all : n ≡ c.args.limit = omega (arith, c.loop-sent-test.false, c.loop-sent.auto) in
-    let P : ℕ → Type 0 = λ k. GoesOn (HasAskedAll c.args.byte k) (V c.args.rig.now).calls (V c.reconnect.new.rig).calls in
-    if_err_weaker (λ fault. fault ≡ Quiet → GoesOn (PutsAll (0x7F ∷ []) 2) (V c.loop-sent.rig).calls (V c.reconnect.new.rig).calls) (λ fault. fault ≡ Quiet → P c.args.limit) c.reconnect.result
-    (λ fault quiet e. subst P all (asked_all c.args.byte n (4099 * n) 2 (V c.args.rig.now).calls (V c.loop-sent.rig).calls (V c.reconnect.new.rig).calls c.loop-sent.invariant.went.all (quiet e))) c.reconnect.ensures.quiet
+    let a = (V c.args.rig.now).calls in
+    let b = (V c.loop-sent.rig).calls in
+    let d = (V c.send_once.new.rig).calls in
+    singly_refused c.args.byte c.args.limit c.loop-sent._sent a b d c.loop-sent-test.true c.loop-sent.invariant.unrefused
+    (MatchBool-at_true (GoesOn (IsRefused c.args.byte) b d) (GoesOn (AreUnrefused c.args.byte 1) b d) c.if-branch.true c.in_ok-send_once.ensures.refused)
 
-pub returns-clause-refused : goal.returns-clause-refused
-returns-clause-refused g c =
+pub returns-clause-settled : goal.returns-clause-settled
+returns-clause-settled g c =
     let V = g.R.Rig.view in
-    on_ok_weaker c.reconnect.result (λ w. refused_after c.args.byte (V c.args.rig.now).calls (V c.loop-sent.rig).calls (V c.reconnect.new.rig).calls c.loop-sent.invariant.unrefused w) c.reconnect.ensures.refused
+    let a = (V c.args.rig.now).calls in
+    let b = (V c.loop-sent.rig).calls in
+    let d = (V c.reconnect.new.rig).calls in
+    on_ok_weaker c.reconnect.result (λ w. singly_reconnected c.args.byte c.args.limit c.loop-sent._sent a b d (omega (arith, c.loop-sent-test.false, c.loop-sent.auto)) c.loop-sent.invariant.unrefused w) c.reconnect.ensures.settled
+
+pub returns-in_err-send_once-clause-fails : goal.returns-in_err-send_once-clause-fails
+returns-in_err-send_once-clause-fails g c =
+    let V = g.R.Rig.view in
+    let byte = c.args.byte in
+    let n = c.loop-sent._sent in
+    let a = (V c.args.rig.now).calls in
+    let b = (V c.loop-sent.rig).calls in
+    let d = (V c.send_once.new.rig).calls in
+    let before = PutsAll (replicate n byte) (4099 * n) in
+    fails_on Never Floods (EndsQuiet byte c.args.limit) (EndsGarbled byte c.args.limit) b d a d c.in_err-send_once.field-0.0 c.from_residual.result
+    (λ p. never_after before (EndsQuiet byte c.args.limit) a b d c.loop-sent.invariant.went.all p)
+    (λ p. garbled_flood byte c.args.limit a d (floods_after before a b d c.loop-sent.invariant.went.all p))
+    c.in_err-send_once.ensures.fails c.from_residual.ensures.1
+
+pub returns-clause-fails : goal.returns-clause-fails
+returns-clause-fails g c =
+    let V = g.R.Rig.view in
+    let byte = c.args.byte in
+    let limit = c.args.limit in
+    let n = c.loop-sent._sent in
+    let a = (V c.args.rig.now).calls in
+    let b = (V c.loop-sent.rig).calls in
+    let d = (V c.reconnect.new.rig).calls in
+    let all : n ≡ limit = omega (arith, c.loop-sent-test.false, c.loop-sent.auto) in
+    let before = subst (λ (k : ℕ). GoesOn (PutsAll (replicate k byte) (4099 * k)) a b) all c.loop-sent.invariant.went.all in
+    fails_all_weaker IsUnanswered (IsGarbled byte) (EndsQuiet byte limit) (EndsGarbled byte limit) b d a d c.reconnect.result
+    (λ p. past_now byte limit (4099 * limit) IsUnanswered a b d before p)
+    (λ p. garbled_past byte limit a d (past_now byte limit (4099 * limit) (IsGarbled byte) a b d before p))
+    c.reconnect.ensures.fails

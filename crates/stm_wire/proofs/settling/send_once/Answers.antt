@@ -1,10 +1,13 @@
-use Rattle.std.proofs.Common.{rules, ℕ, subst, Option, Result, Err, [], ◌∷◌, lit≤, false, eqb}
+use Rattle.std.proofs.Common.{rules, ℕ, subst, Bool, Option, Some, None, Result, Err, [], ◌∷◌, lit≤, false, eqb}
 use Rattle.stm_wire.specs.declared.fault.WireFault.{WireFault}
 use Rattle.stm_wire.proofs.Keeping.{keeps_then, keeps_get, here, going_put, once_none, once_some}
 use Rattle.stm_wire.specs.Rig.{GetsFirst}
 use Rattle.stm_wire.proofs.Going.{step}
 use Rattle.stm_wire.proofs.Talking.{went_then, went_up, failed_put, speaks_ok, speaks_line, speaks_then, speaks_fault, speaks_went, went_both}
-use Rattle.stm_wire.proofs.Refusals.{unrefused_calls, refused_or_not}
+use Rattle.stm_wire.specs.SettlingCalls.{Never, Floods}
+use Rattle.stm_wire.specs.declared.rig.RigCall.TheVariants.{Put, Get}
+use Rattle.stm_wire.proofs.SettlingCalls.{adds_both, unrefused_silence, refused_or_not}
+use Rattle.stm_wire.proofs.SettlingFaults.{fails_on, adds_before, floods_before}
 use Rattle.stm_wire.proofs.settling.send_once.Goals as goal
 
 pub returns-in_err-put-clause-once : goal.returns-in_err-put-clause-once
@@ -51,7 +54,7 @@ returns-in_err-drain-in-Some-clause-once g c h pages start left going =
     let e = V c.drain.new.rig in
     let three = keeps_then c.args.byte pages start a d e md two (c.drain.ensures.keeps two.honest c.args.byte pages start (here c.args.byte pages start a d md two).1) in
     let few = (here c.args.byte pages start a d md two).1.owed in
-    let line = c.in_err-drain-in-Some.ensures.fails two.honest few in
+    let line = c.in_err-drain-in-Some.ensures.line two.honest few in
     record { keeps = three; ok = search rules; fails = search (rules, line) }
 
 pub returns-in-None-clause-once : goal.returns-in-None-clause-once
@@ -125,7 +128,7 @@ returns-in_err-drain-in-Some-clause-speaks g c =
     let u : Unit {0} = tt in
     let two = went_both byte u c.in_ok-get.field-0 (V c.args.rig.now) (V c.put.new.self) (V c.get.new.self) e.cause e.journal_count e.recorded f.cause f.journal_count f.recorded in
     let fault = c.in_err-drain-in-Some.field-0.0 in
-    let failed : Result (Unit {0}) WireFault = Err fault in
+    let failed : Result Bool WireFault = Err fault in
     speaks_fault (byte ∷ []) [] 4099 4099 fault c.from_residual-in_err-drain-in-Some.result (V c.args.rig.now) (V c.drain.new.rig) (lit≤ tt) c.from_residual-in_err-drain-in-Some.ensures.1
     (speaks_then (byte ∷ []) [] 2 4097 failed (V c.args.rig.now) (V c.get.new.self) (V c.drain.new.rig) two c.in_err-drain-in-Some.ensures.speaks)
 
@@ -138,17 +141,36 @@ returns-in_ok-drain-in-Some-clause-speaks g c =
     let u : Unit {0} = tt in
     let two = went_both byte u c.in_ok-get.field-0 (V c.args.rig.now) (V c.put.new.self) (V c.get.new.self) e.cause e.journal_count e.recorded f.cause f.journal_count f.recorded in
     speaks_ok (byte ∷ []) 4099 (eqb c.in-Some.first 31) (V c.args.rig.now) (V c.drain.new.rig)
-    (went_then (byte ∷ []) [] 2 4097 (V c.args.rig.now) (V c.get.new.self) (V c.drain.new.rig) two (speaks_went [] 4097 u (V c.get.new.self) (V c.drain.new.rig) c.in_ok-drain-in-Some.ensures.speaks))
+    (went_then (byte ∷ []) [] 2 4097 (V c.args.rig.now) (V c.get.new.self) (V c.drain.new.rig) two (speaks_went [] 4097 c.in_ok-drain-in-Some.field-0 (V c.get.new.self) (V c.drain.new.rig) c.in_ok-drain-in-Some.ensures.speaks))
 
 pub returns-in-None-clause-refused : goal.returns-in-None-clause-refused
 returns-in-None-clause-refused g c =
     let V = g.R.Rig.view in
     let u : Unit {0} = tt in
-    unrefused_calls c.args.byte u c.in_ok-get.field-0 (V c.args.rig.now).calls (V c.put.new.self).calls (V c.get.new.self).calls (λ same. let none = c.in-None.is in cc) c.in_ok-put.ensures.recorded c.in_ok-get.ensures.recorded
+    let a = (V c.args.rig.now).calls in
+    let d = (V c.get.new.self).calls in
+    unrefused_silence c.args.byte a d (adds_both c.args.byte u c.in_ok-get.field-0 None a (V c.put.new.self).calls d c.in-None.is c.in_ok-put.ensures.recorded c.in_ok-get.ensures.recorded)
 
 pub returns-in_ok-drain-in-Some-clause-refused : goal.returns-in_ok-drain-in-Some-clause-refused
 returns-in_ok-drain-in-Some-clause-refused g c =
     let V = g.R.Rig.view in
     let u : Unit {0} = tt in
-    refused_or_not c.args.byte c.in-Some.first 4097 u c.in_ok-get.field-0 (V c.args.rig.now).calls (V c.put.new.self).calls (V c.get.new.self).calls (V c.drain.new.rig).calls c.in-Some.is
-    c.in_ok-put.ensures.recorded c.in_ok-get.ensures.recorded c.in_ok-drain-in-Some.ensures.speaks.whole
+    let first = c.in-Some.first in
+    let a = (V c.args.rig.now).calls in
+    let d = (V c.get.new.self).calls in
+    let both = adds_both c.args.byte u c.in_ok-get.field-0 (Some first) a (V c.put.new.self).calls d c.in-Some.is c.in_ok-put.ensures.recorded c.in_ok-get.ensures.recorded in
+    refused_or_not c.args.byte first c.in_ok-drain-in-Some.field-0 a d (V c.drain.new.rig).calls both c.in_ok-drain-in-Some.ensures.drained
+
+pub returns-in_err-drain-in-Some-clause-fails : goal.returns-in_err-drain-in-Some-clause-fails
+returns-in_err-drain-in-Some-clause-fails g c =
+    let V = g.R.Rig.view in
+    let u : Unit {0} = tt in
+    let first = c.in-Some.first in
+    let a = (V c.args.rig.now).calls in
+    let d = (V c.get.new.self).calls in
+    let e = (V c.drain.new.rig).calls in
+    let both = adds_both c.args.byte u c.in_ok-get.field-0 (Some first) a (V c.put.new.self).calls d c.in-Some.is c.in_ok-put.ensures.recorded c.in_ok-get.ensures.recorded in
+    let head = Put c.args.byte ∷ Get (Some first) ∷ [] in
+    fails_on Never Floods Never Floods d e a e c.in_err-drain-in-Some.field-0.0 c.from_residual-in_err-drain-in-Some.result
+    (λ p. adds_before head Never Never a d e both p (λ vs v. v)) (λ p. adds_before head Floods Floods a d e both p (floods_before head))
+    c.in_err-drain-in-Some.ensures.fails c.from_residual-in_err-drain-in-Some.ensures.1

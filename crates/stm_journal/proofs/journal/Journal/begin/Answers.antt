@@ -18,7 +18,7 @@ returns-in_err-add_first-in-None-clause-honest g c = λ honest tied.
     let b = V c.add_first.new.rig in
     let E : List Entry → Type 0 = λ entries. Appends {T = ℕ} entries l l2 a b (Err c.in_err-add_first-in-None.field-0.0) in
     rw (p.1, p.2) (subst E (sym (begin-first-of c.args.id c.self.inside.state l.state (ap (λ (x : Loaded). x.state) c.self.view_is) c.depth-k.ensures.sound (sym c.header.ensures ∙ c.in-None.is)))
-    (Appends-err c.in_err-add_first-in-None.field-0.0 (Names 1 c.args.id ∷ Opens 1 ∷ []) l l2 a b (c.in_err-add_first-in-None.ensures.honest honest tied)))
+    (Appends-err c.in_err-add_first-in-None.field-0.0 (Names 2 c.args.id ∷ Opens 1 ∷ []) l l2 a b (c.in_err-add_first-in-None.ensures.honest honest tied)))
 
 pub returns-in_ok-add_first-in-None-clause-honest : goal.returns-in_ok-add_first-in-None-clause-honest
 returns-in_ok-add_first-in-None-clause-honest g c = λ honest tied.
@@ -28,4 +28,4 @@ returns-in_ok-add_first-in-None-clause-honest g c = λ honest tied.
     let a = V c.args.rig.now in
     let b = V c.add_first.new.rig in
     let E : List Entry → Type 0 = λ entries. Appends {T = ℕ} entries l l2 a b (Ok (c.depth-k.result + 1)) in
-    subst E (sym (begin-first-of c.args.id c.self.inside.state l.state (ap (λ (x : Loaded). x.state) c.self.view_is) c.depth-k.ensures.sound (sym c.header.ensures ∙ c.in-None.is))) (Appends-ok tt (c.depth-k.result + 1) (Names 1 c.args.id ∷ Opens 1 ∷ []) l l2 a b (c.in_ok-add_first-in-None.ensures.honest honest tied))
+    subst E (sym (begin-first-of c.args.id c.self.inside.state l.state (ap (λ (x : Loaded). x.state) c.self.view_is) c.depth-k.ensures.sound (sym c.header.ensures ∙ c.in-None.is))) (Appends-ok tt (c.depth-k.result + 1) (Names 2 c.args.id ∷ Opens 1 ∷ []) l l2 a b (c.in_ok-add_first-in-None.ensures.honest honest tied))

@@ -1,5 +1,7 @@
-use Rattle.std.proofs.Common.{◌≡◌, ◌∙◌, List, ℕ, sym, subst}
+use Rattle.std.proofs.Common.{sym, subst}
 use Rattle.std.proofs.lemmas.Result.{on_ok_weaker}
+use Rattle.std.proofs.Common.{length}
+use Rattle.stm_journal.specs.Blank.{blank}
 use Rattle.stm_journal.specs.Journals.{Loaded}
 use Rattle.stm_journal.specs.Newest.{HasKept}
 use Rattle.stm_journal.proofs.AfterCalls.{HasKept-after}
@@ -9,8 +11,6 @@ pub returns-clause-kept : goal.returns-clause-kept
 returns-clause-kept g c =
     let l = c.args.self.now in
     let n = c.args.n in
-    let bytes : List ℕ = c.new-bytes.result in
-    let same : bytes ≡ c.args.bytes.now = c.new-bytes.ensures ∙ c.in_ok-from_slice.ensures.items in
-    let B : List ℕ → Type 0 = λ xs. HasKept n xs l.state c.add.new.self.state in
-    let H : Loaded → Type 0 = λ x. HasKept n bytes l.state x.state in
-    on_ok_weaker c.add.result (λ e. subst B same (subst H (sym e) (HasKept-after n bytes l c.requires.«open»))) c.add.ensures.after
+    let bytes = c.args.bytes.now in
+    let H : Loaded → Type 0 = λ x. HasKept n (blank (length bytes)) l.state x.state in
+    on_ok_weaker c.add.result (λ e. subst H (sym e) (HasKept-after n bytes l c.requires.«open»)) c.add.ensures.after

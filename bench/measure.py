@@ -1,0 +1,91 @@
+"""What the scripts of this folder share: how a program is measured, and what has to be there.
+
+Times are the processor times that the system counts for the child (user and system, by wait4), so that a wait for the disk
+or for another program isn't counted. Each figure is the least of some runs of a whole process.
+"""
+
+import ctypes
+import os
+import shutil
+import subprocess
+import sys
+
+TOP = os.path.join(os.path.dirname(os.path.abspath(__file__)), "..")
+PACKAGES = {"objcopy": "binutils", "srec_cat": "srecord"}
+
+# of ptrace(2), on Linux
+TRACE_ME, CONTINUE, SET_OPTIONS, STOP_AT_EXIT = 0, 7, 0x4200, 0x40
+
+
+def program(*parts):
+    """A program of this repository, which `make bench` builds."""
+    path = os.path.join(TOP, *parts)
+    if not os.path.exists(path):
+        sys.exit(f"no {os.path.join(*parts)}: run `make bench`, which builds it")
+    return path
+
+
+def is_there(tool):
+    """Whether a tool of another project is installed; if not, says where it comes from."""
+    if shutil.which(tool):
+        return True
+    print(f"  {tool} is not installed (Debian's package {PACKAGES[tool]}): its figures are left out")
+    return False
+
+
+def best(words, runs, folder=None):
+    """The least processor time of some runs, in seconds."""
+    times = []
+    for _ in range(runs):
+        child = subprocess.Popen(words, cwd=folder, stdout=subprocess.DEVNULL, stderr=subprocess.DEVNULL)
+        _, status, used = os.wait4(child.pid, 0)
+        child.returncode = status
+        if status:
+            sys.exit(f"failed: {' '.join(words)}")
+        times.append(used.ru_utime + used.ru_stime)
+    return min(times)
+
+
+def peak_of(words):
+    """The greatest memory of a run, in bytes: the high-water mark of the program's own memory, read as it ends. So the run is
+    traced and stopped there; what wait4 tells is never less than what this script held as it began the program."""
+    ptrace = ctypes.CDLL(None).ptrace
+    ptrace.argtypes = [ctypes.c_long, ctypes.c_long, ctypes.c_void_p, ctypes.c_void_p]
+    child = os.fork()
+    if child == 0:
+        nothing = os.open(os.devnull, os.O_WRONLY)
+        os.dup2(nothing, 1)
+        os.dup2(nothing, 2)
+        ptrace(TRACE_ME, 0, None, None)
+        os.execvp(words[0], words)
+    os.waitpid(child, 0)
+    ptrace(SET_OPTIONS, child, None, STOP_AT_EXIT)
+    peak = 0
+    while True:
+        ptrace(CONTINUE, child, None, None)
+        _, status = os.waitpid(child, 0)
+        if not os.WIFSTOPPED(status):
+            break
+        with open(f"/proc/{child}/status") as told:
+            marks = [line.split()[1] for line in told if line.startswith("VmHWM:")]
+        peak = max([peak, *(1024 * int(mark) for mark in marks)])
+    if status or not peak:
+        sys.exit(f"failed: {' '.join(words)}")
+    return peak
+
+
+def beyond(whole, start):
+    """The time of a run beyond that of the same program doing nothing: it must be well above it to mean anything."""
+    if whole <= start * 1.02:
+        sys.exit(f"{whole:.4f} s is not beyond the {start:.4f} s that the program takes for nothing: nothing was measured")
+    return whole - start
+
+
+def made_apart(make):
+    """Runs a function in a process of its own, so that the memory that it takes is not this script's."""
+    maker = os.fork()
+    if maker == 0:
+        make()
+        os._exit(0)
+    if os.waitpid(maker, 0)[1]:
+        sys.exit("the files to measure with could not be made")

@@ -1,4 +1,0 @@
-mod chips;
-mod plans;
-mod tables;
-mod touches;

@@ -1,0 +1,5 @@
+pub mod Naming
+pub mod Keeping
+pub mod Wholes
+pub mod Starts
+pub mod Stops

@@ -1,0 +1,70 @@
+-- No refusal says that the device doesn't follow the protocol.
+use Rattle.std.proofs.Common.{◌≡◌, ◌⊎◌, ⊎_elim, ℕ, Bool, true, false, not, List, [], ◌∷◌, ◌++◌, Option, Some, None, option_map, Result, Ok, Err, IfErr, sym, ◌∙◌, subst}
+use Rattle.stm_wire.specs.Chip.{ChipData}
+use Rattle.stm_wire.specs.Device.{Device}
+use Rattle.stm_journal.specs.Journals.{JournalData, good, bad}
+use Rattle.stm_journal.specs.States.{StateData, is_unfinished, names_other}
+use Rattle.stm_session.specs.declared.command.Command.{Command}
+use Rattle.stm_session.specs.declared.fault.Fault.{Fault}
+use Rattle.stm_session.specs.declared.fault.Fault.TheVariants.{Unfinished, UnknownChip, OutOfFlash, BadJournal, OtherDevice, Device as DeviceFault}
+use Rattle.stm_session.specs.Fault.{IsJournalOrMemory, IsOutsideFault}
+use Rattle.stm_session.specs.Refusal.{AnswersRefusal, AnswersUnsent, chip_with, first_refusal, opening_refusal, range_refusal, refusal_of, refused_unless, table_refusal}
+
+abbrev pub IsOther : Fault → Type 0
+IsOther fault = fault ≡ DeviceFault → ⊥
+
+abbrev pub IsOtherThere : Option Fault → Type 0
+IsOtherThere None = Unit {0}
+IsOtherThere (Some fault) = IsOther fault
+
+unless_other : (b : Bool) (fault : Fault) → IsOther fault → IsOtherThere (refused_unless b fault)
+unless_other true fault other = tt
+unless_other false fault other = other
+
+first_other : (x : Option Fault) (rest : List (Option Fault)) → IsOtherThere x → IsOtherThere (first_refusal rest) → IsOtherThere (first_refusal (x ∷ rest))
+first_other None rest n m = m
+first_other (Some fault) rest n m = n
+
+table_other : (s : StateData) (id : ℕ) (chip : Option ChipData) → IsOtherThere (table_refusal s id chip)
+table_other s id None = λ e. cc
+table_other s id (Some chip) = line_other _
+  where
+    line_other : (line : Option ℕ) → IsOtherThere (option_map (λ line. BadJournal line) line)
+    line_other None = tt
+    line_other (Some line) = λ e. cc
+
+pub opening_other : (j : JournalData) (d : Device) (table : List ChipData) → IsOtherThere (opening_refusal j d table)
+opening_other (bad line) d table = λ e. cc
+opening_other (good s) d table =
+    first_other _ _ (unless_other (not (is_unfinished s)) Unfinished (λ e. cc))
+    (first_other _ _ (unless_other (not (names_other d.chip.id s)) OtherDevice (λ e. cc)) (first_other _ _ (table_other s d.chip.id (chip_with table d.chip.id)) tt))
+
+range_other : (chip : Option ChipData) (commands : List Command) → IsOtherThere (range_refusal chip commands)
+range_other None commands = tt
+range_other (Some chip) commands = unless_other _ OutOfFlash (λ e. cc)
+
+pub refusal_other : (j : JournalData) (d : Device) (table : List ChipData) (commands : List Command) → IsOtherThere (refusal_of j d table commands)
+refusal_other j d table commands = first_other _ _ (opening_other j d table) (first_other _ _ (range_other (chip_with table d.chip.id) commands) tt)
+
+pub outside_other : (fault : Fault) → IsOutsideFault fault → IsOther fault
+outside_other fault outside e = subst IsOutsideFault e outside
+
+unsent_other : (fault : Fault) → IsJournalOrMemory fault → IsOther fault
+unsent_other fault unsent e = subst IsJournalOrMemory e unsent
+
+-- what a call answers that is refused, or isn't
+pub answer_other : {T : Type 0} (fault : Fault) (result : Result T Fault) → IsOther fault → AnswersRefusal fault result → IfErr result IsOther
+answer_other fault (Ok x) other answers = tt
+answer_other fault (Err e) other answers = λ is. ⊎_elim (λ same. other (sym same ∙ is)) (λ outside. outside_other e outside is) answers
+
+pub unsent_answer_other : {T : Type 0} (fault : Fault) (result : Result T Fault) → IsOther fault → AnswersUnsent fault result → IfErr result IsOther
+unsent_answer_other fault (Ok x) other answers = tt
+unsent_answer_other fault (Err e) other answers = λ is. ⊎_elim (λ same. other (sym same ∙ is)) (λ unsent. unsent_other e unsent is) answers
+
+pub fails_other : {T : Type 0} (result : Result T Fault) → IfErr result IsOutsideFault → IfErr result IsOther
+fails_other (Ok x) fails = tt
+fails_other (Err e) fails = outside_other e fails
+
+pub opening_fails_other : {T : Type 0} (refusal : Option Fault) (result : Result T Fault) → IsOtherThere refusal → IfErr result (λ fault. IsOutsideFault fault ⊎ (refusal ≡ Some fault)) → IfErr result IsOther
+opening_fails_other refusal (Ok x) other fails = tt
+opening_fails_other refusal (Err e) other fails = ⊎_elim (λ outside. outside_other e outside) (λ said. subst IsOtherThere said other) fails

@@ -1,0 +1,40 @@
+-- A session that is stopped, a reset of the device, and what the next session finds.
+use Rattle.std.proofs.Common.{◌≡◌, ℕ, List, Result, refl, sym, ◌∙◌, ap, subst}
+use Rattle.stm_wire.specs.Chip.{ChipData}
+use Rattle.stm_wire.specs.Device.{Device, reset}
+use Rattle.stm_wire.specs.Memory.{MemoryData, rig_state}
+use Rattle.stm_session.specs.declared.fault.Fault.{Fault}
+use Rattle.stm_client.specs.Keeping.{CanBegin, IsKept, Keeps}
+use Rattle.stm_client.proofs.Keeping.{ResetKeeps, kept_begins, kept_further, reset_kept}
+
+-- the same device and the same journal
+same_kept : (flashes : List (List ℕ)) (a : MemoryData) (d d2 : Device) (journal journal2 : List ℕ) → d2 ≡ d → journal2 ≡ journal → IsKept flashes (rig_state a) d journal → IsKept flashes (rig_state a) d2 journal2
+same_kept flashes a d d2 journal journal2 device_same journal_same kept =
+    let D : Device → Type 0 = λ x. IsKept flashes (rig_state a) x journal in
+    let J : List ℕ → Type 0 = λ j. IsKept flashes (rig_state a) d2 j in
+    subst J (sym journal_same) (subst D (sym device_same) kept)
+
+self_kept : (table : List ChipData) (flashes : List (List ℕ)) (m : MemoryData) → CanBegin table flashes (rig_state m) → IsKept flashes (rig_state m) m.device m.journal
+self_kept table flashes m can = record { undoable = can.undoable; journal_same = refl; flash = refl; make = record { chip = refl; version = refl; codes = refl } }
+
+-- a stop is planned, a session runs, the device is reset, and the stop is lifted
+module _ {T : Type 0} {Done : T → Type 0} {result : Result T Fault} (table : List ChipData) (flashes : List (List ℕ)) (law : ResetKeeps) (m m1 m2 m3 m4 : MemoryData)
+    (device1 : m1.device ≡ m.device) (journal1 : m1.journal ≡ m.journal) (honest1 : (rig_state m).is_honest → (rig_state m1).is_honest)
+    (keeps : CanBegin table flashes (rig_state m1) → Keeps flashes (rig_state m1) (rig_state m2) result Done)
+    (device3 : m3.device ≡ reset m2.device) (journal3 : m3.journal ≡ m2.journal) (honest3 : (rig_state m2).is_honest → (rig_state m3).is_honest)
+    (device4 : m4.device ≡ m3.device) (journal4 : m4.journal ≡ m3.journal) (honest4 : (rig_state m3).is_honest → (rig_state m4).is_honest)
+    (can : CanBegin table flashes (rig_state m)) where
+  planned : IsKept flashes (rig_state m) m1.device m1.journal
+  planned = same_kept flashes m m.device m1.device m.journal m1.journal device1 journal1 (self_kept table flashes m can)
+
+  session : Keeps flashes (rig_state m1) (rig_state m2) result Done
+  session = keeps (kept_begins table flashes (rig_state m) (rig_state m1) can.tabled (honest1 can.honest) planned)
+
+  pub kept_again : IsKept flashes (rig_state m) m4.device m4.journal
+  kept_again =
+      same_kept flashes m m3.device m4.device m3.journal m4.journal device4 journal4
+      (same_kept flashes m (reset m2.device) m3.device m2.journal m3.journal device3 journal3
+      (reset_kept law flashes (rig_state m) m2.device m2.journal (kept_further flashes (rig_state m) (rig_state m1) planned m2.device m2.journal session.left)))
+
+  pub can_again : CanBegin table flashes (rig_state m4)
+  can_again = kept_begins table flashes (rig_state m) (rig_state m4) can.tabled (honest4 (honest3 session.honest)) kept_again

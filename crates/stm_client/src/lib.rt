@@ -1,0 +1,11 @@
+//! What a caller of the public contracts can prove: sessions that only read, one after another, on any Rig that follows the
+//! model, and on one that was stopped and reset between them.
+#![tactic(auto)]
+
+mod reading;
+mod starting;
+mod stopping;
+
+pub use reading::{read, read_flash, read_twice, tell};
+pub use starting::read_new;
+pub use stopping::{a_stopped_session_can_go_on, read_again};

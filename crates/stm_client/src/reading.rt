@@ -1,0 +1,94 @@
+// Sessions that only read: each leaves a Rig on which another can begin.
+ghost use Rattle.std.specs.Prelude.{◌≡◌, ℕ, List, [], ◌∷◌, None, map, IfErr, IfOk};
+ghost use Rattle.stm_journal.specs.Journals.{journal_of};
+ghost use Rattle.stm_session.specs.Fault.{IsOutsideFault};
+ghost use Rattle.stm_session.specs.Information.{Describes, IsInfoOf};
+ghost use Rattle.stm_session.specs.Refusal.{opening_refusal, refusal_of};
+ghost use Rattle.stm_session.specs.Running.{AreRead, bytes_of};
+ghost use Rattle.stm_client.specs.Keeping.{CanBegin, Keeps};
+
+use std::alloc::Global;
+use stm_chip::Table;
+use stm_session::{
+    Command, Fault, Info, Report, a_chip_is_looked_up_by_its_id,
+    asking_keeps_what_can_be_taken_back, info, run,
+};
+use stm_wire::{Rig, harmless_is_kept};
+
+/// Tells what the device is.
+pub fn tell<R: Rig>(alloc: Global, rig: &mut R, table: &Table) -> Result<Info, Fault>
+    ensures told { IfOk result (Describes table.now) }
+    ensures keeps { let old = R.view rig.old in let new = R.view rig.new in
+        (flashes : List (List ℕ)) → CanBegin table.now flashes old
+        → Keeps flashes old new result (IsInfoOf old.device) }
+    ensures unrefused { let old = R.view rig.old in
+        (flashes : List (List ℕ)) → CanBegin table.now flashes old
+        → opening_refusal (journal_of old.journal) old.device table.now ≡ None
+        → IfErr result IsOutsideFault }
+{
+    harmless_is_kept();
+    asking_keeps_what_can_be_taken_back();
+    info(alloc, rig, table)
+}
+
+/// Reads parts of the flash.
+pub fn read<R: Rig>(
+    alloc: Global,
+    rig: &mut R,
+    table: &Table,
+    commands: &[Command],
+) -> Result<Report, Fault>
+    ensures keeps { let old = R.view rig.old in let new = R.view rig.new in
+        (flashes : List (List ℕ)) → CanBegin table.now flashes old
+        → Keeps flashes old new result
+        (λ report. AreRead old.device commands.now report.outcomes.items) }
+    ensures unrefused { let old = R.view rig.old in
+        (flashes : List (List ℕ)) → CanBegin table.now flashes old
+        → refusal_of (journal_of old.journal) old.device table.now commands.now ≡ None
+        → IfErr result IsOutsideFault }
+{
+    harmless_is_kept();
+    asking_keeps_what_can_be_taken_back();
+    a_chip_is_looked_up_by_its_id();
+    run(alloc, rig, table, commands)
+}
+
+/// Reads parts of the flash, and then others.
+pub fn read_twice<R: Rig>(
+    alloc: Global,
+    rig: &mut R,
+    table: &Table,
+    first: &[Command],
+    second: &[Command],
+) -> Result<(Report, Report), Fault>
+    ensures keeps { let old = R.view rig.old in let new = R.view rig.new in
+        (flashes : List (List ℕ)) → CanBegin table.now flashes old
+        → Keeps flashes old new result
+        (λ reports. AreRead old.device first.now reports.0.outcomes.items
+        × AreRead old.device second.now reports.1.outcomes.items) }
+{
+    let one = read(alloc, rig, table, first)?;
+    let two = read(alloc, rig, table, second)?;
+    Ok((one, two))
+}
+
+/// Asks the device what it is, and reads the whole of its flash.
+pub fn read_flash<R: Rig>(alloc: Global, rig: &mut R, table: &Table) -> Result<Report, Fault>
+    ensures keeps { let old = R.view rig.old in let new = R.view rig.new in
+        (flashes : List (List ℕ)) → CanBegin table.now flashes old
+        → Keeps flashes old new result
+        (λ report. map bytes_of report.outcomes.items ≡ old.device.flash ∷ []) }
+    ensures unrefused { let old = R.view rig.old in
+        (flashes : List (List ℕ)) → CanBegin table.now flashes old
+        → opening_refusal (journal_of old.journal) old.device table.now ≡ None
+        → IfErr result IsOutsideFault }
+{
+    a_chip_is_looked_up_by_its_id();
+    let told = tell(alloc, rig, table)?;
+    let commands = [Command::Read {
+        start: told.base,
+        length: told.size,
+    }];
+    let report = read(alloc, rig, table, &commands)?;
+    Ok(report)
+}

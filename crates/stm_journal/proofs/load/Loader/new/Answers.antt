@@ -1,0 +1,12 @@
+use Rattle.std.proofs.Common.{sym, subst, refl, []}
+use Rattle.stm_journal.specs.Journals.{Loaded, empty_loaded}
+use Rattle.stm_journal.specs.States.{empty_state}
+use Rattle.stm_journal.specs.Summary.{Summary}
+use Rattle.stm_journal.specs.Loading.{IsRead}
+use Rattle.stm_journal.proofs.load.Loader.new.Goals as goal
+
+pub returns : goal.returns
+returns c =
+    let L : Loaded → Type 0 = λ l. IsRead l c.new-2.result [] in
+    let S : Summary → Type 0 = λ y. IsRead empty_loaded y [] in
+    subst L (sym c.new.ensures) (subst S (sym c.new-2.ensures) (record { text = empty_state; means = refl; state = refl; lines = refl; size = refl; rest = refl }))

@@ -1,0 +1,111 @@
+// The bytes of a kept page, read from the journal.
+ghost use Rattle.std.specs.Prelude.{◌≡◌, ◌+◌, ◌*◌, ◌<◌, ◌≤◌, true, length, take, drop, List, ℕ, Ok, Some, IfOk, IfErr, OnOk};
+ghost use Rattle.std.specs.List.{list_all};
+ghost use Rattle.hex.specs.Hex.{decode_sized};
+ghost use Rattle.stm_wire.specs.Dialogue.{GoesOn};
+ghost use Rattle.stm_journal.specs.Entries.{is_upper_digit, hex_bytes_of};
+ghost use Rattle.stm_journal.specs.KeptPlaces.{IsPlaceIn};
+ghost use Rattle.stm_journal.specs.Places.{cut};
+ghost use Rattle.stm_journal.specs.Journals.{IsLoaded};
+ghost use Rattle.stm_journal.specs.PageFetching.{FillsFrom, FetchesBytes, SaysAt};
+ghost use Rattle.stm_journal.specs.Calls.{HasJournalCause, AreFetches, IsFetchAnswer, FetchesPage};
+
+use crate::line::are_all_upper;
+use crate::load::fetch;
+use crate::{Journal, JournalFault, PagePlace};
+use stm_wire::Rig;
+
+/// How many bytes are read at once, two digits each.
+const PIECE: usize = 256;
+
+/// Reads bytes of the journal until the buffer is full, and answers whether it is. A fetch may bring fewer bytes than
+/// asked for, one at the least, and none only where the journal ends.
+fn fill<R: Rig>(rig: &mut R, at: u64, buf: &mut [u8]) -> Result<bool, JournalFault>
+    ensures answers { IfErr result (λ e. e ≡ JournalFault.File) }
+    ensures cause { HasJournalCause (R.view rig.old) (R.view rig.new) result }
+    ensures calls { GoesOn AreFetches (R.view rig.old).calls (R.view rig.new).calls }
+    ensures honest { (R.view rig.old).is_honest → at + length buf.old ≤ length (R.view rig.old).journal
+        → FillsFrom at buf.old buf.new (R.view rig.old) (R.view rig.new) result }
+{
+    let mut done = 0usize;
+    while done < buf.len() {
+        let n = fetch(rig, at.saturating_add(done as u64), &mut buf[done..])?;
+        if n == 0 {
+            return Ok(false);
+        }
+        done += n;
+    }
+    Ok(true)
+}
+
+/// The bytes of upper-case digits, two a byte, where they are such and so many.
+fn decode_upper(digits: &[u8], out: &mut [u8]) -> bool
+    ensures { (bytes : List ℕ) → list_all is_upper_digit digits.now ≡ true → decode_sized digits.now (length out.old) ≡ Ok bytes
+        → (result ≡ true) × (out.new ≡ bytes) }
+{
+    are_all_upper(digits) && hex::decode_to_slice(digits, out).is_ok()
+}
+
+/// Reads the digits of a few bytes of a page, from a place on.
+fn fetch_piece<R: Rig>(rig: &mut R, at: u64, line: u64, out: &mut [u8]) -> Result<(), JournalFault>
+    requires { length out.old ≤ 256 }
+    ensures answers { IfErr result (IsFetchAnswer line) }
+    ensures cause { HasJournalCause (R.view rig.old) (R.view rig.new) result }
+    ensures calls { GoesOn AreFetches (R.view rig.old).calls (R.view rig.new).calls }
+    ensures honest { (R.view rig.old).is_honest → (bytes : List ℕ) → length bytes ≡ length out.old → SaysAt at bytes (R.view rig.old).journal
+        → FetchesBytes bytes out.new (R.view rig.old) (R.view rig.new) result }
+{
+    let mut digits = [0u8; 2 * PIECE];
+    let size = 2 * out.len();
+    let is_full = fill(rig, at, &mut digits[..size])?;
+    if is_full && decode_upper(&digits[..size], out) {
+        return Ok(());
+    }
+    Err(JournalFault::Bad(line))
+}
+
+/// Reads the digits of a page, piece by piece.
+fn fetch_digits<R: Rig>(rig: &mut R, place: PagePlace, buf: &mut [u8]) -> Result<(), JournalFault>
+    requires { length buf.old ≡ place.length }
+    ensures answers { IfErr result (IsFetchAnswer place.line) }
+    ensures cause { HasJournalCause (R.view rig.old) (R.view rig.new) result }
+    ensures calls { GoesOn AreFetches (R.view rig.old).calls (R.view rig.new).calls }
+    ensures honest { (R.view rig.old).is_honest → (page : List ℕ) → length page ≡ place.length
+        → place.at + 2 * place.length ≤ length (R.view rig.old).journal
+        → hex_bytes_of (cut place.at (2 * place.length) (R.view rig.old).journal) ≡ Some page
+        → FetchesBytes page buf.new (R.view rig.old) (R.view rig.new) result }
+{
+    let mut done = 0usize;
+    while done < buf.len() {
+        let count = PIECE.min(buf.len() - done);
+        let behind = (done as u64).saturating_add(done as u64);
+        let at = place.at.saturating_add(behind);
+        fetch_piece(rig, at, place.line, &mut buf[done..done + count])?;
+        done += count;
+    }
+    Ok(())
+}
+
+impl Journal {
+    /// Reads the bytes of a kept page, whose place came from `page` or `kept_place`, into a buffer of its length.
+    ///
+    /// The digits are read in pieces of at most 512, and decoded; no memory is taken. `File` comes only where the Rig's
+    /// count of journal failures rose. `Bad` with the page's line says that no such digits stand there any more, which
+    /// never happens on an honest Rig. Nothing is added; after a fault the buffer may hold anything.
+    pub fn fetch_page<R: Rig>(
+        &self,
+        rig: &mut R,
+        place: PagePlace,
+        buf: &mut [u8],
+    ) -> Result<(), JournalFault>
+        requires kept { IsPlaceIn self.now.state place }
+        requires whole { length buf.old ≡ place.length }
+        ensures answers { IfErr result (IsFetchAnswer place.line) }
+        ensures cause { HasJournalCause (R.view rig.old) (R.view rig.new) result }
+        ensures calls { GoesOn AreFetches (R.view rig.old).calls (R.view rig.new).calls }
+        ensures honest { (R.view rig.old).is_honest → IsLoaded self.now (R.view rig.old).journal
+            → FetchesPage place buf.new (R.view rig.old) (R.view rig.new) result }
+    {
+        fetch_digits(rig, place, buf)
+    }
+}

@@ -1,0 +1,106 @@
+use Rattle.std.proofs.Common.{◌≡◌, ◌∙◌, ◌+◌, ◌++◌, ◌∷◌, [], List, ℕ, Ok, Err, true, ap, append_assoc, subst, sym}
+use Rattle.stm_wire.specs.Chip.{page_count}
+use Rattle.stm_wire.specs.Device.{Device}
+use Rattle.stm_journal.specs.declared.entry.Entry.{Entry}
+use Rattle.stm_journal.specs.declared.entry.Entry.TheVariants.{Ends}
+use Rattle.stm_session.specs.Contents.{IsMade, command_of}
+use Rattle.stm_session.specs.Lines.{depth_at, is_named_at, opening_entries, page_entries_below}
+use Rattle.stm_session.specs.Meaning.{flash_after}
+use Rattle.stm_session.specs.Steps.{Goes}
+use Rattle.stm_session.specs.Undoable.{is_unfinished_at}
+use Rattle.stm_session.proofs.Commandings.{begin_fails, changes_as, end_fails, end_goes, pages_fail, pages_go, turned_make}
+use Rattle.stm_session.proofs.Keeping.{depth_text, unfinished_text}
+use Rattle.stm_session.proofs.commanding.change_flash.Goals as goal
+
+pub returns-in_err-segment-clause-honest : goal.returns-in_err-segment-clause-honest
+returns-in_err-segment-clause-honest g c flashes steady chip =
+    let V = g.R.Rig.view in
+    let a = V c.args.rig.now in
+    let b = V c.begin_segment.new.rig in
+    let k = c.args.chip.now in
+    let after = flash_after k a.device.flash (command_of c.args.change.now) in
+    let xs : List Entry = opening_entries (is_named_at a.journal) k.id (depth_at a.journal + 1) in
+    let rest : List Entry = page_entries_below (page_count k) k a.device.flash after ++ Ends (depth_at a.journal + 1) ∷ [] in
+    begin_fails flashes xs rest after c.begin_segment.new.journal c.begin_segment.new.journal a b _ c.from_residual.result (c.in_err-segment.ensures.honest flashes after steady chip) c.from_residual.ensures.1
+
+pub returns-in_err-pages-clause-honest : goal.returns-in_err-pages-clause-honest
+returns-in_err-pages-clause-honest g c flashes steady chip =
+    let V = g.R.Rig.view in
+    let a = V c.args.rig.now in
+    let b = V c.begin_segment.new.rig in
+    let d = V c.turn_pages.new.rig in
+    let l2 = c.begin_segment.new.journal in
+    let l3 = c.turn_pages.new.journal in
+    let k = c.args.chip.now in
+    let after = flash_after k a.device.flash (command_of c.args.change.now) in
+    let xs : List Entry = opening_entries (is_named_at a.journal) k.id (depth_at a.journal + 1) in
+    let ys : List Entry = page_entries_below (page_count k) k a.device.flash after in
+    let zs : List Entry = Ends (depth_at a.journal + 1) ∷ [] in
+    let first = c.in_ok-segment.ensures.honest flashes after steady chip in
+    let same = first.done in
+    let unfinished : is_unfinished_at b.journal ≡ true = sym (unfinished_text l2 b.journal first.steady.loaded) ∙ c.in_ok-segment.ensures.begun.unfinished in
+    let still = ap (λ (x : Device). x.chip) same ∙ chip in
+    let G : List ℕ → Type 0 = λ f. Goes (a.device.flash ∷ flashes) (page_entries_below (page_count k) k f (flash_after k f (command_of c.args.change.now))) l3 b d (Err c.in_err-pages.field-0.0) (λ y. IsMade k c.args.change.now f d.device.flash y) in
+    let goes = subst G (ap (λ (x : Device). x.flash) same) (c.in_err-pages.ensures.honest (a.device.flash ∷ flashes) first.steady still) in
+    changes_as flashes ((xs ++ ys) ++ zs) (xs ++ (ys ++ zs)) after l3 a d c.from_residual-in_err-pages.result (append_assoc xs ys zs)
+    (pages_fail flashes xs ys after l2 a b d c.in_ok-segment.segment first same unfinished zs l3 l3 _ c.from_residual-in_err-pages.result goes c.from_residual-in_err-pages.ensures.1)
+
+pub returns-in_err-end_segment-clause-honest : goal.returns-in_err-end_segment-clause-honest
+returns-in_err-end_segment-clause-honest g c flashes steady chip =
+    let V = g.R.Rig.view in
+    let a = V c.args.rig.now in
+    let b = V c.begin_segment.new.rig in
+    let d = V c.turn_pages.new.rig in
+    let e = V c.end_segment.new.rig in
+    let l2 = c.begin_segment.new.journal in
+    let l3 = c.turn_pages.new.journal in
+    let l4 = c.end_segment.new.journal in
+    let k = c.args.chip.now in
+    let after = flash_after k a.device.flash (command_of c.args.change.now) in
+    let xs : List Entry = opening_entries (is_named_at a.journal) k.id (depth_at a.journal + 1) in
+    let ys : List Entry = page_entries_below (page_count k) k a.device.flash after in
+    let first = c.in_ok-segment.ensures.honest flashes after steady chip in
+    let same = first.done in
+    let unfinished : is_unfinished_at b.journal ≡ true = sym (unfinished_text l2 b.journal first.steady.loaded) ∙ c.in_ok-segment.ensures.begun.unfinished in
+    let still = ap (λ (x : Device). x.chip) same ∙ chip in
+    let G : List ℕ → Type 0 = λ f. Goes (a.device.flash ∷ flashes) (page_entries_below (page_count k) k f (flash_after k f (command_of c.args.change.now))) l3 b d (Ok c.in_ok-pages.pages) (λ y. IsMade k c.args.change.now f d.device.flash y) in
+    let goes = subst G (ap (λ (x : Device). x.flash) same) (c.in_ok-pages.ensures.honest (a.device.flash ∷ flashes) first.steady still) in
+    let deep : depth_at d.journal ≡ depth_at a.journal + 1 =
+    sym (depth_text l3 d.journal goes.steady.loaded) ∙ c.in_ok-pages.ensures.depth ∙ c.in_ok-segment.ensures.begun.depth ∙ ap (λ (n : ℕ). n + 1) (depth_text c.args.journal.now a.journal steady.loaded) in
+    let zs : List Entry = Ends (depth_at d.journal) ∷ [] in
+    let lines = append_assoc xs ys zs ∙ ap (λ (n : ℕ). xs ++ (ys ++ Ends n ∷ [])) deep in
+    let make = turned_make flashes xs ys after l2 a b d c.in_ok-segment.segment first same unfinished l3 c.in_ok-pages.pages (g.met.R.Rig.model c.turn_pages.new.rig goes.honest) goes in
+    changes_as flashes ((xs ++ ys) ++ zs) _ after l4 a e c.from_residual-in_err-end_segment.result lines
+    (end_fails flashes (xs ++ ys) zs after l3 l4 a d e c.in_ok-pages.pages (pages_go flashes xs ys after l2 a b d c.in_ok-segment.segment first same unfinished l3 c.in_ok-pages.pages goes) make goes.done.flash
+    l4 _ c.from_residual-in_err-end_segment.result (c.in_err-end_segment.ensures.honest (a.device.flash ∷ flashes) goes.steady) c.from_residual-in_err-end_segment.ensures.1)
+
+pub returns-clause-honest : goal.returns-clause-honest
+returns-clause-honest g c flashes steady chip =
+    let V = g.R.Rig.view in
+    let a = V c.args.rig.now in
+    let b = V c.begin_segment.new.rig in
+    let d = V c.turn_pages.new.rig in
+    let e = V c.end_segment.new.rig in
+    let l2 = c.begin_segment.new.journal in
+    let l3 = c.turn_pages.new.journal in
+    let l4 = c.end_segment.new.journal in
+    let k = c.args.chip.now in
+    let after = flash_after k a.device.flash (command_of c.args.change.now) in
+    let xs : List Entry = opening_entries (is_named_at a.journal) k.id (depth_at a.journal + 1) in
+    let ys : List Entry = page_entries_below (page_count k) k a.device.flash after in
+    let first = c.in_ok-segment.ensures.honest flashes after steady chip in
+    let same = first.done in
+    let unfinished : is_unfinished_at b.journal ≡ true = sym (unfinished_text l2 b.journal first.steady.loaded) ∙ c.in_ok-segment.ensures.begun.unfinished in
+    let still = ap (λ (x : Device). x.chip) same ∙ chip in
+    let G : List ℕ → Type 0 = λ f. Goes (a.device.flash ∷ flashes) (page_entries_below (page_count k) k f (flash_after k f (command_of c.args.change.now))) l3 b d (Ok c.in_ok-pages.pages) (λ y. IsMade k c.args.change.now f d.device.flash y) in
+    let goes = subst G (ap (λ (x : Device). x.flash) same) (c.in_ok-pages.ensures.honest (a.device.flash ∷ flashes) first.steady still) in
+    let deep : depth_at d.journal ≡ depth_at a.journal + 1 =
+    sym (depth_text l3 d.journal goes.steady.loaded) ∙ c.in_ok-pages.ensures.depth ∙ c.in_ok-segment.ensures.begun.depth ∙ ap (λ (n : ℕ). n + 1) (depth_text c.args.journal.now a.journal steady.loaded) in
+    let zs : List Entry = Ends (depth_at d.journal) ∷ [] in
+    let lines = append_assoc xs ys zs ∙ ap (λ (n : ℕ). xs ++ (ys ++ Ends n ∷ [])) deep in
+    let make = turned_make flashes xs ys after l2 a b d c.in_ok-segment.segment first same unfinished l3 c.in_ok-pages.pages (g.met.R.Rig.model c.turn_pages.new.rig goes.honest) goes in
+    let closes = c.in_ok-end_segment.ensures.honest (a.device.flash ∷ flashes) goes.steady in
+    changes_as flashes ((xs ++ ys) ++ zs) _ after l4 a e _ lines
+    (end_goes flashes (xs ++ ys) zs after l3 l4 a d e c.in_ok-pages.pages (pages_go flashes xs ys after l2 a b d c.in_ok-segment.segment first same unfinished l3 c.in_ok-pages.pages goes) make goes.done.flash
+    (tt {0}) (c.in_ok-segment.segment, c.in_ok-pages.pages) closes
+    (record { flash = ap (λ (x : Device). x.flash) closes.same_device ∙ goes.done.flash; counts = goes.done.counts }))

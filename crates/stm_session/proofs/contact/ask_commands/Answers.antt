@@ -1,0 +1,39 @@
+use Rattle.std.proofs.Common.{◌<◌, rules, ℕ, List, Bool, None, length, take, refl}
+use Rattle.stm_wire.specs.Dialogue.{GoesOn}
+use Rattle.stm_wire.specs.Parts.{IsPart}
+use Rattle.stm_wire.specs.PartLaws.{get_broken, get_held}
+use Rattle.stm_wire.specs.Stopped.{get}
+use Rattle.stm_session.proofs.Asking.{asked, broken_off}
+use Rattle.stm_session.proofs.Sending.{with_fault}
+use Rattle.stm_session.proofs.contact.ask_commands.Goals as goal
+
+pub returns-in_err-commands-clause-honest : goal.returns-in_err-commands-clause-honest
+returns-in_err-commands-clause-honest g c h settled =
+    let V = g.R.Rig.view in
+    let does = c.in_err-commands.ensures.honest h settled in
+    broken_off c.sending_is_harmless.ensures.asking (V c.args.rig.now) (V c.get_commands.new.rig) c.from_residual.result _ h
+    (g.met.R.Rig.model c.args.rig.now h).device settled (get refl) c.in_err-commands.ensures.broken.3 does.fails c.from_residual.ensures.1
+
+pub returns-clause-honest : goal.returns-clause-honest
+returns-clause-honest g c h settled =
+    let V = g.R.Rig.view in
+    let told = (c.in_ok-commands.ensures.honest h settled).done in
+    asked c.sending_is_harmless.ensures.asking (V c.args.rig.now) (V c.get_commands.new.rig) _ _ h
+    (g.met.R.Rig.model c.args.rig.now h).device settled (get refl) c.in_ok-commands.ensures.held told.2 (record { version = told.0; codes = told.1 })
+
+pub returns-in_err-commands-clause-puts : goal.returns-in_err-commands-clause-puts
+returns-in_err-commands-clause-puts g c =
+    let V = g.R.Rig.view in
+    let a = (V c.args.rig.now).calls in
+    let b = (V c.get_commands.new.rig).calls in
+    let broken = c.in_err-commands.ensures.broken in
+    let P : Bool → Type 0 = λ w. GoesOn (IsPart None w 261) a b in
+    with_fault P _ c.from_residual.result c.from_residual.ensures.1 (get_broken None broken.0 broken.1 _ a b broken.2 broken.3.recorded)
+
+pub returns-clause-puts : goal.returns-clause-puts
+returns-clause-puts g c =
+    let V = g.R.Rig.view in
+    let version : ℕ = c.in_ok-commands.commands.version in
+    let codes : List ℕ = take c.in_ok-commands.commands.count c.in_ok-commands.commands.codes in
+    let small : length codes < 256 = search rules in
+    get_held None version codes (V c.args.rig.now).calls (V c.get_commands.new.rig).calls small c.in_ok-commands.ensures.held.recorded

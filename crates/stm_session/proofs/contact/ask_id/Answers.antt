@@ -1,0 +1,36 @@
+use Rattle.std.proofs.Common.{Bool, None, refl}
+use Rattle.stm_wire.specs.Dialogue.{GoesOn}
+use Rattle.stm_wire.specs.Parts.{IsPart}
+use Rattle.stm_wire.specs.PartLaws.{get_id_broken, get_id_held}
+use Rattle.stm_wire.specs.Stopped.{get_id}
+use Rattle.stm_session.proofs.Asking.{asked, broken_off}
+use Rattle.stm_session.proofs.Sending.{with_fault}
+use Rattle.stm_session.proofs.contact.ask_id.Goals as goal
+
+pub returns-in_err-id-clause-honest : goal.returns-in_err-id-clause-honest
+returns-in_err-id-clause-honest g c h settled =
+    let V = g.R.Rig.view in
+    let does = c.in_err-id.ensures.honest h settled in
+    broken_off c.sending_is_harmless.ensures.asking (V c.args.rig.now) (V c.get_id.new.rig) c.from_residual.result _ h
+    (g.met.R.Rig.model c.args.rig.now h).device settled (get_id refl) c.in_err-id.ensures.broken.2 does.fails c.from_residual.ensures.1
+
+pub returns-clause-honest : goal.returns-clause-honest
+returns-clause-honest g c h settled =
+    let V = g.R.Rig.view in
+    let id = (c.in_ok-id.ensures.honest h settled).done in
+    asked c.sending_is_harmless.ensures.asking (V c.args.rig.now) (V c.get_id.new.rig) _ _ h
+    (g.met.R.Rig.model c.args.rig.now h).device settled (get_id refl) c.in_ok-id.ensures.held id.1 id.0
+
+pub returns-in_err-id-clause-puts : goal.returns-in_err-id-clause-puts
+returns-in_err-id-clause-puts g c =
+    let V = g.R.Rig.view in
+    let a = (V c.args.rig.now).calls in
+    let b = (V c.get_id.new.rig).calls in
+    let broken = c.in_err-id.ensures.broken in
+    let P : Bool → Type 0 = λ w. GoesOn (IsPart None w 7) a b in
+    with_fault P _ c.from_residual.result c.from_residual.ensures.1 (get_id_broken None broken.0 broken.1 _ a b broken.2.recorded)
+
+pub returns-clause-puts : goal.returns-clause-puts
+returns-clause-puts g c =
+    let V = g.R.Rig.view in
+    get_id_held None _ _ (V c.args.rig.now).calls (V c.get_id.new.rig).calls c.in_ok-id.ensures.held.recorded

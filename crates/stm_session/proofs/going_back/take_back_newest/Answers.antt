@@ -1,0 +1,75 @@
+use Rattle.std.proofs.Common.{◌≡◌, ◌∙◌, ◌+◌, ◌<◌, length, refl, arith}
+use Rattle.stm_session.proofs.Going.{at_exit}
+use Rattle.stm_session.proofs.GoingBack.{goes_back_all, goes_back_failed, goes_back_more, goes_back_nowhere, next_flash, rest_depth, rest_fits, rest_next, some_left, steady_split}
+use Rattle.stm_session.proofs.going_back.take_back_newest.Goals as goal
+
+pub loop-i-init : goal.loop-i-init
+loop-i-init g c =
+    let V = g.R.Rig.view in
+    record {
+      rest = refl;
+      line = omega arith;
+      journal = omega arith;
+      honest = λ flashes steady chip. goes_back_nowhere c.step_laws.ensures flashes c.args.journal.now (V c.args.rig.now) (g.met.R.Rig.model c.args.rig.now steady.honest) steady;
+    }
+
+pub take_back-requires-clause-fits : goal.take_back-requires-clause-fits
+take_back-requires-clause-fits g c = rest_fits c.args.chip.now c.loop-i.i c.args.journal.now.state c.loop-i.journal.state c.loop-i.invariant.rest c.requires.fits
+
+pub take_back-requires-clause-some : goal.take_back-requires-clause-some
+take_back-requires-clause-some g c =
+    let lt : c.loop-i.i < c.args.taken = omega (arith, c.loop-i-test.true) in
+    let depth = rest_depth c.loop-i.i c.args.journal.now.state c.loop-i.journal.state c.loop-i.invariant.rest (omega (arith, lt, c.requires.some)) in
+    omega (arith, lt, depth, c.requires.some)
+
+pub returns-in_err-take_back-clause-honest : goal.returns-in_err-take_back-clause-honest
+returns-in_err-take_back-clause-honest g c flashes steady chip =
+    let V = g.R.Rig.view in
+    let l = c.args.journal.now in
+    let l2 = c.loop-i.journal in
+    let a = V c.args.rig.now in
+    let b = V c.loop-i.rig in
+    let d = V c.take_back.new.rig in
+    let i = c.loop-i.i in
+    let lt : i < c.args.taken = omega (arith, c.loop-i-test.true) in
+    let within : i < length l.state.stack = omega (arith, lt, c.requires.some) in
+    let depth = rest_depth i l.state l2.state c.loop-i.invariant.rest (omega (arith, within)) in
+    let some : 0 < length l2.state.stack = omega (arith, within, depth) in
+    let so_far = c.loop-i.invariant.honest flashes steady chip in
+    let model = g.met.R.Rig.model c.loop-i.rig so_far.steady.honest in
+    let still = (at_exit _ a b model so_far.moments).make.chip ∙ chip in
+    let split = next_flash i flashes (some_left _ l2 b so_far.steady some) in
+    let next = c.in_err-take_back.ensures.honest _ _ (steady_split c.args.chip.now i flashes l l2 c.take_back.new.journal a b d model steady so_far chip within split) still in
+    goes_back_failed c.args.chip.now i flashes l l2 c.take_back.new.journal a b d model steady so_far chip within split c.args.taken c.take_back.new.journal _ c.from_residual.result (omega (arith, lt)) next c.from_residual.ensures.1
+
+pub loop-i-preserved : goal.loop-i-preserved
+loop-i-preserved g c =
+    let V = g.R.Rig.view in
+    let l = c.args.journal.now in
+    let l2 = c.loop-i.journal in
+    let a = V c.args.rig.now in
+    let b = V c.loop-i.rig in
+    let d = V c.take_back.new.rig in
+    let i = c.loop-i.i in
+    let lt : i < c.args.taken = omega (arith, c.loop-i-test.true) in
+    let within : i < length l.state.stack = omega (arith, lt, c.requires.some) in
+    let depth = rest_depth i l.state l2.state c.loop-i.invariant.rest (omega (arith, within)) in
+    let some : 0 < length l2.state.stack = omega (arith, within, depth) in
+    record {
+      rest = rest_next i _ _ _ c.loop-i.invariant.rest c.in_ok-take_back.ensures.rest;
+      line = omega (arith, c.loop-i.invariant.line, c.in_ok-take_back.ensures.cause.line_later);
+      journal = omega (arith, c.loop-i.invariant.journal, c.in_ok-take_back.ensures.cause.journal_later);
+      honest = λ flashes steady chip.
+          let so_far = c.loop-i.invariant.honest flashes steady chip in
+          let model = g.met.R.Rig.model c.loop-i.rig so_far.steady.honest in
+          let still = (at_exit _ a b model so_far.moments).make.chip ∙ chip in
+          let split = next_flash i flashes (some_left _ l2 b so_far.steady some) in
+          let next = c.in_ok-take_back.ensures.honest _ _ (steady_split c.args.chip.now i flashes l l2 c.take_back.new.journal a b d model steady so_far chip within split) still in
+          goes_back_more c.args.chip.now i flashes l l2 c.take_back.new.journal a b d model steady so_far chip within split _ (i + 1) (omega arith) next;
+    }
+
+pub returns-clause-honest : goal.returns-clause-honest
+returns-clause-honest g c flashes steady chip =
+    let V = g.R.Rig.view in
+    let all : c.loop-i.i ≡ c.args.taken = omega (arith, c.loop-i-test.false, c.loop-i.auto.i-end) in
+    goes_back_all c.loop-i.i c.args.taken flashes c.loop-i.journal (V c.args.rig.now) (V c.loop-i.rig) all (c.loop-i.invariant.honest flashes steady chip)

@@ -1,0 +1,8 @@
+use Rattle.stm_session.proofs.Fitting.{fits-unrefused, unrefused-fits}
+use Rattle.stm_session.proofs.laws.a_journal_of_the_chip_is_not_refused.Goals as goal
+
+pub returns-clause-unrefused : goal.returns-clause-unrefused
+returns-clause-unrefused c chip s fits = fits-unrefused chip s fits
+
+pub returns-clause-fits : goal.returns-clause-fits
+returns-clause-fits c chip s none = unrefused-fits chip s none

@@ -1,0 +1,75 @@
+use Rattle.std.proofs.Common.{◌≡◌, ◌∙◌, [], None, inr}
+use Rattle.stm_session.specs.Refusals.{undo_misfit}
+use Rattle.stm_session.proofs.Going.{at_exit, asks_go, asks_fail, goes_failed, goes_then}
+use Rattle.stm_session.proofs.Misfitting.{own_misfit}
+use Rattle.stm_session.proofs.Straying.{strays_failed, strays_asked, strays_unasked, misfit_was}
+use Rattle.stm_session.proofs.meeting.meet.Goals as goal
+
+pub returns-in_err-settle_intended-clause-honest : goal.returns-in_err-settle_intended-clause-honest
+returns-in_err-settle_intended-clause-honest g c h flashes loaded undoable chip =
+    let V = g.R.Rig.view in
+    let l = c.args.journal.now in
+    goes_failed flashes [] [] l l (V c.args.rig.now) (V c.settle_intended.new.rig) _ c.from_residual.result (c.in_err-settle_intended.ensures.honest h flashes loaded undoable) c.from_residual.ensures.1
+
+pub returns-in_err-misfit-clause-honest : goal.returns-in_err-misfit-clause-honest
+returns-in_err-misfit-clause-honest g c h flashes loaded undoable chip =
+    let V = g.R.Rig.view in
+    let l = c.args.journal.now in
+    let first = c.in_ok-settle_intended.ensures.honest h flashes loaded undoable in
+    let model = g.met.R.Rig.model c.settle_intended.new.rig first.honest in
+    goes_then flashes [] [] l l (V c.args.rig.now) (V c.settle_intended.new.rig) (V c.ask_misfit.new.rig) (tt {0}) c.from_residual-in_err-misfit.result model first
+    (asks_fail c.step_laws.ensures flashes l (V c.settle_intended.new.rig) (V c.ask_misfit.new.rig) first.steady [] l _ c.from_residual-in_err-misfit.result
+    (c.in_err-misfit.ensures.honest first.honest first.steady.settled) c.from_residual-in_err-misfit.ensures.1) (λ y p. p)
+
+pub returns-in-Some-clause-honest : goal.returns-in-Some-clause-honest
+returns-in-Some-clause-honest g c h flashes loaded undoable chip =
+    let V = g.R.Rig.view in
+    let first = c.in_ok-settle_intended.ensures.honest h flashes loaded undoable in
+    let model = g.met.R.Rig.model c.settle_intended.new.rig first.honest in
+    let still = (at_exit _ (V c.args.rig.now) (V c.settle_intended.new.rig) model first.moments).make.chip ∙ chip in
+    let done : c.in_ok-misfit.misfit ≡ undo_misfit c.args.chip.now c.args.chip.now.id (V c.settle_intended.new.rig).device = (c.in_ok-misfit.ensures.honest first.honest first.steady.settled).done in
+    let none : undo_misfit c.args.chip.now c.args.chip.now.id (V c.settle_intended.new.rig).device ≡ None = own_misfit c.args.chip.now (V c.settle_intended.new.rig).device model.device still in
+    let is = c.in-Some.is in
+    absurd (cc (done, none, is))
+
+pub returns-in-None-clause-honest : goal.returns-in-None-clause-honest
+returns-in-None-clause-honest g c h flashes loaded undoable chip =
+    let V = g.R.Rig.view in
+    let l = c.args.journal.now in
+    let first = c.in_ok-settle_intended.ensures.honest h flashes loaded undoable in
+    let model = g.met.R.Rig.model c.settle_intended.new.rig first.honest in
+    goes_then flashes [] [] l l (V c.args.rig.now) (V c.settle_intended.new.rig) (V c.ask_misfit.new.rig) (tt {0}) _ model first
+    (asks_go c.step_laws.ensures flashes l (V c.settle_intended.new.rig) (V c.ask_misfit.new.rig) first.steady _ (tt {0})
+    (c.in_ok-misfit.ensures.honest first.honest first.steady.settled) (λ done. tt)) (λ y p. p)
+
+pub returns-in_err-settle_intended-clause-elsewhere : goal.returns-in_err-settle_intended-clause-elsewhere
+returns-in_err-settle_intended-clause-elsewhere g c h loaded harmless owed =
+    let V = g.R.Rig.view in
+    strays_failed c.args.chip.now (V c.args.rig.now) (V c.settle_intended.new.rig) _ c.from_residual.result (c.in_err-settle_intended.ensures.strays h loaded harmless owed) c.from_residual.ensures.1
+
+pub returns-in_err-misfit-clause-elsewhere : goal.returns-in_err-misfit-clause-elsewhere
+returns-in_err-misfit-clause-elsewhere g c h loaded harmless owed =
+    let V = g.R.Rig.view in
+    let first = c.in_ok-settle_intended.ensures.strays h loaded harmless owed in
+    let asks = c.in_err-misfit.ensures.honest first.honest first.settled in
+    strays_unasked c.step_laws.ensures c.args.chip.now (V c.args.rig.now) (V c.settle_intended.new.rig) (V c.ask_misfit.new.rig) _ first (g.met.R.Rig.model c.ask_misfit.new.rig asks.honest) _ c.from_residual-in_err-misfit.result asks c.from_residual-in_err-misfit.ensures.1
+
+pub returns-in-Some-clause-elsewhere : goal.returns-in-Some-clause-elsewhere
+returns-in-Some-clause-elsewhere g c h loaded harmless owed =
+    let V = g.R.Rig.view in
+    let first = c.in_ok-settle_intended.ensures.strays h loaded harmless owed in
+    let asks = c.in_ok-misfit.ensures.honest first.honest first.settled in
+    let said = asks.done ∙ misfit_was c.args.chip.now (V c.args.rig.now) (V c.settle_intended.new.rig) first.left in
+    let is = c.in-Some.is in
+    let kept = strays_asked c.step_laws.ensures c.args.chip.now (V c.args.rig.now) (V c.settle_intended.new.rig) (V c.ask_misfit.new.rig) _ first (g.met.R.Rig.model c.ask_misfit.new.rig asks.honest) _ asks in
+    record { moments = kept.0; honest = asks.honest; left = kept.1; accepted = tt; refused = inr (cc (said, is)) }
+
+pub returns-in-None-clause-elsewhere : goal.returns-in-None-clause-elsewhere
+returns-in-None-clause-elsewhere g c h loaded harmless owed =
+    let V = g.R.Rig.view in
+    let first = c.in_ok-settle_intended.ensures.strays h loaded harmless owed in
+    let asks = c.in_ok-misfit.ensures.honest first.honest first.settled in
+    let said = asks.done ∙ misfit_was c.args.chip.now (V c.args.rig.now) (V c.settle_intended.new.rig) first.left in
+    let is = c.in-None.is in
+    let kept = strays_asked c.step_laws.ensures c.args.chip.now (V c.args.rig.now) (V c.settle_intended.new.rig) (V c.ask_misfit.new.rig) _ first (g.met.R.Rig.model c.ask_misfit.new.rig asks.honest) _ asks in
+    record { moments = kept.0; honest = asks.honest; left = kept.1; accepted = cc (said, is); refused = tt }

@@ -1,0 +1,59 @@
+use Rattle.std.proofs.Common.{◌∷◌, [], ◌∙◌, ap, arith}
+use Rattle.stm_wire.specs.declared.intent.Intent.TheVariants.{Program}
+use Rattle.stm_wire.specs.Device.{Device}
+use Rattle.stm_journal.specs.declared.entry.Entry.TheVariants.{Programs}
+use Rattle.stm_session.specs.Undoable.{state_at}
+use Rattle.stm_session.proofs.Erasings.{is_under, programs_step}
+use Rattle.stm_session.proofs.Going.{goes_then, goes_failed, goes_ok, line_goes, line_fails}
+use Rattle.stm_session.proofs.Keeping.{good_at}
+use Rattle.stm_session.proofs.programming.program_kept.Goals as goal
+
+pub returns-in_err-intend_program-clause-honest : goal.returns-in_err-intend_program-clause-honest
+returns-in_err-intend_program-clause-honest g c flashes base steady chip whole erased =
+    let V = g.R.Rig.view in
+    line_fails c.step_laws.ensures (Programs c.args.n) flashes c.args.journal.now c.intend_program.new.self
+    (V c.args.rig.now) (V c.intend_program.new.rig) (g.met.R.Rig.model c.args.rig.now steady.honest) steady
+    (programs_step c.step_laws.ensures flashes c.args.journal.now c.args.n (V c.args.rig.now) steady (omega (arith, c.ranges.n.fits)) c.requires.kept)
+    [] _ _ c.from_residual.result (c.in_err-intend_program.ensures.honest steady.honest steady.loaded) c.in_err-intend_program.ensures.left c.from_residual.ensures.1
+
+pub returns-in_err-program_frames-clause-honest : goal.returns-in_err-program_frames-clause-honest
+returns-in_err-program_frames-clause-honest g c flashes base steady chip whole erased =
+    let V = g.R.Rig.view in
+    let J = state_at (V c.args.rig.now).journal in
+    let K = state_at (V c.intend_program.new.rig).journal in
+    let call = c.in_ok-intend_program.ensures in
+    let appends = call.honest steady.honest steady.loaded in
+    let has = call.text steady.honest steady.loaded J K (good_at c.args.journal.now (V c.args.rig.now).journal steady.loaded) (good_at c.intend_program.new.self (V c.intend_program.new.rig).journal appends.loaded) in
+    let first = line_goes c.step_laws.ensures (Programs c.args.n) flashes c.args.journal.now c.intend_program.new.self
+    (V c.args.rig.now) (V c.intend_program.new.rig) (g.met.R.Rig.model c.args.rig.now steady.honest) steady
+    (programs_step c.step_laws.ensures flashes c.args.journal.now c.args.n (V c.args.rig.now) steady (omega (arith, c.ranges.n.fits)) c.requires.kept)
+    _ (tt {0}) appends call.after has in
+    let under = is_under c.args.n (Program c.args.n) J K has in
+    let chip_is = ap (λ (d : Device). d.chip) first.done ∙ chip in
+    let bare = ap (λ (d : Device). d.flash) first.done ∙ erased in
+    goes_then flashes (Programs c.args.n ∷ []) [] c.intend_program.new.self c.intend_program.new.self (V c.args.rig.now) (V c.intend_program.new.rig) (V c.program_frames.new.rig) (tt {0}) c.from_residual-in_err-program_frames.result
+    (g.met.R.Rig.model c.intend_program.new.rig first.steady.honest) first
+    (goes_failed flashes [] [] c.intend_program.new.self c.intend_program.new.self (V c.intend_program.new.rig) (V c.program_frames.new.rig) _ c.from_residual-in_err-program_frames.result
+    (c.in_err-program_frames.ensures.honest flashes c.intend_program.new.self base first.steady chip_is under whole bare)
+    c.from_residual-in_err-program_frames.ensures.1) (λ y p. p)
+
+pub returns-clause-honest : goal.returns-clause-honest
+returns-clause-honest g c flashes base steady chip whole erased =
+    let V = g.R.Rig.view in
+    let J = state_at (V c.args.rig.now).journal in
+    let K = state_at (V c.intend_program.new.rig).journal in
+    let call = c.in_ok-intend_program.ensures in
+    let appends = call.honest steady.honest steady.loaded in
+    let has = call.text steady.honest steady.loaded J K (good_at c.args.journal.now (V c.args.rig.now).journal steady.loaded) (good_at c.intend_program.new.self (V c.intend_program.new.rig).journal appends.loaded) in
+    let first = line_goes c.step_laws.ensures (Programs c.args.n) flashes c.args.journal.now c.intend_program.new.self
+    (V c.args.rig.now) (V c.intend_program.new.rig) (g.met.R.Rig.model c.args.rig.now steady.honest) steady
+    (programs_step c.step_laws.ensures flashes c.args.journal.now c.args.n (V c.args.rig.now) steady (omega (arith, c.ranges.n.fits)) c.requires.kept)
+    _ (tt {0}) appends call.after has in
+    let under = is_under c.args.n (Program c.args.n) J K has in
+    let chip_is = ap (λ (d : Device). d.chip) first.done ∙ chip in
+    let bare = ap (λ (d : Device). d.flash) first.done ∙ erased in
+    goes_then flashes (Programs c.args.n ∷ []) [] c.intend_program.new.self c.intend_program.new.self (V c.args.rig.now) (V c.intend_program.new.rig) (V c.program_frames.new.rig) (tt {0}) _
+    (g.met.R.Rig.model c.intend_program.new.rig first.steady.honest) first
+    (goes_ok flashes [] c.intend_program.new.self (V c.intend_program.new.rig) (V c.program_frames.new.rig) _ (tt {0})
+    (c.in_ok-program_frames.ensures.honest flashes c.intend_program.new.self base first.steady chip_is under whole bare)
+    (λ p. p)) (λ y p. p)

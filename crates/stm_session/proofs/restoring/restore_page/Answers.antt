@@ -1,0 +1,48 @@
+use Rattle.std.proofs.Common.{◌≡◌, ◌∙◌, ◌/◌, ◌∷◌, [], ◌++◌, if◌then◌else◌, ℕ, length, ap, append-nil, sym, subst, refl, rules}
+use Rattle.std.specs.Prelude.{bytes_eq}
+use Rattle.stm_chip.specs.declared.plan.PagePlan.{PagePlan}
+use Rattle.stm_chip.specs.Plan.{IsPlan, frames_of}
+use Rattle.stm_journal.specs.declared.entry.Entry.TheVariants.{Erases}
+use Rattle.stm_session.specs.Lines.{program_entries, rewrite_entries}
+use Rattle.stm_session.proofs.Going.{goes_as, goes_nowhere, goes_failed, goes_ok, goes_refused, page_held}
+use Rattle.stm_session.proofs.Restorings.{no_lines, some_lines}
+use Rattle.stm_session.proofs.restoring.restore_page.Goals as goal
+
+pub returns-in_default-clause-honest : goal.returns-in_default-clause-honest
+returns-in_default-clause-honest g c flashes steady chip read =
+    let V = g.R.Rig.view in
+    let lines = if bytes_eq c.args.held.now c.args.page.now then [] else rewrite_entries c.args.chip.now c.args.n c.args.page.now in
+    goes_refused flashes [] lines c.args.journal.now c.args.journal.now (V c.args.rig.now) (V c.args.rig.now) (tt {0}) _
+    (goes_nowhere c.step_laws.ensures flashes c.args.journal.now (V c.args.rig.now) (tt {0}) (λ x. Unit {0}) (g.met.R.Rig.model c.args.rig.now steady.honest) steady tt) refl
+
+pub returns-in-Same-clause-honest : goal.returns-in-Same-clause-honest
+returns-in-Same-clause-honest g c flashes steady chip read =
+    let V = g.R.Rig.view in
+    let model = g.met.R.Rig.model c.args.rig.now steady.honest in
+    let same : c.args.held.now ≡ c.args.page.now = search rules in
+    goes_as flashes [] _ c.args.journal.now (V c.args.rig.now) (V c.args.rig.now) _ (sym (no_lines c.args.chip.now c.args.n c.args.held.now c.args.page.now same))
+    (goes_nowhere c.step_laws.ensures flashes c.args.journal.now (V c.args.rig.now) (tt {0}) _ model steady
+    (page_held c.args.chip.now c.args.n c.args.page.now (V c.args.rig.now).device model.device chip (sym same ∙ read)))
+
+pub returns-in_err-rewrite_kept-in-Erase-clause-honest : goal.returns-in_err-rewrite_kept-in-Erase-clause-honest
+returns-in_err-rewrite_kept-in-Erase-clause-honest g c flashes steady chip read =
+    let V = g.R.Rig.view in
+    let P : PagePlan → Type 0 = λ p. IsPlan c.erased.result c.args.held.now c.args.page.now p in
+    let planned = subst P c.in-Erase.is c.in-Ok.ensures.plan in
+    let framed = c.deref.ensures.value ∙ planned.1 ∙ ap (λ (e : ℕ). frames_of e c.args.page.now (length c.args.page.now / 256)) c.erased.ensures.byte in
+    let lines = some_lines c.args.chip.now c.args.n c.args.held.now c.args.page.now c.deref.result.now planned.0 framed in
+    let own = Erases c.args.n ∷ program_entries c.args.n c.deref.result.now in
+    goes_as flashes (own ++ []) _ c.rewrite_kept.new.journal (V c.args.rig.now) (V c.rewrite_kept.new.rig) _ (append-nil own ∙ lines)
+    (goes_failed flashes own [] c.rewrite_kept.new.journal c.rewrite_kept.new.journal (V c.args.rig.now) (V c.rewrite_kept.new.rig) _ c.from_residual.result
+    (c.in_err-rewrite_kept-in-Erase.ensures.honest flashes steady chip) c.from_residual.ensures.1)
+
+pub returns-in_ok-rewrite_kept-in-Erase-clause-honest : goal.returns-in_ok-rewrite_kept-in-Erase-clause-honest
+returns-in_ok-rewrite_kept-in-Erase-clause-honest g c flashes steady chip read =
+    let V = g.R.Rig.view in
+    let P : PagePlan → Type 0 = λ p. IsPlan c.erased.result c.args.held.now c.args.page.now p in
+    let planned = subst P c.in-Erase.is c.in-Ok.ensures.plan in
+    let framed = c.deref.ensures.value ∙ planned.1 ∙ ap (λ (e : ℕ). frames_of e c.args.page.now (length c.args.page.now / 256)) c.erased.ensures.byte in
+    let lines = some_lines c.args.chip.now c.args.n c.args.held.now c.args.page.now c.deref.result.now planned.0 framed in
+    let own = Erases c.args.n ∷ program_entries c.args.n c.deref.result.now in
+    goes_as flashes own _ c.rewrite_kept.new.journal (V c.args.rig.now) (V c.rewrite_kept.new.rig) _ lines
+    (goes_ok flashes own c.rewrite_kept.new.journal (V c.args.rig.now) (V c.rewrite_kept.new.rig) _ (tt {0}) (c.in_ok-rewrite_kept-in-Erase.ensures.honest flashes steady chip) (λ p. p))

@@ -1,0 +1,112 @@
+use Rattle.std.proofs.Common.{◌≡◌, ◌∙◌, ◌++◌, if◌then◌else◌, [], List, ℕ, Ok, length, take, drop, ap, ap₂, append-nil, sym, subst, arith}
+use Rattle.std.proofs.Math.Seq.{take-append_seam}
+use Rattle.std.specs.Prelude.{bytes_eq}
+use Rattle.stm_wire.specs.Chip.{page_of, with_page}
+use Rattle.stm_wire.specs.Device.{Device}
+use Rattle.stm_journal.specs.Journals.{journal_of, good}
+use Rattle.stm_session.specs.Lines.{return_entries, rewrite_entries}
+use Rattle.stm_session.specs.Undoable.{state_at}
+use Rattle.stm_session.proofs.Fetchings.{fetch_goes, fetch_fails}
+use Rattle.stm_session.proofs.Going.{asks_fail, asks_on, goes_as, goes_failed, goes_ok, goes_refused, goes_then}
+use Rattle.stm_session.proofs.Keeping.{good_at}
+use Rattle.stm_session.proofs.Restorings.{lines_same, page_read}
+use Rattle.stm_session.proofs.returning.restore_line.Goals as goal
+
+pub returns-in_err-held-clause-honest : goal.returns-in_err-held-clause-honest
+returns-in_err-held-clause-honest g c flashes k i kept steady chip entry place number =
+    let V = g.R.Rig.view in
+    let l = c.args.journal.now in
+    let a = V c.args.rig.now in
+    let b = V c.read_range.new.rig in
+    asks_fail c.step_laws.ensures flashes l a b steady (return_entries c.args.chip.now a.device.flash kept) l _ c.from_residual.result (c.in_err-held.ensures.honest steady.honest steady.settled chip) c.from_residual.ensures.1
+
+pub returns-in_err-page-clause-honest : goal.returns-in_err-page-clause-honest
+returns-in_err-page-clause-honest g c flashes k i kept steady chip entry place number =
+    let V = g.R.Rig.view in
+    let l = c.args.journal.now in
+    let a = V c.args.rig.now in
+    let b = V c.read_range.new.rig in
+    goes_refused flashes [] (return_entries c.args.chip.now a.device.flash kept) l l a b (tt {0}) c.from_residual-in_err-page.result
+    (asks_on c.step_laws.ensures flashes l a b steady c.in_ok-held.held (c.in_ok-held.ensures.honest steady.honest steady.settled chip)) c.from_residual-in_err-page.ensures.1
+
+pub returns-in_err-fetch_page-clause-honest : goal.returns-in_err-fetch_page-clause-honest
+returns-in_err-fetch_page-clause-honest g c flashes k i kept steady chip entry place number =
+    let V = g.R.Rig.view in
+    let l = c.args.journal.now in
+    let a = V c.args.rig.now in
+    let b = V c.read_range.new.rig in
+    let d = V c.fetch_page.new.rig in
+    let asks = c.in_ok-held.ensures.honest steady.honest steady.settled chip in
+    let first = asks_on c.step_laws.ensures flashes l a b steady c.in_ok-held.held asks in
+    let model_b = g.met.R.Rig.model c.read_range.new.rig first.steady.honest in
+    goes_then flashes [] (return_entries c.args.chip.now a.device.flash kept) l l a b d (tt {0}) c.from_residual-in_err-fetch_page.result model_b first
+    (fetch_fails c.step_laws.ensures flashes l c.args.place c.fetch_page.new.buf b d model_b first.steady (return_entries c.args.chip.now a.device.flash kept) l _ c.from_residual-in_err-fetch_page.result
+    (c.in_err-fetch_page.ensures.honest first.steady.honest first.steady.loaded) c.from_residual-in_err-fetch_page.ensures.1) (λ y p. p)
+
+pub returns-in_err-restore_page-clause-honest : goal.returns-in_err-restore_page-clause-honest
+returns-in_err-restore_page-clause-honest g c flashes k i kept steady chip entry place number =
+    let V = g.R.Rig.view in
+    let l = c.args.journal.now in
+    let a = V c.args.rig.now in
+    let b = V c.read_range.new.rig in
+    let d = V c.fetch_page.new.rig in
+    let asks = c.in_ok-held.ensures.honest steady.honest steady.settled chip in
+    let first = asks_on c.step_laws.ensures flashes l a b steady c.in_ok-held.held asks in
+    let model_b = g.met.R.Rig.model c.read_range.new.rig first.steady.honest in
+    let e = V c.restore_page.new.rig in
+    let fetches = c.in_ok-fetch_page.ensures.honest first.steady.honest first.steady.loaded in
+    let second = fetch_goes c.step_laws.ensures flashes l c.args.place c.fetch_page.new.buf b d model_b first.steady (tt {0}) (λ (z : Unit {0}). Unit {0}) fetches tt in
+    let both = goes_then flashes [] [] l l a b d (tt {0}) (Ok tt) model_b first second (λ y p. p) in
+    let model_d = g.met.R.Rig.model c.fetch_page.new.rig both.honest in
+    let device_is : d.device ≡ a.device = fetches.same_device ∙ asks.same in
+    let still = ap (λ (x : Device). x.chip) device_is ∙ chip in
+    let held_is : c.deref.result.now ≡ page_of c.args.chip.now a.device.flash c.args.n =
+    c.deref.ensures.value ∙ asks.done ∙ page_read c.args.chip.now a.device.flash c.args.n c.page_start-start.result c.page_size-size.result c.page_start-start.ensures.address c.page_size-size.ensures.bytes in
+    let read = held_is ∙ sym (ap (λ (x : Device). page_of c.args.chip.now x.flash c.args.n) device_is) in
+    let J : List ℕ → Type 0 = λ j. journal_of j ≡ good (state_at a.journal) in
+    let there = subst J (sym asks.left.journal_same) (good_at l a.journal steady.loaded) in
+    let fetched = fetches.bytes (state_at a.journal) k i kept there entry place in
+    let many : length c.fetch_page.new.buf ≡ c.in_ok-page.page.len = omega (arith, c.fetch_page.auto.buf, c.deref_mut.ensures.len) in
+    let same : c.deref-2.result.now ≡ c.fetch_page.new.buf =
+    c.deref-2.ensures.value ∙ ap (λ (z : ℕ). take z (c.fetch_page.new.buf ++ drop (length c.fetch_page.new.buf) c.in_ok-page.page.items)) (sym many) ∙ take-append_seam c.fetch_page.new.buf _ in
+    let page_is : c.deref-2.result.now ≡ kept.bytes = same ∙ fetched in
+    let lines = lines_same c.args.chip.now a.device.flash c.args.n c.deref.result.now c.deref-2.result.now kept held_is page_is number in
+    let own = if bytes_eq c.deref.result.now c.deref-2.result.now then [] else rewrite_entries c.args.chip.now c.args.n c.deref-2.result.now in
+    goes_as flashes (own ++ []) _ c.restore_page.new.journal a e _ (append-nil own ∙ lines)
+    (goes_then flashes [] (own ++ []) l c.restore_page.new.journal a d e (tt {0}) c.from_residual-in_err-restore_page.result model_d both
+    (goes_failed flashes own [] c.restore_page.new.journal c.restore_page.new.journal d e _ c.from_residual-in_err-restore_page.result
+    (c.in_err-restore_page.ensures.honest flashes both.steady still read) c.from_residual-in_err-restore_page.ensures.1) (λ y p. p))
+
+pub returns-clause-honest : goal.returns-clause-honest
+returns-clause-honest g c flashes k i kept steady chip entry place number =
+    let V = g.R.Rig.view in
+    let l = c.args.journal.now in
+    let a = V c.args.rig.now in
+    let b = V c.read_range.new.rig in
+    let d = V c.fetch_page.new.rig in
+    let asks = c.in_ok-held.ensures.honest steady.honest steady.settled chip in
+    let first = asks_on c.step_laws.ensures flashes l a b steady c.in_ok-held.held asks in
+    let model_b = g.met.R.Rig.model c.read_range.new.rig first.steady.honest in
+    let e = V c.restore_page.new.rig in
+    let fetches = c.in_ok-fetch_page.ensures.honest first.steady.honest first.steady.loaded in
+    let second = fetch_goes c.step_laws.ensures flashes l c.args.place c.fetch_page.new.buf b d model_b first.steady (tt {0}) (λ (z : Unit {0}). Unit {0}) fetches tt in
+    let both = goes_then flashes [] [] l l a b d (tt {0}) (Ok tt) model_b first second (λ y p. p) in
+    let model_d = g.met.R.Rig.model c.fetch_page.new.rig both.honest in
+    let device_is : d.device ≡ a.device = fetches.same_device ∙ asks.same in
+    let still = ap (λ (x : Device). x.chip) device_is ∙ chip in
+    let held_is : c.deref.result.now ≡ page_of c.args.chip.now a.device.flash c.args.n =
+    c.deref.ensures.value ∙ asks.done ∙ page_read c.args.chip.now a.device.flash c.args.n c.page_start-start.result c.page_size-size.result c.page_start-start.ensures.address c.page_size-size.ensures.bytes in
+    let read = held_is ∙ sym (ap (λ (x : Device). page_of c.args.chip.now x.flash c.args.n) device_is) in
+    let J : List ℕ → Type 0 = λ j. journal_of j ≡ good (state_at a.journal) in
+    let there = subst J (sym asks.left.journal_same) (good_at l a.journal steady.loaded) in
+    let fetched = fetches.bytes (state_at a.journal) k i kept there entry place in
+    let many : length c.fetch_page.new.buf ≡ c.in_ok-page.page.len = omega (arith, c.fetch_page.auto.buf, c.deref_mut.ensures.len) in
+    let same : c.deref-2.result.now ≡ c.fetch_page.new.buf =
+    c.deref-2.ensures.value ∙ ap (λ (z : ℕ). take z (c.fetch_page.new.buf ++ drop (length c.fetch_page.new.buf) c.in_ok-page.page.items)) (sym many) ∙ take-append_seam c.fetch_page.new.buf _ in
+    let page_is : c.deref-2.result.now ≡ kept.bytes = same ∙ fetched in
+    let lines = lines_same c.args.chip.now a.device.flash c.args.n c.deref.result.now c.deref-2.result.now kept held_is page_is number in
+    let own = if bytes_eq c.deref.result.now c.deref-2.result.now then [] else rewrite_entries c.args.chip.now c.args.n c.deref-2.result.now in
+    goes_as flashes own _ c.restore_page.new.journal a e _ lines
+    (goes_then flashes [] own l c.restore_page.new.journal a d e (tt {0}) _ model_d both
+    (goes_ok flashes own c.restore_page.new.journal d e _ (tt {0}) (c.in_ok-restore_page.ensures.honest flashes both.steady still read) (λ p. p))
+    (λ y done. done ∙ ap₂ (λ (xs flash : List ℕ). with_page c.args.chip.now c.args.n xs flash) page_is (ap (λ (x : Device). x.flash) device_is)))

@@ -1,0 +1,97 @@
+use Rattle.std.proofs.Common.{◌≡◌, ◌∙◌, ◌≤◌, ℕ, Some, Ok, Err, Result, option_map, length, refl, sym, ap, subst, arith}
+use Rattle.stm_session.specs.declared.fault.Fault.{Fault}
+use Rattle.stm_session.specs.Promises.{UndoContract}
+use Rattle.stm_session.specs.Undoes.{Undoes, taken_count}
+use Rattle.stm_session.proofs.Going.{at_exit}
+use Rattle.stm_session.proofs.Undone.{contract_unread, contract_none, contract_unfound, contract_when, contract_after, refuses_elsewhere, undoes_unmet, undoes_stopped, undoes_all, loaded_then, undoable_then, flashes_depth, elsewhere_back, harmless_then, owed_then, own_chip, none_some, err_as}
+use Rattle.stm_session.proofs.reversal.undo.Goals as goal
+
+pub returns-in_err-journal-clause-promised : goal.returns-in_err-journal-clause-promised
+returns-in_err-journal-clause-promised g c =
+    let V = g.R.Rig.view in
+    contract_unread c.step_laws.ensures c.args.table.now c.args.count (V c.args.rig.now) (V c.load.new.rig) _ c.from_residual.result c.in_err-journal.ensures.honest c.in_err-journal.ensures.calls c.from_residual.ensures.1
+
+pub returns-then-depth-eq0-clause-promised : goal.returns-then-depth-eq0-clause-promised
+returns-then-depth-eq0-clause-promised g c =
+    let V = g.R.Rig.view in
+    let none : length c.in_ok-journal.journal.state.stack ≡ 0 = omega (arith, c.if-depth-eq0.true, c.depth-depth.ensures.value) in
+    contract_when c.args.table.now c.args.count (V c.args.rig.now) (V c.load.new.rig) _ (λ h.
+    let loads = c.in_ok-journal.ensures.honest h in
+    contract_none c.args.table.now c.in_ok-journal.journal (V c.args.rig.now) (V c.load.new.rig) loads c.step_laws.ensures c.args.count (g.met.R.Rig.model c.load.new.rig loads.honest) none c.in_ok-journal.ensures.calls)
+
+pub returns-in_err-chip-clause-promised : goal.returns-in_err-chip-clause-promised
+returns-in_err-chip-clause-promised g c =
+    let V = g.R.Rig.view in
+    let some : 1 ≤ length c.in_ok-journal.journal.state.stack = omega (arith, c.if-depth-eq0.false, c.depth-depth.ensures.value) in
+    let named : option_map (λ h. h.id) c.in_ok-journal.journal.state.header ≡ Some c.in-Some.id = sym c.in-Some.ensures in
+    contract_when c.args.table.now c.args.count (V c.args.rig.now) (V c.load.new.rig) c.from_residual-in_err-chip.result (λ h.
+    let loads = c.in_ok-journal.ensures.honest h in
+    contract_unfound c.args.table.now c.in_ok-journal.journal (V c.args.rig.now) (V c.load.new.rig) loads some c.in-Some.id named c.args.count _ c.from_residual-in_err-chip.result c.in_ok-journal.ensures.calls c.in_err-chip.ensures.refused c.from_residual-in_err-chip.ensures.1)
+
+pub returns-in_err-meet-clause-promised : goal.returns-in_err-meet-clause-promised
+returns-in_err-meet-clause-promised g c =
+    let V = g.R.Rig.view in
+    let some : 1 ≤ length c.in_ok-journal.journal.state.stack = omega (arith, c.if-depth-eq0.false, c.depth-depth.ensures.value) in
+    let named : option_map (λ h. h.id) c.in_ok-journal.journal.state.header ≡ Some c.in-Some.id = sym c.in-Some.ensures in
+    contract_when c.args.table.now c.args.count (V c.args.rig.now) (V c.meet.new.rig) c.from_residual-in_err-meet.result (λ h.
+    let loads = c.in_ok-journal.ensures.honest h in
+    let P : Result ℕ Fault → Type 0 = λ r. UndoContract c.args.table.now c.args.count (V c.args.rig.now) (V c.meet.new.rig) r in
+    err_as P c.from_residual-in_err-meet.result _ c.from_residual-in_err-meet.ensures.1 (λ x is.
+    contract_after c.args.table.now c.in_ok-journal.journal (V c.args.rig.now) (V c.load.new.rig) loads some c.in-Some.id named c.step_laws.ensures c.in_ok-chip.chip.now c.in_ok-chip.ensures.chip c.in_ok-chip.ensures.accepted c.args.count (V c.meet.new.rig) (Err x)
+    (λ refusal harmless owed misfit.
+    refuses_elsewhere c.args.table.now c.in_ok-journal.journal (V c.args.rig.now) (V c.load.new.rig) loads some c.in-Some.id named c.step_laws.ensures c.in_ok-chip.chip.now c.in_ok-chip.ensures.chip c.in_ok-chip.ensures.accepted c.args.count (V c.meet.new.rig) refusal _ x is harmless owed misfit
+    (c.in_err-meet.ensures.elsewhere loads.honest (loaded_then c.args.table.now c.in_ok-journal.journal (V c.args.rig.now) (V c.load.new.rig) loads) (harmless_then c.args.table.now c.in_ok-journal.journal (V c.args.rig.now) (V c.load.new.rig) loads some c.in-Some.id named c.step_laws.ensures c.in_ok-chip.chip.now c.in_ok-chip.ensures.chip c.in_ok-chip.ensures.accepted harmless) (owed_then c.args.table.now c.in_ok-journal.journal (V c.args.rig.now) (V c.load.new.rig) loads some c.in-Some.id named c.step_laws.ensures c.in_ok-chip.chip.now c.in_ok-chip.ensures.chip c.in_ok-chip.ensures.accepted owed)))
+    (λ flashes u listed.
+    let goes = c.in_err-meet.ensures.honest loads.honest flashes (loaded_then c.args.table.now c.in_ok-journal.journal (V c.args.rig.now) (V c.load.new.rig) loads) (undoable_then c.args.table.now c.in_ok-journal.journal (V c.args.rig.now) (V c.load.new.rig) loads flashes u) (own_chip c.args.table.now c.in_ok-journal.journal (V c.args.rig.now) (V c.load.new.rig) loads some c.in-Some.id named c.step_laws.ensures c.in_ok-chip.chip.now c.in_ok-chip.ensures.chip c.in_ok-chip.ensures.accepted flashes u listed) in
+    undoes_unmet c.args.table.now c.in_ok-journal.journal (V c.args.rig.now) (V c.load.new.rig) loads some c.in-Some.id named c.step_laws.ensures c.in_ok-chip.chip.now c.in_ok-chip.ensures.chip c.in_ok-chip.ensures.accepted (taken_count c.args.count (length flashes)) flashes u (V c.meet.new.rig) c.in_ok-journal.journal _ x (g.met.R.Rig.model c.meet.new.rig goes.honest) goes is)))
+
+pub returns-in_err-take_back_newest-clause-promised : goal.returns-in_err-take_back_newest-clause-promised
+returns-in_err-take_back_newest-clause-promised g c =
+    let V = g.R.Rig.view in
+    let some : 1 ≤ length c.in_ok-journal.journal.state.stack = omega (arith, c.if-depth-eq0.false, c.depth-depth.ensures.value) in
+    let named : option_map (λ h. h.id) c.in_ok-journal.journal.state.header ≡ Some c.in-Some.id = sym c.in-Some.ensures in
+    contract_when c.args.table.now c.args.count (V c.args.rig.now) (V c.take_back_newest.new.rig) c.from_residual-in_err-take_back_newest.result (λ h.
+    let loads = c.in_ok-journal.ensures.honest h in
+    let P : Result ℕ Fault → Type 0 = λ r. UndoContract c.args.table.now c.args.count (V c.args.rig.now) (V c.take_back_newest.new.rig) r in
+    err_as P c.from_residual-in_err-take_back_newest.result _ c.from_residual-in_err-take_back_newest.ensures.1 (λ x is.
+    contract_after c.args.table.now c.in_ok-journal.journal (V c.args.rig.now) (V c.load.new.rig) loads some c.in-Some.id named c.step_laws.ensures c.in_ok-chip.chip.now c.in_ok-chip.ensures.chip c.in_ok-chip.ensures.accepted c.args.count (V c.take_back_newest.new.rig) (Err x)
+    (λ refusal harmless owed misfit.
+    let meets = c.in_ok-meet.ensures.elsewhere loads.honest (loaded_then c.args.table.now c.in_ok-journal.journal (V c.args.rig.now) (V c.load.new.rig) loads) (harmless_then c.args.table.now c.in_ok-journal.journal (V c.args.rig.now) (V c.load.new.rig) loads some c.in-Some.id named c.step_laws.ensures c.in_ok-chip.chip.now c.in_ok-chip.ensures.chip c.in_ok-chip.ensures.accepted harmless) (owed_then c.args.table.now c.in_ok-journal.journal (V c.args.rig.now) (V c.load.new.rig) loads some c.in-Some.id named c.step_laws.ensures c.in_ok-chip.chip.now c.in_ok-chip.ensures.chip c.in_ok-chip.ensures.accepted owed) in
+    none_some _ refusal meets.accepted misfit)
+    (λ flashes u listed.
+    let goes = c.in_ok-meet.ensures.honest loads.honest flashes (loaded_then c.args.table.now c.in_ok-journal.journal (V c.args.rig.now) (V c.load.new.rig) loads) (undoable_then c.args.table.now c.in_ok-journal.journal (V c.args.rig.now) (V c.load.new.rig) loads flashes u) (own_chip c.args.table.now c.in_ok-journal.journal (V c.args.rig.now) (V c.load.new.rig) loads some c.in-Some.id named c.step_laws.ensures c.in_ok-chip.chip.now c.in_ok-chip.ensures.chip c.in_ok-chip.ensures.accepted flashes u listed) in
+    let met = c.in_ok-meet.ensures.elsewhere loads.honest (loaded_then c.args.table.now c.in_ok-journal.journal (V c.args.rig.now) (V c.load.new.rig) loads) (harmless_then c.args.table.now c.in_ok-journal.journal (V c.args.rig.now) (V c.load.new.rig) loads some c.in-Some.id named c.step_laws.ensures c.in_ok-chip.chip.now c.in_ok-chip.ensures.chip c.in_ok-chip.ensures.accepted u.harmless) (owed_then c.args.table.now c.in_ok-journal.journal (V c.args.rig.now) (V c.load.new.rig) loads some c.in-Some.id named c.step_laws.ensures c.in_ok-chip.chip.now c.in_ok-chip.ensures.chip c.in_ok-chip.ensures.accepted u.owed) in
+    let settled = (elsewhere_back c.args.table.now c.in_ok-journal.journal (V c.args.rig.now) (V c.load.new.rig) loads some c.in-Some.id named c.step_laws.ensures c.in_ok-chip.chip.now c.in_ok-chip.ensures.chip c.in_ok-chip.ensures.accepted (V c.meet.new.rig).device (V c.meet.new.rig).journal met.left).flash in
+    let model_b = g.met.R.Rig.model c.meet.new.rig goes.honest in
+    let chip_b = (at_exit _ (V c.load.new.rig) (V c.meet.new.rig) model_b goes.moments).make.chip ∙ own_chip c.args.table.now c.in_ok-journal.journal (V c.args.rig.now) (V c.load.new.rig) loads some c.in-Some.id named c.step_laws.ensures c.in_ok-chip.chip.now c.in_ok-chip.ensures.chip c.in_ok-chip.ensures.accepted flashes u listed in
+    let depth = flashes_depth c.args.table.now c.in_ok-journal.journal (V c.args.rig.now) (V c.load.new.rig) loads flashes u in
+    let count_is : c.taken_count-taken.result ≡ taken_count c.args.count (length flashes) = c.taken_count-taken.ensures.value ∙ ap (λ (n : ℕ). taken_count c.args.count n) (c.depth-depth.ensures.value ∙ sym depth) in
+    let back = c.in_err-take_back_newest.ensures.honest flashes goes.steady chip_b in
+    let U : ℕ → Type 0 = λ n. Undoes n flashes (V c.args.rig.now) (V c.take_back_newest.new.rig) (Err x) in
+    subst U count_is
+    (undoes_stopped c.args.table.now c.in_ok-journal.journal (V c.args.rig.now) (V c.load.new.rig) loads some c.in-Some.id named c.step_laws.ensures c.in_ok-chip.chip.now c.in_ok-chip.ensures.chip c.in_ok-chip.ensures.accepted c.taken_count-taken.result flashes u (V c.meet.new.rig) model_b goes settled (V c.take_back_newest.new.rig) c.take_back_newest.new.journal _ x (g.met.R.Rig.model c.take_back_newest.new.rig back.honest) back is))))
+
+pub returns-clause-promised : goal.returns-clause-promised
+returns-clause-promised g c =
+    let V = g.R.Rig.view in
+    let some : 1 ≤ length c.in_ok-journal.journal.state.stack = omega (arith, c.if-depth-eq0.false, c.depth-depth.ensures.value) in
+    let named : option_map (λ h. h.id) c.in_ok-journal.journal.state.header ≡ Some c.in-Some.id = sym c.in-Some.ensures in
+    contract_when c.args.table.now c.args.count (V c.args.rig.now) (V c.take_back_newest.new.rig) _ (λ h.
+    let loads = c.in_ok-journal.ensures.honest h in
+    contract_after c.args.table.now c.in_ok-journal.journal (V c.args.rig.now) (V c.load.new.rig) loads some c.in-Some.id named c.step_laws.ensures c.in_ok-chip.chip.now c.in_ok-chip.ensures.chip c.in_ok-chip.ensures.accepted c.args.count (V c.take_back_newest.new.rig) _
+    (λ refusal harmless owed misfit.
+    let meets = c.in_ok-meet.ensures.elsewhere loads.honest (loaded_then c.args.table.now c.in_ok-journal.journal (V c.args.rig.now) (V c.load.new.rig) loads) (harmless_then c.args.table.now c.in_ok-journal.journal (V c.args.rig.now) (V c.load.new.rig) loads some c.in-Some.id named c.step_laws.ensures c.in_ok-chip.chip.now c.in_ok-chip.ensures.chip c.in_ok-chip.ensures.accepted harmless) (owed_then c.args.table.now c.in_ok-journal.journal (V c.args.rig.now) (V c.load.new.rig) loads some c.in-Some.id named c.step_laws.ensures c.in_ok-chip.chip.now c.in_ok-chip.ensures.chip c.in_ok-chip.ensures.accepted owed) in
+    none_some _ refusal meets.accepted misfit)
+    (λ flashes u listed.
+    let goes = c.in_ok-meet.ensures.honest loads.honest flashes (loaded_then c.args.table.now c.in_ok-journal.journal (V c.args.rig.now) (V c.load.new.rig) loads) (undoable_then c.args.table.now c.in_ok-journal.journal (V c.args.rig.now) (V c.load.new.rig) loads flashes u) (own_chip c.args.table.now c.in_ok-journal.journal (V c.args.rig.now) (V c.load.new.rig) loads some c.in-Some.id named c.step_laws.ensures c.in_ok-chip.chip.now c.in_ok-chip.ensures.chip c.in_ok-chip.ensures.accepted flashes u listed) in
+    let met = c.in_ok-meet.ensures.elsewhere loads.honest (loaded_then c.args.table.now c.in_ok-journal.journal (V c.args.rig.now) (V c.load.new.rig) loads) (harmless_then c.args.table.now c.in_ok-journal.journal (V c.args.rig.now) (V c.load.new.rig) loads some c.in-Some.id named c.step_laws.ensures c.in_ok-chip.chip.now c.in_ok-chip.ensures.chip c.in_ok-chip.ensures.accepted u.harmless) (owed_then c.args.table.now c.in_ok-journal.journal (V c.args.rig.now) (V c.load.new.rig) loads some c.in-Some.id named c.step_laws.ensures c.in_ok-chip.chip.now c.in_ok-chip.ensures.chip c.in_ok-chip.ensures.accepted u.owed) in
+    let settled = (elsewhere_back c.args.table.now c.in_ok-journal.journal (V c.args.rig.now) (V c.load.new.rig) loads some c.in-Some.id named c.step_laws.ensures c.in_ok-chip.chip.now c.in_ok-chip.ensures.chip c.in_ok-chip.ensures.accepted (V c.meet.new.rig).device (V c.meet.new.rig).journal met.left).flash in
+    let model_b = g.met.R.Rig.model c.meet.new.rig goes.honest in
+    let chip_b = (at_exit _ (V c.load.new.rig) (V c.meet.new.rig) model_b goes.moments).make.chip ∙ own_chip c.args.table.now c.in_ok-journal.journal (V c.args.rig.now) (V c.load.new.rig) loads some c.in-Some.id named c.step_laws.ensures c.in_ok-chip.chip.now c.in_ok-chip.ensures.chip c.in_ok-chip.ensures.accepted flashes u listed in
+    let depth = flashes_depth c.args.table.now c.in_ok-journal.journal (V c.args.rig.now) (V c.load.new.rig) loads flashes u in
+    let count_is : c.taken_count-taken.result ≡ taken_count c.args.count (length flashes) = c.taken_count-taken.ensures.value ∙ ap (λ (n : ℕ). taken_count c.args.count n) (c.depth-depth.ensures.value ∙ sym depth) in
+    let back = c.in_ok-take_back_newest.ensures.honest flashes goes.steady chip_b in
+    let one : 1 ≤ c.taken_count-taken.result = c.taken_count-taken.ensures.some (omega (arith, some, c.depth-depth.ensures.value)) in
+    let U : ℕ → Type 0 = λ n. Undoes n flashes (V c.args.rig.now) (V c.take_back_newest.new.rig) (Ok c.taken_count-taken.result) in
+    subst U count_is
+    (undoes_all c.args.table.now c.in_ok-journal.journal (V c.args.rig.now) (V c.load.new.rig) loads some c.in-Some.id named c.step_laws.ensures c.in_ok-chip.chip.now c.in_ok-chip.ensures.chip c.in_ok-chip.ensures.accepted c.taken_count-taken.result flashes u (V c.meet.new.rig) model_b goes settled (V c.take_back_newest.new.rig) c.take_back_newest.new.journal c.taken_count-taken.result refl one (g.met.R.Rig.model c.take_back_newest.new.rig back.honest) back)))

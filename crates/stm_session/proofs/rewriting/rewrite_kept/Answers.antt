@@ -1,0 +1,58 @@
+use Rattle.std.proofs.Common.{◌≡◌, ◌∙◌, sym, ap, rules, List, [], ◌∷◌, ℕ, length}
+use Rattle.stm_wire.specs.Chip.{ChipData, erased_page, flash_size, with_page}
+use Rattle.stm_chip.specs.declared.plan.Frame.{Frame}
+use Rattle.stm_chip.specs.Plan.{written}
+use Rattle.stm_journal.specs.declared.entry.Entry.{Entry}
+use Rattle.stm_journal.specs.declared.entry.Entry.TheVariants.{Erases, Programs}
+use Rattle.stm_session.specs.Lines.{program_entries}
+use Rattle.stm_session.proofs.Frames.{no_frames, some_frames, written-none}
+use Rattle.stm_session.proofs.Going.{goes_as, goes_then, goes_failed, goes_ok, at_exit}
+use Rattle.stm_session.proofs.rewriting.rewrite_kept.Goals as goal
+
+pub returns-in_err-erase_kept-clause-honest : goal.returns-in_err-erase_kept-clause-honest
+returns-in_err-erase_kept-clause-honest g c flashes steady chip =
+    let V = g.R.Rig.view in
+    goes_failed flashes (Erases c.args.n ∷ []) (program_entries c.args.n c.args.frames.now) c.erase_kept.new.journal c.erase_kept.new.journal (V c.args.rig.now) (V c.erase_kept.new.rig) _ c.from_residual.result
+    (c.in_err-erase_kept.ensures.honest flashes steady chip) c.from_residual.ensures.1
+
+pub returns-in_err-program_kept-clause-honest : goal.returns-in_err-program_kept-clause-honest
+returns-in_err-program_kept-clause-honest g c flashes steady chip =
+    let V = g.R.Rig.view in
+    let first = c.in_ok-erase_kept.ensures.honest flashes steady chip in
+    let model = g.met.R.Rig.model c.erase_kept.new.rig first.steady.honest in
+    let start = g.met.R.Rig.model c.args.rig.now steady.honest in
+    let still = (at_exit _ (V c.args.rig.now) (V c.erase_kept.new.rig) model first.moments).make.chip ∙ chip in
+    let whole = start.device.size ∙ ap (λ (p : ChipData). flash_size p) chip in
+    let some : Programs c.args.n ∷ [] ≡ program_entries c.args.n c.args.frames.now = some_frames c.args.n c.args.frames.now (search rules) in
+    goes_as flashes (Erases c.args.n ∷ Programs c.args.n ∷ []) (Erases c.args.n ∷ program_entries c.args.n c.args.frames.now) c.program_kept.new.journal (V c.args.rig.now) (V c.program_kept.new.rig) _
+    (ap (λ (es : List Entry). Erases c.args.n ∷ es) some)
+    (goes_then flashes (Erases c.args.n ∷ []) (Programs c.args.n ∷ []) c.erase_kept.new.journal c.program_kept.new.journal (V c.args.rig.now) (V c.erase_kept.new.rig) (V c.program_kept.new.rig) _ c.from_residual-in_err-program_kept.result model first
+    (goes_failed flashes (Programs c.args.n ∷ []) [] c.program_kept.new.journal c.program_kept.new.journal (V c.erase_kept.new.rig) (V c.program_kept.new.rig) _ c.from_residual-in_err-program_kept.result
+    (c.in_err-program_kept.ensures.honest flashes (V c.args.rig.now).device.flash first.steady still whole first.done) c.from_residual-in_err-program_kept.ensures.1) (λ y p. p))
+
+pub returns-clause-honest : goal.returns-clause-honest
+returns-clause-honest g c flashes steady chip =
+    let V = g.R.Rig.view in
+    let first = c.in_ok-erase_kept.ensures.honest flashes steady chip in
+    let model = g.met.R.Rig.model c.erase_kept.new.rig first.steady.honest in
+    let start = g.met.R.Rig.model c.args.rig.now steady.honest in
+    let still = (at_exit _ (V c.args.rig.now) (V c.erase_kept.new.rig) model first.moments).make.chip ∙ chip in
+    let whole = start.device.size ∙ ap (λ (p : ChipData). flash_size p) chip in
+    let some : Programs c.args.n ∷ [] ≡ program_entries c.args.n c.args.frames.now = some_frames c.args.n c.args.frames.now (search rules) in
+    goes_as flashes (Erases c.args.n ∷ Programs c.args.n ∷ []) (Erases c.args.n ∷ program_entries c.args.n c.args.frames.now) c.program_kept.new.journal (V c.args.rig.now) (V c.program_kept.new.rig) _
+    (ap (λ (es : List Entry). Erases c.args.n ∷ es) some)
+    (goes_then flashes (Erases c.args.n ∷ []) (Programs c.args.n ∷ []) c.erase_kept.new.journal c.program_kept.new.journal (V c.args.rig.now) (V c.erase_kept.new.rig) (V c.program_kept.new.rig) _ _ model first
+    (goes_ok flashes (Programs c.args.n ∷ []) c.program_kept.new.journal (V c.erase_kept.new.rig) (V c.program_kept.new.rig) _ (tt {0})
+    (c.in_ok-program_kept.ensures.honest flashes (V c.args.rig.now).device.flash first.steady still whole first.done)
+    (λ done. done ∙ ap (λ (xs : List ℕ). with_page c.args.chip.now c.args.n xs (V c.args.rig.now).device.flash) c.requires.gives)) (λ y p. p))
+
+pub returns-then-is_empty-clause-honest : goal.returns-then-is_empty-clause-honest
+returns-then-is_empty-clause-honest g c flashes steady chip =
+    let V = g.R.Rig.view in
+    let zero : length c.args.frames.now ≡ 0 = search rules in
+    let none : c.args.frames.now ≡ [] = no_frames c.args.frames.now zero in
+    goes_as flashes (Erases c.args.n ∷ []) (Erases c.args.n ∷ program_entries c.args.n c.args.frames.now) c.erase_kept.new.journal (V c.args.rig.now) (V c.erase_kept.new.rig) _
+    (ap (λ (fs : List Frame). Erases c.args.n ∷ program_entries c.args.n fs) (sym none))
+    (goes_ok flashes (Erases c.args.n ∷ []) c.erase_kept.new.journal (V c.args.rig.now) (V c.erase_kept.new.rig) _ (tt {0}) (c.in_ok-erase_kept.ensures.honest flashes steady chip)
+    (λ done. done ∙ ap (λ (xs : List ℕ). with_page c.args.chip.now c.args.n xs (V c.args.rig.now).device.flash)
+    (sym (ap (λ (fs : List Frame). written c.args.page.now fs (erased_page c.args.chip.now c.args.n)) none ∙ written-none c.args.page.now (erased_page c.args.chip.now c.args.n)) ∙ c.requires.gives)))

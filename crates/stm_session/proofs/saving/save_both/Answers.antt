@@ -1,0 +1,56 @@
+use Rattle.std.proofs.Common.{◌∙◌, ◌∷◌, [], ap, sym}
+use Rattle.stm_wire.specs.Chip.{page_of}
+use Rattle.stm_wire.specs.Device.{Device}
+use Rattle.stm_journal.specs.declared.entry.Entry.TheVariants.{Keeps}
+use Rattle.stm_session.proofs.Going.{goes_failed, goes_then}
+use Rattle.stm_session.proofs.Savings.{both_saved, may_still}
+use Rattle.stm_session.proofs.saving.save_both.Goals as goal
+
+pub save_page-requires-clause-may : goal.save_page-requires-clause-may
+save_page-requires-clause-may g c = may_still c.args.journal.now.state c.save_companion.new.journal.state c.in_ok-save_companion.ensures.saved c.requires.may
+
+pub save_page-requires-clause-companion : goal.save_page-requires-clause-companion
+save_page-requires-clause-companion g c one has = c.in_ok-save_companion.ensures.saved.keeps
+
+pub returns-clause-saved : goal.returns-clause-saved
+returns-clause-saved g c =
+    both_saved c.args.chip.now c.args.journal.now.state c.save_companion.new.journal.state c.save_page.new.journal.state c.in_ok-save_companion.ensures.saved c.in_ok-save_page.ensures.saved
+
+pub returns-in_err-save_companion-clause-honest : goal.returns-in_err-save_companion-clause-honest
+returns-in_err-save_companion-clause-honest g c flashes steady chip read =
+    let V = g.R.Rig.view in
+    let l2 = c.save_companion.new.journal in
+    let a = V c.args.rig.now in
+    let b = V c.save_companion.new.rig in
+    goes_failed flashes (Keeps 257 (page_of c.args.chip.now a.device.flash 257) ∷ []) (Keeps 1 c.args.held.now ∷ []) l2 l2 a b _ c.from_residual.result
+    (c.in_err-save_companion.ensures.honest flashes steady chip) c.from_residual.ensures.1
+
+pub returns-in_err-save_page-clause-honest : goal.returns-in_err-save_page-clause-honest
+returns-in_err-save_page-clause-honest g c flashes steady chip read =
+    let V = g.R.Rig.view in
+    let l2 = c.save_companion.new.journal in
+    let l3 = c.save_page.new.journal in
+    let a = V c.args.rig.now in
+    let b = V c.save_companion.new.rig in
+    let d = V c.save_page.new.rig in
+    let first = c.in_ok-save_companion.ensures.honest flashes steady chip in
+    let model_b = g.met.R.Rig.model c.save_companion.new.rig first.steady.honest in
+    let still = ap (λ (x : Device). x.chip) first.done ∙ chip in
+    let same = read ∙ sym (ap (λ (x : Device). page_of c.args.chip.now x.flash 1) first.done) in
+    goes_then flashes (Keeps 257 (page_of c.args.chip.now a.device.flash 257) ∷ []) (Keeps 1 c.args.held.now ∷ []) l2 l3 a b d (tt {0}) c.from_residual-in_err-save_page.result model_b first
+    (goes_failed flashes (Keeps 1 c.args.held.now ∷ []) [] l3 l3 b d _ c.from_residual-in_err-save_page.result (c.in_err-save_page.ensures.honest flashes first.steady still same) c.from_residual-in_err-save_page.ensures.1) (λ y p. p)
+
+pub returns-clause-honest : goal.returns-clause-honest
+returns-clause-honest g c flashes steady chip read =
+    let V = g.R.Rig.view in
+    let l2 = c.save_companion.new.journal in
+    let l3 = c.save_page.new.journal in
+    let a = V c.args.rig.now in
+    let b = V c.save_companion.new.rig in
+    let d = V c.save_page.new.rig in
+    let first = c.in_ok-save_companion.ensures.honest flashes steady chip in
+    let model_b = g.met.R.Rig.model c.save_companion.new.rig first.steady.honest in
+    let still = ap (λ (x : Device). x.chip) first.done ∙ chip in
+    let same = read ∙ sym (ap (λ (x : Device). page_of c.args.chip.now x.flash 1) first.done) in
+    goes_then flashes (Keeps 257 (page_of c.args.chip.now a.device.flash 257) ∷ []) (Keeps 1 c.args.held.now ∷ []) l2 l3 a b d (tt {0}) _ model_b first
+    (c.in_ok-save_page.ensures.honest flashes first.steady still same) (λ y done. done ∙ first.done)

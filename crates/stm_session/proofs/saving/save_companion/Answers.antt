@@ -1,0 +1,56 @@
+use Rattle.std.proofs.Common.{◌≡◌, ◌∙◌, ◌∷◌, [], List, ℕ, ap, sym}
+use Rattle.stm_wire.specs.Chip.{page_of}
+use Rattle.stm_wire.specs.Device.{Device}
+use Rattle.stm_journal.specs.declared.entry.Entry.{Entry}
+use Rattle.stm_journal.specs.declared.entry.Entry.TheVariants.{Keeps}
+use Rattle.stm_session.proofs.Going.{asks_fail, asks_on, goes_as, goes_failed, goes_then}
+use Rattle.stm_session.proofs.Restorings.{page_read}
+use Rattle.stm_session.proofs.saving.save_companion.Goals as goal
+
+pub returns-in_err-held-clause-honest : goal.returns-in_err-held-clause-honest
+returns-in_err-held-clause-honest g c flashes steady chip =
+    let V = g.R.Rig.view in
+    let l = c.args.journal.now in
+    let a = V c.args.rig.now in
+    let b = V c.read_range.new.rig in
+    asks_fail c.step_laws.ensures flashes l a b steady (Keeps 257 (page_of c.args.chip.now a.device.flash 257) ∷ []) l _ c.from_residual.result
+    (c.in_err-held.ensures.honest steady.honest steady.settled chip) c.from_residual.ensures.1
+
+pub returns-in_err-save_page-clause-honest : goal.returns-in_err-save_page-clause-honest
+returns-in_err-save_page-clause-honest g c flashes steady chip =
+    let V = g.R.Rig.view in
+    let l = c.args.journal.now in
+    let l2 = c.save_page.new.journal in
+    let a = V c.args.rig.now in
+    let b = V c.read_range.new.rig in
+    let d = V c.save_page.new.rig in
+    let asks = c.in_ok-held.ensures.honest steady.honest steady.settled chip in
+    let first = asks_on c.step_laws.ensures flashes l a b steady c.in_ok-held.held asks in
+    let model_b = g.met.R.Rig.model c.read_range.new.rig first.steady.honest in
+    let still = ap (λ (x : Device). x.chip) asks.same ∙ chip in
+    let held_is : c.deref.result.now ≡ page_of c.args.chip.now a.device.flash 257 =
+    c.deref.ensures.value ∙ asks.done ∙ page_read c.args.chip.now a.device.flash 257 c.page_start-start.result c.page_size-size.result c.page_start-start.ensures.address c.page_size-size.ensures.bytes in
+    let read = held_is ∙ sym (ap (λ (x : Device). page_of c.args.chip.now x.flash 257) asks.same) in
+    let own = Keeps 257 c.deref.result.now ∷ [] in
+    goes_as flashes own _ l2 a d _ (ap (λ (bytes : List ℕ). let e : Entry = Keeps 257 bytes in e ∷ []) held_is)
+    (goes_then flashes [] own l l2 a b d (tt {0}) c.from_residual-in_err-save_page.result model_b first
+    (goes_failed flashes own [] l2 l2 b d _ c.from_residual-in_err-save_page.result (c.in_err-save_page.ensures.honest flashes first.steady still read) c.from_residual-in_err-save_page.ensures.1) (λ y p. p))
+
+pub returns-clause-honest : goal.returns-clause-honest
+returns-clause-honest g c flashes steady chip =
+    let V = g.R.Rig.view in
+    let l = c.args.journal.now in
+    let l2 = c.save_page.new.journal in
+    let a = V c.args.rig.now in
+    let b = V c.read_range.new.rig in
+    let d = V c.save_page.new.rig in
+    let asks = c.in_ok-held.ensures.honest steady.honest steady.settled chip in
+    let first = asks_on c.step_laws.ensures flashes l a b steady c.in_ok-held.held asks in
+    let model_b = g.met.R.Rig.model c.read_range.new.rig first.steady.honest in
+    let still = ap (λ (x : Device). x.chip) asks.same ∙ chip in
+    let held_is : c.deref.result.now ≡ page_of c.args.chip.now a.device.flash 257 =
+    c.deref.ensures.value ∙ asks.done ∙ page_read c.args.chip.now a.device.flash 257 c.page_start-start.result c.page_size-size.result c.page_start-start.ensures.address c.page_size-size.ensures.bytes in
+    let read = held_is ∙ sym (ap (λ (x : Device). page_of c.args.chip.now x.flash 257) asks.same) in
+    let own = Keeps 257 c.deref.result.now ∷ [] in
+    goes_as flashes own _ l2 a d _ (ap (λ (bytes : List ℕ). let e : Entry = Keeps 257 bytes in e ∷ []) held_is)
+    (goes_then flashes [] own l l2 a b d (tt {0}) _ model_b first (c.in_ok-save_page.ensures.honest flashes first.steady still read) (λ y done. done ∙ asks.same))

@@ -1,0 +1,61 @@
+use Rattle.std.proofs.Common.{◌≡◌, ◌∙◌, ◌==◌, ◌&&◌, ◌∷◌, [], ℕ, true, false, ap, refl, sym}
+use Rattle.stm_wire.specs.Chip.{page_of}
+use Rattle.stm_journal.specs.declared.entry.Entry.TheVariants.{Keeps}
+use Rattle.stm_session.specs.Undoable.{has_companion}
+use Rattle.stm_session.proofs.Going.{goes_as, goes_failed, goes_nowhere, goes_ok}
+use Rattle.stm_session.proofs.Savings.{both_lines, is_first, none_lines, one_lines}
+use Rattle.stm_session.proofs.saving.save_pages.Goals as goal
+
+pub returns-then-kept-clause-honest : goal.returns-then-kept-clause-honest
+returns-then-kept-clause-honest g c flashes steady chip read =
+    let V = g.R.Rig.view in
+    let a = V c.args.rig.now in
+    let l = c.args.journal.now in
+    goes_as flashes [] _ l a a _ (none_lines c.args.kept c.args.chip.now a.device.flash c.args.n c.if-kept.true)
+    (goes_nowhere c.step_laws.ensures flashes l a (tt {0}) _ (g.met.R.Rig.model c.args.rig.now steady.honest) steady refl)
+
+pub returns-in_err-save_both-clause-honest : goal.returns-in_err-save_both-clause-honest
+returns-in_err-save_both-clause-honest g c flashes steady chip read =
+    let V = g.R.Rig.view in
+    let a = V c.args.rig.now in
+    let b = V c.save_both.new.rig in
+    let l2 = c.save_both.new.journal in
+    let both : (c.args.n == 1 && has_companion c.args.chip.now) ≡ true = sym c.has_other.ensures ∙ c.if-has_other.true in
+    let one = read ∙ ap (λ (m : ℕ). page_of c.args.chip.now a.device.flash m) (is_first c.args.n (has_companion c.args.chip.now) both) in
+    let own = Keeps 257 (page_of c.args.chip.now a.device.flash 257) ∷ Keeps 1 c.args.held.now ∷ [] in
+    goes_as flashes own _ l2 a b _ (both_lines c.args.kept c.args.chip.now a.device.flash c.args.n c.args.held.now c.if-kept.false both one)
+    (goes_failed flashes own [] l2 l2 a b _ c.from_residual.result (c.in_err-save_both.ensures.honest flashes steady chip one) c.from_residual.ensures.1)
+
+pub returns-then-has_other-clause-honest : goal.returns-then-has_other-clause-honest
+returns-then-has_other-clause-honest g c flashes steady chip read =
+    let V = g.R.Rig.view in
+    let a = V c.args.rig.now in
+    let b = V c.save_both.new.rig in
+    let l2 = c.save_both.new.journal in
+    let both : (c.args.n == 1 && has_companion c.args.chip.now) ≡ true = sym c.has_other.ensures ∙ c.if-has_other.true in
+    let one = read ∙ ap (λ (m : ℕ). page_of c.args.chip.now a.device.flash m) (is_first c.args.n (has_companion c.args.chip.now) both) in
+    let own = Keeps 257 (page_of c.args.chip.now a.device.flash 257) ∷ Keeps 1 c.args.held.now ∷ [] in
+    goes_as flashes own _ l2 a b _ (both_lines c.args.kept c.args.chip.now a.device.flash c.args.n c.args.held.now c.if-kept.false both one)
+    (goes_ok flashes own l2 a b _ (tt {0}) (c.in_ok-save_both.ensures.honest flashes steady chip one) (λ p. p))
+
+pub returns-in_err-save_page-clause-honest : goal.returns-in_err-save_page-clause-honest
+returns-in_err-save_page-clause-honest g c flashes steady chip read =
+    let V = g.R.Rig.view in
+    let a = V c.args.rig.now in
+    let b = V c.save_page.new.rig in
+    let l2 = c.save_page.new.journal in
+    let alone : (c.args.n == 1 && has_companion c.args.chip.now) ≡ false = sym c.has_other.ensures ∙ c.if-has_other.false in
+    let own = Keeps c.args.n c.args.held.now ∷ [] in
+    goes_as flashes own _ l2 a b _ (one_lines c.args.kept c.args.chip.now a.device.flash c.args.n c.args.held.now c.if-kept.false alone read)
+    (goes_failed flashes own [] l2 l2 a b _ c.from_residual-in_err-save_page.result (c.in_err-save_page.ensures.honest flashes steady chip read) c.from_residual-in_err-save_page.ensures.1)
+
+pub returns-clause-honest : goal.returns-clause-honest
+returns-clause-honest g c flashes steady chip read =
+    let V = g.R.Rig.view in
+    let a = V c.args.rig.now in
+    let b = V c.save_page.new.rig in
+    let l2 = c.save_page.new.journal in
+    let alone : (c.args.n == 1 && has_companion c.args.chip.now) ≡ false = sym c.has_other.ensures ∙ c.if-has_other.false in
+    let own = Keeps c.args.n c.args.held.now ∷ [] in
+    goes_as flashes own _ l2 a b _ (one_lines c.args.kept c.args.chip.now a.device.flash c.args.n c.args.held.now c.if-kept.false alone read)
+    (goes_ok flashes own l2 a b _ (tt {0}) (c.in_ok-save_page.ensures.honest flashes steady chip read) (λ p. p))

@@ -1,0 +1,95 @@
+use Rattle.std.proofs.Common.{◌<◌, ◌∙◌, sym, refl, ap, arith, List}
+use Rattle.std.proofs.lemmas.List.{take_all}
+use Rattle.stm_journal.specs.declared.kept.Kept.{Kept}
+use Rattle.stm_journal.specs.KeptPlaces.{kept_count}
+use Rattle.stm_journal.specs.NewestLaws.{KeepsSame-refl, KeepsSame-trans}
+use Rattle.stm_session.specs.TakingBack.{newest_at, return_lines, with_pages}
+use Rattle.stm_session.proofs.Going.{goes_as, goes_nowhere, goes_ok}
+use Rattle.stm_session.proofs.Returns.{count_text, no_place, number_exists, number_kept, place_fits}
+use Rattle.stm_session.proofs.TakingBack.{chip_still, first, return_failed, returned, the_line}
+use Rattle.stm_session.proofs.taking_back.restore_lines.Goals as goal
+
+pub loop-i-init : goal.loop-i-init
+loop-i-init g c =
+    let V = g.R.Rig.view in
+    record {
+      same = KeepsSame-refl c.args.journal.now.state;
+      line = omega arith;
+      journal = omega arith;
+      honest = λ flashes steady chip. goes_nowhere c.step_laws.ensures flashes c.args.journal.now (V c.args.rig.now) (tt {0}) _ (g.met.R.Rig.model c.args.rig.now steady.honest) steady refl;
+    }
+
+pub unreachable-requires : goal.unreachable-requires
+unreachable-requires g c =
+    let lt : c.loop-i.i < kept_count c.args.journal.now.state c.depth-newest.result = omega (arith, c.loop-i-test.true, c.kept_count-count.ensures) in
+    no_place c.args.journal.now.state c.loop-i.journal.state c.depth-newest.result c.loop-i.i c.loop-i.invariant.same c.depth-newest.ensures.value lt (sym c.in_default.is ∙ c.kept_place.ensures.place)
+
+pub restore_line-requires-clause-exists : goal.restore_line-requires-clause-exists
+restore_line-requires-clause-exists g c =
+    let lt : c.loop-i.i < kept_count c.args.journal.now.state c.depth-newest.result = omega (arith, c.loop-i-test.true, c.kept_count-count.ensures) in
+    number_exists c.args.journal.now.state c.loop-i.journal.state c.depth-newest.result c.loop-i.i c.loop-i.invariant.same c.depth-newest.ensures.value lt c.args.chip.now c.in-Some-kept.n c.in-Some-kept.field-0-1
+    c.requires.fits (sym c.in-Some-kept.ensures)
+
+pub restore_line-requires-clause-kept : goal.restore_line-requires-clause-kept
+restore_line-requires-clause-kept g c =
+    let lt : c.loop-i.i < kept_count c.args.journal.now.state c.depth-newest.result = omega (arith, c.loop-i-test.true, c.kept_count-count.ensures) in
+    number_kept c.args.journal.now.state c.loop-i.journal.state c.depth-newest.result c.loop-i.i c.loop-i.invariant.same c.depth-newest.ensures.value lt c.args.chip.now c.in-Some-kept.n c.in-Some-kept.field-0-1
+    c.requires.fits (sym c.in-Some-kept.ensures)
+
+pub restore_line-requires-clause-size : goal.restore_line-requires-clause-size
+restore_line-requires-clause-size g c =
+    let lt : c.loop-i.i < kept_count c.args.journal.now.state c.depth-newest.result = omega (arith, c.loop-i-test.true, c.kept_count-count.ensures) in
+    place_fits c.args.journal.now.state c.loop-i.journal.state c.depth-newest.result c.loop-i.i c.loop-i.invariant.same c.depth-newest.ensures.value lt c.args.chip.now c.in-Some-kept.n c.in-Some-kept.field-0-1
+    c.requires.fits (sym c.in-Some-kept.ensures) c.in-Some.place (sym c.in-Some.ensures.place)
+
+pub returns-in_err-restore_line-clause-honest : goal.returns-in_err-restore_line-clause-honest
+returns-in_err-restore_line-clause-honest g c flashes steady chip =
+    let V = g.R.Rig.view in
+    let a = V c.args.rig.now in
+    let b = V c.loop-i.rig in
+    let model_then = λ (h : b.is_honest). g.met.R.Rig.model c.loop-i.rig h in
+    let model = g.met.R.Rig.model c.args.rig.now steady.honest in
+    let line = the_line c.step_laws.ensures c.args.chip.now c.args.journal.now c.loop-i.journal a b c.depth-newest.result c.loop-i.i c.in-Some-kept.n c.in-Some-kept.field-0-1 c.in-Some.place flashes c.loop-i.invariant
+    model model_then steady chip c.depth-newest.ensures.value (sym c.in-Some.ensures.place) (sym c.in-Some-kept.ensures) in
+    let now = first c.step_laws.ensures c.args.chip.now c.args.journal.now c.loop-i.journal a b c.depth-newest.result c.loop-i.i c.in-Some-kept.n c.in-Some-kept.field-0-1 c.in-Some.place flashes c.loop-i.invariant
+    model model_then steady chip c.depth-newest.ensures.value (sym c.in-Some.ensures.place) (sym c.in-Some-kept.ensures) in
+    let still = chip_still c.step_laws.ensures c.args.chip.now c.args.journal.now c.loop-i.journal a b c.depth-newest.result c.loop-i.i c.in-Some-kept.n c.in-Some-kept.field-0-1 c.in-Some.place flashes c.loop-i.invariant
+    model model_then steady chip c.depth-newest.ensures.value (sym c.in-Some.ensures.place) (sym c.in-Some-kept.ensures) in
+    return_failed c.step_laws.ensures c.args.chip.now c.args.journal.now c.loop-i.journal a b c.depth-newest.result c.loop-i.i c.in-Some-kept.n c.in-Some-kept.field-0-1 c.in-Some.place flashes c.loop-i.invariant
+    model model_then steady chip c.depth-newest.ensures.value (sym c.in-Some.ensures.place) (sym c.in-Some-kept.ensures) c.restore_line.new.journal (V c.restore_line.new.rig) c.restore_line.new.journal _ c.from_residual.result
+    (c.in_err-restore_line.ensures.honest flashes c.depth-newest.result c.loop-i.i line.0 now.steady still line.1 line.2 line.3) c.from_residual.ensures.1
+
+pub loop-i-preserved : goal.loop-i-preserved
+loop-i-preserved g c =
+    let V = g.R.Rig.view in
+    let a = V c.args.rig.now in
+    let b = V c.loop-i.rig in
+    let so_far = c.loop-i.invariant in
+    record {
+      same = KeepsSame-trans c.args.journal.now.state c.loop-i.journal.state c.restore_line.new.journal.state so_far.same c.in_ok-restore_line.ensures.same;
+      line = omega (arith, so_far.line, c.in_ok-restore_line.ensures.cause.line_later);
+      journal = omega (arith, so_far.journal, c.in_ok-restore_line.ensures.cause.journal_later);
+      honest = λ flashes steady chip.
+          let model_then = λ (h : b.is_honest). g.met.R.Rig.model c.loop-i.rig h in
+          let model = g.met.R.Rig.model c.args.rig.now steady.honest in
+          let line = the_line c.step_laws.ensures c.args.chip.now c.args.journal.now c.loop-i.journal a b c.depth-newest.result c.loop-i.i c.in-Some-kept.n c.in-Some-kept.field-0-1 c.in-Some.place flashes so_far
+          model model_then steady chip c.depth-newest.ensures.value (sym c.in-Some.ensures.place) (sym c.in-Some-kept.ensures) in
+          let now = first c.step_laws.ensures c.args.chip.now c.args.journal.now c.loop-i.journal a b c.depth-newest.result c.loop-i.i c.in-Some-kept.n c.in-Some-kept.field-0-1 c.in-Some.place flashes so_far
+          model model_then steady chip c.depth-newest.ensures.value (sym c.in-Some.ensures.place) (sym c.in-Some-kept.ensures) in
+          let still = chip_still c.step_laws.ensures c.args.chip.now c.args.journal.now c.loop-i.journal a b c.depth-newest.result c.loop-i.i c.in-Some-kept.n c.in-Some-kept.field-0-1 c.in-Some.place flashes so_far
+          model model_then steady chip c.depth-newest.ensures.value (sym c.in-Some.ensures.place) (sym c.in-Some-kept.ensures) in
+          returned c.step_laws.ensures c.args.chip.now c.args.journal.now c.loop-i.journal a b c.depth-newest.result c.loop-i.i c.in-Some-kept.n c.in-Some-kept.field-0-1 c.in-Some.place flashes so_far
+          model model_then steady chip c.depth-newest.ensures.value (sym c.in-Some.ensures.place) (sym c.in-Some-kept.ensures) c.restore_line.new.journal (V c.restore_line.new.rig) _
+          (c.in_ok-restore_line.ensures.honest flashes c.depth-newest.result c.loop-i.i line.0 now.steady still line.1 line.2 line.3);
+    }
+
+pub returns-clause-honest : goal.returns-clause-honest
+returns-clause-honest g c flashes steady chip =
+    let V = g.R.Rig.view in
+    let a = V c.args.rig.now in
+    let many = count_text c.args.journal.now a.journal c.depth-newest.result steady.loaded c.depth-newest.ensures.value in
+    let all = take_all c.loop-i.i (newest_at a.journal) (omega (arith, c.loop-i-test.false, c.kept_count-count.ensures, many)) in
+    goes_as flashes (return_lines c.args.chip.now a.device.flash (_)) (return_lines c.args.chip.now a.device.flash (newest_at a.journal)) c.loop-i.journal a (V c.loop-i.rig) _
+    (ap (λ (pages : List Kept). return_lines c.args.chip.now a.device.flash pages) all)
+    (goes_ok flashes _ c.loop-i.journal a (V c.loop-i.rig) (tt {0}) (tt {0}) (c.loop-i.invariant.honest flashes steady chip)
+    (λ done. done ∙ ap (λ (pages : List Kept). with_pages c.args.chip.now pages a.device.flash) all))

@@ -1,0 +1,61 @@
+use Rattle.std.proofs.Common.{ℕ, ◌≡◌, ◌<◌, ◌∙◌, ◌∷◌, ◌++◌, [], sym, ap, arith, length}
+use Rattle.stm_wire.specs.Chip.{ChipData}
+use Rattle.stm_journal.specs.declared.entry.Entry.TheVariants.{Undoes}
+use Rattle.stm_journal.specs.Flashes.{flashes_before_segments}
+use Rattle.stm_session.specs.TakingBack.{newest_at, return_lines}
+use Rattle.stm_session.specs.Undoable.{state_at}
+use Rattle.stm_session.proofs.Keeping.{depth_text, good_at}
+use Rattle.stm_session.proofs.TakingBack.{back_failed, back_then, first_flash, intents_returns, takes_as, undone_fails, undone_goes}
+use Rattle.stm_session.proofs.taking_back.take_back.Goals as goal
+
+pub returns-in_err-restore_lines-clause-honest : goal.returns-in_err-restore_lines-clause-honest
+returns-in_err-restore_lines-clause-honest g c flash flashes steady chip =
+    let V = g.R.Rig.view in
+    let a = V c.args.rig.now in
+    back_failed (return_lines c.args.chip.now a.device.flash (newest_at a.journal)) (Undoes (length (state_at a.journal).stack) ∷ []) flash flashes c.restore_lines.new.journal c.restore_lines.new.journal a (V c.restore_lines.new.rig) _
+    c.from_residual.result (c.in_err-restore_lines.ensures.honest (flash ∷ flashes) steady chip) c.from_residual.ensures.1
+
+pub returns-in_err-undone-clause-honest : goal.returns-in_err-undone-clause-honest
+returns-in_err-undone-clause-honest g c flash flashes steady chip =
+    let V = g.R.Rig.view in
+    let l = c.args.journal.now in
+    let l2 = c.restore_lines.new.journal in
+    let a = V c.args.rig.now in
+    let b = V c.restore_lines.new.rig in
+    let d = V c.undone.new.rig in
+    let first = c.in_ok-restore_lines.ensures.honest (flash ∷ flashes) steady chip in
+    let model = g.met.R.Rig.model c.restore_lines.new.rig first.steady.honest in
+    let k : ℕ = length l2.state.stack in
+    let k_is = depth_text l2 b.journal first.steady.loaded in
+    let number : k ≡ length (state_at a.journal).stack = c.in_ok-restore_lines.ensures.same.depth ∙ depth_text l a.journal steady.loaded in
+    let some : 0 < length (state_at b.journal).stack = omega (arith, c.requires.some, c.in_ok-restore_lines.ensures.same.depth, k_is) in
+    let before = ap (λ (p : ChipData). flashes_before_segments p (state_at a.journal).stack a.device.flash) (sym chip) ∙ steady.keeps.before in
+    let restored = first.done ∙ first_flash c.args.chip.now (state_at a.journal).stack a.device.flash flash flashes before in
+    let front = return_lines c.args.chip.now a.device.flash (newest_at a.journal) in
+    takes_as (front ++ Undoes k ∷ []) (front ++ Undoes (length (state_at a.journal).stack) ∷ []) flash flashes c.undone.new.self a d c.from_residual-in_err-undone.result (ap (λ (m : ℕ). front ++ Undoes m ∷ []) number)
+    (back_then front (Undoes k ∷ []) flash flashes l2 c.undone.new.self a b d (tt {0}) c.from_residual-in_err-undone.result model (intents_returns c.args.chip.now a.device.flash (newest_at a.journal)) first
+    (undone_fails c.step_laws.ensures flash flashes l2 c.undone.new.self k b d model first.steady k_is some restored c.undone.new.self _ c.from_residual-in_err-undone.result
+    (c.in_err-undone.ensures.honest first.steady.honest first.steady.loaded) c.in_err-undone.ensures.left c.from_residual-in_err-undone.ensures.1))
+
+pub returns-clause-honest : goal.returns-clause-honest
+returns-clause-honest g c flash flashes steady chip =
+    let V = g.R.Rig.view in
+    let l = c.args.journal.now in
+    let l2 = c.restore_lines.new.journal in
+    let a = V c.args.rig.now in
+    let b = V c.restore_lines.new.rig in
+    let d = V c.undone.new.rig in
+    let first = c.in_ok-restore_lines.ensures.honest (flash ∷ flashes) steady chip in
+    let model = g.met.R.Rig.model c.restore_lines.new.rig first.steady.honest in
+    let k : ℕ = length l2.state.stack in
+    let k_is = depth_text l2 b.journal first.steady.loaded in
+    let number : k ≡ length (state_at a.journal).stack = c.in_ok-restore_lines.ensures.same.depth ∙ depth_text l a.journal steady.loaded in
+    let some : 0 < length (state_at b.journal).stack = omega (arith, c.requires.some, c.in_ok-restore_lines.ensures.same.depth, k_is) in
+    let before = ap (λ (p : ChipData). flashes_before_segments p (state_at a.journal).stack a.device.flash) (sym chip) ∙ steady.keeps.before in
+    let restored = first.done ∙ first_flash c.args.chip.now (state_at a.journal).stack a.device.flash flash flashes before in
+    let front = return_lines c.args.chip.now a.device.flash (newest_at a.journal) in
+    let appends = c.in_ok-undone.ensures.honest first.steady.honest first.steady.loaded in
+    let has = c.in_ok-undone.ensures.text first.steady.honest first.steady.loaded (state_at b.journal) (state_at d.journal) (good_at l2 b.journal first.steady.loaded) (good_at c.undone.new.self d.journal appends.loaded) in
+    takes_as (front ++ Undoes k ∷ []) (front ++ Undoes (length (state_at a.journal).stack) ∷ []) flash flashes c.undone.new.self a d _ (ap (λ (m : ℕ). front ++ Undoes m ∷ []) number)
+    (back_then front (Undoes k ∷ []) flash flashes l2 c.undone.new.self a b d (tt {0}) _ model (intents_returns c.args.chip.now a.device.flash (newest_at a.journal)) first
+    (undone_goes c.step_laws.ensures flash flashes l2 c.undone.new.self k b d model first.steady k_is some restored _ (tt {0}) appends c.in_ok-undone.ensures.after has))

@@ -1,0 +1,100 @@
+use Rattle.std.proofs.Common.{◌≡◌, ◌∙◌, ◌++◌, [], List, ℕ, length, false, ap, ap₂, append-nil, refl, sym}
+use Rattle.stm_wire.specs.Chip.{ChipData, flash_size, page_of}
+use Rattle.stm_wire.specs.Device.{Device}
+use Rattle.stm_wire.specs.PageLaws.{length-page_of}
+use Rattle.stm_journal.specs.declared.entry.Entry.{Entry}
+use Rattle.stm_session.specs.Changing.{change_entries}
+use Rattle.stm_session.specs.Contents.{content}
+use Rattle.stm_session.proofs.Changes.{same_lines_of, told_same}
+use Rattle.stm_session.proofs.Going.{asks_fail, asks_on, goes_as, goes_nowhere, goes_failed, goes_ok, goes_refused, goes_then, page_held}
+use Rattle.stm_session.proofs.Restorings.{page_read}
+use Rattle.stm_session.proofs.Turns.{given_on}
+use Rattle.stm_session.proofs.turning.turn_page.Goals as goal
+
+pub returns-then-not-touches-clause-turned : goal.returns-then-not-touches-clause-turned
+returns-then-not-touches-clause-turned g c = Rattle.stm_session.proofs.Changes.not_turned c.args.kept false c.args.chip.now c.args.n c.args.journal.now.state refl
+
+pub returns-then-not-touches-clause-honest : goal.returns-then-not-touches-clause-honest
+returns-then-not-touches-clause-honest g c flashes steady chip =
+    let V = g.R.Rig.view in
+    let a = V c.args.rig.now in
+    let l = c.args.journal.now in
+    let model = g.met.R.Rig.model c.args.rig.now steady.honest in
+    let flash = a.device.flash in
+    let size : length flash ≡ flash_size c.args.chip.now = model.device.size ∙ ap (λ (k : ChipData). flash_size k) chip in
+    let page = page_of c.args.chip.now flash c.args.n in
+    let made = content c.args.chip.now c.args.change.now c.args.n page in
+    let same : made ≡ page = c.touches.ensures.same c.if-not-touches.true page (length-page_of c.args.chip.now flash c.args.n size) in
+    goes_as flashes [] _ l a a _ (sym (same_lines_of c.args.kept c.args.chip.now flash c.args.n page made refl (sym same)))
+    (goes_nowhere c.step_laws.ensures flashes l a false _ model steady
+    (record { flash = page_held c.args.chip.now c.args.n made a.device model.device chip same; counts = told_same page made (sym same) }))
+
+pub returns-in_err-held-clause-honest : goal.returns-in_err-held-clause-honest
+returns-in_err-held-clause-honest g c flashes steady chip =
+    let V = g.R.Rig.view in
+    let a = V c.args.rig.now in
+    let b = V c.read_range.new.rig in
+    let l = c.args.journal.now in
+    let made = content c.args.chip.now c.args.change.now c.args.n (page_of c.args.chip.now a.device.flash c.args.n) in
+    asks_fail c.step_laws.ensures flashes l a b steady (change_entries c.args.kept c.args.chip.now a.device.flash c.args.n made) l _ c.from_residual.result
+    (c.in_err-held.ensures.honest steady.honest steady.settled chip) c.from_residual.ensures.1
+
+pub returns-in_err-page-clause-honest : goal.returns-in_err-page-clause-honest
+returns-in_err-page-clause-honest g c flashes steady chip =
+    let V = g.R.Rig.view in
+    let a = V c.args.rig.now in
+    let b = V c.read_range.new.rig in
+    let l = c.args.journal.now in
+    let made = content c.args.chip.now c.args.change.now c.args.n (page_of c.args.chip.now a.device.flash c.args.n) in
+    goes_refused flashes [] (change_entries c.args.kept c.args.chip.now a.device.flash c.args.n made) l l a b (tt {0}) c.from_residual-in_err-page.result
+    (asks_on c.step_laws.ensures flashes l a b steady c.in_ok-held.held (c.in_ok-held.ensures.honest steady.honest steady.settled chip)) c.from_residual-in_err-page.ensures.1
+
+pub returns-in_err-changed-clause-honest : goal.returns-in_err-changed-clause-honest
+returns-in_err-changed-clause-honest g c flashes steady chip =
+    let V = g.R.Rig.view in
+    let a = V c.args.rig.now in
+    let b = V c.read_range.new.rig in
+    let d = V c.change_page.new.rig in
+    let l = c.args.journal.now in
+    let l2 = c.change_page.new.journal in
+    let made = content c.args.chip.now c.args.change.now c.args.n in
+    let asks = c.in_ok-held.ensures.honest steady.honest steady.settled chip in
+    let first = asks_on c.step_laws.ensures flashes l a b steady c.in_ok-held.held asks in
+    let model_b = g.met.R.Rig.model c.read_range.new.rig first.steady.honest in
+    let still = ap (λ (x : Device). x.chip) asks.same ∙ chip in
+    let items_are : c.in_ok-held.held.items ≡ page_of c.args.chip.now a.device.flash c.args.n =
+    asks.done ∙ page_read c.args.chip.now a.device.flash c.args.n c.page_start-start.result c.page_size-size.result c.page_start-start.ensures.address c.page_size-size.ensures.bytes in
+    let read = c.deref-2.ensures.value ∙ items_are ∙ sym (ap (λ (x : Device). page_of c.args.chip.now x.flash c.args.n) asks.same) in
+    let page_is : c.deref-3.result.now ≡ made (page_of c.args.chip.now a.device.flash c.args.n) = c.deref-3.ensures.value ∙ c.in_ok-page.ensures.bytes ∙ ap made (c.deref.ensures.value ∙ items_are) in
+    let own : List Entry = change_entries c.args.kept c.args.chip.now b.device.flash c.args.n c.deref-3.result.now in
+    let longer : List Entry = own ++ [] in
+    let lines = ap₂ (λ (f p : List ℕ). change_entries c.args.kept c.args.chip.now f c.args.n p) (ap (λ (x : Device). x.flash) asks.same) page_is in
+    goes_as flashes longer _ l2 a d _ (append-nil own ∙ lines)
+    (goes_then flashes [] longer l l2 a b d (tt {0}) c.from_residual-in_err-changed.result model_b first
+    (goes_failed flashes own [] l2 l2 b d _ c.from_residual-in_err-changed.result (c.in_err-changed.ensures.honest flashes first.steady still read) c.from_residual-in_err-changed.ensures.1) (λ y p. p))
+
+pub returns-clause-honest : goal.returns-clause-honest
+returns-clause-honest g c flashes steady chip =
+    let V = g.R.Rig.view in
+    let a = V c.args.rig.now in
+    let b = V c.read_range.new.rig in
+    let d = V c.change_page.new.rig in
+    let l = c.args.journal.now in
+    let l2 = c.change_page.new.journal in
+    let made = content c.args.chip.now c.args.change.now c.args.n in
+    let asks = c.in_ok-held.ensures.honest steady.honest steady.settled chip in
+    let first = asks_on c.step_laws.ensures flashes l a b steady c.in_ok-held.held asks in
+    let model_b = g.met.R.Rig.model c.read_range.new.rig first.steady.honest in
+    let still = ap (λ (x : Device). x.chip) asks.same ∙ chip in
+    let items_are : c.in_ok-held.held.items ≡ page_of c.args.chip.now a.device.flash c.args.n =
+    asks.done ∙ page_read c.args.chip.now a.device.flash c.args.n c.page_start-start.result c.page_size-size.result c.page_start-start.ensures.address c.page_size-size.ensures.bytes in
+    let read = c.deref-2.ensures.value ∙ items_are ∙ sym (ap (λ (x : Device). page_of c.args.chip.now x.flash c.args.n) asks.same) in
+    let page_is : c.deref-3.result.now ≡ made (page_of c.args.chip.now a.device.flash c.args.n) = c.deref-3.ensures.value ∙ c.in_ok-page.ensures.bytes ∙ ap made (c.deref.ensures.value ∙ items_are) in
+    let own : List Entry = change_entries c.args.kept c.args.chip.now b.device.flash c.args.n c.deref-3.result.now in
+    let lines = ap₂ (λ (f p : List ℕ). change_entries c.args.kept c.args.chip.now f c.args.n p) (ap (λ (x : Device). x.flash) asks.same) page_is in
+    goes_as flashes own _ l2 a d _ lines
+    (goes_ok flashes own l2 a d c.in_ok-changed.changed c.in_ok-changed.changed
+    (goes_then flashes [] own l l2 a b d (tt {0}) _ model_b first (c.in_ok-changed.ensures.honest flashes first.steady still read)
+    (λ y put. given_on c.args.chip.now c.args.n a.device.flash b.device.flash d.device.flash c.deref-2.result.now c.deref-3.result.now (made (page_of c.args.chip.now a.device.flash c.args.n)) c.in_ok-changed.changed
+    (ap (λ (x : Device). x.flash) asks.same) (c.deref-2.ensures.value ∙ items_are) page_is put c.in_ok-changed.ensures.changed))
+    (λ given. given))

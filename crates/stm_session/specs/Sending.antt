@@ -1,0 +1,60 @@
+-- What a session puts on any line, honest or not, and in how many calls.
+use Rattle.std.specs.Prelude.{◌≡◌, ◌⊎◌, ℕ, ◌+◌, ◌*◌, Bool, true, false, List, [], ◌++◌, Option, Some, None, Result, Ok, Err}
+use Rattle.stm_wire.specs.declared.rig.RigCall.{RigCall}
+use Rattle.stm_wire.specs.declared.fault.WireFault.{WireFault}
+use Rattle.stm_wire.specs.Chip.{ChipData}
+use Rattle.stm_wire.specs.Dialogue.{Turn, GoesOn, IsBrokenOff, calls_of}
+use Rattle.stm_wire.specs.Parts.{AreFew, IsSession}
+use Rattle.stm_wire.specs.Rig.{RigState}
+use Rattle.stm_wire.specs.Settling.{SettlesWithin}
+use Rattle.stm_chip.specs.Document.{IsChipWith}
+use Rattle.stm_journal.specs.Calls.{AreFetches}
+use Rattle.stm_session.specs.declared.fault.Fault.{Fault}
+use Rattle.stm_session.specs.Fault.{Cause, of_line, of_protocol, cause_of}
+
+-- puts and gets of one command at most: each byte of the greatest flash, read by a frame of its own
+abbrev pub most_of_command : ℕ
+most_of_command = 13 * 2097152
+
+-- of a session with so many commands: settling, Get and Get ID, and the commands
+abbrev pub most_calls : ℕ → ℕ
+most_calls n = 4100 * 131076 + 268 + n * most_of_command
+
+-- only the line, or a device that doesn't follow the protocol, breaks a frame off
+abbrev pub leaves_whole : Cause → Bool
+leaves_whole of_line = false
+leaves_whole of_protocol = false
+leaves_whole _ = true
+
+abbrev pub is_whole_at : Fault → Bool
+is_whole_at e = leaves_whole (cause_of e)
+
+abbrev pub is_whole : {T : Type 0} → Result T Fault → Bool
+is_whole (Ok x) = true
+is_whole (Err e) = is_whole_at e
+
+-- the chip of the frames, where there are any that name a place, is one of the table
+abbrev pub IsOfTable : List ChipData → Option ChipData → Type 0
+IsOfTable table None = Unit {0}
+IsOfTable table (Some chip) = IsChipWith table chip.id chip
+
+-- Settling with 7F, and then frames of one chip of the table, in few calls.
+pub record SendsAsRun (table : List ChipData) (whole : Bool) (n : ℕ) (old new : RigState) : Type 0 where
+  pub chip : Option ChipData
+  pub listed : IsOfTable table chip
+  pub calls : GoesOn (IsSession chip 0x7F 131072 whole (most_calls n)) old.calls new.calls
+
+-- nothing of a dialogue, or all of it, or it was broken off
+abbrev pub IsBegun : List Turn → List RigCall → Type 0
+IsBegun turns calls = (calls ≡ []) ⊎ ((calls ≡ calls_of turns) ⊎ ((fault : WireFault) × IsBrokenOff fault turns calls))
+
+-- The journal was read; then came a beginning of settling with 7F, and then a beginning of this dialogue.
+pub record IsLeaving (turns : List Turn) (calls : List RigCall) : Type 0 where
+  pub fetches : List RigCall
+  pub are_fetches : AreFetches fetches
+  pub settling : List RigCall
+  pub settles : SettlesWithin 0x7F 131072 settling
+  pub said : List RigCall
+  pub begun : IsBegun turns said
+  pub is : calls ≡ fetches ++ (settling ++ said)
+  pub few : AreFew (most_calls 0) calls

@@ -1,0 +1,63 @@
+// Changing a page in a command.
+ghost use Rattle.std.specs.Prelude.{◌≡◌, ◌<◌, List, ℕ, length, not, bytes_eq, true, false, IfOk, IsTrue};
+ghost use Rattle.stm_wire.specs.Chip.{page_count, page_size, page_of, with_page};
+ghost use Rattle.stm_journal.specs.States.{newest_keeps, newest_may_keep};
+ghost use Rattle.stm_session.specs.Fault.{HasSessionCause};
+ghost use Rattle.stm_session.specs.Undoable.{has_companion};
+ghost use Rattle.stm_session.specs.Steps.{IsSteady, Goes};
+ghost use Rattle.stm_session.specs.Changing.{HasTurned, change_entries};
+
+use crate::Fault;
+use crate::laws_of_steps::step_laws;
+use crate::rewriting::rewrite_kept;
+use crate::saving::save_pages;
+use std::alloc::Global;
+use stm_chip::{PagePlan, page_plan};
+use stm_journal::Journal;
+use stm_wire::{Chip, Rig};
+
+/// Gives page `n`, which was read, these bytes: it is kept first, if it wasn't, and with page 1 page 257. Nothing is done
+/// where it holds them. Whether it was changed.
+pub fn change_page<R: Rig>(
+    alloc: Global,
+    rig: &mut R,
+    journal: &mut Journal,
+    chip: &Chip,
+    n: u16,
+    held: &[u8],
+    page: &[u8],
+    kept: bool,
+) -> Result<bool, Fault>
+    requires exists { n < page_count chip.now }
+    requires held { length held.now ≡ page_size chip.now n }
+    requires size { length page.now ≡ page_size chip.now n }
+    requires kept { kept ≡ true → IsTrue (newest_keeps n journal.old.state) }
+    requires may { kept ≡ false → IsTrue (newest_may_keep n journal.old.state) }
+    requires companion { kept ≡ false → n ≡ 1 → IsTrue (has_companion chip.now)
+        → IsTrue (newest_may_keep 257 journal.old.state) }
+    ensures changed { IfOk result (λ changed. changed ≡ not (bytes_eq held.now page.now)) }
+    ensures turned { IfOk result
+        (λ changed. HasTurned kept changed chip.now n journal.old.state journal.new.state) }
+    ensures cause { HasSessionCause (R.view rig.old) (R.view rig.new) result }
+    ensures honest { let old = R.view rig.old in let new = R.view rig.new in
+        (flashes : List (List ℕ)) → IsSteady flashes journal.old old → old.device.chip ≡ chip.now
+        → held.now ≡ page_of chip.now old.device.flash n
+        → let lines = change_entries kept chip.now old.device.flash n page.now in
+        Goes flashes lines journal.new old new result
+        (λ _. new.device.flash ≡ with_page chip.now n page.now old.device.flash) }
+{
+    step_laws();
+    chip.keeps_limits();
+    let _size = chip.page_size(n);
+    let Ok(plan) = page_plan(alloc, held, page, chip.erased()) else {
+        return Err(Fault::Memory);
+    };
+    match plan {
+        PagePlan::Same => Ok(false),
+        PagePlan::Erase(frames) => {
+            save_pages(alloc, rig, journal, chip, n, held, kept)?;
+            rewrite_kept(rig, journal, chip, n, page, &frames)?;
+            Ok(true)
+        }
+    }
+}

@@ -1,0 +1,28 @@
+// Ending the segment of a command.
+ghost use Rattle.std.specs.Prelude.{◌≡◌, ◌∷◌, [], false, List, ℕ, length, OnOk, IsTrue};
+ghost use Rattle.stm_journal.specs.declared.entry.Entry.TheVariants.{Ends};
+ghost use Rattle.stm_journal.specs.States.{newest_is_open};
+ghost use Rattle.stm_journal.specs.Newest.{HasEnded};
+ghost use Rattle.stm_session.specs.Fault.{HasSessionCause};
+ghost use Rattle.stm_session.specs.Lines.{depth_at};
+ghost use Rattle.stm_session.specs.Segments.{Closes};
+ghost use Rattle.stm_session.specs.Steps.{IsSteady};
+
+use crate::Fault;
+use crate::laws_of_steps::step_laws;
+use stm_journal::Journal;
+use stm_wire::Rig;
+
+/// Ends the newest segment, which is open.
+pub fn end_segment<R: Rig>(rig: &mut R, journal: &mut Journal) -> Result<(), Fault>
+    requires { IsTrue (newest_is_open journal.old.state) }
+    ensures ended { OnOk result (HasEnded journal.old.state journal.new.state) }
+    ensures cause { HasSessionCause (R.view rig.old) (R.view rig.new) result }
+    ensures honest { let old = R.view rig.old in let new = R.view rig.new in
+        (flashes : List (List ℕ)) → IsSteady flashes journal.old old
+        → Closes flashes (Ends (depth_at old.journal) ∷ []) journal.new old new result }
+{
+    step_laws();
+    journal.end(rig)?;
+    Ok(())
+}

@@ -1,0 +1,35 @@
+// Taking the newest segments back, one after another.
+ghost use Rattle.std.specs.Prelude.{◌≡◌, ◌≤◌, List, ℕ, length};
+ghost use Rattle.stm_journal.specs.Fits.{AllFit};
+ghost use Rattle.stm_session.specs.Fault.{HasSessionCause};
+ghost use Rattle.stm_session.specs.GoingBack.{GoesBack};
+ghost use Rattle.stm_session.specs.Steps.{IsSteady};
+
+use crate::Fault;
+use crate::laws_of_steps::step_laws;
+use crate::taking_back::take_back;
+use std::alloc::Global;
+use stm_journal::Journal;
+use stm_wire::{Chip, Rig};
+
+/// Takes so many segments back, the newest first.
+pub fn take_back_newest<R: Rig>(
+    alloc: Global,
+    rig: &mut R,
+    journal: &mut Journal,
+    chip: &Chip,
+    taken: u32,
+) -> Result<(), Fault>
+    requires some { taken ≤ length journal.old.state.stack }
+    requires fits { AllFit chip.now journal.old.state.stack }
+    ensures cause { HasSessionCause (R.view rig.old) (R.view rig.new) result }
+    ensures honest { let old = R.view rig.old in let new = R.view rig.new in
+        (flashes : List (List ℕ)) → IsSteady flashes journal.old old → old.device.chip ≡ chip.now
+        → GoesBack taken flashes journal.new old new result }
+{
+    step_laws();
+    for i in 0..taken {
+        take_back(alloc, rig, journal, chip)?;
+    }
+    Ok(())
+}

@@ -1,0 +1,91 @@
+// How an undo reaches its device: whatever it was sent before is ended, and it is asked whether it is the journal's.
+ghost use Rattle.std.specs.Prelude.{◌≡◌, ◌≤◌, [], List, ℕ, ⊤, length, IfOk, IfErr, IfSome};
+ghost use Rattle.stm_wire.specs.Device.{IsSettled};
+ghost use Rattle.stm_wire.specs.Harmless.{Harmless};
+ghost use Rattle.stm_wire.specs.Exchange.{is_listed};
+ghost use Rattle.stm_journal.specs.Journals.{IsLoaded};
+ghost use Rattle.stm_session.specs.Asking.{Asks};
+ghost use Rattle.stm_session.specs.Fault.{HasSessionCause, IsLaterRefusal};
+ghost use Rattle.stm_session.specs.Meeting.{Meets};
+ghost use Rattle.stm_session.specs.Refusals.{can_erase, erase_code, undo_misfit};
+ghost use Rattle.stm_session.specs.Steps.{Goes};
+ghost use Rattle.stm_session.specs.Undoable.{Undoable};
+ghost use Rattle.stm_session.specs.Undoes.{byte_at_journal, risked_at};
+
+use crate::Fault;
+use crate::contact::{ask_commands, ask_id};
+use crate::laws_of_steps::step_laws;
+use crate::settling::settle_intended;
+use stm_journal::Journal;
+use stm_wire::{Chip, EraseKind, Rig};
+
+/// The code of the command that erases pages.
+fn erase_code(kind: EraseKind) -> u8
+    ensures { result ≡ erase_code kind }
+{
+    match kind {
+        EraseKind::Page => 0x43,
+        EraseKind::Extended => 0x44,
+    }
+}
+
+/// Whether a code is one of these.
+fn is_listed(codes: &[u8], code: u8) -> bool
+    ensures { result ≡ is_listed codes.now code }
+{
+    codes.iter().any(|c| *c == code)
+}
+
+/// Asks a settled device whether it lists the command by which the chip's pages are erased.
+fn ask_erase<R: Rig>(rig: &mut R, chip: &Chip) -> Result<bool, Fault>
+    ensures cause { HasSessionCause (R.view rig.old) (R.view rig.new) result }
+    ensures honest { let old = R.view rig.old in let new = R.view rig.new in
+        old.is_honest → IsSettled old.device
+        → Asks old new result (λ can. can ≡ can_erase chip.now old.device) }
+{
+    let commands = ask_commands(rig)?;
+    Ok(is_listed(
+        &commands.codes[..usize::from(commands.count)],
+        erase_code(chip.kind()),
+    ))
+}
+
+/// Asks a settled device whether it is this chip, and what is refused where it isn't.
+fn ask_misfit<R: Rig>(rig: &mut R, chip: &Chip) -> Result<Option<Fault>, Fault>
+    ensures cause { HasSessionCause (R.view rig.old) (R.view rig.new) result }
+    ensures named { IfOk result (λ misfit. IfSome misfit IsLaterRefusal) }
+    ensures honest { let old = R.view rig.old in let new = R.view rig.new in
+        old.is_honest → IsSettled old.device
+        → Asks old new result (λ misfit. misfit ≡ undo_misfit chip.now chip.now.id old.device) }
+{
+    let can_erase = ask_erase(rig, chip)?;
+    if !can_erase {
+        return Ok(Some(Fault::NoErase));
+    }
+    let id = ask_id(rig)?;
+    if id != chip.id() {
+        return Ok(Some(Fault::OtherDevice));
+    }
+    Ok(None)
+}
+
+/// Settles the device by the journal's intent, and asks whether it is the journal's chip.
+pub fn meet<R: Rig>(rig: &mut R, journal: &Journal, chip: &Chip) -> Result<(), Fault>
+    ensures cause { HasSessionCause (R.view rig.old) (R.view rig.new) result }
+    ensures honest { let old = R.view rig.old in let new = R.view rig.new in
+        old.is_honest → (flashes : List (List ℕ)) → IsLoaded journal.now old.journal
+        → Undoable flashes old.device old.journal → old.device.chip ≡ chip.now
+        → Goes flashes [] journal.now old new result (λ _. ⊤) }
+    ensures elsewhere { let old = R.view rig.old in let new = R.view rig.new in
+        old.is_honest → IsLoaded journal.now old.journal
+        → Harmless old.device (byte_at_journal old.journal) (risked_at old.journal)
+        → length old.device.owed ≤ 4096 → Meets chip.now old new result }
+{
+    step_laws();
+    settle_intended(rig, journal)?;
+    let misfit = ask_misfit(rig, chip)?;
+    match misfit {
+        Some(fault) => Err(fault),
+        None => Ok(()),
+    }
+}

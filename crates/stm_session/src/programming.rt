@@ -1,0 +1,96 @@
+// Programming a page that the journal keeps.
+ghost use Rattle.std.specs.Prelude.{◌≡◌, ◌<◌, ◌≤◌, ◌+◌, ◌∷◌, [], List, ℕ, length, take, drop, OnOk, IsTrue};
+ghost use Rattle.stm_wire.specs.Chip.{page_count, page_size, page_offset, with_bytes, with_page, erased_page, flash_size};
+ghost use Rattle.stm_chip.specs.Plan.{IsFrame, AreFrames, written};
+ghost use Rattle.stm_journal.specs.declared.entry.Entry.TheVariants.{Programs};
+ghost use Rattle.stm_journal.specs.States.{newest_keeps};
+ghost use Rattle.stm_journal.specs.Newest.{HasIntended};
+ghost use Rattle.stm_journal.specs.Journals.{Loaded};
+ghost use Rattle.stm_session.specs.Fault.{HasSessionCause};
+ghost use Rattle.stm_wire.specs.FlashLaws.{IsErasedAt};
+ghost use Rattle.stm_session.specs.Undoable.{state_at};
+ghost use Rattle.stm_session.specs.Steps.{IsSteady, IsUnder, Goes};
+
+use crate::Fault;
+use crate::laws_of_steps::step_laws;
+use stm_chip::Frame;
+use stm_journal::Journal;
+use stm_wire::{Chip, Intent, Rig, program};
+
+/// Writes a frame of page `n`, whose new bytes are these, at an erased place.
+fn program_frame<R: Rig>(
+    rig: &mut R,
+    chip: &Chip,
+    n: u16,
+    page: &[u8],
+    frame: Frame,
+) -> Result<(), Fault>
+    requires exists { n < page_count chip.now }
+    requires size { length page.now ≡ page_size chip.now n }
+    requires frame { IsFrame 0 (length page.now) frame }
+    ensures cause { HasSessionCause (R.view rig.old) (R.view rig.new) result }
+    ensures honest { (flashes : List (List ℕ)) (l : Loaded) → IsSteady flashes l (R.view rig.old) → (R.view rig.old).device.chip ≡ chip.now
+        → IsUnder n (Intent.Program n) (state_at (R.view rig.old).journal) → IsErasedAt chip.now (page_offset chip.now n + frame.offset) frame.length (R.view rig.old).device.flash
+        → Goes flashes [] l (R.view rig.old) (R.view rig.new) result
+        (λ _. (R.view rig.new).device.flash ≡ with_bytes (page_offset chip.now n + frame.offset) (take frame.length (drop frame.offset page.now)) (R.view rig.old).device.flash) }
+{
+    step_laws();
+    chip.keeps_limits();
+    let from = frame.offset as usize;
+    let bytes = &page[from..from + usize::from(frame.length)];
+    program(rig, chip.page_start(n) + frame.offset, bytes)?;
+    Ok(())
+}
+
+/// Writes the frames of page `n`, whose new bytes are these, over the erased page.
+fn program_frames<R: Rig>(
+    rig: &mut R,
+    chip: &Chip,
+    n: u16,
+    page: &[u8],
+    frames: &[Frame],
+) -> Result<(), Fault>
+    requires exists { n < page_count chip.now }
+    requires size { length page.now ≡ page_size chip.now n }
+    requires frames { AreFrames 0 (length page.now) frames.now }
+    ensures cause { HasSessionCause (R.view rig.old) (R.view rig.new) result }
+    ensures honest { (flashes : List (List ℕ)) (l : Loaded) (base : List ℕ) → IsSteady flashes l (R.view rig.old) → (R.view rig.old).device.chip ≡ chip.now
+        → IsUnder n (Intent.Program n) (state_at (R.view rig.old).journal) → length base ≡ flash_size chip.now
+        → (R.view rig.old).device.flash ≡ with_page chip.now n (erased_page chip.now n) base
+        → Goes flashes [] l (R.view rig.old) (R.view rig.new) result
+        (λ _. (R.view rig.new).device.flash ≡ with_page chip.now n (written page.now frames.now (erased_page chip.now n)) base) }
+{
+    step_laws();
+    for frame in frames {
+        program_frame(rig, chip, n, page, *frame)?;
+    }
+    Ok(())
+}
+
+/// Writes page `n`, which the newest segment keeps and which is erased, under its intent.
+pub fn program_kept<R: Rig>(
+    rig: &mut R,
+    journal: &mut Journal,
+    chip: &Chip,
+    n: u16,
+    page: &[u8],
+    frames: &[Frame],
+) -> Result<(), Fault>
+    requires exists { n < page_count chip.now }
+    requires kept { IsTrue (newest_keeps n journal.old.state) }
+    requires size { length page.now ≡ page_size chip.now n }
+    requires frames { AreFrames 0 (length page.now) frames.now }
+    ensures intended { OnOk result (HasIntended n (Intent.Program n) journal.old.state journal.new.state) }
+    ensures cause { HasSessionCause (R.view rig.old) (R.view rig.new) result }
+    ensures honest { (flashes : List (List ℕ)) (base : List ℕ) → IsSteady flashes journal.old (R.view rig.old) → (R.view rig.old).device.chip ≡ chip.now
+        → length base ≡ flash_size chip.now
+        → (R.view rig.old).device.flash ≡ with_page chip.now n (erased_page chip.now n) base
+        → Goes flashes (Programs n ∷ []) journal.new (R.view rig.old) (R.view rig.new) result
+        (λ _. (R.view rig.new).device.flash ≡ with_page chip.now n (written page.now frames.now (erased_page chip.now n)) base) }
+{
+    step_laws();
+    let _depth = journal.depth();
+    journal.intend_program(rig, n)?;
+    program_frames(rig, chip, n, page, frames)?;
+    Ok(())
+}

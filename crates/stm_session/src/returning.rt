@@ -1,0 +1,52 @@
+// Giving back what the newest segment keeps.
+ghost use Rattle.std.specs.Prelude.{◌≡◌, ◌<◌, List, ℕ, Some, OnOk, IsTrue};
+ghost use Rattle.stm_wire.specs.Chip.{page_count, page_size, with_page};
+ghost use Rattle.stm_journal.specs.declared.kept.Kept.{Kept};
+ghost use Rattle.stm_journal.specs.States.{newest_keeps};
+ghost use Rattle.stm_journal.specs.KeptPlaces.{IsPlaceIn, kept_entry, place_of};
+ghost use Rattle.stm_journal.specs.Newest.{KeepsSame};
+ghost use Rattle.stm_session.specs.Fault.{HasSessionCause};
+ghost use Rattle.stm_session.specs.Lines.{return_entries};
+ghost use Rattle.stm_session.specs.Steps.{IsSteady, Goes};
+ghost use Rattle.stm_session.specs.Undoable.{state_at};
+
+use crate::Fault;
+use crate::laws_of_steps::step_laws;
+use crate::reading::read_range;
+use crate::restoring::restore_page;
+use std::alloc::Global;
+use stm_journal::{Journal, PagePlace};
+use stm_wire::{Chip, Rig};
+
+/// Gives page `n` what the newest segment keeps of it, whose digits stand at this place of the journal.
+pub fn restore_line<R: Rig>(
+    alloc: Global,
+    rig: &mut R,
+    journal: &mut Journal,
+    chip: &Chip,
+    n: u16,
+    place: PagePlace,
+) -> Result<(), Fault>
+    requires exists { n < page_count chip.now }
+    requires kept { IsTrue (newest_keeps n journal.old.state) }
+    requires placed { IsPlaceIn journal.old.state place }
+    requires size { place.length ≡ page_size chip.now n }
+    ensures same { OnOk result (KeepsSame journal.old.state journal.new.state) }
+    ensures cause { HasSessionCause (R.view rig.old) (R.view rig.new) result }
+    ensures honest { let old = R.view rig.old in let new = R.view rig.new in
+        (flashes : List (List ℕ)) (k i : ℕ) (kept : Kept) → IsSteady flashes journal.old old
+        → old.device.chip ≡ chip.now → kept_entry (state_at old.journal) k i ≡ Some kept
+        → place_of kept ≡ place → kept.page ≡ n
+        → Goes flashes (return_entries chip.now old.device.flash kept) journal.new old new result
+        (λ _. new.device.flash ≡ with_page chip.now n kept.bytes old.device.flash) }
+{
+    step_laws();
+    chip.keeps_limits();
+    let start = chip.page_start(n);
+    let size = chip.page_size(n);
+    let held = read_range(alloc, rig, chip, start, size)?;
+    let mut page = Vec::from_elem(alloc, 0, size as usize)?;
+    journal.fetch_page(rig, place, &mut page)?;
+    restore_page(alloc, rig, journal, chip, n, &held, &page)?;
+    Ok(())
+}

@@ -1,0 +1,56 @@
+// Taking a session back, wherever it was stopped.
+ghost use Rattle.std.specs.Prelude.{◌≡◌, ◌≤◌, Ok};
+ghost use Rattle.stm_wire.specs.Dialogue.{GoesOn};
+ghost use Rattle.stm_journal.specs.Calls.{AreFetches};
+ghost use Rattle.stm_session.specs.Fault.{HasSessionCause};
+ghost use Rattle.stm_session.specs.Promises.{UndoContract};
+ghost use Rattle.stm_session.specs.Undoes.{taken_count};
+
+use crate::Fault;
+use crate::finding::find_named;
+use crate::going_back::take_back_newest;
+use crate::laws_of_steps::step_laws;
+use crate::meeting::meet;
+use std::alloc::Global;
+use stm_chip::Table;
+use stm_journal::Journal;
+use stm_wire::Rig;
+
+/// How many segments are taken back: so many, or all where the count is 0 or more than there are.
+fn taken_count(count: u32, depth: u32) -> u32
+    ensures value { result ≡ taken_count count depth }
+    ensures most { result ≤ depth }
+    ensures some { 1 ≤ depth → 1 ≤ result }
+{
+    if count == 0 || depth < count {
+        depth
+    } else {
+        count
+    }
+}
+
+/// Takes back the newest segments of the journal, from wherever a session was stopped: so many, or all where the count is 0 or
+/// more than there are. Answers how many; where there is none it is 0, and no byte is sent. A bad journal, a chip that the table
+/// hasn't, and a page or header that isn't one of that chip are refused before a byte is sent; a device that lists no command to
+/// erase pages, or isn't the journal's, once it has answered Get and Get ID (AN3155, 3.1 and 3.3).
+pub fn undo<R: Rig>(alloc: Global, rig: &mut R, table: &Table, count: u32) -> Result<u32, Fault>
+    ensures cause { HasSessionCause (R.view rig.old) (R.view rig.new) result }
+    ensures silent { let old = R.view rig.old in let new = R.view rig.new in
+        result ≡ Ok 0 → GoesOn AreFetches old.calls new.calls }
+    ensures promised { UndoContract table.now count (R.view rig.old) (R.view rig.new) result }
+{
+    step_laws();
+    let mut journal = Journal::load(alloc, rig)?;
+    let depth = journal.depth();
+    if depth == 0 {
+        return Ok(0);
+    }
+    let Some(id) = journal.id() else {
+        unreachable!()
+    };
+    let chip = find_named(&journal, table, id)?;
+    meet(rig, &journal, chip)?;
+    let taken = taken_count(count, depth);
+    take_back_newest(alloc, rig, &mut journal, chip, taken)?;
+    Ok(taken)
+}

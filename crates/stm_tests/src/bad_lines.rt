@@ -1,0 +1,81 @@
+// The bad lines that tests of sessions use: one that answers from a list, and one that complements a byte.
+use crate::simulator::rig_of;
+use std::test::Fail;
+use stm_chip::read_table;
+use stm_session::{Command, Fault, run};
+use stm_wire::{EraseKind, FlipRig, ListRig, Patience, Rig, RigCall, WireFault, get_id};
+
+#[test]
+fn a_list_line_gives_its_answers_in_order(rt: HostRuntime) -> Result<(), Fail> {
+    let replies = vec![in rt.alloc(); Some(0x79), None, Some(0x1F)]?;
+    let mut line = ListRig::new(rt.alloc(), replies);
+    line.put(0x05)?;
+    assert_eq!(rt; line.get(Patience::Brief)?, Some(0x79));
+    assert_eq!(rt; line.get(Patience::Long)?, None);
+    line.append(&[1, 2])?;
+    let mut buf = [7; 4];
+    assert_eq!(rt; line.fetch(0, &mut buf)?, 0);
+    assert_eq!(rt; buf, [7; 4]);
+    assert_eq!(rt; line.get(Patience::Brief)?, Some(0x1F));
+    assert_eq!(rt; line.get(Patience::Brief)?, None);
+    let calls = [
+        RigCall::Put(0x05),
+        RigCall::Get(Some(0x79)),
+        RigCall::Get(None),
+        RigCall::Append(2),
+        RigCall::Fetch,
+        RigCall::Get(Some(0x1F)),
+        RigCall::Get(None),
+    ];
+    assert_eq!(rt; line.calls(), calls.as_slice());
+    Ok(())
+}
+
+// The fifth byte that comes is the second of the id; what is recorded is what was given.
+#[test]
+fn a_flipping_line_complements_one_byte(rt: HostRuntime) -> Result<(), Fail> {
+    let rig = rig_of(rt.alloc(), EraseKind::Page, 0xFF)?;
+    let mut line = FlipRig::new(rt.alloc(), rig, 5);
+    line.put(0x7F)?;
+    assert_eq!(rt; line.get(Patience::Brief)?, Some(0x79));
+    assert_eq!(rt; get_id(&mut line), Ok(0x04ED));
+    assert_eq!(rt; get_id(&mut line), Ok(0x0412));
+    assert_eq!(rt; line.calls().get(7), Some(&RigCall::Get(Some(0xED))));
+    line.append(&[1, 2])?;
+    let mut buf = [7; 4];
+    assert_eq!(rt; line.fetch(0, &mut buf)?, 2);
+    assert_eq!(rt; buf, [1, 2, 7, 7]);
+    Ok(())
+}
+
+#[test]
+fn a_flipped_acknowledgement_is_garbled(rt: HostRuntime) -> Result<(), Fail> {
+    let rig = rig_of(rt.alloc(), EraseKind::Page, 0xFF)?;
+    let mut line = FlipRig::new(rt.alloc(), rig, 2);
+    line.put(0x7F)?;
+    assert_eq!(rt; line.get(Patience::Brief)?, Some(0x79));
+    assert_eq!(rt; get_id(&mut line), Err(WireFault::Garbled));
+    Ok(())
+}
+
+// The refusal of 7F ends settling; that of Get is one, and the session's fault. Before each byte the line is quiet.
+#[test]
+fn a_line_that_refuses_each_byte_is_no_device(rt: HostRuntime) -> Result<(), Fail> {
+    let replies = vec![in rt.alloc(); None, Some(0x1F), None, Some(0x1F)]?;
+    let mut line = ListRig::new(rt.alloc(), replies);
+    let table =
+        b"[[chip]]\nid = 0x412\nbase = 0x08000000\npages = [[32, 1024]]\nerase = \"page\"\n";
+    let table = read_table(rt.alloc(), table)?;
+    let commands = [Command::Read {
+        start: 0x0800_0000,
+        length: 1,
+    }];
+    let answer = run(rt.alloc(), &mut line, &table, &commands);
+    assert_eq!(rt; answer.err(), Some(Fault::Device));
+    let puts = line.calls().iter();
+    assert_eq!(rt;
+        puts.filter(|call| matches!(call, RigCall::Put(_))).count(),
+        3
+    );
+    Ok(())
+}

@@ -1,0 +1,6 @@
+// Chips, their table, the pages that an image touches, and plans of pages.
+pub(crate) mod chips;
+mod large;
+mod plans;
+mod tables;
+mod touches;

@@ -1,0 +1,164 @@
+-- The calls of settling on any line that keeps a record: what is sent and taken, and how they end at each answer.
+use Rattle.std.specs.Prelude.{◌≡◌, ◌≢◌, ◌⊎◌, ℕ, ◌-◌, ◌<◌, ◌≤◌, ◌==◌, ◌||◌, min, List, [], ◌∷◌, ◌++◌, length, replicate, Bool, true, false, Option, Some, None}
+use Rattle.stm_wire.specs.declared.fault.WireFault.{WireFault}
+use Rattle.stm_wire.specs.declared.fault.WireFault.TheVariants.{Nack, Quiet, Garbled}
+use Rattle.stm_wire.specs.declared.rig.RigCall.{RigCall}
+use Rattle.stm_wire.specs.declared.rig.RigCall.TheVariants.{Put, Get, Append, Fetch}
+use Rattle.stm_wire.specs.Reply.{ack, nack}
+use Rattle.stm_wire.specs.Dialogue.{GoesOn, puts_of}
+
+-- Draining:
+
+-- these bytes came, one at each get
+abbrev pub taken : List ℕ → List RigCall
+taken [] = []
+taken (byte ∷ bytes) = Get (Some byte) ∷ taken bytes
+
+-- one of the bytes is NACK
+abbrev pub has_nack : List ℕ → Bool
+has_nack [] = false
+has_nack (byte ∷ bytes) = (byte == nack) || has_nack bytes
+
+-- bytes were taken until it was quiet, and this says whether one of them was NACK
+pub record IsDrained (seen : Bool) (calls : List RigCall) : Type 0 where
+  pub bytes : List ℕ
+  pub is : calls ≡ taken bytes ++ Get None ∷ []
+  pub has : has_nack bytes ≡ seen
+
+-- the calls end with more bytes than a draining takes
+pub record Floods (calls : List RigCall) : Type 0 where
+  pub before : List RigCall
+  pub bytes : List ℕ
+  pub is : calls ≡ before ++ taken bytes
+  pub many : length bytes ≡ 4097
+
+-- Batches:
+
+-- the byte so often with no get between, and then what is owed is taken
+pub record IsBatch (byte count : ℕ) (seen : Bool) (calls : List RigCall) : Type 0 where
+  pub drained : List RigCall
+  pub is : calls ≡ replicate count (Put byte) ++ drained
+  pub is_drained : IsDrained seen drained
+
+-- Batches of 256 bytes, or of as many as the limit leaves above two. All but the last brought no NACK, and this says
+-- whether the last did. So many bytes of the limit are left.
+pub data AreBatches (byte limit : ℕ) : ℕ → Bool → List RigCall → Type 0 where
+  none : AreBatches byte limit limit false []
+  more : (left count : ℕ) (seen : Bool) (calls batch : List RigCall) → AreBatches byte limit left false calls
+      → 2 < left → count ≡ min (left - 2) 256 → IsBatch byte count seen batch
+      → AreBatches byte limit (left - count) seen (calls ++ batch)
+
+-- all batches that are sent: none of 7F, and of another byte until one brought a NACK or two bytes are left
+pub data IsBatched (byte limit left : ℕ) (calls : List RigCall) : Type 0 where
+  singly : byte ≡ 0x7F → left ≡ limit → calls ≡ [] → IsBatched byte limit left calls
+  answered : byte ≢ 0x7F → AreBatches byte limit left true calls → IsBatched byte limit left calls
+  used_up : byte ≢ 0x7F → left ≤ 2 → AreBatches byte limit left false calls → IsBatched byte limit left calls
+
+-- Single bytes:
+
+-- first comes a get, and it brings no NACK
+abbrev pub HearsNoNack : List RigCall → Type 0
+HearsNoNack [] = ⊥
+HearsNoNack (Put byte ∷ calls) = ⊥
+HearsNoNack (Get answer ∷ calls) = answer ≢ Some nack
+HearsNoNack (Append n ∷ calls) = ⊥
+HearsNoNack (Fetch ∷ calls) = ⊥
+
+-- no byte put was refused: after each came a get next, which brought no NACK
+abbrev pub IsUnrefused : List RigCall → Type 0
+IsUnrefused [] = Unit {0}
+IsUnrefused (Put byte ∷ calls) = HearsNoNack calls × IsUnrefused calls
+IsUnrefused (Get answer ∷ calls) = IsUnrefused calls
+IsUnrefused (Append n ∷ calls) = IsUnrefused calls
+IsUnrefused (Fetch ∷ calls) = IsUnrefused calls
+
+-- the byte was put so often, and none of these was refused
+pub record AreUnrefused (byte count : ℕ) (calls : List RigCall) : Type 0 where
+  pub each : IsUnrefused calls
+  pub puts : puts_of calls ≡ replicate count byte
+
+-- the byte was refused, and what came after NACK was taken
+pub record IsRefused (byte : ℕ) (calls : List RigCall) : Type 0 where
+  pub seen : Bool
+  pub drained : List RigCall
+  pub is : calls ≡ Put byte ∷ Get (Some nack) ∷ drained
+  pub is_drained : IsDrained seen drained
+
+-- a fresh device is connected, and what the byte then begins is ended
+abbrev pub reconnecting : ℕ → List RigCall
+reconnecting byte = Put 0x7F ∷ Get (Some ack) ∷ Put byte ∷ Get None ∷ Put byte ∷ Get (Some nack) ∷ Get None ∷ []
+
+-- a byte came
+abbrev pub IsAnswer : List RigCall → Type 0
+IsAnswer calls = (x : ℕ) × (calls ≡ Get (Some x) ∷ [])
+
+-- a byte came for this one
+abbrev pub IsAnswerTo : ℕ → List RigCall → Type 0
+IsAnswerTo byte calls = (x : ℕ) × (calls ≡ Put byte ∷ Get (Some x) ∷ [])
+
+-- 7F stayed without an answer
+abbrev pub IsUnanswered : List RigCall → Type 0
+IsUnanswered calls = calls ≡ Put 0x7F ∷ Get None ∷ []
+
+-- 7F was answered, but not by ACK
+abbrev pub IsNoAck : List RigCall → Type 0
+IsNoAck calls = (x : ℕ) × (x ≢ ack) × (calls ≡ Put 0x7F ∷ Get (Some x) ∷ [])
+
+-- the byte was not refused as it should be: by NACK, and then nothing
+pub data IsUnconfirmed (byte : ℕ) (calls : List RigCall) : Type 0 where
+  unrefused : (answer : Option ℕ) → answer ≢ Some nack → calls ≡ Put byte ∷ Get answer ∷ [] → IsUnconfirmed byte calls
+  answered_on : (x : ℕ) → calls ≡ Put byte ∷ Get (Some nack) ∷ Get (Some x) ∷ [] → IsUnconfirmed byte calls
+
+-- another byte came in it than is due
+pub data IsGarbled (byte : ℕ) (calls : List RigCall) : Type 0 where
+  unacknowledged : IsNoAck calls → IsGarbled byte calls
+  answered_once : (last : List RigCall) → IsAnswerTo byte last → calls ≡ Put 0x7F ∷ Get (Some ack) ∷ last
+      → IsGarbled byte calls
+  unconfirmed : (last : List RigCall) → IsUnconfirmed byte last
+      → calls ≡ Put 0x7F ∷ Get (Some ack) ∷ Put byte ∷ Get None ∷ last → IsGarbled byte calls
+
+-- single bytes at Ok: one of them was refused, or none, and the device was fresh
+pub data EndsSingly (byte limit : ℕ) (calls : List RigCall) : Type 0 where
+  refused : (sent : ℕ) (before last : List RigCall) → sent < limit → AreUnrefused byte sent before
+      → IsRefused byte last → calls ≡ before ++ last → EndsSingly byte limit calls
+  reconnected : (before : List RigCall) → AreUnrefused byte limit before → calls ≡ before ++ reconnecting byte
+      → EndsSingly byte limit calls
+
+-- settling at Ok: what was owed is taken, batches are sent, then single bytes
+pub record EndsSettled (byte limit : ℕ) (calls : List RigCall) : Type 0 where
+  pub seen : Bool
+  pub left : ℕ
+  pub drained : List RigCall
+  pub batches : List RigCall
+  pub singles : List RigCall
+  pub is : calls ≡ drained ++ batches ++ singles
+  pub is_drained : IsDrained seen drained
+  pub are_batched : IsBatched byte limit left batches
+  pub end_singly : EndsSingly byte left singles
+
+-- Faults:
+
+-- the whole limit was put, and then came calls that have P
+pub record IsPast (byte limit : ℕ) (P : List RigCall → Type 0) (calls : List RigCall) : Type 0 where
+  pub before : List RigCall
+  pub last : List RigCall
+  pub is : calls ≡ before ++ last
+  pub puts : puts_of before ≡ replicate limit byte
+  pub has : P last
+
+abbrev pub EndsQuiet : ℕ → ℕ → List RigCall → Type 0
+EndsQuiet byte limit calls = IsPast byte limit IsUnanswered calls
+
+abbrev pub EndsGarbled : ℕ → ℕ → List RigCall → Type 0
+EndsGarbled byte limit calls = Floods calls ⊎ IsPast byte limit (IsGarbled byte) calls
+
+-- no calls end so
+abbrev pub Never : List RigCall → Type 0
+Never calls = ⊥
+
+-- A fault is never Nack, and where it is Quiet or Garbled the calls end as these say.
+pub record FailsAs (quiet garbled : List RigCall → Type 0) (old new : Option (List RigCall)) (fault : WireFault)
+    : Type 0 where
+  pub named : fault ≢ Nack
+  pub quiet_end : fault ≡ Quiet → GoesOn quiet old new
+  pub garbled_end : fault ≡ Garbled → GoesOn garbled old new

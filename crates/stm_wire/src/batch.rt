@@ -1,0 +1,65 @@
+// Settling bytes in batches: a host waits once for many bytes.
+ghost use Rattle.std.specs.Prelude.{◌≢◌, ◌≤◌, ◌+◌, ℕ, List, IfOk, IfErr, replicate};
+ghost use Rattle.stm_wire.specs.Device.{Device};
+ghost use Rattle.stm_wire.specs.Dialogue.{GoesOn};
+ghost use Rattle.stm_wire.specs.Settling.{IsGoing, Speaks, SpeaksBatches, SendsBatch, SendsBatches};
+ghost use Rattle.stm_wire.specs.SettlingCalls.{IsBatch, IsBatched, Floods, Never, FailsAs};
+
+use crate::draining::drain;
+use crate::{Rig, WireFault};
+
+/// The byte that a device fresh from reset waits for (AN3155, section 2).
+pub const CONNECT: u8 = 0x7F;
+
+/// How many bytes a batch has at most. Their replies, and what a completed command sends, are fewer bytes than one
+/// draining takes.
+const BATCH: u32 = 256;
+
+/// How many bytes are kept back. They end an exchange that the last byte of a batch has completed.
+const KEPT_BACK: u32 = 2;
+
+/// Sends the byte so many times with no get between, then takes what is owed, and answers whether NACK was among it.
+fn send_batch<R: Rig>(rig: &mut R, byte: u8, count: u32) -> Result<bool, WireFault>
+    requires { count ≤ 256 }
+    ensures speaks { Speaks (replicate count byte) (count + 4097) result
+        (R.view rig.old) (R.view rig.new) }
+    ensures batch { IfOk result
+        (λ seen. GoesOn (IsBatch byte count seen) (R.view rig.old).calls (R.view rig.new).calls) }
+    ensures fails { IfErr result
+        (FailsAs Never Floods (R.view rig.old).calls (R.view rig.new).calls) }
+    ensures honest { (R.view rig.old).is_honest → byte ≢ 0x7F
+        → (pages : List ℕ) (start : Device) (left : ℕ) → 2 ≤ left
+        → IsGoing byte pages start (left + count) (R.view rig.old).device
+        → SendsBatch byte pages start left result (R.view rig.old) (R.view rig.new) }
+{
+    for _sent in 0..count {
+        rig.put(byte)?;
+    }
+    drain(rig)
+}
+
+/// Sends batches of the byte, unless it is the one that connects, until NACK is among the replies or all bytes of the
+/// limit were sent but those that are kept back; answers how many are left.
+pub fn send_batches<R: Rig>(rig: &mut R, byte: u8, limit: u32) -> Result<u32, WireFault>
+    ensures speaks { SpeaksBatches byte limit result (R.view rig.old) (R.view rig.new) }
+    ensures batches { IfOk result
+        (λ left. GoesOn (IsBatched byte limit left) (R.view rig.old).calls (R.view rig.new).calls) }
+    ensures fails { IfErr result
+        (FailsAs Never Floods (R.view rig.old).calls (R.view rig.new).calls) }
+    ensures honest { (R.view rig.old).is_honest → (pages : List ℕ) (start : Device)
+        → IsGoing byte pages start limit (R.view rig.old).device
+        → SendsBatches byte pages start result (R.view rig.old) (R.view rig.new) }
+{
+    if byte == CONNECT {
+        return Ok(limit);
+    }
+    let mut left = limit;
+    while left > KEPT_BACK {
+        let count = (left - KEPT_BACK).min(BATCH);
+        left -= count;
+        if send_batch(rig, byte, count)? {
+            return Ok(left);
+        }
+    }
+    Ok(left)
+}

@@ -1,0 +1,28 @@
+use Rattle.std.proofs.lemmas.Result.{IfOk-weaker}
+use Rattle.clap.specs.Words.{App, with_subcommand}
+use Rattle.stm_words.specs.CommandSet.{Makes, bare_app, command_set, go_app, info_app, protect_app, read_app, sim_app}
+use Rattle.stm_words.proofs.Subcommands.{adds_sub, bare}
+use Rattle.stm_words.proofs.command_set.command_set.Goals as goal
+
+pub returns : goal.returns
+unfolding command_set
+returns c =
+    let m0 : Makes bare_app c.subcommand_required.result =
+    bare c.new.result c.about.result c.version.result c.subcommand_required.result _ _ c.new.ensures.app c.new.ensures.local c.about.ensures c.version.ensures
+    c.subcommand_required.ensures in
+    let p = c.in_ok-protect.ensures in
+    let a0 : App = bare_app in
+    let a1 : App = with_subcommand a0 (info_app).top in
+    let a2 : App = with_subcommand a1 (read_app).top in
+    let a3 : App = with_subcommand a2 (go_app).top in
+    let a4 : App = with_subcommand a3 (protect_app p.0).top in
+    let m1 : Makes a1 c.in_ok-subcommand.field-0 =
+    adds_sub a0 (info_app) c.subcommand_required.result c.in_ok-on_device.field-0 c.in_ok-subcommand.field-0 m0 c.in_ok-on_device.ensures c.in_ok-subcommand.ensures in
+    let m2 : Makes a2 c.in_ok-subcommand-2.field-0 =
+    adds_sub a1 (read_app) c.in_ok-subcommand.field-0 c.in_ok-read.field-0 c.in_ok-subcommand-2.field-0 m1 c.in_ok-read.ensures c.in_ok-subcommand-2.ensures in
+    let m3 : Makes a3 c.in_ok-subcommand-3.field-0 =
+    adds_sub a2 (go_app) c.in_ok-subcommand-2.field-0 c.in_ok-go.field-0 c.in_ok-subcommand-3.field-0 m2 c.in_ok-go.ensures c.in_ok-subcommand-3.ensures in
+    let m4 : Makes a4 c.in_ok-subcommand-4.field-0 =
+    adds_sub a3 (protect_app p.0) c.in_ok-subcommand-3.field-0 c.in_ok-protect.field-0 c.in_ok-subcommand-4.field-0 m3 p.1 c.in_ok-subcommand-4.ensures in
+    IfOk-weaker c.subcommand-5.result _ _
+    (λ r h. (p.0, adds_sub a4 sim_app c.in_ok-subcommand-4.field-0 c.in_ok-sim.field-0 r m4 c.in_ok-sim.ensures h, p.2)) c.subcommand-5.ensures

@@ -1,0 +1,3 @@
+pub mod CommandSet
+pub mod Number
+pub mod Request

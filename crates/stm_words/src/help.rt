@@ -1,0 +1,40 @@
+// What `--help` says of each subcommand and each of its words.
+
+pub const STMFLASH: &str = "Flashes STM32 chips through the bootloader in their ROM (ST AN3155)";
+
+pub const INFO: &str = "Tells what the device is";
+
+pub const READ: &str = "Reads the flash, or a part of it, into a file";
+
+pub const GO: &str = "Lets the device leave the bootloader and run what stands at an address";
+
+pub const PROTECT: &str = "Changes a protection; readout-unprotect erases the chip for good";
+
+pub const SIM: &str = "Serves a simulated device on a Unix socket";
+
+pub const TABLE: &str = "The chip table, a TOML file";
+
+pub const DEVICE: &str = "The device: sim:ID:FILE, or the path of a Unix socket";
+
+pub const JOURNAL: &str = "The journal of what was done; a missing file is an empty journal";
+
+pub const WAIT: &str = "How long a reply may take, in milliseconds, 1 to 60000";
+
+pub const STOP: &str = "Stops a simulated device after K steps";
+
+pub const READ_RANGE: &str = "What to read: address[:length]; without it the whole flash";
+
+pub const OUT: &str = "The file for the bytes";
+
+pub const ADDRESS: &str = "Where to go on: 0x and hexadecimal digits, or a decimal number";
+
+pub const KIND: &str = "Which protection, and how it is changed";
+
+pub const ID: &str = "The chip's id: four hexadecimal digits";
+
+pub const FLASH: &str =
+    "The file that holds the flash; where the device stands is kept in FILE.line";
+
+pub const SOCKET: &str = "The socket that is made, and removed at the end";
+
+pub const CLIENTS: &str = "How many clients are served, one after the other, 1 to 1000000";

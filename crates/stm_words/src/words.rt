@@ -1,0 +1,44 @@
+// The words of the command line, as `clap` reads them.
+ghost use Rattle.std.specs.Prelude.{◌≡◌, ◌⊎◌, [], IfErr, IfOk, map};
+ghost use Rattle.clap.specs.Words.{IsAmong, fault_of, kind_of};
+ghost use Rattle.clap.specs.declared.error.ErrorKind.TheVariants.{OutOfMemory};
+ghost use Rattle.stm_words.specs.CommandSet.{Reads, TakesKinds, command_set};
+
+use crate::command_set::command_set;
+use crate::request::Request;
+use crate::unread::Unread;
+use clap::error::ErrorKind;
+use clap::{ArgMatches, Error};
+use std::alloc::Global;
+
+/// What the words say: the subcommand and its values, as `clap` defines them for the command set. The first word is the
+/// program's name.
+pub fn read_words<'a>(alloc: Global, words: &'a [&'a str]) -> Result<ArgMatches<'a>, Error>
+    ensures value { IfOk result (λ m. (p : _) × TakesKinds p
+        × (fault_of (command_set p) (map (λ s. s.now) words.entry.now) ≡ [])
+        × Reads (command_set p) (map (λ s. s.now) words.entry.now) m) }
+    ensures fault { IfErr result (λ e. (kind_of e ≡ OutOfMemory) ⊎ ((p : _) × TakesKinds p
+        × IsAmong (kind_of e) (fault_of (command_set p) (map (λ s. s.now) words.entry.now)))) }
+{
+    command_set(alloc)?.try_get_matches_from(words)
+}
+
+/// What `clap` says where it finds nothing to do.
+fn unread<'a>(alloc: Global, error: &Error) -> Unread<'a> {
+    if error.kind() == ErrorKind::OutOfMemory {
+        return Unread::Memory;
+    }
+    match format!(in alloc; "{error}") {
+        Ok(text) if error.use_stderr() => Unread::Refused(text),
+        Ok(text) => Unread::Help(text),
+        Err(_) => Unread::Memory,
+    }
+}
+
+/// What the words ask for. The first word is the program's name.
+pub fn read_request<'a>(alloc: Global, words: &'a [&'a str]) -> Result<Request<'a>, Unread<'a>> {
+    match read_words(alloc, words) {
+        Ok(matches) => Ok(Request::parse(&matches)?),
+        Err(error) => Err(unread(alloc, &error)),
+    }
+}

@@ -1,6 +1,0 @@
-use Rattle.std.proofs.Common.{◌≡◌, ◌<◌, ◌^◌, take}
-use Rattle.stmflash.specs.Number.{number_of_digits}
-use Rattle.stmflash.proofs.number.value_of_decimal.Given as goal
-
-abbrev pub invariant-loop-c : goal.invariant-loop-c
-invariant-loop-c l = (l.n ≡ number_of_digits 10 (take l.c-index l.digits)) × (l.n < 10 ^ l.c-index)

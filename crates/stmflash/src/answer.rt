@@ -1,0 +1,55 @@
+// What came of the words, and how it is told.
+
+use std::io;
+use std::io::Write;
+use stm_session::Info;
+use stm_wire::EraseKind;
+
+/// What came of the words.
+#[derive(Drop)]
+pub enum Answer {
+    /// Nothing that is told.
+    Nothing,
+    /// What the device is, and what an erased place of it holds.
+    Told(Info, u8),
+    /// Bytes of the flash, for a file.
+    Bytes(Vec<u8>),
+}
+
+impl Answer {
+    /// Prints what is told on standard output.
+    pub fn print<O: Write>(&self, out: &mut O) -> io::Result<()> {
+        match self {
+            Answer::Told(info, erased) => print_info(info, *erased, out),
+            _ => Ok(()),
+        }
+    }
+}
+
+/// Prints what the device is, a line each.
+fn print_info<O: Write>(info: &Info, erased: u8, out: &mut O) -> io::Result<()> {
+    writeln!(out, "id {:04X}", info.id)?;
+    writeln!(out, "base {:08X}", info.base)?;
+    writeln!(out, "pages {}", info.pages)?;
+    writeln!(out, "size {}", info.size)?;
+    let erase = match info.kind {
+        EraseKind::Page => 0x43,
+        EraseKind::Extended => 0x44,
+    };
+    writeln!(out, "erase {erase:02X}")?;
+    writeln!(out, "erased {erased:02X}")?;
+    writeln!(out, "version {:02X}", info.commands.version)?;
+    print_codes(
+        &info.commands.codes[..usize::from(info.commands.count)],
+        out,
+    )
+}
+
+/// Prints the line of the codes.
+fn print_codes<O: Write>(codes: &[u8], out: &mut O) -> io::Result<()> {
+    write!(out, "codes")?;
+    for code in codes {
+        write!(out, " {code:02X}")?;
+    }
+    writeln!(out)
+}
