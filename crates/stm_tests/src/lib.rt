@@ -1,4 +1,4 @@
-//! Tests of the libraries, each by what it shows to its users: this crate holds nothing else.
+//! Tests of the libraries below sessions, each by what it shows to its users: this crate holds nothing else.
 #![tactic(auto)]
 
 #[cfg(test)]
@@ -6,15 +6,9 @@ mod bad_lines;
 #[cfg(test)]
 mod chip;
 #[cfg(test)]
-mod client;
-#[cfg(test)]
-mod faults;
-#[cfg(test)]
 mod image;
 #[cfg(test)]
 mod journal;
-#[cfg(test)]
-mod session;
 #[cfg(test)]
 mod settling;
 #[cfg(test)]

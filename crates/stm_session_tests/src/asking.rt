@@ -1,8 +1,4 @@
-// Sessions over a Rig in memory: each call where nothing is refused, and each refusal.
-mod large;
-mod laws;
-mod taking_back;
-
+// Sessions that only ask, over a Rig in memory: each call where nothing is refused, and each refusal.
 use std::test::Fail;
 use stm_chip::{Table, read_table};
 use stm_session::{Command, Fault, Outcome, go, info, protect, run};

@@ -1,0 +1,17 @@
+//! Tests of sessions, each by what it shows to its users: this crate holds nothing else.
+#![tactic(auto)]
+
+#[cfg(test)]
+mod asking;
+#[cfg(test)]
+mod bad_lines;
+#[cfg(test)]
+mod client;
+#[cfg(test)]
+mod faults;
+#[cfg(test)]
+mod large;
+#[cfg(test)]
+mod laws;
+#[cfg(test)]
+mod taking_back;
