@@ -20,6 +20,8 @@ pub mod Going
 pub mod Erasings
 pub mod Frames
 pub mod Programmings
+pub mod SentParts
+pub mod PageSums
 pub mod Settlings
 pub mod Restorings
 pub mod Fetchings
