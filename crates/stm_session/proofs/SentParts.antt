@@ -19,7 +19,7 @@ use Rattle.stm_journal.specs.Journals.{Loaded, added_bytes}
 use Rattle.stm_journal.specs.Calls.{AppendsOnce, AreFetches}
 use Rattle.stm_session.specs.declared.fault.Fault.{Fault}
 use Rattle.stm_session.specs.Fault.{fault_of}
-use Rattle.stm_session.specs.Sending.{is_whole, is_whole_at}
+use Rattle.stm_session.specs.Sending.{is_whole, is_whole_at, most_of_command}
 use Rattle.stm_session.proofs.Frames.{length-part}
 use Rattle.stm_session.proofs.Sending.{fetches_get, fetches_put, same_fault, with_fault}
 
@@ -117,3 +117,16 @@ module _ (chip : ChipData) (frames : List Frame) (i : ℕ) (whole : Bool) where
       let some = length (take i frames) in
       let le : some ≤ length frames = simp length-take (omega arith) in
       part_longer (Some chip) whole (268 * some) (2 * size) a b (omega (arith, le, frames_fit 0 size frames (omega arith) are)) p
+
+-- commands, one after another
+pub commands_next : (chip : ChipData) (i : ℕ) (whole : Bool) (a b c : Option (List RigCall)) → GoesOn (IsPart (Some chip) true (i * most_of_command)) a b → GoesOn (IsPart (Some chip) whole most_of_command) b c
+    → GoesOn (IsPart (Some chip) whole ((i + 1) * most_of_command)) a c
+commands_next chip i whole a b c p q =
+    let most : i * 27262976 + 27262976 ≤ (i + 1) * 27262976 = omega arith in
+    part_after (Some chip) whole (i * most_of_command) most_of_command ((i + 1) * most_of_command) a b c most p q
+
+pub commands_within : (chip : ChipData) (i n : ℕ) (whole : Bool) (a b : Option (List RigCall)) → i ≤ n → GoesOn (IsPart (Some chip) whole (i * most_of_command)) a b
+    → GoesOn (IsPart (Some chip) whole (n * most_of_command)) a b
+commands_within chip i n whole a b le p =
+    let most : i * 27262976 ≤ n * 27262976 = omega (arith, le) in
+    part_longer (Some chip) whole (i * most_of_command) (n * most_of_command) a b most p
