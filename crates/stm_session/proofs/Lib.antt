@@ -31,6 +31,7 @@ pub mod GoingBack
 pub mod Straying
 pub mod Misfitting
 pub mod Undone
+pub mod SentUndo
 pub mod Savings
 pub mod Changes
 pub mod Turns

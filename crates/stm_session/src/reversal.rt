@@ -1,5 +1,5 @@
 // Taking a session back, wherever it was stopped.
-ghost use Rattle.std.specs.Prelude.{◌≡◌, ◌≤◌, Ok};
+ghost use Rattle.std.specs.Prelude.{◌≡◌, ◌<◌, ◌≤◌, Ok};
 ghost use Rattle.stm_wire.specs.Dialogue.{GoesOn};
 ghost use Rattle.stm_journal.specs.Calls.{AreFetches};
 ghost use Rattle.stm_session.specs.Fault.{HasSessionCause};
@@ -22,6 +22,7 @@ fn taken_count(count: u32, depth: u32) -> u32
     ensures value { result ≡ taken_count count depth }
     ensures most { result ≤ depth }
     ensures some { 1 ≤ depth → 1 ≤ result }
+    ensures asked { 0 < count → result ≤ count }
 {
     if count == 0 || depth < count {
         depth
