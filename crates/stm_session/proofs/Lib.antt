@@ -35,3 +35,4 @@ pub mod Turns
 pub mod Beginnings
 pub mod Closings
 pub mod Commandings
+pub mod Doings
