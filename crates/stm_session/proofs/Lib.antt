@@ -30,6 +30,7 @@ pub mod TakingBack
 pub mod GoingBack
 pub mod Straying
 pub mod Misfitting
+pub mod Unread
 pub mod Undone
 pub mod SentUndo
 pub mod Savings
@@ -38,3 +39,4 @@ pub mod Turns
 pub mod Beginnings
 pub mod Closings
 pub mod Commandings
+pub mod Doings

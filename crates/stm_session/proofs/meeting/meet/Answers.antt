@@ -2,7 +2,7 @@ use Rattle.std.proofs.Common.{◌≡◌, ◌∙◌, [], None, inr, sym}
 use Rattle.stm_session.specs.Refusals.{undo_misfit}
 use Rattle.stm_session.proofs.Going.{at_exit, asks_go, asks_fail, goes_failed, goes_then}
 use Rattle.stm_session.proofs.Misfitting.{own_misfit}
-use Rattle.stm_session.proofs.Undone.{none_some}
+use Rattle.stm_session.proofs.Unread.{none_some}
 use Rattle.stm_session.proofs.Straying.{strays_failed, strays_asked, strays_unasked, misfit_was}
 use Rattle.std.proofs.Common.{Bool, true, arith}
 use Rattle.stm_wire.specs.Dialogue.{GoesOn}
