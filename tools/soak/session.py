@@ -208,10 +208,9 @@ def change(rig, journal, chip, command):
 def verify(rig, chip, image):
     """From the image's next place on blocks of at most 256 bytes, within a page, as long as it has one."""
     end = 0
-    while True:
-        start = min((address for address in image if address >= end), default=None)
-        if start is None:
-            return
+    for start in sorted(image):
+        if start < end:
+            continue
         page = page_of(chip, start)
         end = min(start + BLOCK, chip.base + chip.starts[page] + chip.sizes[page])
         for place, byte in enumerate(wire.read(rig, start, end - start)):
