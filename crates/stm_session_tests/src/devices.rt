@@ -37,11 +37,37 @@ erase = "page"
 erased = 0
 "#;
 
+/// The table, and the flash of chip 0A01 before the commands whose every stop is tried: 65,536 bytes 00.
+#[derive(Drop)]
+pub struct Case {
+    pub table: Table,
+    pub zeros: Vec<u8>,
+}
+
+pub fn make_case(rt: &HostRuntime) -> Result<Case, Fail> {
+    let table = table(rt)?;
+    let zeros = vec![in rt.alloc(); 0x00; 65536]?;
+    Ok(Case { table, zeros })
+}
+
 pub fn table(rt: &HostRuntime) -> Result<Table, Fail> {
     match read_table(rt.alloc(), TABLE.as_bytes()) {
         Ok(table) => Ok(table),
         Err(_) => Err(Fail::new("no table")),
     }
+}
+
+/// A fresh device with this chip of the table, this flash and a journal.
+pub fn rig_of(
+    rt: &HostRuntime,
+    table: &Table,
+    id: u16,
+    flash: Vec<u8>,
+    journal: Vec<u8>,
+) -> Result<MemoryRig, Fail> {
+    let chip = table.find(id).ok_or("no chip")?;
+    let chip = chip.clone()?;
+    Ok(MemoryRig::new(rt.alloc(), chip, flash, journal).ok_or("no rig")?)
 }
 
 /// A fresh device with this chip of the table, this byte in each place of its flash, and a journal.
@@ -53,10 +79,9 @@ pub fn device(
     journal: Vec<u8>,
 ) -> Result<MemoryRig, Fail> {
     let chip = table.find(id).ok_or("no chip")?;
-    let chip = chip.clone()?;
     let size = chip.flash_size() as usize;
     let flash = vec![in rt.alloc(); byte; size]?;
-    Ok(MemoryRig::new(rt.alloc(), chip, flash, journal).ok_or("no rig")?)
+    rig_of(rt, table, id, flash, journal)
 }
 
 /// The device is connected, and these bytes came; nobody took its replies.
@@ -87,6 +112,14 @@ pub fn kept(rt: &HostRuntime, head: &[u8], size: usize, tail: &[u8]) -> Result<V
 /// Whether these are bytes of one value.
 pub fn is_all(bytes: &[u8], byte: u8) -> bool {
     bytes.iter().all(|found| *found == byte)
+}
+
+/// Whether two flashes are the same. Where no byte is above 7F they are compared as texts, which goes by many bytes at a time.
+pub fn is_same(one: &[u8], other: &[u8]) -> bool {
+    match (str::from_utf8(one), str::from_utf8(other)) {
+        (Ok(one), Ok(other)) => one == other,
+        _ => one == other,
+    }
 }
 
 /// Whether the bytes put behind the first `before` calls begin with these: each of them so often, one after another.

@@ -18,6 +18,8 @@ mod laws;
 #[cfg(test)]
 mod old_journals;
 #[cfg(test)]
+mod repeated_undo;
+#[cfg(test)]
 mod settled_back;
 #[cfg(test)]
 mod settled_wide;
