@@ -34,6 +34,7 @@ pub mod Unread
 pub mod Undone
 pub mod SentUndo
 pub mod Savings
+pub mod SentChanges
 pub mod Changes
 pub mod Turns
 pub mod Beginnings
