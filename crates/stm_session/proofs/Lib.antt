@@ -39,5 +39,6 @@ pub mod Changes
 pub mod Turns
 pub mod Beginnings
 pub mod Closings
+pub mod CommandChecks
 pub mod Commandings
 pub mod Doings
