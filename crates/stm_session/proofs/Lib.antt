@@ -20,6 +20,8 @@ pub mod Going
 pub mod Erasings
 pub mod Frames
 pub mod Programmings
+pub mod SentParts
+pub mod PageSums
 pub mod Settlings
 pub mod Restorings
 pub mod Fetchings
@@ -28,10 +30,15 @@ pub mod TakingBack
 pub mod GoingBack
 pub mod Straying
 pub mod Misfitting
+pub mod Unread
 pub mod Undone
+pub mod SentUndo
 pub mod Savings
+pub mod SentChanges
 pub mod Changes
 pub mod Turns
 pub mod Beginnings
 pub mod Closings
+pub mod CommandChecks
 pub mod Commandings
+pub mod Doings

@@ -31,7 +31,7 @@ first-before_if : (b : Bool) (flash : List ℕ) (flashes : List (List ℕ)) (h :
 first-before_if true flash flashes h rest later e = cc
 first-before_if false flash flashes h rest later e = later refl e
 
-same-after : (chip : ChipData) (flash : List ℕ) (c : CommandData) → is_change c ≡ false → flash_after chip flash c ≡ flash
+pub same-after : (chip : ChipData) (flash : List ℕ) (c : CommandData) → is_change c ≡ false → flash_after chip flash c ≡ flash
 same-after chip flash (writes image) e = cc
 same-after chip flash (erases pages) e = cc
 same-after chip flash (verifies image) e = refl

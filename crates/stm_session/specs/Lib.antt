@@ -26,3 +26,4 @@ pub mod Meeting
 pub mod Changing
 pub mod Contents
 pub mod Segments
+pub mod Doing

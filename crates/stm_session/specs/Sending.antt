@@ -1,8 +1,8 @@
 -- What a session puts on any line, honest or not, and in how many calls.
-use Rattle.std.specs.Prelude.{◌≡◌, ◌⊎◌, ℕ, ◌+◌, ◌*◌, Bool, true, false, List, [], ◌++◌, Option, Some, None, Result, Ok, Err}
+use Rattle.std.specs.Prelude.{◌≡◌, ◌⊎◌, ℕ, ◌+◌, ◌*◌, ◌<◌, ◌≤◌, ◌==◌, nat_lt, if◌then◌else◌, Bool, true, false, List, [], ◌++◌, Option, Some, None, Result, Ok, Err, IfOk}
 use Rattle.stm_wire.specs.declared.rig.RigCall.{RigCall}
 use Rattle.stm_wire.specs.declared.fault.WireFault.{WireFault}
-use Rattle.stm_wire.specs.Chip.{ChipData}
+use Rattle.stm_wire.specs.Chip.{ChipData, flash_size, page_offset, page_size}
 use Rattle.stm_wire.specs.Dialogue.{Turn, GoesOn, IsBrokenOff, calls_of}
 use Rattle.stm_wire.specs.Parts.{AreFew, IsSession}
 use Rattle.stm_wire.specs.Rig.{RigState}
@@ -19,6 +19,18 @@ most_of_command = 13 * 2097152
 -- of a session with so many commands: settling, Get and Get ID, and the commands
 abbrev pub most_calls : ℕ → ℕ
 most_calls n = 4100 * 131076 + 268 + n * most_of_command
+
+-- of keeping the page that has to be kept with page 1: it is read, and no chip has more pages than its flash
+abbrev pub most_of_companion : ChipData → ℕ → ℕ
+most_of_companion chip n = if n == 1 then 3 * flash_size chip else 0
+
+-- of one page of a command: it is read, kept, erased and written
+abbrev pub most_of_page : ChipData → ℕ → ℕ
+most_of_page chip n = 5 * page_size chip n + most_of_companion chip n
+
+-- of the pages below one
+abbrev pub most_below : ChipData → ℕ → ℕ
+most_below chip k = 5 * page_offset chip k + (if nat_lt 1 k then 3 * flash_size chip else 0)
 
 -- only the line, or a device that doesn't follow the protocol, breaks a frame off
 abbrev pub leaves_whole : Cause → Bool
@@ -43,6 +55,18 @@ pub record SendsAsRun (table : List ChipData) (whole : Bool) (n : ℕ) (old new 
   pub chip : Option ChipData
   pub listed : IsOfTable table chip
   pub calls : GoesOn (IsSession chip 0x7F 131072 whole (most_calls n)) old.calls new.calls
+
+-- Settling with some byte, and then frames of one chip of the table, in the calls of so many segments taken back: no more
+-- than were asked for, and at Ok those that the answer tells.
+pub record SendsAsUndo (table : List ChipData) (count : ℕ) (old new : RigState) (result : Result ℕ Fault) : Type 0 where
+  pub chip : Option ChipData
+  pub listed : IsOfTable table chip
+  pub byte : ℕ
+  pub taken : ℕ
+  pub limit : taken ≤ 65535
+  pub asked : 0 < count → taken ≤ count
+  pub told : IfOk result (λ n. n ≡ taken)
+  pub calls : GoesOn (IsSession chip byte 131072 (is_whole result) (most_calls taken)) old.calls new.calls
 
 -- nothing of a dialogue, or all of it, or it was broken off
 abbrev pub IsBegun : List Turn → List RigCall → Type 0
