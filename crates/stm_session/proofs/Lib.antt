@@ -5,6 +5,7 @@ mod Forgetting
 pub mod Misfits
 pub mod Openings
 pub mod OpenedRuns
+pub mod InfoContracts
 pub mod Ranges
 pub mod ReadCommands
 pub mod Sending
