@@ -40,5 +40,6 @@ pub mod Turns
 pub mod Beginnings
 pub mod Closings
 pub mod CommandChecks
+pub mod Comparisons
 pub mod Commandings
 pub mod Doings
