@@ -137,7 +137,7 @@ module _ (chip : ChipData) (image : Pairs) (done : ℕ) (block : Block) (old mid
     differs_at : (place : ℕ) → Some place ≡ first_difference image block.address (bytes_at chip mid.device.flash block.address block.size) → Some place ≡ first_difference image chip.base old.device.flash
     differs_at place told =
         let here : first_difference image block.address (take block.size (drop offset old.device.flash)) ≡ Some place =
-            sym (told ∙ ap (λ (flash : List ℕ). first_difference image block.address (bytes_at chip flash block.address block.size)) past.left.flash) in
+        sym (told ∙ ap (λ (flash : List ℕ). first_difference image block.address (bytes_at chip flash block.address block.size)) past.left.flash) in
         sym (from_block ∙ before_all image block.size block.address place (drop offset old.device.flash) here)
 
     agrees_all : None ≡ first_difference image block.address (bytes_at chip mid.device.flash block.address block.size)
@@ -145,7 +145,7 @@ module _ (chip : ChipData) (image : Pairs) (done : ℕ) (block : Block) (old mid
     agrees_all told =
         let flash = old.device.flash in
         let here : first_difference image block.address (take block.size (drop offset flash)) ≡ None =
-            sym (told ∙ ap (λ (f : List ℕ). first_difference image block.address (bytes_at chip f block.address block.size)) past.left.flash) in
+        sym (told ∙ ap (λ (f : List ℕ). first_difference image block.address (bytes_at chip f block.address block.size)) past.left.flash) in
         let at : block.address + block.size ≡ chip.base + (offset + block.size) = omega (arith, low) in
         from_block ∙ behind image block.size block.address (drop offset flash) here
         ∙ ap₂ (λ (a : ℕ) (bytes : List ℕ). first_difference image a bytes) at (drop-drop block.size offset flash)

@@ -43,3 +43,4 @@ pub mod CommandChecks
 pub mod Comparisons
 pub mod Commandings
 pub mod Doings
+pub mod OneCommands

@@ -12,6 +12,7 @@ mod commanding;
 mod comparing;
 mod contact;
 mod content;
+mod doing;
 mod erasing;
 mod fault;
 mod finding;

@@ -71,7 +71,12 @@ pub fn block_size(chip: &Chip, address: u32, place: Place, left: u32) -> u32
 }
 
 /// Reads 1 to 256 bytes of flash into the buffer.
-pub fn read_part<R: Rig>(rig: &mut R, chip: &Chip, address: u32, buf: &mut [u8]) -> Result<(), Fault>
+pub fn read_part<R: Rig>(
+    rig: &mut R,
+    chip: &Chip,
+    address: u32,
+    buf: &mut [u8],
+) -> Result<(), Fault>
     requires some { 1 ≤ length buf.old }
     requires limit { length buf.old ≤ 256 }
     ensures size { length buf.new ≡ length buf.old }
