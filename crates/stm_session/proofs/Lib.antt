@@ -41,5 +41,7 @@ pub mod Turns
 pub mod Beginnings
 pub mod Closings
 pub mod CommandChecks
+pub mod Comparisons
 pub mod Commandings
 pub mod Doings
+pub mod OneCommands
