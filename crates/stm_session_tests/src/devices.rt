@@ -1,6 +1,8 @@
 // Chips, devices and journals that the tests of stopped sessions share.
 use std::test::Fail;
 use stm_chip::{Table, read_table};
+use stm_image::{Image, read_raw};
+use stm_session::{Command, Outcome};
 use stm_wire::{MemoryRig, Rig, RigCall};
 
 /// Chips 0410 and 0412 of the sample table, and three for tests: 0A01 and 0A02, erased by 44, and 0A03, whose erased byte is 00.
@@ -36,19 +38,6 @@ pages = [[4, 256]]
 erase = "page"
 erased = 0
 "#;
-
-/// The table, and the flash of chip 0A01 before the commands whose every stop is tried: 65,536 bytes 00.
-#[derive(Drop)]
-pub struct Case {
-    pub table: Table,
-    pub zeros: Vec<u8>,
-}
-
-pub fn make_case(rt: &HostRuntime) -> Result<Case, Fail> {
-    let table = table(rt)?;
-    let zeros = vec![in rt.alloc(); 0x00; 65536]?;
-    Ok(Case { table, zeros })
-}
 
 pub fn table(rt: &HostRuntime) -> Result<Table, Fail> {
     match read_table(rt.alloc(), TABLE.as_bytes()) {
@@ -109,17 +98,17 @@ pub fn kept(rt: &HostRuntime, head: &[u8], size: usize, tail: &[u8]) -> Result<V
     Ok(text)
 }
 
-/// Whether these are bytes of one value.
+/// Whether these are bytes of one value. A plain loop, since the sweeps look at a flash after each stop.
 pub fn is_all(bytes: &[u8], byte: u8) -> bool {
-    bytes.iter().all(|found| *found == byte)
-}
-
-/// Whether two flashes are the same. Where no byte is above 7F they are compared as texts, which goes by many bytes at a time.
-pub fn is_same(one: &[u8], other: &[u8]) -> bool {
-    match (str::from_utf8(one), str::from_utf8(other)) {
-        (Ok(one), Ok(other)) => one == other,
-        _ => one == other,
+    let size = bytes.len();
+    let mut place = 0;
+    while place < size {
+        if bytes[place] != byte {
+            return false;
+        }
+        place += 1;
     }
+    true
 }
 
 /// Whether the bytes put behind the first `before` calls begin with these: each of them so often, one after another.
@@ -148,4 +137,40 @@ pub fn puts_begin(rig: &MemoryRig, before: usize, runs: &[(u8, u32)]) -> bool {
 /// Whether no byte was put or awaited, and none added to the journal.
 pub fn only_fetched(rig: &MemoryRig) -> bool {
     rig.calls().iter().all(|call| *call == RigCall::Fetch)
+}
+
+/// An image of these bytes, from an address on.
+pub fn image(rt: &HostRuntime, bytes: &[u8], start: u32) -> Result<Image, Fail> {
+    let image = read_raw(rt.alloc(), bytes, start).map_err(|_| "no image")?;
+    Ok(image)
+}
+
+/// A write of these bytes, from an address on.
+pub fn write_of(rt: &HostRuntime, bytes: &[u8], start: u32) -> Result<[Command; 1], Fail> {
+    Ok([Command::Write(image(rt, bytes, start)?)])
+}
+
+/// An erase of these pages.
+pub fn erase_of(rt: &HostRuntime, pages: &[u16]) -> Result<[Command; 1], Fail> {
+    Ok([Command::Erase(Vec::from_slice(rt.alloc(), pages)?)])
+}
+
+/// The segment and the changed pages of a write or an erase.
+pub fn changed(outcome: Option<&Outcome>) -> Option<(u32, u32)> {
+    match outcome {
+        Some(Outcome::Written { segment, pages }) => Some((*segment, *pages)),
+        Some(Outcome::Erased { segment, pages }) => Some((*segment, *pages)),
+        _ => None,
+    }
+}
+
+/// The bytes put behind the first `before` calls.
+pub fn puts(rt: &HostRuntime, rig: &MemoryRig, before: usize) -> Result<Vec<u8>, Fail> {
+    let mut bytes = Vec::new(rt.alloc());
+    for call in rig.calls().iter().skip(before) {
+        if let RigCall::Put(byte) = call {
+            bytes.push(*byte)?;
+        }
+    }
+    Ok(bytes)
 }

@@ -4,13 +4,21 @@
 #[cfg(test)]
 mod asking;
 #[cfg(test)]
+mod bad_devices;
+#[cfg(test)]
 mod bad_lines;
 #[cfg(test)]
 mod client;
 #[cfg(test)]
 mod devices;
 #[cfg(test)]
+mod every_stop;
+#[cfg(test)]
+mod failing_calls;
+#[cfg(test)]
 mod faults;
+#[cfg(test)]
+mod flipped_bytes;
 #[cfg(test)]
 mod large;
 #[cfg(test)]
@@ -20,8 +28,14 @@ mod old_journals;
 #[cfg(test)]
 mod repeated_undo;
 #[cfg(test)]
+mod sent_lists;
+#[cfg(test)]
 mod settled_back;
 #[cfg(test)]
 mod settled_wide;
 #[cfg(test)]
 mod taking_back;
+#[cfg(test)]
+mod two_stops;
+#[cfg(test)]
+mod writing;

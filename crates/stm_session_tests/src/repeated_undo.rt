@@ -1,6 +1,7 @@
 // An undo that was stopped after any step, or failed at any call, is repeated, and gives back the flash.
-use crate::devices::{Case, device, is_same, kept, make_case, send};
+use crate::devices::{device, is_all, kept, send, table};
 use std::test::Fail;
+use stm_chip::Table;
 use stm_session::{Fault, undo};
 use stm_wire::{EraseKind, MemoryRig, Patience, Rig, erase_page, program};
 
@@ -13,10 +14,10 @@ enum Failing {
 }
 
 /// A settled chip 0A01 with a flash of 00, after 01 02 03 04 was written at its base.
-fn after_a_write(rt: &HostRuntime, case: &Case) -> Result<MemoryRig, Fail> {
+fn after_a_write(rt: &HostRuntime, table: &Table) -> Result<MemoryRig, Fail> {
     let head = b"stmjournal 2 0A01\nopen 1\npage 0 ";
     let journal = kept(rt, head, 256, b"\nerase 0\nprogram 0\nend 1\n")?;
-    let mut rig = device(rt, &case.table, 0x0A01, 0x00, journal)?;
+    let mut rig = device(rt, table, 0x0A01, 0x00, journal)?;
     send(&mut rig, &[])?;
     rig.get(Patience::Long)?;
     erase_page(&mut rig, EraseKind::Extended, 0)?;
@@ -27,35 +28,35 @@ fn after_a_write(rt: &HostRuntime, case: &Case) -> Result<MemoryRig, Fail> {
 }
 
 /// Whether an undo takes the one segment back, and the flash is as it was before.
-fn comes_back(rt: &HostRuntime, case: &Case, rig: &mut MemoryRig) -> bool {
-    undo(rt.alloc(), rig, &case.table, 0) == Ok(1) && is_same(rig.flash(), &case.zeros)
+fn comes_back(rt: &HostRuntime, table: &Table, rig: &mut MemoryRig) -> bool {
+    undo(rt.alloc(), rig, table, 0) == Ok(1) && is_all(rig.flash(), 0x00)
 }
 
 /// Whether the undo that is stopped after so many steps fails, and the next one comes to its end.
-fn is_stopped_at(rt: &HostRuntime, case: &Case, steps: u64) -> Result<bool, Fail> {
-    let mut rig = after_a_write(rt, case)?;
+fn is_stopped_at(rt: &HostRuntime, table: &Table, steps: u64) -> Result<bool, Fail> {
+    let mut rig = after_a_write(rt, table)?;
     rig.stop_after(steps);
-    let answer = undo(rt.alloc(), &mut rig, &case.table, 0).err();
+    let answer = undo(rt.alloc(), &mut rig, table, 0).err();
     rig.stop_after(u64::MAX);
     let stopped = answer == Some(Fault::Line) || answer == Some(Fault::Journal);
-    Ok(stopped && comes_back(rt, case, &mut rig))
+    Ok(stopped && comes_back(rt, table, &mut rig))
 }
 
 // Settling takes 3 steps, Get 15, Get ID 7, the page 268, `erase 0` 8, its frame 9, `program 0` 10, its frame 268, `undone 1` 9.
 #[test]
 fn an_undo_takes_597_steps(rt: HostRuntime) -> Result<(), Fail> {
-    let case = make_case(&rt)?;
-    let mut rig = after_a_write(&rt, &case)?;
+    let table = table(&rt)?;
+    let mut rig = after_a_write(&rt, &table)?;
     rig.stop_after(597);
-    assert!(rt; comes_back(&rt, &case, &mut rig));
+    assert!(rt; comes_back(&rt, &table, &mut rig));
     Ok(())
 }
 
 #[test]
 fn each_stop_of_an_undo_is_taken_up(rt: HostRuntime) -> Result<(), Fail> {
-    let case = make_case(&rt)?;
+    let table = table(&rt)?;
     for steps in 0u64..597 {
-        assert!(rt; is_stopped_at(&rt, &case, steps)?, "after {steps} steps");
+        assert!(rt; is_stopped_at(&rt, &table, steps)?, "after {steps} steps");
     }
     Ok(())
 }
@@ -63,30 +64,30 @@ fn each_stop_of_an_undo_is_taken_up(rt: HostRuntime) -> Result<(), Fail> {
 /// What the undo answers whose k-th call of a kind fails; and whether, where it fails, the next one comes to its end.
 fn fails_at(
     rt: &HostRuntime,
-    case: &Case,
+    table: &Table,
     failing: Failing,
     k: u64,
 ) -> Result<(Option<Fault>, bool), Fail> {
-    let mut rig = after_a_write(rt, case)?;
+    let mut rig = after_a_write(rt, table)?;
     match failing {
         Failing::Put => rig.fail_put(k),
         Failing::Get => rig.fail_get(k),
         Failing::Append => rig.fail_append(k),
     }
-    match undo(rt.alloc(), &mut rig, &case.table, 0) {
-        Ok(_) => Ok((None, is_same(rig.flash(), &case.zeros))),
-        Err(fault) => Ok((Some(fault), comes_back(rt, case, &mut rig))),
+    match undo(rt.alloc(), &mut rig, table, 0) {
+        Ok(_) => Ok((None, is_all(rig.flash(), 0x00))),
+        Err(fault) => Ok((Some(fault), comes_back(rt, table, &mut rig))),
     }
 }
 
 #[test]
 fn each_put_of_an_undo_may_fail(rt: HostRuntime) -> Result<(), Fail> {
-    let case = make_case(&rt)?;
+    let table = table(&rt)?;
     for k in 1u64..288 {
-        let answer = fails_at(&rt, &case, Failing::Put, k)?;
+        let answer = fails_at(&rt, &table, Failing::Put, k)?;
         assert_eq!(rt; answer, (Some(Fault::Line), true), "put {k}");
     }
-    let answer = fails_at(&rt, &case, Failing::Put, 288)?;
+    let answer = fails_at(&rt, &table, Failing::Put, 288)?;
     assert_eq!(rt; answer, (None, true));
     Ok(())
 }
@@ -94,24 +95,24 @@ fn each_put_of_an_undo_may_fail(rt: HostRuntime) -> Result<(), Fail> {
 // Quiet gets are counted.
 #[test]
 fn each_get_of_an_undo_may_fail(rt: HostRuntime) -> Result<(), Fail> {
-    let case = make_case(&rt)?;
+    let table = table(&rt)?;
     for k in 1u64..287 {
-        let answer = fails_at(&rt, &case, Failing::Get, k)?;
+        let answer = fails_at(&rt, &table, Failing::Get, k)?;
         assert_eq!(rt; answer, (Some(Fault::Line), true), "get {k}");
     }
-    let answer = fails_at(&rt, &case, Failing::Get, 287)?;
+    let answer = fails_at(&rt, &table, Failing::Get, 287)?;
     assert_eq!(rt; answer, (None, true));
     Ok(())
 }
 
 #[test]
 fn each_append_of_an_undo_may_fail(rt: HostRuntime) -> Result<(), Fail> {
-    let case = make_case(&rt)?;
+    let table = table(&rt)?;
     for k in 1u64..4 {
-        let answer = fails_at(&rt, &case, Failing::Append, k)?;
+        let answer = fails_at(&rt, &table, Failing::Append, k)?;
         assert_eq!(rt; answer, (Some(Fault::Journal), true), "append {k}");
     }
-    let answer = fails_at(&rt, &case, Failing::Append, 4)?;
+    let answer = fails_at(&rt, &table, Failing::Append, 4)?;
     assert_eq!(rt; answer, (None, true));
     Ok(())
 }

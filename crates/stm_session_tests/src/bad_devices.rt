@@ -1,0 +1,160 @@
+// Devices that answer every byte alike, or never stop talking: each session call ends, with a named fault, after so many bytes.
+ghost use Rattle.std.specs.Prelude.{◌^◌, ◌-◌};
+ghost use Rattle.stm_wire.specs.Unmodelled.{unmodelled};
+
+use crate::devices::{device, kept, table};
+use crate::every_stop::small_write;
+use std::test::Fail;
+use stm_chip::Table;
+use stm_session::{Fault, go, info, run, undo};
+use stm_wire::{MemoryRig, Patience, Rig, RigFault};
+
+/// What such a device says.
+#[derive(Clone, Copy)]
+enum Says {
+    /// 1F to each byte.
+    Refusal,
+    /// 79 to each byte.
+    Acknowledgement,
+    /// The byte again.
+    Echo,
+    /// 00, whether a byte came or not.
+    Chatter,
+    /// Nothing.
+    Silence,
+}
+
+/// A line to it, with the journal of a Rig in memory.
+#[derive(Drop)]
+struct BadLine {
+    says: Says,
+    memory: MemoryRig,
+    last: u8,
+    owed: u32,
+    puts: u32,
+    gets: u32,
+}
+
+impl Rig for BadLine {
+    ghost view = { λ line. unmodelled (2 ^ 64 - 1) (2 ^ 64 - 1) };
+
+    ghost model = { λ line honest. absurd honest };
+
+    ghost places = { λ line. tt };
+
+    fn put(&mut self, byte: u8) -> Result<(), RigFault> {
+        self.last = byte;
+        self.owed = self.owed.saturating_add(1);
+        self.puts = self.puts.saturating_add(1);
+        Ok(())
+    }
+
+    fn get(&mut self, _patience: Patience) -> Result<Option<u8>, RigFault> {
+        self.gets = self.gets.saturating_add(1);
+        let says = self.owed > 0;
+        self.owed = self.owed.saturating_sub(1);
+        Ok(match self.says {
+            Says::Refusal => says.then_some(0x1F),
+            Says::Acknowledgement => says.then_some(0x79),
+            Says::Echo => says.then_some(self.last),
+            Says::Chatter => Some(0x00),
+            Says::Silence => None,
+        })
+    }
+
+    fn append(&mut self, bytes: &[u8]) -> Result<(), RigFault> {
+        self.memory.append(bytes)
+    }
+
+    fn fetch(&mut self, at: u64, buf: &mut [u8]) -> Result<usize, RigFault> {
+        self.memory.fetch(at, buf)
+    }
+}
+
+/// A device that says this, and how many bytes are put before a session with it ends: one that settles with 7F, and an undo
+/// that settles with 05. Get is refused behind 7F, or behind a batch and a byte; 7F connects behind the limit of 131,072 bytes.
+const ENDS: [(Says, u32, u32); 5] = [
+    (Says::Refusal, 3, 259),
+    (Says::Acknowledgement, 131_074, 131_074),
+    (Says::Echo, 131_073, 131_073),
+    (Says::Chatter, 0, 0),
+    (Says::Silence, 131_073, 131_073),
+];
+
+fn bad_line(
+    rt: &HostRuntime,
+    table: &Table,
+    says: Says,
+    journal: Vec<u8>,
+) -> Result<BadLine, Fail> {
+    let memory = device(rt, table, 0x0A01, 0x00, journal)?;
+    Ok(BadLine {
+        says,
+        memory,
+        last: 0x00,
+        owed: 0,
+        puts: 0,
+        gets: 0,
+    })
+}
+
+#[test]
+fn a_write_ends(rt: HostRuntime) -> Result<(), Fail> {
+    let table = table(&rt)?;
+    let command = small_write(&rt)?;
+    for (says, puts, _undo) in ENDS {
+        let mut line = bad_line(&rt, &table, says, Vec::new(rt.alloc()))?;
+        let answer = run(rt.alloc(), &mut line, &table, &command).err();
+        assert_eq!(rt; (answer, line.puts), (Some(Fault::Device), puts));
+        assert!(rt; line.memory.journal().is_empty());
+    }
+    Ok(())
+}
+
+#[test]
+fn questions_end(rt: HostRuntime) -> Result<(), Fail> {
+    let table = table(&rt)?;
+    for (says, puts, _undo) in ENDS {
+        let mut line = bad_line(&rt, &table, says, Vec::new(rt.alloc()))?;
+        let answer = info(rt.alloc(), &mut line, &table).err();
+        assert_eq!(rt; (answer, line.puts), (Some(Fault::Device), puts));
+    }
+    Ok(())
+}
+
+// The refusal comes to the code of Go, as to that of Get.
+#[test]
+fn leaving_ends(rt: HostRuntime) -> Result<(), Fail> {
+    let table = table(&rt)?;
+    for (says, puts, _undo) in ENDS {
+        let mut line = bad_line(&rt, &table, says, Vec::new(rt.alloc()))?;
+        let answer = go(rt.alloc(), &mut line, 0x0800_0000).err();
+        assert_eq!(rt; (answer, line.puts), (Some(Fault::Device), puts));
+    }
+    Ok(())
+}
+
+#[test]
+fn an_undo_ends(rt: HostRuntime) -> Result<(), Fail> {
+    let table = table(&rt)?;
+    for (says, _run, puts) in ENDS {
+        let head = b"stmjournal 2 0A01\nopen 1\npage 5 ";
+        let journal = kept(&rt, head, 256, b"\nerase 5\n")?;
+        let size = journal.len();
+        let mut line = bad_line(&rt, &table, says, journal)?;
+        let answer = undo(rt.alloc(), &mut line, &table, 0).err();
+        assert_eq!(rt; (answer, line.puts), (Some(Fault::Device), puts));
+        assert!(rt; line.memory.journal().len() == size);
+    }
+    Ok(())
+}
+
+// A draining takes 4,096 bytes; one more ends the session.
+#[test]
+fn a_talking_device_is_left(rt: HostRuntime) -> Result<(), Fail> {
+    let table = table(&rt)?;
+    let mut line = bad_line(&rt, &table, Says::Chatter, Vec::new(rt.alloc()))?;
+    let answer = info(rt.alloc(), &mut line, &table).err();
+    assert_eq!(rt; (answer, line.gets), (Some(Fault::Device), 4097));
+    Ok(())
+}

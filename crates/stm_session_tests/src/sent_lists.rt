@@ -1,0 +1,191 @@
+// A plain checker of what a session may put on a line to chip 0A01, 256 pages of 256 bytes from 08000000 on: a settling run, and then
+// frames of Get, Get ID, reads and writes that stay in a page, and erases of one page; the last piece may be cut short.
+
+/// The byte at a place, or 00 past the end.
+fn byte_at(bytes: &[u8], place: usize) -> u8 {
+    match bytes.get(place) {
+        Some(byte) => *byte,
+        None => 0x00,
+    }
+}
+
+/// Whether the list begins as the frame does, as far as it goes.
+fn agrees(frame: &[u8], list: &[u8]) -> bool {
+    frame
+        .iter()
+        .zip(list.iter())
+        .all(|(due, byte)| *due == *byte)
+}
+
+/// The exclusive-or of so many bytes behind the first ones.
+fn exclusive_or(list: &[u8], from: usize, count: usize) -> u8 {
+    let mut value = 0x00;
+    for byte in list.iter().skip(from).take(count) {
+        value ^= *byte;
+    }
+    value
+}
+
+/// The first two bytes and the address step of a frame with this code, where the address is the list's.
+fn address_step(list: &[u8], code: u8) -> [u8; 7] {
+    let (a, b) = (byte_at(list, 2), byte_at(list, 3));
+    let (c, d) = (byte_at(list, 4), byte_at(list, 5));
+    [code, code ^ 0xFF, a, b, c, d, a ^ b ^ c ^ d]
+}
+
+/// Whether the bytes of a read or write lie in one page, where address and count were sent.
+fn lies_in_a_page(list: &[u8]) -> bool {
+    if list.len() < 8 {
+        return true;
+    }
+    let known = byte_at(list, 2) == 0x08 && byte_at(list, 3) == 0x00;
+    known && u32::from(byte_at(list, 5)) + u32::from(byte_at(list, 7)) < 256
+}
+
+/// How long the read frame is that the list begins with.
+fn read_size(list: &[u8]) -> Option<usize> {
+    let count = byte_at(list, 7);
+    let step = [count, count ^ 0xFF];
+    let ends = match list.get(7..) {
+        Some(behind) => agrees(&step, behind),
+        None => true,
+    };
+    if agrees(&address_step(list, 0x11), list) && ends && lies_in_a_page(list) {
+        Some(9)
+    } else {
+        None
+    }
+}
+
+/// How long the write frame is that the list begins with.
+fn write_size(list: &[u8]) -> Option<usize> {
+    if !agrees(&address_step(list, 0x31), list) || !lies_in_a_page(list) {
+        return None;
+    }
+    let data = usize::from(byte_at(list, 7)) + 1;
+    if list.len() < 9 + data || exclusive_or(list, 7, data + 2) == 0x00 {
+        Some(9 + data)
+    } else {
+        None
+    }
+}
+
+/// How long the erase frame is that the list begins with.
+fn erase_size(list: &[u8]) -> Option<usize> {
+    let page = byte_at(list, 5);
+    if agrees(&[0x44, 0xBB, 0x00, 0x00, 0x00, page, page], list) {
+        Some(7)
+    } else {
+        None
+    }
+}
+
+/// How long the frame is that the list begins with, or a beginning of it; None where it is none.
+fn frame_size(list: &[u8]) -> Option<usize> {
+    match byte_at(list, 0) {
+        0x00 => agrees(&[0x00, 0xFF], list).then_some(2),
+        0x02 => agrees(&[0x02, 0xFD], list).then_some(2),
+        0x11 => read_size(list),
+        0x31 => write_size(list),
+        0x44 => erase_size(list),
+        _ => None,
+    }
+}
+
+fn are_frames(list: &[u8]) -> bool {
+    let mut at = 0_usize;
+    for _i in 0..list.len() {
+        let left = list.get(at..).unwrap_or(&[]);
+        if left.is_empty() {
+            return true;
+        }
+        let Some(size) = frame_size(left) else {
+            return false;
+        };
+        at = at.saturating_add(size);
+    }
+    at >= list.len()
+}
+
+/// Whether this is a beginning of: the byte 131,072 times, 7F, and the byte twice.
+fn is_settling_run(list: &[u8], byte: u8) -> bool {
+    let end = [0x7F, byte, byte];
+    let behind = list.get(131_072..).unwrap_or(&[]);
+    let run = list.get(..131_072).unwrap_or(list);
+    run.iter().all(|put| *put == byte) && behind.len() <= 3 && agrees(&end, behind)
+}
+
+/// Whether a session that settles with this byte, which isn't FF, may put this list. Get, 00 FF, is its first frame.
+pub fn is_sent_list(list: &[u8], byte: u8) -> bool {
+    match list.iter().position(|put| *put == 0xFF) {
+        Some(0) => false,
+        Some(place) => {
+            let settling = list.get(..place - 1).unwrap_or(&[]);
+            let frames = list.get(place - 1..).unwrap_or(&[]);
+            is_settling_run(settling, byte) && are_frames(frames)
+        }
+        None => {
+            let cut = match list.len() {
+                0 => 0,
+                size => size - 1,
+            };
+            let begun = list.last() == Some(&0x00);
+            let settling = list.get(..cut).unwrap_or(&[]);
+            is_settling_run(list, byte) || begun && is_settling_run(settling, byte)
+        }
+    }
+}
+
+/// Lists that a session with 7F may put.
+const SENT: [&[u8]; 9] = [
+    &[],
+    &[0x7F],
+    &[0x7F, 0x7F, 0x00],
+    &[0x7F, 0x7F, 0x00, 0xFF, 0x02],
+    &[
+        0x7F, 0x00, 0xFF, 0x02, 0xFD, 0x11, 0xEE, 0x08, 0x00, 0x01, 0x00, 0x09, 0xFF, 0x00,
+    ],
+    &[
+        0x00, 0xFF, 0x31, 0xCE, 0x08, 0x00, 0x01, 0x08, 0x01, 0x01, 0xAA, 0xBB, 0x10,
+    ],
+    &[
+        0x00, 0xFF, 0x31, 0xCE, 0x08, 0x00, 0x01, 0x08, 0x01, 0x01, 0xAA,
+    ],
+    &[
+        0x00, 0xFF, 0x44, 0xBB, 0x00, 0x00, 0x00, 0x05, 0x05, 0x00, 0xFF,
+    ],
+    &[0x00, 0xFF, 0x44, 0xBB, 0x00],
+];
+
+/// Lists that none may put: another byte in the settling run, no Get, an erase of everything and one of two pages, a read across
+/// the edge of a page, wrong checks, Go, a protection, a cut frame before another, and a page that isn't there.
+const NOT_SENT: [&[u8]; 12] = [
+    &[0x7F, 0x05, 0x00, 0xFF],
+    &[0x7F, 0xFF],
+    &[0x00, 0xFF, 0x44, 0xBB, 0xFF, 0xFF, 0x00],
+    &[0x00, 0xFF, 0x44, 0xBB, 0x00, 0x01],
+    &[
+        0x00, 0xFF, 0x11, 0xEE, 0x08, 0x00, 0x01, 0x80, 0x89, 0xFF, 0x00,
+    ],
+    &[0x00, 0xFF, 0x11, 0xEE, 0x08, 0x00, 0x01, 0x00, 0x08],
+    &[
+        0x00, 0xFF, 0x31, 0xCE, 0x08, 0x00, 0x01, 0x08, 0x01, 0x01, 0xAA, 0xBB, 0x11,
+    ],
+    &[0x00, 0xFF, 0x21, 0xDE],
+    &[0x00, 0xFF, 0x92, 0x6D],
+    &[0x00, 0xFF, 0x44, 0xBB, 0x00, 0x00, 0x02, 0xFD],
+    &[0x00, 0xFF, 0x44, 0xBB, 0x00, 0x00, 0x01, 0x05, 0x04],
+    &[
+        0x00, 0xFF, 0x31, 0xCE, 0x09, 0x00, 0x01, 0x08, 0x00, 0x01, 0xAA, 0xBB, 0x10,
+    ],
+];
+
+#[test]
+fn lists_that_may_be_sent(rt: HostRuntime) {
+    for (place, list) in SENT.iter().enumerate() {
+        assert!(rt; is_sent_list(list, 0x7F), "list {place}");
+    }
+    for (place, list) in NOT_SENT.iter().enumerate() {
+        assert!(rt; !is_sent_list(list, 0x7F), "list {place}");
+    }
+}
