@@ -21,6 +21,7 @@ pub mod Erasings
 pub mod Frames
 pub mod Programmings
 pub mod SentParts
+pub mod Orders
 pub mod PageSums
 pub mod Settlings
 pub mod Restorings
