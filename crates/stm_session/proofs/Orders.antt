@@ -1,22 +1,26 @@
 -- Orders join.
-use Rattle.std.proofs.Common.{◌≡◌, ℕ, zero, suc, ◌+◌, ◌*◌, ◌/◌, ◌<◌, Bool, true, false, if◌then◌else◌, List, [], ◌∷◌, ◌++◌, length, get_or, take, drop, map, Option, Some, None, Result, Ok, refl, sym, ◌∙◌, ap, subst, arith, append_assoc, append-nil}
+use Rattle.std.proofs.Common.{◌≡◌, ◌≢◌, ℕ, zero, suc, ◌+◌, ◌*◌, ◌/◌, ◌<◌, Bool, true, false, if◌then◌else◌, List, [], ◌∷◌, ◌++◌, length, get_or, take, drop, map, Option, Some, None, Result, Ok, refl, sym, ◌∙◌, ap, ap₂, ⊎_elim, subst, arith, append_assoc, append-nil}
 use Rattle.std.specs.Prelude.{slice_get, bytes_eq}
+use Rattle.std.proofs.lemmas.Bool.{cases_Bool}
+use Rattle.std.proofs.lemmas.Slice.Eq.{bytes_eq-Decides}
 use Rattle.std.proofs.lemmas.List.{map-append, take_more}
 use Rattle.stm_wire.specs.declared.chip.EraseKind.{EraseKind}
 use Rattle.stm_wire.specs.declared.rig.RigCall.{RigCall}
 use Rattle.stm_wire.specs.declared.rig.RigCall.TheVariants.{Put, Get, Append, Fetch}
-use Rattle.stm_wire.specs.Chip.{ChipData}
+use Rattle.stm_wire.specs.Chip.{ChipData, erased_byte}
 use Rattle.stm_wire.specs.Dialogue.{Turn, Says, Acknowledged, Expects, Learns, Adds as AddsCalls, AreLineCalls, GoesOn, calls_of, puts_of, sent_bytes}
-use Rattle.stm_wire.specs.DialogueLaws.{GoesOn-adds, GoesOn-append, GoesOn-nothing, GoesOn-weaker, erase_sends}
-use Rattle.stm_wire.specs.Frames.{erase_frame, erase_turns}
+use Rattle.stm_wire.specs.DialogueLaws.{GoesOn-adds, GoesOn-append, GoesOn-nothing, GoesOn-weaker, erase_sends, read_sends, write_sends}
+use Rattle.stm_wire.specs.Frames.{erase_frame, erase_turns, read_frame, read_turns, write_frame, write_turns}
 use Rattle.stm_wire.specs.Rig.{RigState}
 use Rattle.stm_wire.specs.Settling.{SettlesWithin}
 use Rattle.stm_chip.specs.declared.plan.Frame.{Frame}
+use Rattle.stm_chip.specs.Plan.{frames_of}
 use Rattle.stm_journal.specs.declared.entry.Entry.{Entry}
+use Rattle.stm_journal.specs.declared.entry.Entry.TheVariants.{Programs}
 use Rattle.stm_journal.specs.declared.kept.Kept.{Kept}
 use Rattle.stm_journal.specs.Calls.{AppendsOnce, AreFetches}
 use Rattle.stm_journal.specs.Journals.{Loaded, added_bytes}
-use Rattle.stm_session.specs.Order.{Step, Adds, Sends, AreReturned, AreTakenBack, DoesSteps, IsInOrder, IsReturned, IsTakenBack, SettlesFirst, acts_of, acts_of_steps, puts, read_steps, torn_behind, write_step, write_steps}
+use Rattle.stm_session.specs.Order.{Step, Adds, Sends, AreReturned, AreTakenBack, DoesSteps, IsInOrder, IsReturned, IsTakenBack, SettlesFirst, acts_of, acts_of_steps, page_address, program_steps, puts, read_steps, restore_steps, rewrite_steps, torn_behind, write_step, write_steps}
 
 acts-append : (xs ys : List RigCall) → acts_of (xs ++ ys) ≡ acts_of xs ++ acts_of ys
 acts-append [] ys = refl
@@ -184,3 +188,38 @@ pub fetched_then : (byte : ℕ) (torn : Bool) (steps : List Step) (a b c : Optio
 fetched_then byte torn steps a b c p q =
     GoesOn-append AreFetches (SettlesFirst byte torn steps) (SettlesFirst byte torn steps) a b c p q
     (λ cs ds x y. (y.0, y.1, acts-append cs ds ∙ ap (λ (l : List RigCall). l ++ acts_of ds) (fetches-act cs x) ∙ y.2))
+
+-- the frame that writes a part of a page
+pub order_written : (chip : ChipData) (n : ℕ) (page : List ℕ) (f : Frame) (torn : Bool) (address : ℕ) → address ≡ page_address chip n + f.offset → (bytes : List ℕ) → bytes ≡ take f.length (drop f.offset page) → (a b : Option (List RigCall))
+    → AddsCalls (calls_of (write_turns address bytes)) a b → GoesOn (IsInOrder torn (write_step chip n page f ∷ [])) a b
+order_written chip n page f torn address at bytes part a b adds =
+    order_sent torn (write_frame (page_address chip n + f.offset) (take f.length (drop f.offset page))) (write_turns address bytes) a b (write_sends address bytes ∙ ap₂ (λ (k : ℕ) (xs : List ℕ). write_frame k xs) at part) adds
+
+-- and the frame that reads a block
+pub order_read : (torn : Bool) (address size : ℕ) (answer : List ℕ) (a b : Option (List RigCall)) → length answer ≡ size → AddsCalls (calls_of (read_turns address answer)) a b
+    → GoesOn (IsInOrder torn (Sends (read_frame address size) ∷ [])) a b
+order_read torn address size answer a b same adds =
+    order_sent torn (read_frame address size) (read_turns address answer) a b (read_sends address answer ∙ ap (λ (k : ℕ). read_frame address k) same) adds
+
+-- a page has frames to be written, or none
+pub some_program : (chip : ChipData) (n : ℕ) (page : List ℕ) (frames : List Frame) → (length frames ≡ 0 → ⊥) → Adds (Programs n ∷ []) ∷ write_steps chip n page frames ≡ program_steps chip n page frames
+some_program chip n page [] some = absurd (some refl)
+some_program chip n page (f ∷ frames) some = refl
+
+-- a page is rewritten where it doesn't hold its bytes
+pub no_steps : (chip : ChipData) (n : ℕ) (held page : List ℕ) → held ≡ page → restore_steps chip n held page ≡ []
+no_steps chip n held page same = ap (λ (b : Bool). if b then [] else rewrite_steps chip n page (frames_of (erased_byte chip) page (length page / 256))) ((bytes_eq-Decides held page).1 same)
+
+pub some_steps : (chip : ChipData) (n : ℕ) (held page : List ℕ) (frames : List Frame) → held ≢ page → frames ≡ frames_of (erased_byte chip) page (length page / 256) → rewrite_steps chip n page frames ≡ restore_steps chip n held page
+some_steps chip n held page frames other is =
+    ap (λ (fs : List Frame). rewrite_steps chip n page fs) is
+    ∙ sym (ap (λ (b : Bool). if b then [] else rewrite_steps chip n page (frames_of (erased_byte chip) page (length page / 256)))
+    (⊎_elim (λ yes. absurd (other ((bytes_eq-Decides held page).0 yes))) (λ none. none) (cases_Bool (bytes_eq held page))))
+
+-- one block of a page more is read
+pub blocks_next : (torn : Bool) (start blocks : ℕ) (a b c : Option (List RigCall)) → GoesOn (IsInOrder torn (read_steps start blocks)) a b → GoesOn (IsInOrder torn (Sends (read_frame (start + 256 * blocks) 256) ∷ [])) b c
+    → GoesOn (IsInOrder torn (read_steps start (suc blocks))) a c
+blocks_next torn start blocks a b c p q =
+    let own = Sends (read_frame (start + 256 * blocks) 256) ∷ [] in
+    let Q : Bool → Type 0 = λ t. GoesOn (IsInOrder t own) b c in
+    order_then torn (read_steps start blocks) own a b c p (subst Q (sym (torn-reads torn start blocks)) q)
