@@ -3,14 +3,14 @@ use Rattle.std.proofs.Common.{◌≡◌, ◌≢◌, ℕ, zero, suc, ◌+◌, ◌
 use Rattle.std.specs.Prelude.{slice_get, bytes_eq}
 use Rattle.std.proofs.lemmas.Bool.{cases_Bool}
 use Rattle.std.proofs.lemmas.Slice.Eq.{bytes_eq-Decides}
-use Rattle.std.proofs.lemmas.List.{map-append, take_more}
+use Rattle.std.proofs.lemmas.List.{length-map, map-append, take_more}
 use Rattle.stm_wire.specs.declared.chip.EraseKind.{EraseKind}
 use Rattle.stm_wire.specs.declared.rig.RigCall.{RigCall}
 use Rattle.stm_wire.specs.declared.rig.RigCall.TheVariants.{Put, Get, Append, Fetch}
 use Rattle.stm_wire.specs.Chip.{ChipData, erased_byte}
 use Rattle.stm_wire.specs.Dialogue.{Turn, Says, Acknowledged, Expects, Learns, Adds as AddsCalls, AreLineCalls, GoesOn, calls_of, puts_of, sent_bytes}
-use Rattle.stm_wire.specs.DialogueLaws.{GoesOn-adds, GoesOn-append, GoesOn-nothing, GoesOn-weaker, erase_sends, read_sends, write_sends}
-use Rattle.stm_wire.specs.Frames.{erase_frame, erase_turns, read_frame, read_turns, write_frame, write_turns}
+use Rattle.stm_wire.specs.DialogueLaws.{GoesOn-adds, GoesOn-append, GoesOn-nothing, GoesOn-weaker, erase_sends, get_id_sends, get_sends, read_sends, write_sends}
+use Rattle.stm_wire.specs.Frames.{command, get_id_turns, get_turns, erase_frame, erase_turns, read_frame, read_turns, write_frame, write_turns}
 use Rattle.stm_wire.specs.Rig.{RigState}
 use Rattle.stm_wire.specs.Settling.{SettlesWithin}
 use Rattle.stm_chip.specs.declared.plan.Frame.{Frame}
@@ -20,7 +20,10 @@ use Rattle.stm_journal.specs.declared.entry.Entry.TheVariants.{Programs}
 use Rattle.stm_journal.specs.declared.kept.Kept.{Kept}
 use Rattle.stm_journal.specs.Calls.{AppendsOnce, AreFetches}
 use Rattle.stm_journal.specs.Journals.{Loaded, added_bytes}
+use Rattle.stm_journal.specs.Newest.{pages_of_segments}
+use Rattle.stm_journal.specs.States.{SegmentData}
 use Rattle.stm_session.specs.Order.{Step, Adds, Sends, AreReturned, AreTakenBack, DoesSteps, IsInOrder, IsReturned, IsTakenBack, SettlesFirst, acts_of, acts_of_steps, page_address, program_steps, puts, read_steps, restore_steps, rewrite_steps, torn_behind, write_step, write_steps}
+use Rattle.stm_session.specs.Undoable.{newest_kept}
 
 acts-append : (xs ys : List RigCall) → acts_of (xs ++ ys) ≡ acts_of xs ++ acts_of ys
 acts-append [] ys = refl
@@ -223,3 +226,18 @@ blocks_next torn start blocks a b c p q =
     let own = Sends (read_frame (start + 256 * blocks) 256) ∷ [] in
     let Q : Bool → Type 0 = λ t. GoesOn (IsInOrder t own) b c in
     order_then torn (read_steps start blocks) own a b c p (subst Q (sym (torn-reads torn start blocks)) q)
+
+-- the newest of the segments, and those below it
+pub segments_split : (stack : List SegmentData) → 0 < length stack → pages_of_segments stack ≡ newest_kept stack ∷ pages_of_segments (drop 1 stack)
+segments_split [] some = absurd (omega (arith, some))
+segments_split (segment ∷ below) some = refl
+
+pub segments_count : (stack : List SegmentData) → 0 < length stack → length stack ≡ length (pages_of_segments (drop 1 stack)) + 1
+segments_count [] some = absurd (omega (arith, some))
+segments_count (segment ∷ below) some = let h : length (pages_of_segments below) ≡ length below = length-map below (λ (s : SegmentData). s.pages) in omega (arith, h)
+
+pub order_get : (torn : Bool) (version : ℕ) (codes : List ℕ) (a b : Option (List RigCall)) → AddsCalls (calls_of (get_turns version codes)) a b → GoesOn (IsInOrder torn (Sends (command 0x00) ∷ [])) a b
+order_get torn version codes a b adds = order_sent torn (command 0x00) (get_turns version codes) a b (get_sends version codes) adds
+
+pub order_get_id : (torn : Bool) (high low : ℕ) (a b : Option (List RigCall)) → AddsCalls (calls_of (get_id_turns high low)) a b → GoesOn (IsInOrder torn (Sends (command 0x02) ∷ [])) a b
+order_get_id torn high low a b adds = order_sent torn (command 0x02) (get_id_turns high low) a b (get_id_sends high low) adds
