@@ -183,9 +183,12 @@ pub settled_then : (byte : ℕ) (torn : Bool) (xs ys : List Step) (a b c : Optio
     → GoesOn (SettlesFirst byte torn (xs ++ ys)) a c
 settled_then byte torn xs ys a b c still p q =
     GoesOn-append (SettlesFirst byte torn xs) (IsInOrder torn ys) (SettlesFirst byte torn (xs ++ ys)) a b c p q
-    (λ cs ds x y.
-    (x.0, x.1, acts-append cs ds ∙ ap (λ (l : List RigCall). l ++ acts_of ds) x.2 ∙ append_assoc (puts x.0) (acts_of_steps torn xs) (acts_of ds)
-    ∙ ap (λ (l : List RigCall). puts x.0 ++ (acts_of_steps torn xs ++ l)) (y ∙ ap (λ (t : Bool). acts_of_steps t ys) (sym still)) ∙ ap (λ (l : List RigCall). puts x.0 ++ l) (sym (steps-append torn xs ys))))
+    (λ cs ds x y. (
+      x.0,
+      x.1,
+      acts-append cs ds ∙ ap (λ (l : List RigCall). l ++ acts_of ds) x.2 ∙ append_assoc (puts x.0) (acts_of_steps torn xs) (acts_of ds)
+          ∙ ap (λ (l : List RigCall). puts x.0 ++ (acts_of_steps torn xs ++ l)) (y ∙ ap (λ (t : Bool). acts_of_steps t ys) (sym still)) ∙ ap (λ (l : List RigCall). puts x.0 ++ l) (sym (steps-append torn xs ys)),
+    ))
 
 pub fetched_then : (byte : ℕ) (torn : Bool) (steps : List Step) (a b c : Option (List RigCall)) → GoesOn AreFetches a b → GoesOn (SettlesFirst byte torn steps) b c → GoesOn (SettlesFirst byte torn steps) a c
 fetched_then byte torn steps a b c p q =

@@ -79,8 +79,7 @@ loop-i-preserved g c =
           let below = pages_of_segments (drop 1 l2.state.stack) in
           let before = c.loop-i.invariant.order in
           let one = c.in_ok-take_back.ensures.order in
-          let P : ℕ → Type 0 = λ m. IsTakenBack c.args.chip.now (newest_kept l2.state.stack) m one.0 in
-          (
+          let P : ℕ → Type 0 = λ m. IsTakenBack c.args.chip.now (newest_kept l2.state.stack) m one.0 in (
             before.0 ++ one.0,
             taken_next c.args.chip.now all i (newest_kept l2.state.stack) below before.0 one.0 (sym c.loop-i.invariant.rest ∙ segments_split l2.state.stack some) before.1 (subst P (segments_count l2.state.stack some) one.1),
             does_then before.0 one.0 l l2 c.take_back.new.journal a b d before.2 one.2,

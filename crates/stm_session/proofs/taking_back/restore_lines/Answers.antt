@@ -95,8 +95,7 @@ loop-i-preserved g c =
           c.requires.fits (sym c.in-Some-kept.ensures) in
           let before = so_far.order in
           let one = c.in_ok-restore_line.ensures.order in
-          let P : ℕ → Type 0 = λ m. IsReturned c.args.chip.now m one.0 in
-          (
+          let P : ℕ → Type 0 = λ m. IsReturned c.args.chip.now m one.0 in (
             before.0 ++ one.0,
             returned_next c.args.chip.now (newest_kept c.args.journal.now.state.stack) c.loop-i.i kept.0 before.0 one.0 kept.1 before.1 (subst P (sym kept.2) one.1),
             does_then before.0 one.0 c.args.journal.now c.loop-i.journal c.restore_line.new.journal a b (V c.restore_line.new.rig) before.2 one.2,
