@@ -5,6 +5,7 @@ mod Forgetting
 pub mod Misfits
 pub mod Openings
 pub mod OpenedRuns
+pub mod InfoContracts
 pub mod Ranges
 pub mod ReadCommands
 pub mod Sending
@@ -40,5 +41,7 @@ pub mod Turns
 pub mod Beginnings
 pub mod Closings
 pub mod CommandChecks
+pub mod Comparisons
 pub mod Commandings
 pub mod Doings
+pub mod OneCommands
