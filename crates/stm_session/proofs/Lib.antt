@@ -36,3 +36,6 @@ pub mod Beginnings
 pub mod Closings
 pub mod Commandings
 pub mod Doings
+pub mod CommandLists
+pub mod Runs
+pub mod RunEnds
