@@ -20,7 +20,8 @@ use Rattle.stm_session.specs.declared.outcome.Outcome.{Outcome}
 use Rattle.stm_session.specs.Fault.{IsOutsideFault}
 use Rattle.stm_session.specs.Information.{Informs, IsInfoOf}
 use Rattle.stm_session.specs.Moments.{IsSafe, IsUnbegun, SameMake}
-use Rattle.stm_session.specs.Refusal.{AnswersRefusal, AnswersUnsent, Refuses, RefusesUnsent, chip_with, device_refusals, first_refusal, opening_refusal, refusal_of, refused_unless, unsent_refusal}
+use Rattle.stm_session.specs.Refusal.{AnswersRefusal, AnswersUnsent, Refuses, RefusesUnsent, chip_with, device_refusals, first_refusal, opening_refusal, refused_unless, unsent_refusal}
+use Rattle.stm_session.specs.Refusals.{refusal_of}
 use Rattle.stm_session.specs.Running.{AreRead, RunsReads}
 use Rattle.stm_session.specs.Undoable.{Undoable, is_unfinished_at, risked_pages, state_at}
 use Rattle.stm_client.specs.Keeping.{CanBegin, HoldsIts, IsKept, Keeps}

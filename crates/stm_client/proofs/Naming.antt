@@ -8,7 +8,8 @@ use Rattle.stm_session.specs.declared.command.Command.{Command}
 use Rattle.stm_session.specs.declared.fault.Fault.{Fault}
 use Rattle.stm_session.specs.declared.fault.Fault.TheVariants.{Unfinished, UnknownChip, OutOfFlash, BadJournal, OtherDevice, Device as DeviceFault}
 use Rattle.stm_session.specs.Fault.{IsJournalOrMemory, IsOutsideFault}
-use Rattle.stm_session.specs.Refusal.{AnswersRefusal, AnswersUnsent, chip_with, first_refusal, opening_refusal, range_refusal, refusal_of, refused_unless, table_refusal}
+use Rattle.stm_session.specs.Refusal.{AnswersRefusal, AnswersUnsent, chip_with, first_refusal, opening_refusal, refused_unless, table_refusal}
+use Rattle.stm_session.specs.Refusals.{range_refusal, refusal_of}
 
 abbrev pub IsOther : Fault → Type 0
 IsOther fault = fault ≡ DeviceFault → ⊥

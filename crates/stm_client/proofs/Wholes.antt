@@ -12,7 +12,8 @@ use Rattle.stm_session.specs.declared.command.Command.TheVariants.{Read}
 use Rattle.stm_session.specs.declared.information.Info.{Info}
 use Rattle.stm_session.specs.declared.outcome.Outcome.{Outcome}
 use Rattle.stm_session.specs.Information.{Describes}
-use Rattle.stm_session.specs.Refusal.{chip_with, is_in_flash, opening_refusal, range_refusal, refusal_of}
+use Rattle.stm_session.specs.Refusal.{chip_with, opening_refusal}
+use Rattle.stm_session.specs.Refusals.{is_in_flash, range_refusal, refusal_of}
 use Rattle.stm_session.specs.Running.{AreRead, bytes_at, bytes_of}
 use Rattle.stm_client.specs.Keeping.{HoldsIts, IsKept}
 

@@ -1,10 +1,12 @@
 // Sessions that only read: each leaves a Rig on which another can begin.
-ghost use Rattle.std.specs.Prelude.{◌≡◌, ℕ, List, [], ◌∷◌, None, map, IfErr, IfOk};
+ghost use Rattle.std.specs.Prelude.{◌≡◌, ℕ, List, [], ◌∷◌, None, map, IfErr, IfOk, true};
+ghost use Rattle.std.specs.List.{list_all};
 ghost use Rattle.stm_journal.specs.Journals.{journal_of};
 ghost use Rattle.stm_session.specs.Fault.{IsOutsideFault};
 ghost use Rattle.stm_session.specs.Information.{Describes, IsInfoOf};
-ghost use Rattle.stm_session.specs.Refusal.{opening_refusal, refusal_of};
-ghost use Rattle.stm_session.specs.Running.{AreRead, bytes_of};
+ghost use Rattle.stm_session.specs.Refusal.{opening_refusal};
+ghost use Rattle.stm_session.specs.Refusals.{refusal_of};
+ghost use Rattle.stm_session.specs.Running.{AreRead, bytes_of, is_read};
 ghost use Rattle.stm_client.specs.Keeping.{CanBegin, Keeps};
 
 use std::alloc::Global;
@@ -38,6 +40,7 @@ pub fn read<R: Rig>(
     table: &Table,
     commands: &[Command],
 ) -> Result<Report, Fault>
+    requires { list_all is_read commands.now ≡ true }
     ensures keeps { let old = R.view rig.old in let new = R.view rig.new in
         (flashes : List (List ℕ)) → CanBegin table.now flashes old
         → Keeps flashes old new result
@@ -61,6 +64,8 @@ pub fn read_twice<R: Rig>(
     first: &[Command],
     second: &[Command],
 ) -> Result<(Report, Report), Fault>
+    requires first { list_all is_read first.now ≡ true }
+    requires second { list_all is_read second.now ≡ true }
     ensures keeps { let old = R.view rig.old in let new = R.view rig.new in
         (flashes : List (List ℕ)) → CanBegin table.now flashes old
         → Keeps flashes old new result

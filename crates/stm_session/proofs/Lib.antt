@@ -28,6 +28,7 @@ pub mod TakingBack
 pub mod GoingBack
 pub mod Straying
 pub mod Misfitting
+pub mod Unread
 pub mod Undone
 pub mod Savings
 pub mod Changes

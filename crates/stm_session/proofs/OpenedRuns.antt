@@ -18,7 +18,8 @@ use Rattle.stm_session.specs.Information.{Informs}
 use Rattle.stm_session.specs.Asking.{Asks, IsStill}
 use Rattle.stm_session.specs.Moments.{IsUnbegun}
 use Rattle.stm_session.specs.Opening.{IsCoherent, Opens}
-use Rattle.stm_session.specs.Refusal.{Refuses, chip_with, first_refusal, is_in_flash, opening_refusal, range_refusal, refusal_of}
+use Rattle.stm_session.specs.Refusal.{Refuses, chip_with, first_refusal, opening_refusal}
+use Rattle.stm_session.specs.Refusals.{is_in_flash, range_refusal, refusal_of}
 use Rattle.stm_session.specs.Running.{AreRead, RunsReads, bytes_read}
 use Rattle.stm_session.proofs.Unbegun.{further, still_is_unbegun}
 use Rattle.stm_session.proofs.Openings.{has_chip, refused_nothing}

@@ -1,5 +1,5 @@
 -- Reads, one command after another.
-use Rattle.std.proofs.Common.{◌≡◌, ℕ, arith, Bool, Option, ◌+◌, ◌<◌, ◌≤◌, List, [], ◌∷◌, ◌++◌, length, get_or, take, map, Result, Ok, Some, true, ◌*◌, sym, ◌∙◌, ap, ap₂}
+use Rattle.std.proofs.Common.{◌≡◌, ℕ, arith, Bool, Option, ◌+◌, ◌<◌, ◌≤◌, List, [], ◌∷◌, ◌++◌, length, get_or, take, map, Result, Ok, Some, true, ◌*◌, sym, ◌∙◌, ap, ap₂, subst}
 use Rattle.std.proofs.lemmas.List.{length-take, map-append, take_more}
 use Rattle.stm_wire.specs.declared.rig.RigCall.{RigCall}
 use Rattle.stm_wire.specs.Chip.{ChipData}
@@ -12,7 +12,7 @@ use Rattle.stm_session.specs.declared.command.Command.{Command}
 use Rattle.stm_session.specs.declared.outcome.Outcome.{Outcome}
 use Rattle.stm_session.specs.declared.fault.Fault.{Fault}
 use Rattle.stm_session.specs.Asking.{Asks}
-use Rattle.stm_session.specs.Running.{AreRead, bytes_read}
+use Rattle.stm_session.specs.Running.{AreKindsOf, AreRead, IsKindOf, bytes_read}
 use Rattle.stm_session.specs.Sending.{most_of_command}
 use Rattle.stm_session.proofs.Asking.{asks_then, settled_still}
 
@@ -44,6 +44,20 @@ pub grows : {A : Type 0} (of : Outcome → A) (asked : Command → A) (commands 
 grows of asked commands i d outcomes new o lt is so_far same =
     ap (map of) is ∙ map-append of outcomes (o ∷ []) ∙ ap₂ (λ xs x. xs ++ x ∷ []) so_far same
     ∙ sym (ap (map asked) (take_more commands i d lt) ∙ map-append asked (take i commands) (get_or commands i d ∷ []))
+
+kinds_append : (commands : List Command) (outcomes : List Outcome) (c : Command) (o : Outcome) → AreKindsOf commands outcomes → IsKindOf c o → AreKindsOf (commands ++ c ∷ []) (outcomes ++ o ∷ [])
+kinds_append [] [] c o kinds kind = (kind, tt)
+kinds_append [] (said ∷ outcomes) c o kinds kind = absurd kinds
+kinds_append (first ∷ commands) [] c o kinds kind = absurd kinds
+kinds_append (first ∷ commands) (said ∷ outcomes) c o kinds kind = (kinds.0, kinds_append commands outcomes c o kinds.1 kind)
+
+-- one outcome more, of the next command
+pub kinds_more : (commands : List Command) (i : ℕ) (d : Command) (outcomes new : List Outcome) (o : Outcome) → i < length commands → new ≡ outcomes ++ o ∷ []
+    → AreKindsOf (take i commands) outcomes → IsKindOf (get_or commands i d) o → AreKindsOf (take (i + 1) commands) new
+kinds_more commands i d outcomes new o lt is so_far kind =
+    let P : List Command → List Outcome → Type 0 = λ cs os. AreKindsOf cs os in
+    subst (λ (cs : List Command). P cs new) (sym (take_more commands i d lt))
+    (subst (λ (os : List Outcome). P (take i commands ++ get_or commands i d ∷ []) os) (sym is) (kinds_append (take i commands) outcomes (get_or commands i d) o so_far kind))
 
 -- one command more
 pub command_part : (chip : ChipData) (commands : List Command) (i : ℕ) (outcomes : List Outcome) (old mid new : RigState) (whole : Bool) → i < length commands → AreReadSoFar chip (take i commands) outcomes old mid

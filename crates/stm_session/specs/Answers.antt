@@ -18,6 +18,9 @@ pub data OutcomeData : Type 0 where
   was_read : List ℕ → OutcomeData
 
 abbrev pub outcome_data : Outcome → OutcomeData
+outcome_data (outcome.Written segment pages) = was_written segment pages
+outcome_data (outcome.Erased segment pages) = was_erased segment pages
+outcome_data outcome.Verified = was_verified
 outcome_data (outcome.Read bytes) = was_read bytes.items
 
 abbrev pub outcomes_in : Report → List OutcomeData

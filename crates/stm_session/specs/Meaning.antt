@@ -1,9 +1,11 @@
 -- What the commands of a session make of a flash.
-use Rattle.std.specs.Prelude.{ℕ, Bool, true, false, List, [], ◌∷◌, fold, filter}
+use Rattle.std.specs.Prelude.{ℕ, Bool, true, false, List, [], ◌∷◌, fold, filter, map}
 use Rattle.stm_image.specs.Lay.{lay}
 use Rattle.stm_image.specs.Pairs.{Pairs}
 use Rattle.stm_wire.specs.Chip.{ChipData}
 use Rattle.stm_wire.specs.Effect.{erased_pages}
+use Rattle.stm_session.specs.declared.command.Command.{Command}
+use Rattle.stm_session.specs.declared.command.Command.TheVariants as command
 
 -- a command, by what it names: an image's places and bytes, pages, or a range of the flash
 pub data CommandData : Type 0 where
@@ -11,6 +13,15 @@ pub data CommandData : Type 0 where
   erases : (pages : List ℕ) → CommandData
   verifies : (image : Pairs) → CommandData
   reads : (start size : ℕ) → CommandData
+
+abbrev pub command_data : Command → CommandData
+command_data (command.Write image) = writes image
+command_data (command.Erase pages) = erases pages.items
+command_data (command.Verify image) = verifies image
+command_data (command.Read start size) = reads start size
+
+abbrev pub commands_in : List Command → List CommandData
+commands_in commands = map command_data commands
 
 -- the flash after a command, and after one command after another
 abbrev pub flash_after : ChipData → List ℕ → CommandData → List ℕ

@@ -10,8 +10,6 @@ use Rattle.stm_journal.specs.declared.header.JournalHeader.{JournalHeader}
 use Rattle.stm_journal.specs.declared.kept.Kept.{Kept}
 use Rattle.stm_journal.specs.States.{StateData, SegmentData, segment_of, is_unfinished, names_other}
 use Rattle.stm_journal.specs.Journals.{JournalData, good, bad}
-use Rattle.stm_session.specs.declared.command.Command.{Command}
-use Rattle.stm_session.specs.declared.command.Command.TheVariants.{Read}
 use Rattle.stm_session.specs.declared.fault.Fault.{Fault}
 use Rattle.stm_session.specs.declared.fault.Fault.TheVariants.{Unfinished, UnknownChip, OutOfFlash, InSession, BadJournal, OtherDevice}
 use Rattle.stm_session.specs.Fault.{IsJournalOrMemory, IsOutsideFault}
@@ -95,19 +93,6 @@ device_refusals s id table = refused_unless (not (names_other id s)) OtherDevice
 abbrev pub opening_refusal : JournalData → Device → List ChipData → Option Fault
 opening_refusal (bad line) d table = Some (BadJournal line)
 opening_refusal (good s) d table = first_refusal (refused_unless (not (is_unfinished s)) Unfinished ∷ device_refusals s d.chip.id table)
-
--- the command names no place outside the flash; no bytes lie anywhere
-abbrev pub is_in_flash : ChipData → Command → Bool
-is_in_flash chip (Read start size) = size == 0 || fits_inside chip start size
-
-abbrev pub range_refusal : Option ChipData → List Command → Option Fault
-range_refusal None commands = None
-range_refusal (Some chip) commands = refused_unless (list_all (is_in_flash chip) commands) OutOfFlash
-
--- what a run of these commands refuses
-abbrev pub refusal_of : JournalData → Device → List ChipData → List Command → Option Fault
-refusal_of journal d table commands =
-    first_refusal (opening_refusal journal d table ∷ range_refusal (chip_with table d.chip.id) commands ∷ [])
 
 -- what is refused before a byte is sent
 abbrev pub unsent_refusal : JournalData → Option Fault

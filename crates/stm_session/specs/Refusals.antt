@@ -10,10 +10,11 @@ use Rattle.stm_wire.specs.Exchange.{is_listed, all_exist}
 use Rattle.stm_journal.specs.declared.header.JournalHeader.{JournalHeader}
 use Rattle.stm_journal.specs.States.{StateData}
 use Rattle.stm_journal.specs.Journals.{JournalData, good, bad}
+use Rattle.stm_session.specs.declared.command.Command.{Command}
 use Rattle.stm_session.specs.declared.fault.Fault.{Fault}
 use Rattle.stm_session.specs.declared.fault.Fault.TheVariants as fault
 use Rattle.stm_session.specs.Refusal.{refused_unless, first_refusal, chip_with, table_refusal, opening_refusal}
-use Rattle.stm_session.specs.Meaning.{CommandData, writes, erases, verifies, reads, is_change, changes_of}
+use Rattle.stm_session.specs.Meaning.{CommandData, writes, erases, verifies, reads, is_change, changes_of, command_data}
 
 -- the code of the command that erases pages
 abbrev pub erase_code : EraseKind → ℕ
@@ -33,6 +34,18 @@ lies_in_flash chip (writes image) = image_fits chip image
 lies_in_flash chip (erases pages) = all_exist chip pages
 lies_in_flash chip (verifies image) = image_fits chip image
 lies_in_flash chip (reads start size) = size == 0 || fits_inside chip start size
+
+abbrev pub is_in_flash : ChipData → Command → Bool
+is_in_flash chip c = lies_in_flash chip (command_data c)
+
+abbrev pub range_refusal : Option ChipData → List Command → Option Fault
+range_refusal None commands = None
+range_refusal (Some chip) commands = refused_unless (list_all (is_in_flash chip) commands) fault.OutOfFlash
+
+-- what a run of these commands, which are reads, refuses
+abbrev pub refusal_of : JournalData → Device → List ChipData → List Command → Option Fault
+refusal_of journal d table commands =
+    first_refusal (opening_refusal journal d table ∷ range_refusal (chip_with table d.chip.id) commands ∷ [])
 
 -- what is refused of the commands, on a chip that is known
 abbrev pub command_refusals : StateData → Device → ChipData → List CommandData → List (Option Fault)

@@ -1,5 +1,5 @@
 -- What a run of commands answers.
-use Rattle.std.specs.Prelude.{◌≡◌, ℕ, ◌-◌, List, map, take, drop, vec_len, Result, IfErr, IfOk, OnOk}
+use Rattle.std.specs.Prelude.{◌≡◌, ℕ, ◌-◌, Bool, true, false, List, [], ◌∷◌, map, take, drop, vec_len, Result, IfErr, IfOk, OnOk}
 use Rattle.stm_wire.specs.Chip.{ChipData}
 use Rattle.stm_wire.specs.Device.{Device, IsSettled}
 use Rattle.stm_wire.specs.Rig.{RigState}
@@ -16,20 +16,41 @@ use Rattle.stm_session.specs.Moments.{IsUnbegun}
 abbrev pub bytes_at : ChipData → List ℕ → ℕ → ℕ → List ℕ
 bytes_at chip flash start size = take size (drop (start - chip.base) flash)
 
+-- the command reads
+abbrev pub is_read : Command → Bool
+is_read (command.Write image) = false
+is_read (command.Erase pages) = false
+is_read (command.Verify image) = false
+is_read (command.Read start size) = true
+
 -- the bytes that a command reads of a flash
 abbrev pub bytes_read : ChipData → List ℕ → Command → List ℕ
+bytes_read chip flash (command.Write image) = []
+bytes_read chip flash (command.Erase pages) = []
+bytes_read chip flash (command.Verify image) = []
 bytes_read chip flash (command.Read start size) = bytes_at chip flash start size
 
--- the bytes that an outcome holds, and how many they are
+-- the bytes that an outcome holds
 abbrev pub bytes_of : Outcome → List ℕ
+bytes_of (outcome.Written segment pages) = []
+bytes_of (outcome.Erased segment pages) = []
+bytes_of outcome.Verified = []
 bytes_of (outcome.Read bytes) = bytes.items
 
-abbrev pub size_of : Outcome → ℕ
-size_of (outcome.Read bytes) = vec_len bytes
+-- the outcome is one of the command, and a read has as many bytes as were asked
+abbrev pub IsKindOf : Command → Outcome → Type 0
+IsKindOf (command.Write image) (outcome.Written segment pages) = Unit {0}
+IsKindOf (command.Erase pages) (outcome.Erased segment count) = Unit {0}
+IsKindOf (command.Verify image) outcome.Verified = Unit {0}
+IsKindOf (command.Read start size) (outcome.Read bytes) = vec_len bytes ≡ size
+IsKindOf _ _ = ⊥
 
--- how many bytes a command asks for
-abbrev pub size_asked : Command → ℕ
-size_asked (command.Read start size) = size
+-- one outcome a command, in their order
+abbrev pub AreKindsOf : List Command → List Outcome → Type 0
+AreKindsOf [] [] = Unit {0}
+AreKindsOf [] (said ∷ outcomes) = ⊥
+AreKindsOf (c ∷ commands) [] = ⊥
+AreKindsOf (c ∷ commands) (said ∷ outcomes) = IsKindOf c said × AreKindsOf commands outcomes
 
 -- one outcome a command, in their order, each with the flash's own bytes
 abbrev pub AreRead : Device → List Command → List Outcome → Type 0

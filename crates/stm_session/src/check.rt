@@ -1,11 +1,9 @@
 // What is checked before the first command is done.
 ghost use Rattle.std.specs.Prelude.{◌≡◌, ◌<◌, ◌++◌, None, Some, MatchResult};
-ghost use Rattle.std.specs.List.{list_all};
 ghost use Rattle.stm_journal.specs.States.{IsSound};
-ghost use Rattle.stm_session.specs.Refusal.{segment_pages, fits_as_kept, header_misfits, lacks_companion, lesser, least, least_with, misfit_lines, misfit_lines_of, misfit_refusal, is_in_flash};
+ghost use Rattle.stm_session.specs.Refusal.{segment_pages, fits_as_kept, header_misfits, lacks_companion, lesser, least, least_with, misfit_lines, misfit_lines_of, misfit_refusal};
 
-use crate::reading::is_within;
-use crate::{Command, Fault};
+use crate::Fault;
 use stm_journal::Journal;
 use stm_wire::Chip;
 
@@ -104,20 +102,4 @@ pub fn check_kept(journal: &Journal, chip: &Chip) -> Result<(), Fault>
         None => Ok(()),
         Some(line) => Err(Fault::BadJournal(line)),
     }
-}
-
-/// Whether a command names no place outside the flash.
-fn is_in_flash(chip: &Chip, command: &Command) -> bool
-    ensures { result ≡ is_in_flash chip.now command.now }
-{
-    match command {
-        Command::Read { start, length } => is_within(chip, *start, *length),
-    }
-}
-
-/// Whether no command names a place outside the flash.
-pub fn are_in_flash(chip: &Chip, commands: &[Command]) -> bool
-    ensures { result ≡ list_all (is_in_flash chip.now) commands.now }
-{
-    commands.iter().all(|command| is_in_flash(chip, command))
 }

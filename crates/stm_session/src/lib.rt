@@ -7,6 +7,7 @@ mod changing;
 mod check;
 mod closing;
 mod command;
+mod command_check;
 mod commanding;
 mod contact;
 mod content;

@@ -3,6 +3,12 @@
 /// What a command answered.
 #[derive(Debug, Drop)]
 pub enum Outcome {
+    /// The number of the write's segment, and how many pages it changed.
+    Written { segment: u32, pages: u32 },
+    /// The same of pages that were erased.
+    Erased { segment: u32, pages: u32 },
+    /// The flash has the image's bytes.
+    Verified,
     /// The bytes that were read.
     Read(Vec<u8>),
 }

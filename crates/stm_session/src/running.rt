@@ -1,5 +1,5 @@
 // A run: everything is checked before the first command is begun, and then the commands are done in their order.
-ghost use Rattle.std.specs.Prelude.{◌≡◌, ◌≢◌, ◌*◌, length, [], IfOk, IfErr, Some, None, true, map};
+ghost use Rattle.std.specs.Prelude.{◌≡◌, ◌≢◌, ◌*◌, length, [], IfOk, IfErr, Some, None, true};
 ghost use Rattle.std.specs.List.{list_all};
 ghost use Rattle.stm_wire.specs.Device.{IsSettled};
 ghost use Rattle.stm_wire.specs.Dialogue.{GoesOn};
@@ -10,11 +10,12 @@ ghost use Rattle.stm_journal.specs.Journals.{journal_of};
 ghost use Rattle.stm_session.specs.Fault.{HasSessionCause, IsRefusal};
 ghost use Rattle.stm_session.specs.Asking.{Asks};
 ghost use Rattle.stm_session.specs.Moments.{IsSafe, IsUnbegun};
-ghost use Rattle.stm_session.specs.Refusal.{Refuses, RefusesUnsent, is_in_flash, refusal_of, unsent_refusal};
+ghost use Rattle.stm_session.specs.Refusal.{Refuses, RefusesUnsent, unsent_refusal};
+ghost use Rattle.stm_session.specs.Refusals.{is_in_flash, refusal_of};
 ghost use Rattle.stm_session.specs.Sending.{SendsAsRun, is_whole, most_of_command};
-ghost use Rattle.stm_session.specs.Running.{AreRead, bytes_of, bytes_read, RunsReads, size_asked, size_of};
+ghost use Rattle.stm_session.specs.Running.{AreKindsOf, AreRead, IsKindOf, bytes_of, bytes_read, is_read, RunsReads};
 
-use crate::check::are_in_flash;
+use crate::command_check::are_in_flash;
 use crate::opening::open;
 use crate::reading::read_range;
 use crate::{Command, Fault, Outcome, Report};
@@ -29,10 +30,11 @@ fn run_command<R: Rig>(
     chip: &Chip,
     command: &Command,
 ) -> Result<Outcome, Fault>
-    requires { is_in_flash chip.now command.now ≡ true }
+    requires reads { is_read command.now ≡ true }
+    requires inside { is_in_flash chip.now command.now ≡ true }
     ensures puts { let old = R.view rig.old in let new = R.view rig.new in
         GoesOn (IsPart (Some chip.now) (is_whole result) most_of_command) old.calls new.calls }
-    ensures size { IfOk result (λ outcome. size_of outcome ≡ size_asked command.now) }
+    ensures kind { IfOk result (IsKindOf command.now) }
     ensures cause { let old = R.view rig.old in let new = R.view rig.new in
         HasSessionCause old new result }
     ensures sent { IfErr result (λ fault. IsRefusal fault → ⊥) }
@@ -41,12 +43,11 @@ fn run_command<R: Rig>(
         → Asks old new result
         (λ outcome. bytes_of outcome ≡ bytes_read chip.now old.device.flash command.now) }
 {
-    match command {
-        Command::Read { start, length } => {
-            let bytes = read_range(alloc, rig, chip, *start, *length)?;
-            Ok(Outcome::Read(bytes))
-        }
-    }
+    let Command::Read { start, length } = command else {
+        unreachable!()
+    };
+    let bytes = read_range(alloc, rig, chip, *start, *length)?;
+    Ok(Outcome::Read(bytes))
 }
 
 /// Does the commands, one after another, on a settled device.
@@ -56,12 +57,12 @@ fn run_reads<R: Rig>(
     chip: &Chip,
     commands: &[Command],
 ) -> Result<Vec<Outcome>, Fault>
-    requires { list_all (is_in_flash chip.now) commands.now ≡ true }
+    requires reads { list_all is_read commands.now ≡ true }
+    requires inside { list_all (is_in_flash chip.now) commands.now ≡ true }
     ensures puts { let old = R.view rig.old in let new = R.view rig.new in
         GoesOn (IsPart (Some chip.now) (is_whole result) (length commands.now * most_of_command))
         old.calls new.calls }
-    ensures sizes { IfOk result
-        (λ outcomes. map size_of outcomes.items ≡ map size_asked commands.now) }
+    ensures kinds { IfOk result (λ outcomes. AreKindsOf commands.now outcomes.items) }
     ensures nothing { commands.now ≡ [] → IfErr result (λ _. ⊥) }
     ensures cause { let old = R.view rig.old in let new = R.view rig.new in
         HasSessionCause old new result }
@@ -86,12 +87,12 @@ pub fn run<R: Rig>(
     table: &Table,
     commands: &[Command],
 ) -> Result<Report, Fault>
+    requires { list_all is_read commands.now ≡ true }
     ensures cause { let old = R.view rig.old in let new = R.view rig.new in
         HasSessionCause old new result }
     ensures puts { let old = R.view rig.old in let new = R.view rig.new in
         SendsAsRun table.now (is_whole result) (length commands.now) old new }
-    ensures sizes { IfOk result
-        (λ report. map size_of report.outcomes.items ≡ map size_asked commands.now) }
+    ensures kinds { IfOk result (λ report. AreKindsOf commands.now report.outcomes.items) }
     ensures silent { let old = R.view rig.old in let new = R.view rig.new in
         IfErr result (λ fault. fault ≡ Fault.Unfinished → GoesOn AreFetches old.calls new.calls) }
     ensures unsent { let old = R.view rig.old in let new = R.view rig.new in

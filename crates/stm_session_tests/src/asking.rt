@@ -238,12 +238,12 @@ fn refuses_a_kept_page_that_the_chip_has_not(rt: HostRuntime) -> Result<(), Fail
 #[test]
 fn refuses_a_place_outside_the_flash(rt: HostRuntime) -> Result<(), Fail> {
     let table = table(&rt)?;
-    let inside = Command::Read {
-        start: 0x0800_0000,
-        length: 4,
-    };
     for (start, length) in [(0x0800_7FFF, 2), (0x07FF_FFFF, 1), (0x0800_8000, 1)] {
         let mut rig = device(&rt, 0x0412, b"")?;
+        let inside = Command::Read {
+            start: 0x0800_0000,
+            length: 4,
+        };
         let outside = Command::Read { start, length };
         let ran = run(rt.alloc(), &mut rig, &table, &[inside, outside]).err();
         assert_eq!(rt; ran, Some(Fault::OutOfFlash));

@@ -47,7 +47,7 @@ fn is_part(
 ) -> Result<bool, Fail> {
     match report.outcomes.get(i) {
         Some(Outcome::Read(bytes)) => Ok(bytes.as_slice() == counting(rt, start, end)?.as_slice()),
-        None => Ok(false),
+        _ => Ok(false),
     }
 }
 

@@ -3,7 +3,8 @@ use Rattle.stm_session.specs.declared.fault.Fault.{Fault}
 use Rattle.stm_session.specs.Promises.{UndoContract}
 use Rattle.stm_session.specs.Undoes.{Undoes, taken_count}
 use Rattle.stm_session.proofs.Going.{at_exit}
-use Rattle.stm_session.proofs.Undone.{contract_unread, contract_none, contract_unfound, contract_when, contract_after, refuses_elsewhere, undoes_unmet, undoes_stopped, undoes_all, loaded_then, undoable_then, flashes_depth, elsewhere_back, harmless_then, owed_then, own_chip, none_some, err_as}
+use Rattle.stm_session.proofs.Unread.{contract_unread, none_some}
+use Rattle.stm_session.proofs.Undone.{contract_none, contract_unfound, contract_when, contract_after, refuses_elsewhere, undoes_unmet, undoes_stopped, undoes_all, loaded_then, undoable_then, flashes_depth, elsewhere_back, harmless_then, owed_then, own_chip, err_as}
 use Rattle.stm_session.proofs.reversal.undo.Goals as goal
 
 pub returns-in_err-journal-clause-promised : goal.returns-in_err-journal-clause-promised

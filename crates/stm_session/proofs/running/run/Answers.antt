@@ -1,6 +1,6 @@
 use Rattle.std.proofs.Common.{rules, true, false, ◌≡◌}
 use Rattle.std.specs.List.{list_all}
-use Rattle.stm_session.specs.Refusal.{is_in_flash}
+use Rattle.stm_session.specs.Refusals.{is_in_flash}
 use Rattle.stm_session.proofs.Asking.{asks_failed, asks_ok}
 use Rattle.stm_session.proofs.Openings.{refused_nothing}
 use Rattle.stm_session.proofs.OpenedRuns.{chip_is, inside_is_accepted, outside_is_refused, reads_unopened, refuses_outside, refuses_unopened, runs_reads}

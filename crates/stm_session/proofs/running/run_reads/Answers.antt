@@ -1,9 +1,9 @@
-use Rattle.std.proofs.Common.{◌+◌, ◌*◌, length, Bool, Some, true, refl, arith, List, subst}
+use Rattle.std.proofs.Common.{◌+◌, ◌*◌, ◌∙◌, ap, length, Bool, Some, true, refl, arith, List, subst}
 use Rattle.std.proofs.lemmas.List.{take_all}
 use Rattle.stm_session.specs.declared.command.Command.{Command}
-use Rattle.stm_session.specs.Running.{AreRead, bytes_of, bytes_read, size_asked, size_of}
+use Rattle.stm_session.specs.Running.{AreRead, IsKindOf, bytes_of, bytes_read}
 use Rattle.stm_session.proofs.Asking.{asks_failed, asks_ok, memory_refused, nothing_asked}
-use Rattle.stm_session.proofs.ReadCommands.{command_part, grows, read_asks, read_first}
+use Rattle.stm_session.proofs.ReadCommands.{command_part, grows, kinds_more, read_asks, read_first}
 use Rattle.stm_wire.specs.Dialogue.{GoesOn}
 use Rattle.stm_wire.specs.Parts.{IsPart}
 use Rattle.stm_wire.specs.PartLaws.{nothing_is_part, part_weaker}
@@ -15,7 +15,7 @@ use Rattle.stm_session.proofs.running.run_reads.Goals as goal
 pub loop-command-init : goal.loop-command-init
 loop-command-init g c =
     let V = g.R.Rig.view in (
-      rw c.new-outcomes.ensures.items refl,
+      rw c.new-outcomes.ensures.items tt,
       record {
         line = omega arith;
         journal = omega arith;
@@ -27,9 +27,11 @@ loop-command-init g c =
 pub loop-command-preserved : goal.loop-command-preserved
 loop-command-preserved g c =
     let V = g.R.Rig.view in
-    let so_far = c.loop-command.invariant.1 in (
-      grows size_of size_asked c.args.commands.now c.loop-command.command-index _ c.loop-command.outcomes.items c.push.new.self.items c.in_ok-outcome.outcome
-          c.loop-command-test.true c.in_ok-push.ensures.items c.loop-command.invariant.0 c.in_ok-outcome.ensures.size,
+    let so_far = c.loop-command.invariant.1 in
+    let item : Command = c.command-item.result in (
+      kinds_more c.args.commands.now c.loop-command.command-index item c.loop-command.outcomes.items c.push.new.self.items c.in_ok-outcome.outcome
+          c.loop-command-test.true c.in_ok-push.ensures.items c.loop-command.invariant.0
+          (subst (λ (x : Command). IsKindOf x c.in_ok-outcome.outcome) c.command-item.is c.in_ok-outcome.ensures.kind),
       record {
         line = omega (arith, so_far.line, c.in_ok-outcome.ensures.cause.line_later);
         journal = omega (arith, so_far.journal, c.in_ok-outcome.ensures.cause.journal_later);
@@ -39,9 +41,10 @@ loop-command-preserved g c =
             read_asks c.args.chip.now _ c.loop-command.outcomes.items (V c.args.rig.now) (V c.loop-command.rig) (V c.run_command.new.rig) so_far h settled chip
             _ _ _ c.in_ok-outcome.ensures.honest
             (λ asks. asks_ok (V c.loop-command.rig) (V c.run_command.new.rig) _ (tt {0}) asks
-            (λ read. grows bytes_of (bytes_read (V c.args.rig.now).device.chip (V c.args.rig.now).device.flash) c.args.commands.now c.loop-command.command-index _ c.loop-command.outcomes.items
+            (λ read. grows bytes_of (bytes_read (V c.args.rig.now).device.chip (V c.args.rig.now).device.flash) c.args.commands.now c.loop-command.command-index item c.loop-command.outcomes.items
             c.push.new.self.items c.in_ok-outcome.outcome c.loop-command-test.true c.in_ok-push.ensures.items (so_far.honest h settled chip).done
-            (read_first c.args.chip.now _ c.loop-command.outcomes.items (V c.args.rig.now) (V c.loop-command.rig) (V c.run_command.new.rig) so_far h settled chip _ _ read)));
+            (read_first c.args.chip.now _ c.loop-command.outcomes.items (V c.args.rig.now) (V c.loop-command.rig) (V c.run_command.new.rig) so_far h settled chip item _ read
+            ∙ ap (bytes_read (V c.args.rig.now).device.chip (V c.args.rig.now).device.flash) c.command-item.is)));
       },
     )
 

@@ -1,0 +1,87 @@
+"""Images: HEX texts of docs/HEX.md, and raw bytes. An image is a dict of address to byte."""
+
+SPACES = b"\r\n \t"
+DIGITS = b"0123456789abcdefABCDEF"
+TOP = 1 << 32
+LENGTHS = {1: 0, 2: 2, 3: 4, 4: 2, 5: 4}
+
+
+class ImageFault(Exception):
+    pass
+
+
+def read_raw(text, start):
+    if start + len(text) > TOP:
+        raise ImageFault("image past the end")
+    return {start + place: byte for place, byte in enumerate(text)}
+
+
+class Hex:
+    def __init__(self, text):
+        self.text = text
+        self.at = 0
+        self.record = 0
+        self.image = {}
+        self.segment = None
+        self.linear = 0
+
+    def fault(self, name):
+        return ImageFault("hex record %d: %s" % (self.record, name))
+
+    def byte(self):
+        """The number of the next two digits."""
+        for place in (self.at, self.at + 1):
+            if place >= len(self.text):
+                raise self.fault("short")
+            if self.text[place] not in DIGITS:
+                raise self.fault("bad digit")
+        value = int(self.text[self.at:self.at + 2], 16)
+        self.at += 2
+        return value
+
+    def place(self, offset, index):
+        if self.segment is not None:
+            return self.segment * 16 + (offset + index) % 65536
+        return (self.linear * 65536 + offset + index) % TOP
+
+    def read(self):
+        while True:
+            while self.at < len(self.text) and self.text[self.at] in SPACES:
+                self.at += 1
+            self.record += 1
+            if self.at == len(self.text):
+                raise self.fault("no end")
+            if self.text[self.at] != ord(":"):
+                raise self.fault("no colon")
+            self.at += 1
+            if self.take_record():
+                return self.image
+
+    def take_record(self):
+        """Whether it is the end record."""
+        length = self.byte()
+        record = [length] + [self.byte() for _ in range(length + 4)]
+        offset = record[1] << 8 | record[2]
+        kind = record[3]
+        data = record[4:-1]
+        if sum(record) % 256 != 0:
+            raise self.fault("checksum")
+        if kind > 5:
+            raise self.fault("type")
+        if kind != 0 and length != LENGTHS[kind]:
+            raise self.fault("length")
+        if kind == 0:
+            for index, byte in enumerate(data):
+                address = self.place(offset, index)
+                if self.image.setdefault(address, byte) != byte:
+                    raise self.fault("conflict")
+        elif kind == 2:
+            self.segment = data[0] << 8 | data[1]
+        elif kind == 4:
+            self.segment = None
+            self.linear = data[0] << 8 | data[1]
+        return kind == 1
+
+
+def read_hex(text):
+    return Hex(text).read()

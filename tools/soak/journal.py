@@ -1,0 +1,133 @@
+"""The journal of docs/JOURNAL.md: what its text says, and the lines that are added to it."""
+
+import re
+
+HEADER = re.compile(rb"stmjournal ([12]) ([0-9A-F]{4})")
+NUMBERED = re.compile(rb"(open|erase|program|end|undone) (0|[1-9][0-9]*)")
+PAGE = re.compile(rb"page (0|[1-9][0-9]*) ((?:[0-9A-F]{2})+)")
+GREATEST = 65535
+
+OPEN, ENDED, RETURNING = "open", "ended", "returning"
+
+
+class BadLine(Exception):
+    def __init__(self, line):
+        super().__init__(line)
+        self.line = line
+
+
+class Kept:
+    """A page that a segment keeps: its number, its bytes, and the number of its line."""
+
+    def __init__(self, page, held, line):
+        self.page = page
+        self.held = held
+        self.line = line
+
+
+class Segment:
+    def __init__(self):
+        self.state = OPEN
+        self.kept = []
+        self.intent = None
+
+    def keeps(self, page):
+        return any(kept.page == page for kept in self.kept)
+
+
+class Journal:
+    def __init__(self, text):
+        self.version = None
+        self.number = None
+        self.header_line = None
+        self.stack = []
+        self.lines = 0
+        lines = bytes(text).split(b"\n")
+        self.torn = lines[-1] != b""
+        for line in lines[:-1]:
+            self.take(line)
+
+    def take(self, line):
+        """One whole line."""
+        self.lines += 1
+        if line.endswith(b"!"):
+            return
+        if not self.understand(line):
+            raise BadLine(self.lines)
+
+    def understand(self, line):
+        if self.number is None:
+            found = HEADER.fullmatch(line)
+            if not found:
+                return False
+            self.version = int(found[1])
+            self.number = int(found[2], 16)
+            self.header_line = self.lines
+            return True
+        found = PAGE.fullmatch(line)
+        if found:
+            return self.keep(int(found[1]), bytes.fromhex(found[2].decode()))
+        found = NUMBERED.fullmatch(line)
+        if not found or int(found[2]) > GREATEST:
+            return False
+        value = int(found[2])
+        word = found[1]
+        if word == b"open":
+            if self.is_unfinished() or value != self.depth() + 1:
+                return False
+            self.stack.append(Segment())
+            return True
+        if not self.stack:
+            return False
+        newest = self.stack[-1]
+        if word in (b"erase", b"program"):
+            if not newest.keeps(value):
+                return False
+            newest.intent = (word.decode(), value)
+            if newest.state == ENDED:
+                newest.state = RETURNING
+            return True
+        if value != self.depth():
+            return False
+        if word == b"end":
+            if newest.state != OPEN:
+                return False
+            newest.state = ENDED
+            newest.intent = None
+            return True
+        self.stack.pop()
+        return True
+
+    def keep(self, page, held):
+        if not self.stack or page > GREATEST:
+            return False
+        newest = self.stack[-1]
+        if newest.state != OPEN or newest.keeps(page):
+            return False
+        newest.kept.append(Kept(page, held, self.lines))
+        return True
+
+    def depth(self):
+        return len(self.stack)
+
+    def is_unfinished(self):
+        return bool(self.stack) and self.stack[-1].state != ENDED
+
+    def intent(self):
+        return self.stack[-1].intent if self.is_unfinished() else None
+
+    def add(self, rig, line, number=None):
+        """Adds a line in one append; with a number before the first segment, the header too."""
+        text = b""
+        if self.torn:
+            text += b"!\n"
+        header = number is not None and self.number is None
+        if header:
+            text += b"stmjournal 2 %04X\n" % number
+        rig.append(text + line + b"\n")
+        if self.torn:
+            self.lines += 1
+            self.torn = False
+        if header:
+            self.take(b"stmjournal 2 %04X" % number)
+        self.take(line)

@@ -1,0 +1,287 @@
+"""The sessions of docs/SESSIONS.md: what is refused, what is sent, what is added to the journal, in order."""
+
+from device import CONNECT
+from journal import BadLine, Journal
+import wire
+
+BLOCK = 256
+COMPANION = 257
+DEEPEST = 65535
+
+
+class Fault(Exception):
+    """Why a session failed, in the program's words."""
+
+
+UNFINISHED = "unfinished command, undo first"
+OUT_OF_FLASH = "address outside the flash"
+IN_SESSION = "journal is open, refused"
+OTHER_DEVICE = "journal belongs to another device"
+NO_ERASE = "no erase command"
+FULL = "journal is full"
+DEVICE = "device does not follow the protocol"
+
+
+class Write:
+    def __init__(self, image):
+        self.image = image
+
+
+class Erase:
+    def __init__(self, pages):
+        self.pages = pages
+
+
+class Verify:
+    def __init__(self, image):
+        self.image = image
+
+
+class Read:
+    def __init__(self, start, length):
+        self.start = start
+        self.length = length
+
+
+def changes(command):
+    return isinstance(command, (Write, Erase))
+
+
+def load(rig):
+    try:
+        return Journal(rig.journal)
+    except BadLine as bad:
+        raise Fault("bad journal line %d" % bad.line)
+
+
+def find(table, number):
+    for chip in table:
+        if chip.number == number:
+            return chip
+    raise Fault("unknown chip %04X" % number)
+
+
+def check_fits(journal, chip):
+    """The least line that this chip can't have: a page that it hasn't, or of another size; on a chip with a page 257 page 1
+    without it; a header of version 1 where there are more than 256 pages."""
+    bad = []
+    if chip.pages() > 256 and journal.version == 1:
+        bad.append(journal.header_line)
+    for segment in journal.stack:
+        for kept in segment.kept:
+            fits = kept.page < chip.pages() and len(kept.held) == chip.sizes[kept.page]
+            alone = kept.page == 1 and COMPANION < chip.pages() and not segment.keeps(COMPANION)
+            if not fits or alone:
+                bad.append(kept.line)
+    if bad:
+        raise Fault("bad journal line %d" % min(bad))
+
+
+def open_session(rig, table):
+    """The first steps of `run` and `info`: the journal, the chip, and what the device tells."""
+    journal = load(rig)
+    if journal.is_unfinished():
+        raise Fault(UNFINISHED)
+    wire.settle(rig, CONNECT)
+    version, codes = wire.get_commands(rig)
+    number = wire.get_id(rig)
+    if journal.number is not None and journal.number != number:
+        raise Fault(OTHER_DEVICE)
+    chip = find(table, number)
+    check_fits(journal, chip)
+    return journal, chip, version, codes
+
+
+def page_of(chip, address):
+    """The page that an address of the flash lies in."""
+    offset = address - chip.base
+    for page in range(chip.pages()):
+        if offset < chip.starts[page] + chip.sizes[page]:
+            return page
+    return None
+
+
+def touched(chip, image):
+    """The pages that an image has a byte in, rising."""
+    return sorted({page_of(chip, address) for address in image})
+
+
+def check_inside(chip, command):
+    if isinstance(command, Erase):
+        inside = all(page < chip.pages() for page in command.pages)
+    elif isinstance(command, Read):
+        inside = command.length == 0 or chip.has(command.start, command.length)
+    else:
+        inside = all(chip.has(address, 1) for address in command.image)
+    if not inside:
+        raise Fault(OUT_OF_FLASH)
+
+
+def read_part(rig, chip, start, length):
+    """Any part of the flash, in blocks of at most 256 bytes that stay within a page."""
+    taken = b""
+    while len(taken) < length:
+        address = start + len(taken)
+        page = page_of(chip, address)
+        end = chip.base + chip.starts[page] + chip.sizes[page]
+        taken += wire.read(rig, address, min(BLOCK, end - address, length - len(taken)))
+    return taken
+
+
+def read_page(rig, chip, page):
+    return read_part(rig, chip, chip.base + chip.starts[page], chip.sizes[page])
+
+
+def frames(chip, wanted):
+    """How a page that was erased is written: pairs of an offset and bytes."""
+    found = []
+    for offset in range(0, len(wanted), BLOCK):
+        block = wanted[offset:offset + BLOCK]
+        length = BLOCK
+        while length > 0 and block[length - 1] == chip.erased:
+            length -= 1
+        if length > 0:
+            found.append((offset, block[:(length + 3) // 4 * 4]))
+    return found
+
+
+def rewrite(rig, journal, chip, page, wanted):
+    """A page that the newest segment keeps is erased and written."""
+    rig.begin("erase line")
+    journal.add(rig, b"erase %d" % page)
+    wire.erase_page(rig, chip.extended, page)
+    parts = frames(chip, wanted)
+    if parts:
+        rig.begin("program line")
+        journal.add(rig, b"program %d" % page)
+    for offset, data in parts:
+        wire.program(rig, chip.base + chip.starts[page] + offset, data)
+
+
+def keep(rig, journal, page, held):
+    rig.begin("page line")
+    journal.add(rig, b"page %d %s" % (page, held.hex().upper().encode()))
+
+
+def turn(rig, journal, chip, page, content):
+    """Gives a page what the command makes of its bytes. Whether it was changed."""
+    held = read_page(rig, chip, page)
+    wanted = content(held)
+    if held == wanted:
+        return False
+    newest = journal.stack[-1]
+    if not newest.keeps(page):
+        if page == 1 and COMPANION < chip.pages() and not newest.keeps(COMPANION):
+            keep(rig, journal, COMPANION, read_page(rig, chip, COMPANION))
+        keep(rig, journal, page, held)
+    rewrite(rig, journal, chip, page, wanted)
+    return True
+
+
+def laid(chip, page, image, held):
+    """The image's bytes where it has one, and the page's own elsewhere."""
+    start = chip.base + chip.starts[page]
+    return bytes(image.get(start + place, byte) for place, byte in enumerate(held))
+
+
+def change(rig, journal, chip, command):
+    """A Write or an Erase, as one segment. Its number, and how many pages were changed."""
+    rig.begin("open line")
+    segment = journal.depth() + 1
+    journal.add(rig, b"open %d" % segment, chip.number)
+    count = 0
+    if isinstance(command, Write):
+        pages = touched(chip, command.image)
+    else:
+        pages = sorted(set(command.pages))
+    for page in pages:
+        if isinstance(command, Write):
+            content = lambda held: laid(chip, page, command.image, held)
+        else:
+            content = lambda held: bytes([chip.erased]) * len(held)
+        count += turn(rig, journal, chip, page, content)
+    rig.begin("end line")
+    journal.add(rig, b"end %d" % segment)
+    return segment, count
+
+
+def verify(rig, chip, image):
+    for page in touched(chip, image):
+        held = read_page(rig, chip, page)
+        start = chip.base + chip.starts[page]
+        for place, byte in enumerate(held):
+            if image.get(start + place, byte) != byte:
+                raise Fault("differs at %08X" % (start + place))
+
+
+def do(rig, journal, chip, command):
+    if changes(command):
+        return change(rig, journal, chip, command)
+    if isinstance(command, Verify):
+        return verify(rig, chip, command.image)
+    return read_part(rig, chip, command.start, command.length)
+
+
+def run(rig, table, commands):
+    """What each command answers."""
+    journal, chip, _, codes = open_session(rig, table)
+    segments = sum(map(changes, commands))
+    if segments > 0 and chip.erase_code() not in codes:
+        raise Fault(NO_ERASE)
+    for command in commands:
+        check_inside(chip, command)
+    if journal.depth() + segments > DEEPEST:
+        raise Fault(FULL)
+    return [do(rig, journal, chip, command) for command in commands]
+
+
+def info(rig, table):
+    _, chip, version, codes = open_session(rig, table)
+    return chip, version, codes
+
+
+def settling_byte(intent):
+    if intent is None:
+        return CONNECT
+    word, page = intent
+    return page if word == "erase" and page < 256 else 0x02
+
+
+def undo(rig, table, count):
+    """How many segments were taken back: the newest so many, or all where that is 0 or more than there are."""
+    journal = load(rig)
+    depth = journal.depth()
+    if depth == 0:
+        return 0
+    chip = find(table, journal.number)
+    check_fits(journal, chip)
+    wire.settle(rig, settling_byte(journal.intent()))
+    _, codes = wire.get_commands(rig)
+    if chip.erase_code() not in codes:
+        raise Fault(NO_ERASE)
+    if wire.get_id(rig) != chip.number:
+        raise Fault(OTHER_DEVICE)
+    taken = depth if count == 0 else min(count, depth)
+    for _ in range(taken):
+        for kept in journal.stack[-1].kept:
+            if read_page(rig, chip, kept.page) != kept.held:
+                rewrite(rig, journal, chip, kept.page, kept.held)
+        rig.begin("undone line")
+        journal.add(rig, b"undone %d" % journal.depth())
+    return taken
+
+
+def refuse_open(rig):
+    if load(rig).depth() > 0:
+        raise Fault(IN_SESSION)
+    wire.settle(rig, CONNECT)
+
+
+def go(rig, address):
+    refuse_open(rig)
+    wire.go(rig, address)
+
+
+def protect(rig, code):
+    refuse_open(rig)
+    wire.protect(rig, code)

@@ -1,0 +1,148 @@
+"""What is said to a device: settling of docs/SETTLING.md, and the frames of docs/MODEL.md."""
+
+from device import (ACK, CONNECT, ERASE, EXTENDED_ERASE, GET, GET_ID, GO, NACK, READ, WRITE,
+                    exclusive_or)
+
+LIMIT = 131072
+DRAINED = 4096
+BATCH = 256
+
+
+class WireFault(Exception):
+    """The device answers what the protocol hasn't."""
+
+
+def drain(rig):
+    taken = []
+    while True:
+        byte = rig.get()
+        if byte is None:
+            return taken
+        taken.append(byte)
+        if len(taken) > DRAINED:
+            raise WireFault()
+
+
+def settle(rig, byte, limit=LIMIT):
+    rig.begin("settle")
+    drain(rig)
+    left = limit
+    if byte != CONNECT:
+        left = settle_in_batches(rig, byte, left)
+    while left > 0:
+        rig.put(byte)
+        left -= 1
+        reply = rig.get()
+        if reply is not None:
+            drain(rig)
+        if reply == NACK:
+            return
+    connect(rig, byte)
+
+
+def settle_in_batches(rig, byte, left):
+    while left > 2:
+        batch = min(BATCH, left - 2)
+        for _ in range(batch):
+            rig.put(byte)
+        left -= batch
+        if NACK in drain(rig):
+            break
+    return left
+
+
+def connect(rig, byte):
+    """The limit is used up: the device is fresh, or gone."""
+    rig.put(CONNECT)
+    if rig.get() != ACK:
+        raise WireFault()
+    rig.put(byte)
+    if rig.get() is not None:
+        raise WireFault()
+    rig.put(byte)
+    if rig.get() != NACK or rig.get() is not None:
+        raise WireFault()
+
+
+def send(rig, frame):
+    """A step of a frame: its bytes, and the acknowledgement."""
+    for byte in frame:
+        rig.put(byte)
+    if rig.get() != ACK:
+        raise WireFault()
+
+
+def take(rig):
+    byte = rig.get()
+    if byte is None:
+        raise WireFault()
+    return byte
+
+
+def pair(code):
+    return [code, code ^ 0xFF]
+
+
+def checked(data):
+    return [*data, exclusive_or(data)]
+
+
+def get_commands(rig):
+    """The version, and the codes."""
+    rig.begin("get")
+    send(rig, pair(GET))
+    count = take(rig)
+    version = take(rig)
+    codes = [take(rig) for _ in range(count)]
+    if take(rig) != ACK:
+        raise WireFault()
+    return version, codes
+
+
+def get_id(rig):
+    rig.begin("get id")
+    send(rig, pair(GET_ID))
+    if take(rig) != 1:
+        raise WireFault()
+    found = take(rig) << 8 | take(rig)
+    if take(rig) != ACK:
+        raise WireFault()
+    return found
+
+
+def read(rig, address, length):
+    rig.begin("read")
+    send(rig, pair(READ))
+    send(rig, checked(address.to_bytes(4, "big")))
+    send(rig, pair(length - 1))
+    return bytes(take(rig) for _ in range(length))
+
+
+def program(rig, address, data):
+    rig.begin("write frame")
+    send(rig, pair(WRITE))
+    send(rig, checked(address.to_bytes(4, "big")))
+    send(rig, checked([len(data) - 1, *data]))
+
+
+def erase_page(rig, extended, page):
+    rig.begin("erase frame")
+    if extended:
+        send(rig, pair(EXTENDED_ERASE))
+        send(rig, [0, 0, *checked([page >> 8, page & 0xFF])])
+    else:
+        send(rig, pair(ERASE))
+        send(rig, [0, *checked([page])])
+
+
+def go(rig, address):
+    rig.begin("go")
+    send(rig, pair(GO))
+    send(rig, checked(address.to_bytes(4, "big")))
+
+
+def protect(rig, code):
+    rig.begin("protect")
+    send(rig, pair(code))
+    if rig.get() != ACK:
+        raise WireFault()
