@@ -40,3 +40,4 @@ pub mod Doings
 pub mod CommandLists
 pub mod Runs
 pub mod RunEnds
+pub mod RunStarts
