@@ -11,6 +11,7 @@ mod command_check;
 mod commanding;
 mod contact;
 mod content;
+mod doing;
 mod erasing;
 mod fault;
 mod finding;
