@@ -206,10 +206,14 @@ def change(rig, journal, chip, command):
 
 
 def verify(rig, chip, image):
-    for page in touched(chip, image):
-        held = read_page(rig, chip, page)
-        start = chip.base + chip.starts[page]
-        for place, byte in enumerate(held):
+    """From the image's next place on blocks of at most 256 bytes, within a page, as long as it has one."""
+    end = 0
+    for start in sorted(image):
+        if start < end:
+            continue
+        page = page_of(chip, start)
+        end = min(start + BLOCK, chip.base + chip.starts[page] + chip.sizes[page])
+        for place, byte in enumerate(wire.read(rig, start, end - start)):
             if image.get(start + place, byte) != byte:
                 raise Fault("differs at %08X" % (start + place))
 

@@ -1,10 +1,12 @@
 -- Segments are taken back, one after another.
-use Rattle.std.proofs.Common.{◌≡◌, inl, inr, ℕ, zero, suc, ◌+◌, ◌<◌, ◌≤◌, List, [], ◌∷◌, ◌++◌, length, take, drop, get_or, Result, Ok, Err, IsErrAnd, refl, sym, ◌∙◌, ap, ap₂, subst, arith, append_assoc}
+use Rattle.std.proofs.Common.{◌≡◌, inl, inr, ℕ, zero, suc, ◌+◌, ◌*◌, ◌<◌, ◌≤◌, true, Some, List, [], ◌∷◌, ◌++◌, length, take, drop, get_or, Result, Ok, Err, IsErrAnd, refl, sym, ◌∙◌, ap, ap₂, subst, arith, append_assoc}
 use Rattle.std.proofs.lemmas.List.{length-map, length-drop, drop-drop}
 use Rattle.stm_wire.specs.Chip.{ChipData}
 use Rattle.stm_wire.specs.Device.{Device}
+use Rattle.stm_wire.specs.Dialogue.{GoesOn}
 use Rattle.stm_wire.specs.MomentLaws.{joined, weaker}
 use Rattle.stm_wire.specs.Moments.{LeavesOnly}
+use Rattle.stm_wire.specs.Parts.{IsPart}
 use Rattle.stm_wire.specs.Rig.{RigState, IsModel}
 use Rattle.stm_journal.specs.declared.entry.Entry.{Entry}
 use Rattle.stm_journal.specs.declared.entry.Entry.TheVariants.{Undoes}
@@ -18,6 +20,7 @@ use Rattle.stm_session.specs.declared.fault.Fault.{Fault}
 use Rattle.stm_session.specs.Fault.{IsOutsideFault}
 use Rattle.stm_session.specs.GoingBack.{AmidBack, GoesBack, going_lines}
 use Rattle.stm_session.specs.Lines.{is_torn_at, text_added, undo_entries}
+use Rattle.stm_session.specs.Sending.{most_of_command}
 use Rattle.stm_session.specs.StepLaws.{StepLaws}
 use Rattle.stm_session.specs.Steps.{IsSteady, Stands, torn_after}
 use Rattle.stm_session.specs.TakingBack.{AmidTakingBack, TakesBack, return_lines, taking_lines}
@@ -250,4 +253,5 @@ pub record IsBackSoFar (chip : ChipData) (i : ℕ) (l l2 : Loaded) (old new : Ri
   pub rest : pages_of_segments l2.state.stack ≡ drop i (pages_of_segments l.state.stack)
   pub line : old.line_failures ≤ new.line_failures
   pub journal : old.journal_failures ≤ new.journal_failures
+  pub puts : GoesOn (IsPart (Some chip) true (i * most_of_command)) old.calls new.calls
   pub honest : (flashes : List (List ℕ)) → IsSteady flashes l old → old.device.chip ≡ chip → GoesBack {T = Unit {0}} i flashes l2 old new (Ok tt)

@@ -20,6 +20,8 @@ pub mod Going
 pub mod Erasings
 pub mod Frames
 pub mod Programmings
+pub mod SentParts
+pub mod PageSums
 pub mod Settlings
 pub mod Restorings
 pub mod Fetchings
@@ -30,6 +32,7 @@ pub mod Straying
 pub mod Misfitting
 pub mod Unread
 pub mod Undone
+pub mod SentUndo
 pub mod Savings
 pub mod Changes
 pub mod Turns

@@ -1,5 +1,5 @@
 -- A page that the newest segment keeps is written, frame by frame.
-use Rattle.std.proofs.Common.{◌≡◌, inr, ℕ, ◌+◌, ◌-◌, ◌<◌, ◌≤◌, List, [], length, append-nil, get_or, take, drop, replicate, Some, Result, Ok, IsErrAnd, refl, sym, ◌∙◌, ap, subst, arith, IsTrue}
+use Rattle.std.proofs.Common.{◌≡◌, inr, ℕ, ◌+◌, ◌-◌, ◌*◌, ◌<◌, ◌≤◌, true, List, [], length, append-nil, get_or, take, drop, replicate, Some, Result, Ok, IsErrAnd, refl, sym, ◌∙◌, ap, subst, arith, IsTrue}
 use Rattle.std.proofs.lemmas.Bool.Decides.{nat_tests}
 use Rattle.stm_wire.specs.declared.fault.WireFault.{WireFault}
 use Rattle.stm_wire.specs.declared.fault.WireFault.TheVariants.{Line}
@@ -8,9 +8,10 @@ use Rattle.stm_wire.specs.declared.intent.Intent.TheVariants.{Program}
 use Rattle.stm_wire.specs.Chip.{ChipData, erased_byte, erased_page, page_count, page_size, page_offset, flash_size, fits_inside, with_bytes, with_page}
 use Rattle.stm_wire.specs.Command.{CanWrite, HasWritten}
 use Rattle.stm_wire.specs.Device.{Device, IsSettled}
-use Rattle.stm_wire.specs.Dialogue.{Turn}
+use Rattle.stm_wire.specs.Dialogue.{GoesOn, Turn}
 use Rattle.stm_wire.specs.Frames.{write_frame}
 use Rattle.stm_wire.specs.Intents.{InPage}
+use Rattle.stm_wire.specs.Parts.{IsPart}
 use Rattle.stm_wire.specs.PageLaws.{page_within, put_in}
 use Rattle.stm_wire.specs.FlashLaws.{IsErasedAt, writes_erased}
 use Rattle.stm_wire.specs.Rig.{RigState, IsModel}
@@ -83,6 +84,7 @@ under_still flashes l n i a b x goes under = let U : List ℕ → Type 0 = λ j.
 pub record IsProgrammedSoFar (chip : ChipData) (n : ℕ) (page : List ℕ) (frames : List Frame) (old new : RigState) : Type 0 where
   pub line : old.line_failures ≤ new.line_failures
   pub journal : old.journal_failures ≤ new.journal_failures
+  pub puts : GoesOn (IsPart (Some chip) true (268 * length frames)) old.calls new.calls
   pub honest : (flashes : List (List ℕ)) (l : Loaded) (base : List ℕ) → IsSteady flashes l old → old.device.chip ≡ chip → IsUnder n (Program n) (state_at old.journal) → length base ≡ flash_size chip
       → old.device.flash ≡ with_page chip n (erased_page chip n) base
       → Goes {T = Unit {0}} flashes [] l old new (Ok tt) (λ x. new.device.flash ≡ with_page chip n (written page frames (erased_page chip n)) base)

@@ -1,18 +1,20 @@
 -- Parts of a flash: that they lie inside it, and how a part grows by the block after it.
-use Rattle.std.proofs.Common.{◌≡◌, ℕ, zero, suc, Bool, ◌+◌, ◌-◌, ◌<◌, ◌≤◌, ◌||◌, ◌==◌, IsTrue, List, ◌++◌, take, drop, Result, Ok, Some, true, ◌*◌, sym, ◌∙◌, ap, ap₂, arith}
+use Rattle.std.proofs.Common.{◌≡◌, ℕ, zero, suc, Bool, ◌+◌, ◌-◌, ◌<◌, ◌≤◌, ◌||◌, ◌==◌, ◌⊎◌, inl, inr, ⊎_elim, IsTrue, List, ◌++◌, take, drop, Result, Ok, Some, true, ◌*◌, sym, ◌∙◌, ap, ap₂, arith}
+use Rattle.std.proofs.lemmas.Bool.{cases_order}
 use Rattle.std.proofs.lemmas.Bool.Decides.{nat_tests}
 use Rattle.std.proofs.lemmas.List.{drop-drop}
 use Rattle.std.proofs.Math.Seq.{take-add}
-use Rattle.stm_wire.specs.Chip.{ChipData, flash_size, fits_inside, IsChip}
+use Rattle.stm_wire.specs.Chip.{ChipData, flash_size, fits_inside, page_count, page_offset, page_size, IsChip}
 use Rattle.stm_wire.specs.Device.{IsSettled}
 use Rattle.stm_wire.specs.Dialogue.{GoesOn}
 use Rattle.stm_wire.specs.Intents.{InPage}
+use Rattle.stm_wire.specs.PageLaws.{page_end}
 use Rattle.stm_wire.specs.Parts.{IsPart}
 use Rattle.stm_wire.specs.PartLaws.{part_longer, parts_join}
 use Rattle.stm_wire.specs.Rig.{RigState}
 use Rattle.stm_session.specs.declared.fault.Fault.{Fault}
 use Rattle.stm_session.specs.Asking.{Asks}
-use Rattle.stm_session.specs.Reading.{IsBlock}
+use Rattle.stm_session.specs.Reading.{IsBlock, IsPageRest}
 use Rattle.stm_session.specs.Running.{bytes_at}
 use Rattle.stm_session.proofs.Asking.{asks_then, settled_still}
 use Rattle.stm_session.proofs.Sending.{block_in_page}
@@ -31,12 +33,20 @@ bytes_at-more chip flash start done size low =
     take-add done size (drop (start - chip.base) flash)
     ∙ ap (λ rest. bytes_at chip flash start done ++ take size rest) (drop-drop done (start - chip.base) flash ∙ ap (λ n. drop n flash) from)
 
+-- Bytes of one page are read in blocks of 256, but for the last.
+pub record IsReadInPage (chip : ChipData) (size done : ℕ) (old new : RigState) : Type 0 where
+  pub most : ℕ
+  pub within : most ≤ 12 + 2 * done
+  pub blocks : done < size → most ≤ 2 * done
+  pub parts : GoesOn (IsPart (Some chip) true most) old.calls new.calls
+
 -- how far the bytes of a range are read
 pub record IsReadSoFar (chip : ChipData) (start size done : ℕ) (bytes : List ℕ) (old new : RigState) : Type 0 where
   pub within : done ≤ size
   pub line : old.line_failures ≤ new.line_failures
   pub journal : old.journal_failures ≤ new.journal_failures
   pub parts : GoesOn (IsPart (Some chip) true (13 * done)) old.calls new.calls
+  pub few : (page : ℕ) → InPage chip page start size → IsReadInPage chip size done old new
   pub honest : old.is_honest → IsSettled old.device → old.device.chip ≡ chip
       → Asks {T = Unit {0}} old new (Ok tt) (λ x. bytes ≡ bytes_at chip old.device.flash start done)
 
@@ -79,3 +89,30 @@ block_part chip start size done block before old mid new whole more so_far is re
     let (page, within) = block_in_page chip (start + done) (size - done) block is in
     part_longer (Some chip) whole (13 * done + (12 + block)) (13 * (done + block)) old.calls new.calls (omega (arith, more, is.cut, is.is_rest.some))
     (parts_join (Some chip) whole (13 * done) (12 + block) old.calls mid.calls new.calls so_far.parts (reads page within))
+
+-- what is left of the page that holds an address of this one is what is left of this one
+rest_of_page : (chip : ChipData) (page address rest : ℕ) → page < page_count chip → chip.base + page_offset chip page ≤ address → address < chip.base + page_offset chip page + page_size chip page → IsPageRest chip address rest
+    → address + rest ≡ chip.base + page_offset chip page + page_size chip page
+rest_of_page chip page address rest here low high is = by_order (cases_order is.page page)
+  where
+    by_order : (is.page ≡ page) ⊎ ((is.page < page) ⊎ (page < is.page)) → address + rest ≡ chip.base + page_offset chip page + page_size chip page
+    by_order (inl same) = is.ends ∙ ap (λ (p : ℕ). chip.base + page_offset chip p + page_size chip p) same
+    by_order (inr (inl lt)) = absurd (omega (arith, is.ends, is.some, low, page_end chip.sizes is.page page lt is.exists))
+    by_order (inr (inr gt)) = absurd (omega (arith, is.begins, high, page_end chip.sizes page is.page gt here))
+
+module _ (chip : ChipData) (start size done block page : ℕ) (old mid new : RigState) (more : done < size) (so_far : IsReadInPage chip size done old mid) (is : IsBlock chip (start + done) (size - done) block)
+    (within : InPage chip page start size) (reads : (page : ℕ) → InPage chip page (start + done) block → GoesOn (IsPart (Some chip) true (12 + block)) mid.calls new.calls) where
+  in_page : (page : ℕ) × InPage chip page (start + done) block
+  in_page = block_in_page chip (start + done) (size - done) block is
+
+  left : start + done + is.rest ≡ chip.base + page_offset chip page + page_size chip page
+  left = rest_of_page chip page (start + done) is.rest within.exists (omega (arith, within.begins)) (omega (arith, within.ends, more)) is.is_rest
+
+  pub block_in_few : IsReadInPage chip size (done + block) old new
+  block_in_few =
+      record {
+        most = so_far.most + (12 + block);
+        within = omega (arith, so_far.blocks more);
+        blocks = λ (lt : done + block < size). omega (arith, so_far.blocks more, lt, is.cut, left, within.ends);
+        parts = parts_join (Some chip) true so_far.most (12 + block) old.calls mid.calls new.calls so_far.parts (reads in_page.0 in_page.1);
+      }

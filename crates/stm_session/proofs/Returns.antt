@@ -86,6 +86,9 @@ module _ (s s2 : StateData) (newest i : ℕ) (same : KeepsSame s s2) (is : newes
     line_fits =
         fits_line chip (newest_kept s2.stack) i there.0 (newest_fits chip s2.stack (fits_pages chip s.stack s2.stack same.same fits)) (sym (entry_newest s2 newest i still_newest) ∙ there.1)
 
+    pub the_kept : (k : Kept) × (slice_get (newest_kept s.stack) i ≡ Some k) × (k.page ≡ n)
+    the_kept = (there.0, sym (entry_newest s newest i is) ∙ sym (same.entry newest i) ∙ there.1, sym number)
+
     pub number_exists : n < page_count chip
     number_exists = let P : ℕ → Type 0 = λ m. m < page_count chip in subst P (sym number) line_fits.exists
 

@@ -1,5 +1,5 @@
 -- What a session puts on any line, honest or not, and in how many calls.
-use Rattle.std.specs.Prelude.{◌≡◌, ◌⊎◌, ℕ, ◌+◌, ◌*◌, Bool, true, false, List, [], ◌++◌, Option, Some, None, Result, Ok, Err}
+use Rattle.std.specs.Prelude.{◌≡◌, ◌⊎◌, ℕ, ◌+◌, ◌*◌, ◌<◌, ◌≤◌, Bool, true, false, List, [], ◌++◌, Option, Some, None, Result, Ok, Err, IfOk}
 use Rattle.stm_wire.specs.declared.rig.RigCall.{RigCall}
 use Rattle.stm_wire.specs.declared.fault.WireFault.{WireFault}
 use Rattle.stm_wire.specs.Chip.{ChipData}
@@ -43,6 +43,18 @@ pub record SendsAsRun (table : List ChipData) (whole : Bool) (n : ℕ) (old new 
   pub chip : Option ChipData
   pub listed : IsOfTable table chip
   pub calls : GoesOn (IsSession chip 0x7F 131072 whole (most_calls n)) old.calls new.calls
+
+-- Settling with some byte, and then frames of one chip of the table, in the calls of so many segments taken back: no more
+-- than were asked for, and at Ok those that the answer tells.
+pub record SendsAsUndo (table : List ChipData) (count : ℕ) (old new : RigState) (result : Result ℕ Fault) : Type 0 where
+  pub chip : Option ChipData
+  pub listed : IsOfTable table chip
+  pub byte : ℕ
+  pub taken : ℕ
+  pub limit : taken ≤ 65535
+  pub asked : 0 < count → taken ≤ count
+  pub told : IfOk result (λ n. n ≡ taken)
+  pub calls : GoesOn (IsSession chip byte 131072 (is_whole result) (most_calls taken)) old.calls new.calls
 
 -- nothing of a dialogue, or all of it, or it was broken off
 abbrev pub IsBegun : List Turn → List RigCall → Type 0

@@ -1,10 +1,13 @@
 // Erasing a page that the journal keeps.
-ghost use Rattle.std.specs.Prelude.{◌≡◌, ◌<◌, ◌∷◌, [], List, ℕ, OnOk, IsTrue};
+ghost use Rattle.std.specs.Prelude.{◌≡◌, ◌<◌, ◌∷◌, [], List, ℕ, Some, OnOk, IsTrue};
 ghost use Rattle.stm_wire.specs.Chip.{page_count, with_page, erased_page};
+ghost use Rattle.stm_wire.specs.Dialogue.{GoesOn};
+ghost use Rattle.stm_wire.specs.Parts.{IsPart};
 ghost use Rattle.stm_journal.specs.declared.entry.Entry.TheVariants.{Erases};
 ghost use Rattle.stm_journal.specs.States.{newest_keeps};
 ghost use Rattle.stm_journal.specs.Newest.{HasIntended};
 ghost use Rattle.stm_session.specs.Fault.{HasSessionCause};
+ghost use Rattle.stm_session.specs.Sending.{is_whole};
 ghost use Rattle.stm_session.specs.Steps.{IsSteady, Goes};
 
 use crate::Fault;
@@ -23,6 +26,8 @@ pub fn erase_kept<R: Rig>(
     requires kept { IsTrue (newest_keeps n journal.old.state) }
     ensures intended { OnOk result (HasIntended n (Intent.Erase n) journal.old.state journal.new.state) }
     ensures cause { HasSessionCause (R.view rig.old) (R.view rig.new) result }
+    ensures puts { let old = R.view rig.old in let new = R.view rig.new in
+        GoesOn (IsPart (Some chip.now) (is_whole result) 9) old.calls new.calls }
     ensures honest { (flashes : List (List ℕ)) → IsSteady flashes journal.old (R.view rig.old) → (R.view rig.old).device.chip ≡ chip.now
         → Goes flashes (Erases n ∷ []) journal.new (R.view rig.old) (R.view rig.new) result
         (λ _. (R.view rig.new).device.flash ≡ with_page chip.now n (erased_page chip.now n) (R.view rig.old).device.flash) }

@@ -1,8 +1,11 @@
 // Taking the newest segments back, one after another.
-ghost use Rattle.std.specs.Prelude.{◌≡◌, ◌≤◌, List, ℕ, length};
+ghost use Rattle.std.specs.Prelude.{◌≡◌, ◌≤◌, ◌*◌, List, ℕ, length, Some};
+ghost use Rattle.stm_wire.specs.Dialogue.{GoesOn};
+ghost use Rattle.stm_wire.specs.Parts.{IsPart};
 ghost use Rattle.stm_journal.specs.Fits.{AllFit};
 ghost use Rattle.stm_session.specs.Fault.{HasSessionCause};
 ghost use Rattle.stm_session.specs.GoingBack.{GoesBack};
+ghost use Rattle.stm_session.specs.Sending.{is_whole, most_of_command};
 ghost use Rattle.stm_session.specs.Steps.{IsSteady};
 
 use crate::Fault;
@@ -23,6 +26,9 @@ pub fn take_back_newest<R: Rig>(
     requires some { taken ≤ length journal.old.state.stack }
     requires fits { AllFit chip.now journal.old.state.stack }
     ensures cause { HasSessionCause (R.view rig.old) (R.view rig.new) result }
+    ensures puts { let old = R.view rig.old in let new = R.view rig.new in
+        let most = taken * most_of_command in
+        GoesOn (IsPart (Some chip.now) (is_whole result) most) old.calls new.calls }
     ensures honest { let old = R.view rig.old in let new = R.view rig.new in
         (flashes : List (List ℕ)) → IsSteady flashes journal.old old → old.device.chip ≡ chip.now
         → GoesBack taken flashes journal.new old new result }

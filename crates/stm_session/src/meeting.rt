@@ -1,13 +1,18 @@
 // How an undo reaches its device: whatever it was sent before is ended, and it is asked whether it is the journal's.
-ghost use Rattle.std.specs.Prelude.{◌≡◌, ◌≤◌, [], List, ℕ, ⊤, length, IfOk, IfErr, IfSome};
+ghost use Rattle.std.specs.Prelude.{◌≡◌, ◌≤◌, [], List, ℕ, ⊤, length, None, IfOk, IfErr, IfSome};
 ghost use Rattle.stm_wire.specs.Device.{IsSettled};
+ghost use Rattle.stm_wire.specs.Dialogue.{GoesOn};
 ghost use Rattle.stm_wire.specs.Harmless.{Harmless};
+ghost use Rattle.stm_wire.specs.Intents.{settling_byte};
+ghost use Rattle.stm_wire.specs.Parts.{IsPart, IsSession};
 ghost use Rattle.stm_wire.specs.Exchange.{is_listed};
 ghost use Rattle.stm_journal.specs.Journals.{IsLoaded};
+ghost use Rattle.stm_journal.specs.States.{intent_of};
 ghost use Rattle.stm_session.specs.Asking.{Asks};
 ghost use Rattle.stm_session.specs.Fault.{HasSessionCause, IsLaterRefusal};
 ghost use Rattle.stm_session.specs.Meeting.{Meets};
 ghost use Rattle.stm_session.specs.Refusals.{can_erase, erase_code, undo_misfit};
+ghost use Rattle.stm_session.specs.Sending.{is_whole, most_calls};
 ghost use Rattle.stm_session.specs.Steps.{Goes};
 ghost use Rattle.stm_session.specs.Undoable.{Undoable};
 ghost use Rattle.stm_session.specs.Undoes.{byte_at_journal, risked_at};
@@ -39,6 +44,8 @@ fn is_listed(codes: &[u8], code: u8) -> bool
 /// Asks a settled device whether it lists the command by which the chip's pages are erased.
 fn ask_erase<R: Rig>(rig: &mut R, chip: &Chip) -> Result<bool, Fault>
     ensures cause { HasSessionCause (R.view rig.old) (R.view rig.new) result }
+    ensures puts { let old = R.view rig.old in let new = R.view rig.new in
+        GoesOn (IsPart None (is_whole result) 261) old.calls new.calls }
     ensures honest { let old = R.view rig.old in let new = R.view rig.new in
         old.is_honest → IsSettled old.device
         → Asks old new result (λ can. can ≡ can_erase chip.now old.device) }
@@ -53,6 +60,8 @@ fn ask_erase<R: Rig>(rig: &mut R, chip: &Chip) -> Result<bool, Fault>
 /// Asks a settled device whether it is this chip, and what is refused where it isn't.
 fn ask_misfit<R: Rig>(rig: &mut R, chip: &Chip) -> Result<Option<Fault>, Fault>
     ensures cause { HasSessionCause (R.view rig.old) (R.view rig.new) result }
+    ensures puts { let old = R.view rig.old in let new = R.view rig.new in
+        GoesOn (IsPart None (is_whole result) 268) old.calls new.calls }
     ensures named { IfOk result (λ misfit. IfSome misfit IsLaterRefusal) }
     ensures honest { let old = R.view rig.old in let new = R.view rig.new in
         old.is_honest → IsSettled old.device
@@ -72,6 +81,9 @@ fn ask_misfit<R: Rig>(rig: &mut R, chip: &Chip) -> Result<Option<Fault>, Fault>
 /// Settles the device by the journal's intent, and asks whether it is the journal's chip.
 pub fn meet<R: Rig>(rig: &mut R, journal: &Journal, chip: &Chip) -> Result<(), Fault>
     ensures cause { HasSessionCause (R.view rig.old) (R.view rig.new) result }
+    ensures puts { let old = R.view rig.old in let new = R.view rig.new in
+        let byte = settling_byte (intent_of journal.now.state) in
+        GoesOn (IsSession None byte 131072 (is_whole result) (most_calls 0)) old.calls new.calls }
     ensures honest { let old = R.view rig.old in let new = R.view rig.new in
         old.is_honest → (flashes : List (List ℕ)) → IsLoaded journal.now old.journal
         → Undoable flashes old.device old.journal → old.device.chip ≡ chip.now

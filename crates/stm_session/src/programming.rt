@@ -1,12 +1,15 @@
 // Programming a page that the journal keeps.
-ghost use Rattle.std.specs.Prelude.{◌≡◌, ◌<◌, ◌≤◌, ◌+◌, ◌∷◌, [], List, ℕ, length, take, drop, OnOk, IsTrue};
+ghost use Rattle.std.specs.Prelude.{◌≡◌, ◌<◌, ◌≤◌, ◌+◌, ◌*◌, ◌∷◌, [], List, ℕ, length, take, drop, Some, OnOk, IsTrue};
 ghost use Rattle.stm_wire.specs.Chip.{page_count, page_size, page_offset, with_bytes, with_page, erased_page, flash_size};
+ghost use Rattle.stm_wire.specs.Dialogue.{GoesOn};
+ghost use Rattle.stm_wire.specs.Parts.{IsPart};
 ghost use Rattle.stm_chip.specs.Plan.{IsFrame, AreFrames, written};
 ghost use Rattle.stm_journal.specs.declared.entry.Entry.TheVariants.{Programs};
 ghost use Rattle.stm_journal.specs.States.{newest_keeps};
 ghost use Rattle.stm_journal.specs.Newest.{HasIntended};
 ghost use Rattle.stm_journal.specs.Journals.{Loaded};
 ghost use Rattle.stm_session.specs.Fault.{HasSessionCause};
+ghost use Rattle.stm_session.specs.Sending.{is_whole};
 ghost use Rattle.stm_wire.specs.FlashLaws.{IsErasedAt};
 ghost use Rattle.stm_session.specs.Undoable.{state_at};
 ghost use Rattle.stm_session.specs.Steps.{IsSteady, IsUnder, Goes};
@@ -29,6 +32,8 @@ fn program_frame<R: Rig>(
     requires size { length page.now ≡ page_size chip.now n }
     requires frame { IsFrame 0 (length page.now) frame }
     ensures cause { HasSessionCause (R.view rig.old) (R.view rig.new) result }
+    ensures puts { let old = R.view rig.old in let new = R.view rig.new in
+        GoesOn (IsPart (Some chip.now) (is_whole result) 268) old.calls new.calls }
     ensures honest { (flashes : List (List ℕ)) (l : Loaded) → IsSteady flashes l (R.view rig.old) → (R.view rig.old).device.chip ≡ chip.now
         → IsUnder n (Intent.Program n) (state_at (R.view rig.old).journal) → IsErasedAt chip.now (page_offset chip.now n + frame.offset) frame.length (R.view rig.old).device.flash
         → Goes flashes [] l (R.view rig.old) (R.view rig.new) result
@@ -54,6 +59,8 @@ fn program_frames<R: Rig>(
     requires size { length page.now ≡ page_size chip.now n }
     requires frames { AreFrames 0 (length page.now) frames.now }
     ensures cause { HasSessionCause (R.view rig.old) (R.view rig.new) result }
+    ensures puts { let old = R.view rig.old in let new = R.view rig.new in
+        GoesOn (IsPart (Some chip.now) (is_whole result) (2 * length page.now)) old.calls new.calls }
     ensures honest { (flashes : List (List ℕ)) (l : Loaded) (base : List ℕ) → IsSteady flashes l (R.view rig.old) → (R.view rig.old).device.chip ≡ chip.now
         → IsUnder n (Intent.Program n) (state_at (R.view rig.old).journal) → length base ≡ flash_size chip.now
         → (R.view rig.old).device.flash ≡ with_page chip.now n (erased_page chip.now n) base
@@ -82,6 +89,8 @@ pub fn program_kept<R: Rig>(
     requires frames { AreFrames 0 (length page.now) frames.now }
     ensures intended { OnOk result (HasIntended n (Intent.Program n) journal.old.state journal.new.state) }
     ensures cause { HasSessionCause (R.view rig.old) (R.view rig.new) result }
+    ensures puts { let old = R.view rig.old in let new = R.view rig.new in
+        GoesOn (IsPart (Some chip.now) (is_whole result) (2 * length page.now)) old.calls new.calls }
     ensures honest { (flashes : List (List ℕ)) (base : List ℕ) → IsSteady flashes journal.old (R.view rig.old) → (R.view rig.old).device.chip ≡ chip.now
         → length base ≡ flash_size chip.now
         → (R.view rig.old).device.flash ≡ with_page chip.now n (erased_page chip.now n) base

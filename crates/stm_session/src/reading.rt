@@ -1,5 +1,5 @@
 // Reads any part of the flash, in calls that the bootloader takes.
-ghost use Rattle.std.specs.Prelude.{◌≡◌, ℕ, ◌+◌, ◌-◌, ◌<◌, ◌≤◌, ◌||◌, ◌==◌, ◌++◌, IsTrue, IfErr, IfOk, OnOk, length, vec_len, Some};
+ghost use Rattle.std.specs.Prelude.{◌≡◌, ℕ, ◌+◌, ◌-◌, ◌*◌, ◌<◌, ◌≤◌, ◌||◌, ◌==◌, ◌++◌, IsTrue, IfErr, IfOk, OnOk, length, vec_len, Some};
 ghost use Rattle.stm_wire.specs.Chip.{fits_inside, is_inside};
 ghost use Rattle.stm_wire.specs.Device.{IsSettled};
 ghost use Rattle.stm_wire.specs.Dialogue.{GoesOn};
@@ -128,6 +128,10 @@ pub fn read_range<R: Rig>(
     ensures size { IfOk result (λ bytes. vec_len bytes ≡ size) }
     ensures puts { let old = R.view rig.old in let new = R.view rig.new in
         GoesOn (IsPart (Some chip.now) (is_whole result) most_of_command) old.calls new.calls }
+    // Bytes of one page are read in blocks of 256, but for the last.
+    ensures few { let old = R.view rig.old in let new = R.view rig.new in
+        (page : ℕ) → InPage chip.now page start size
+        → GoesOn (IsPart (Some chip.now) (is_whole result) (12 + 2 * size)) old.calls new.calls }
     ensures cause { let old = R.view rig.old in let new = R.view rig.new in
         HasSessionCause old new result }
     ensures sent { IfErr result (λ fault. IsRefusal fault → ⊥) }

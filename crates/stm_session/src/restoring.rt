@@ -1,10 +1,13 @@
 // Giving a page back what a segment keeps of it.
-ghost use Rattle.std.specs.Prelude.{◌≡◌, ◌<◌, [], List, ℕ, length, bytes_eq, if◌then◌else◌, OnOk, IsTrue};
+ghost use Rattle.std.specs.Prelude.{◌≡◌, ◌<◌, ◌+◌, ◌*◌, [], List, ℕ, length, bytes_eq, if◌then◌else◌, Some, OnOk, IsTrue};
 ghost use Rattle.stm_wire.specs.Chip.{page_count, page_size, page_of, with_page};
+ghost use Rattle.stm_wire.specs.Dialogue.{GoesOn};
+ghost use Rattle.stm_wire.specs.Parts.{IsPart};
 ghost use Rattle.stm_journal.specs.States.{newest_keeps};
 ghost use Rattle.stm_journal.specs.Newest.{KeepsSame};
 ghost use Rattle.stm_session.specs.Fault.{HasSessionCause};
 ghost use Rattle.stm_session.specs.Lines.{rewrite_entries};
+ghost use Rattle.stm_session.specs.Sending.{is_whole};
 ghost use Rattle.stm_session.specs.Steps.{IsSteady, Goes};
 
 use crate::Fault;
@@ -31,6 +34,8 @@ pub fn restore_page<R: Rig>(
     requires kept { IsTrue (newest_keeps n journal.old.state) }
     ensures same { OnOk result (KeepsSame journal.old.state journal.new.state) }
     ensures cause { HasSessionCause (R.view rig.old) (R.view rig.new) result }
+    ensures puts { let old = R.view rig.old in let new = R.view rig.new in
+        GoesOn (IsPart (Some chip.now) (is_whole result) (9 + 2 * length page.now)) old.calls new.calls }
     ensures honest { (flashes : List (List ℕ)) → IsSteady flashes journal.old (R.view rig.old)
         → (R.view rig.old).device.chip ≡ chip.now
         → held.now ≡ page_of chip.now (R.view rig.old).device.flash n

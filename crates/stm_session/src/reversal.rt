@@ -1,9 +1,10 @@
 // Taking a session back, wherever it was stopped.
-ghost use Rattle.std.specs.Prelude.{◌≡◌, ◌≤◌, Ok};
+ghost use Rattle.std.specs.Prelude.{◌≡◌, ◌<◌, ◌≤◌, Ok};
 ghost use Rattle.stm_wire.specs.Dialogue.{GoesOn};
 ghost use Rattle.stm_journal.specs.Calls.{AreFetches};
 ghost use Rattle.stm_session.specs.Fault.{HasSessionCause};
 ghost use Rattle.stm_session.specs.Promises.{UndoContract};
+ghost use Rattle.stm_session.specs.Sending.{SendsAsUndo};
 ghost use Rattle.stm_session.specs.Undoes.{taken_count};
 
 use crate::Fault;
@@ -21,6 +22,7 @@ fn taken_count(count: u32, depth: u32) -> u32
     ensures value { result ≡ taken_count count depth }
     ensures most { result ≤ depth }
     ensures some { 1 ≤ depth → 1 ≤ result }
+    ensures asked { 0 < count → result ≤ count }
 {
     if count == 0 || depth < count {
         depth
@@ -37,6 +39,8 @@ pub fn undo<R: Rig>(alloc: Global, rig: &mut R, table: &Table, count: u32) -> Re
     ensures cause { HasSessionCause (R.view rig.old) (R.view rig.new) result }
     ensures silent { let old = R.view rig.old in let new = R.view rig.new in
         result ≡ Ok 0 → GoesOn AreFetches old.calls new.calls }
+    ensures puts { let old = R.view rig.old in let new = R.view rig.new in
+        SendsAsUndo table.now count old new result }
     ensures promised { UndoContract table.now count (R.view rig.old) (R.view rig.new) result }
 {
     step_laws();

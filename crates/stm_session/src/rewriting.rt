@@ -1,12 +1,15 @@
 // Giving a page that the journal keeps new bytes.
-ghost use Rattle.std.specs.Prelude.{◌≡◌, ◌<◌, ◌≤◌, ◌+◌, ◌∷◌, List, ℕ, length, OnOk, IsTrue};
+ghost use Rattle.std.specs.Prelude.{◌≡◌, ◌<◌, ◌≤◌, ◌+◌, ◌*◌, ◌∷◌, List, ℕ, length, Some, OnOk, IsTrue};
 ghost use Rattle.stm_wire.specs.Chip.{page_count, page_size, with_page, erased_page};
+ghost use Rattle.stm_wire.specs.Dialogue.{GoesOn};
+ghost use Rattle.stm_wire.specs.Parts.{IsPart};
 ghost use Rattle.stm_chip.specs.Plan.{AreFrames, written};
 ghost use Rattle.stm_journal.specs.declared.entry.Entry.TheVariants.{Erases};
 ghost use Rattle.stm_journal.specs.States.{newest_keeps, newest_is_open};
 ghost use Rattle.stm_journal.specs.Newest.{KeepsSame};
 ghost use Rattle.stm_session.specs.Fault.{HasSessionCause};
 ghost use Rattle.stm_session.specs.Lines.{program_entries};
+ghost use Rattle.stm_session.specs.Sending.{is_whole};
 ghost use Rattle.stm_session.specs.Steps.{IsSteady, Goes};
 
 use crate::Fault;
@@ -34,6 +37,8 @@ pub fn rewrite_kept<R: Rig>(
     ensures same { OnOk result (KeepsSame journal.old.state journal.new.state) }
     ensures open { OnOk result (newest_is_open journal.new.state ≡ newest_is_open journal.old.state) }
     ensures cause { HasSessionCause (R.view rig.old) (R.view rig.new) result }
+    ensures puts { let old = R.view rig.old in let new = R.view rig.new in
+        GoesOn (IsPart (Some chip.now) (is_whole result) (9 + 2 * length page.now)) old.calls new.calls }
     ensures honest { (flashes : List (List ℕ)) → IsSteady flashes journal.old (R.view rig.old) → (R.view rig.old).device.chip ≡ chip.now
         → Goes flashes (Erases n ∷ program_entries n frames.now) journal.new (R.view rig.old) (R.view rig.new) result
         (λ _. (R.view rig.new).device.flash ≡ with_page chip.now n page.now (R.view rig.old).device.flash) }

@@ -1,8 +1,11 @@
 // Taking the newest segment back.
-ghost use Rattle.std.specs.Prelude.{◌≡◌, ◌<◌, ◌∷◌, List, ℕ, drop, length, OnOk};
+ghost use Rattle.std.specs.Prelude.{◌≡◌, ◌<◌, ◌∷◌, List, ℕ, drop, length, Some, OnOk};
+ghost use Rattle.stm_wire.specs.Dialogue.{GoesOn};
+ghost use Rattle.stm_wire.specs.Parts.{IsPart};
 ghost use Rattle.stm_journal.specs.Fits.{AllFit};
 ghost use Rattle.stm_journal.specs.Newest.{KeepsSame, pages_of_segments};
 ghost use Rattle.stm_session.specs.Fault.{HasSessionCause};
+ghost use Rattle.stm_session.specs.Sending.{is_whole, most_of_command};
 ghost use Rattle.stm_session.specs.Steps.{IsSteady, Goes};
 ghost use Rattle.stm_session.specs.TakingBack.{TakesBack, newest_at, return_lines, taking_lines, with_pages};
 
@@ -23,6 +26,8 @@ pub fn restore_lines<R: Rig>(
     requires fits { AllFit chip.now journal.old.state.stack }
     ensures same { OnOk result (KeepsSame journal.old.state journal.new.state) }
     ensures cause { HasSessionCause (R.view rig.old) (R.view rig.new) result }
+    ensures puts { let old = R.view rig.old in let new = R.view rig.new in
+        GoesOn (IsPart (Some chip.now) (is_whole result) most_of_command) old.calls new.calls }
     ensures honest { let old = R.view rig.old in let new = R.view rig.new in
         (flashes : List (List ℕ)) → IsSteady flashes journal.old old → old.device.chip ≡ chip.now
         → let pages = newest_at old.journal in
@@ -30,6 +35,7 @@ pub fn restore_lines<R: Rig>(
         (λ _. new.device.flash ≡ with_pages chip.now pages old.device.flash) }
 {
     step_laws();
+    chip.keeps_limits();
     let newest = journal.depth();
     let count = journal.kept_count(newest);
     for i in 0..count {
@@ -56,6 +62,8 @@ pub fn take_back<R: Rig>(
     ensures rest { let pages = pages_of_segments journal.old.state.stack in
         OnOk result (pages_of_segments journal.new.state.stack ≡ drop 1 pages) }
     ensures cause { HasSessionCause (R.view rig.old) (R.view rig.new) result }
+    ensures puts { let old = R.view rig.old in let new = R.view rig.new in
+        GoesOn (IsPart (Some chip.now) (is_whole result) most_of_command) old.calls new.calls }
     ensures honest { let old = R.view rig.old in let new = R.view rig.new in
         (flash : List ℕ) (flashes : List (List ℕ))
         → IsSteady (flash ∷ flashes) journal.old old → old.device.chip ≡ chip.now

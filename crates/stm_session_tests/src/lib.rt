@@ -8,10 +8,18 @@ mod bad_lines;
 #[cfg(test)]
 mod client;
 #[cfg(test)]
+mod devices;
+#[cfg(test)]
 mod faults;
 #[cfg(test)]
 mod large;
 #[cfg(test)]
 mod laws;
+#[cfg(test)]
+mod old_journals;
+#[cfg(test)]
+mod settled_back;
+#[cfg(test)]
+mod settled_wide;
 #[cfg(test)]
 mod taking_back;

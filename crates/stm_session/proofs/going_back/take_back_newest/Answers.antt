@@ -1,6 +1,13 @@
 use Rattle.std.proofs.Common.{◌≡◌, ◌∙◌, ◌+◌, ◌<◌, length, refl, arith}
 use Rattle.stm_session.proofs.Going.{at_exit}
 use Rattle.stm_session.proofs.GoingBack.{goes_back_all, goes_back_failed, goes_back_more, goes_back_nowhere, next_flash, rest_depth, rest_fits, rest_next, some_left, steady_split}
+use Rattle.std.proofs.Common.{◌≤◌, ◌*◌, Bool, Some, true}
+use Rattle.stm_wire.specs.Dialogue.{GoesOn}
+use Rattle.stm_wire.specs.Parts.{IsPart}
+use Rattle.stm_wire.specs.PartLaws.{nothing_is_part}
+use Rattle.stm_session.specs.Sending.{most_of_command}
+use Rattle.stm_session.proofs.Sending.{same_fault}
+use Rattle.stm_session.proofs.SentParts.{commands_next, commands_within}
 use Rattle.stm_session.proofs.going_back.take_back_newest.Goals as goal
 
 pub loop-i-init : goal.loop-i-init
@@ -10,6 +17,7 @@ loop-i-init g c =
       rest = refl;
       line = omega arith;
       journal = omega arith;
+      puts = nothing_is_part (Some c.args.chip.now) true _ (V c.args.rig.now).calls;
       honest = λ flashes steady chip. goes_back_nowhere c.step_laws.ensures flashes c.args.journal.now (V c.args.rig.now) (g.met.R.Rig.model c.args.rig.now steady.honest) steady;
     }
 
@@ -59,6 +67,7 @@ loop-i-preserved g c =
       rest = rest_next i _ _ _ c.loop-i.invariant.rest c.in_ok-take_back.ensures.rest;
       line = omega (arith, c.loop-i.invariant.line, c.in_ok-take_back.ensures.cause.line_later);
       journal = omega (arith, c.loop-i.invariant.journal, c.in_ok-take_back.ensures.cause.journal_later);
+      puts = commands_next c.args.chip.now i true a.calls b.calls d.calls c.loop-i.invariant.puts c.in_ok-take_back.ensures.puts;
       honest = λ flashes steady chip.
           let so_far = c.loop-i.invariant.honest flashes steady chip in
           let model = g.met.R.Rig.model c.loop-i.rig so_far.steady.honest in
@@ -73,3 +82,21 @@ returns-clause-honest g c flashes steady chip =
     let V = g.R.Rig.view in
     let all : c.loop-i.i ≡ c.args.taken = omega (arith, c.loop-i-test.false, c.loop-i.auto.i-end) in
     goes_back_all c.loop-i.i c.args.taken flashes c.loop-i.journal (V c.args.rig.now) (V c.loop-i.rig) all (c.loop-i.invariant.honest flashes steady chip)
+
+pub returns-in_err-take_back-clause-puts : goal.returns-in_err-take_back-clause-puts
+returns-in_err-take_back-clause-puts g c =
+    let V = g.R.Rig.view in
+    let chip = c.args.chip.now in
+    let i = c.loop-i.i in
+    let a = (V c.args.rig.now).calls in
+    let d = (V c.take_back.new.rig).calls in
+    let le : i + 1 ≤ c.args.taken = omega (arith, c.loop-i-test.true) in
+    let P : Bool → Type 0 = λ w. GoesOn (IsPart (Some chip) w (c.args.taken * most_of_command)) a d in
+    same_fault P _ c.from_residual.result c.from_residual.ensures.1
+    (commands_within chip (i + 1) c.args.taken _ a d le (commands_next chip i _ a (V c.loop-i.rig).calls d c.loop-i.invariant.puts c.in_err-take_back.ensures.puts))
+
+pub returns-clause-puts : goal.returns-clause-puts
+returns-clause-puts g c =
+    let V = g.R.Rig.view in
+    let all : c.loop-i.i ≡ c.args.taken = omega (arith, c.loop-i-test.false, c.loop-i.auto.i-end) in
+    commands_within c.args.chip.now c.loop-i.i c.args.taken true (V c.args.rig.now).calls (V c.loop-i.rig).calls (omega (arith, all)) c.loop-i.invariant.puts

@@ -1,8 +1,17 @@
-use Rattle.std.proofs.Common.{◌≡◌, ◌∙◌, [], None, inr}
+use Rattle.std.proofs.Common.{◌≡◌, ◌∙◌, [], None, inr, sym}
 use Rattle.stm_session.specs.Refusals.{undo_misfit}
 use Rattle.stm_session.proofs.Going.{at_exit, asks_go, asks_fail, goes_failed, goes_then}
 use Rattle.stm_session.proofs.Misfitting.{own_misfit}
+use Rattle.stm_session.proofs.Unread.{none_some}
 use Rattle.stm_session.proofs.Straying.{strays_failed, strays_asked, strays_unasked, misfit_was}
+use Rattle.std.proofs.Common.{Bool, true, arith}
+use Rattle.stm_wire.specs.Dialogue.{GoesOn}
+use Rattle.stm_wire.specs.Intents.{settling_byte}
+use Rattle.stm_wire.specs.Parts.{IsSession}
+use Rattle.stm_wire.specs.PartLaws.{session_joins, session_longer, session_weaker, settling_is_session}
+use Rattle.stm_journal.specs.States.{intent_of}
+use Rattle.stm_session.specs.Sending.{is_whole, most_calls}
+use Rattle.stm_session.proofs.Sending.{same_fault}
 use Rattle.stm_session.proofs.meeting.meet.Goals as goal
 
 pub returns-in_err-settle_intended-clause-honest : goal.returns-in_err-settle_intended-clause-honest
@@ -30,7 +39,7 @@ returns-in-Some-clause-honest g c h flashes loaded undoable chip =
     let done : c.in_ok-misfit.misfit ≡ undo_misfit c.args.chip.now c.args.chip.now.id (V c.settle_intended.new.rig).device = (c.in_ok-misfit.ensures.honest first.honest first.steady.settled).done in
     let none : undo_misfit c.args.chip.now c.args.chip.now.id (V c.settle_intended.new.rig).device ≡ None = own_misfit c.args.chip.now (V c.settle_intended.new.rig).device model.device still in
     let is = c.in-Some.is in
-    absurd (cc (done, none, is))
+    absurd (none_some _ _ none (sym done ∙ is))
 
 pub returns-in-None-clause-honest : goal.returns-in-None-clause-honest
 returns-in-None-clause-honest g c h flashes loaded undoable chip =
@@ -62,7 +71,7 @@ returns-in-Some-clause-elsewhere g c h loaded harmless owed =
     let said = asks.done ∙ misfit_was c.args.chip.now (V c.args.rig.now) (V c.settle_intended.new.rig) first.left in
     let is = c.in-Some.is in
     let kept = strays_asked c.step_laws.ensures c.args.chip.now (V c.args.rig.now) (V c.settle_intended.new.rig) (V c.ask_misfit.new.rig) _ first (g.met.R.Rig.model c.ask_misfit.new.rig asks.honest) _ asks in
-    record { moments = kept.0; honest = asks.honest; left = kept.1; accepted = tt; refused = inr (cc (said, is)) }
+    record { moments = kept.0; honest = asks.honest; left = kept.1; accepted = tt; refused = inr (sym said ∙ is) }
 
 pub returns-in-None-clause-elsewhere : goal.returns-in-None-clause-elsewhere
 returns-in-None-clause-elsewhere g c h loaded harmless owed =
@@ -72,4 +81,43 @@ returns-in-None-clause-elsewhere g c h loaded harmless owed =
     let said = asks.done ∙ misfit_was c.args.chip.now (V c.args.rig.now) (V c.settle_intended.new.rig) first.left in
     let is = c.in-None.is in
     let kept = strays_asked c.step_laws.ensures c.args.chip.now (V c.args.rig.now) (V c.settle_intended.new.rig) (V c.ask_misfit.new.rig) _ first (g.met.R.Rig.model c.ask_misfit.new.rig asks.honest) _ asks in
-    record { moments = kept.0; honest = asks.honest; left = kept.1; accepted = cc (said, is); refused = tt }
+    record { moments = kept.0; honest = asks.honest; left = kept.1; accepted = sym said ∙ is; refused = tt }
+
+pub returns-in_err-settle_intended-clause-puts : goal.returns-in_err-settle_intended-clause-puts
+returns-in_err-settle_intended-clause-puts g c =
+    let V = g.R.Rig.view in
+    let byte = settling_byte (intent_of c.args.journal.now.state) in
+    let a = (V c.args.rig.now).calls in
+    let b = (V c.settle_intended.new.rig).calls in
+    let whole = is_whole c.from_residual.result in
+    session_longer None byte 131072 whole 537411600 (most_calls 0) a b (omega arith) (settling_is_session None byte 131072 whole 537411600 a b c.settle_intended.ensures.calls)
+
+pub returns-in_err-misfit-clause-puts : goal.returns-in_err-misfit-clause-puts
+returns-in_err-misfit-clause-puts g c =
+    let V = g.R.Rig.view in
+    let byte = settling_byte (intent_of c.args.journal.now.state) in
+    let a = (V c.args.rig.now).calls in
+    let b = (V c.settle_intended.new.rig).calls in
+    let d = (V c.ask_misfit.new.rig).calls in
+    let P : Bool → Type 0 = λ w. GoesOn (IsSession None byte 131072 w (most_calls 0)) a d in
+    same_fault P _ c.from_residual-in_err-misfit.result c.from_residual-in_err-misfit.ensures.1
+    (session_joins None byte 131072 _ 537411600 268 a b d (settling_is_session None byte 131072 true 537411600 a b c.settle_intended.ensures.calls) c.in_err-misfit.ensures.puts)
+
+pub returns-in-Some-clause-puts : goal.returns-in-Some-clause-puts
+returns-in-Some-clause-puts g c =
+    let V = g.R.Rig.view in
+    let byte = settling_byte (intent_of c.args.journal.now.state) in
+    let a = (V c.args.rig.now).calls in
+    let b = (V c.settle_intended.new.rig).calls in
+    let d = (V c.ask_misfit.new.rig).calls in
+    session_weaker None byte 131072 _ (most_calls 0) (most_calls 0) a d (omega arith)
+    (session_joins None byte 131072 true 537411600 268 a b d (settling_is_session None byte 131072 true 537411600 a b c.settle_intended.ensures.calls) c.in_ok-misfit.ensures.puts)
+
+pub returns-in-None-clause-puts : goal.returns-in-None-clause-puts
+returns-in-None-clause-puts g c =
+    let V = g.R.Rig.view in
+    let byte = settling_byte (intent_of c.args.journal.now.state) in
+    let a = (V c.args.rig.now).calls in
+    let b = (V c.settle_intended.new.rig).calls in
+    let d = (V c.ask_misfit.new.rig).calls in
+    session_joins None byte 131072 true 537411600 268 a b d (settling_is_session None byte 131072 true 537411600 a b c.settle_intended.ensures.calls) c.in_ok-misfit.ensures.puts

@@ -6,6 +6,9 @@ use Rattle.stm_session.specs.Undoable.{state_at}
 use Rattle.stm_session.proofs.Erasings.{is_under, programs_step}
 use Rattle.stm_session.proofs.Going.{goes_then, goes_failed, goes_ok, line_goes, line_fails}
 use Rattle.stm_session.proofs.Keeping.{good_at}
+use Rattle.std.proofs.Common.{◌*◌, length, true, Some, arith}
+use Rattle.stm_session.specs.Sending.{is_whole}
+use Rattle.stm_session.proofs.SentParts.{line_part, part_after, part_fails_after}
 use Rattle.stm_session.proofs.programming.program_kept.Goals as goal
 
 pub returns-in_err-intend_program-clause-honest : goal.returns-in_err-intend_program-clause-honest
@@ -57,3 +60,31 @@ returns-clause-honest g c flashes base steady chip whole erased =
     (goes_ok flashes [] c.intend_program.new.self (V c.intend_program.new.rig) (V c.program_frames.new.rig) _ (tt {0})
     (c.in_ok-program_frames.ensures.honest flashes c.intend_program.new.self base first.steady chip_is under whole bare)
     (λ p. p)) (λ y p. p)
+
+pub returns-in_err-intend_program-clause-puts : goal.returns-in_err-intend_program-clause-puts
+returns-in_err-intend_program-clause-puts g c =
+    let V = g.R.Rig.view in
+    line_part (Some c.args.chip.now) (is_whole c.from_residual.result) (2 * length c.args.page.now) c.args.journal.now (Programs c.args.n ∷ []) c.intend_program.result
+    (V c.args.rig.now).calls (V c.intend_program.new.rig).calls c.intend_program.ensures.calls
+
+pub returns-in_err-program_frames-clause-puts : goal.returns-in_err-program_frames-clause-puts
+returns-in_err-program_frames-clause-puts g c =
+    let V = g.R.Rig.view in
+    let a = (V c.args.rig.now).calls in
+    let b = (V c.intend_program.new.rig).calls in
+    let d = (V c.program_frames.new.rig).calls in
+    let chip = Some c.args.chip.now in
+    let most = 2 * length c.args.page.now in
+    part_fails_after chip 0 most most a b d _ c.from_residual-in_err-program_frames.result (omega arith) c.from_residual-in_err-program_frames.ensures.1
+    (line_part chip true 0 c.args.journal.now (Programs c.args.n ∷ []) c.intend_program.result a b c.intend_program.ensures.calls) c.in_err-program_frames.ensures.puts
+
+pub returns-clause-puts : goal.returns-clause-puts
+returns-clause-puts g c =
+    let V = g.R.Rig.view in
+    let a = (V c.args.rig.now).calls in
+    let b = (V c.intend_program.new.rig).calls in
+    let d = (V c.program_frames.new.rig).calls in
+    let chip = Some c.args.chip.now in
+    let most = 2 * length c.args.page.now in
+    part_after chip true 0 most most a b d (omega arith)
+    (line_part chip true 0 c.args.journal.now (Programs c.args.n ∷ []) c.intend_program.result a b c.intend_program.ensures.calls) c.in_ok-program_frames.ensures.puts

@@ -6,6 +6,10 @@ use Rattle.stm_journal.specs.declared.entry.Entry.TheVariants.{Erases}
 use Rattle.stm_session.specs.Lines.{program_entries, rewrite_entries}
 use Rattle.stm_session.proofs.Going.{goes_as, goes_nowhere, goes_failed, goes_ok, goes_refused, page_held}
 use Rattle.stm_session.proofs.Restorings.{no_lines, some_lines}
+use Rattle.std.proofs.Common.{◌+◌, ◌*◌, Some, arith}
+use Rattle.stm_wire.specs.PartLaws.{nothing_is_part}
+use Rattle.stm_session.specs.Sending.{is_whole}
+use Rattle.stm_session.proofs.SentParts.{part_fails}
 use Rattle.stm_session.proofs.restoring.restore_page.Goals as goal
 
 pub returns-in_default-clause-honest : goal.returns-in_default-clause-honest
@@ -46,3 +50,18 @@ returns-in_ok-rewrite_kept-in-Erase-clause-honest g c flashes steady chip read =
     let own = Erases c.args.n ∷ program_entries c.args.n c.deref.result.now in
     goes_as flashes own _ c.rewrite_kept.new.journal (V c.args.rig.now) (V c.rewrite_kept.new.rig) _ lines
     (goes_ok flashes own c.rewrite_kept.new.journal (V c.args.rig.now) (V c.rewrite_kept.new.rig) _ (tt {0}) (c.in_ok-rewrite_kept-in-Erase.ensures.honest flashes steady chip) (λ p. p))
+
+pub returns-in_default-clause-puts : goal.returns-in_default-clause-puts
+returns-in_default-clause-puts g c = nothing_is_part (Some c.args.chip.now) _ (9 + 2 * length c.args.page.now) (g.R.Rig.view c.args.rig.now).calls
+
+pub returns-in-Same-clause-puts : goal.returns-in-Same-clause-puts
+returns-in-Same-clause-puts g c = nothing_is_part (Some c.args.chip.now) _ (9 + 2 * length c.args.page.now) (g.R.Rig.view c.args.rig.now).calls
+
+pub returns-in_err-rewrite_kept-in-Erase-clause-puts : goal.returns-in_err-rewrite_kept-in-Erase-clause-puts
+returns-in_err-rewrite_kept-in-Erase-clause-puts g c =
+    let V = g.R.Rig.view in
+    let most = 9 + 2 * length c.args.page.now in
+    part_fails (Some c.args.chip.now) most most (V c.args.rig.now).calls (V c.rewrite_kept.new.rig).calls _ c.from_residual.result (omega arith) c.from_residual.ensures.1 c.in_err-rewrite_kept-in-Erase.ensures.puts
+
+pub returns-in_ok-rewrite_kept-in-Erase-clause-puts : goal.returns-in_ok-rewrite_kept-in-Erase-clause-puts
+returns-in_ok-rewrite_kept-in-Erase-clause-puts g c = c.in_ok-rewrite_kept-in-Erase.ensures.puts

@@ -1,7 +1,7 @@
 use Rattle.std.proofs.Common.{◌≡◌, ◌∙◌, ◌++◌, if◌then◌else◌, [], List, ℕ, Ok, length, take, drop, ap, ap₂, append-nil, sym, subst, arith}
 use Rattle.std.proofs.Math.Seq.{take-append_seam}
 use Rattle.std.specs.Prelude.{bytes_eq}
-use Rattle.stm_wire.specs.Chip.{page_of, with_page}
+use Rattle.stm_wire.specs.Chip.{page_of, page_size, with_page}
 use Rattle.stm_wire.specs.Device.{Device}
 use Rattle.stm_journal.specs.Journals.{journal_of, good}
 use Rattle.stm_session.specs.Lines.{return_entries, rewrite_entries}
@@ -10,6 +10,11 @@ use Rattle.stm_session.proofs.Fetchings.{fetch_goes, fetch_fails}
 use Rattle.stm_session.proofs.Going.{asks_fail, asks_on, goes_as, goes_failed, goes_ok, goes_refused, goes_then}
 use Rattle.stm_session.proofs.Keeping.{good_at}
 use Rattle.stm_session.proofs.Restorings.{lines_same, page_read}
+use Rattle.std.proofs.Common.{◌+◌, ◌*◌, ◌≤◌, true, Some, rules}
+use Rattle.stm_wire.specs.Intents.{InPage}
+use Rattle.stm_wire.specs.PartLaws.{part_weaker}
+use Rattle.stm_session.specs.Sending.{is_whole}
+use Rattle.stm_session.proofs.SentParts.{fetch_part, part_after, part_fails, part_fails_after}
 use Rattle.stm_session.proofs.returning.restore_line.Goals as goal
 
 pub returns-in_err-held-clause-honest : goal.returns-in_err-held-clause-honest
@@ -110,3 +115,71 @@ returns-clause-honest g c flashes k i kept steady chip entry place number =
     (goes_then flashes [] own l c.restore_page.new.journal a d e (tt {0}) _ model_d both
     (goes_ok flashes own c.restore_page.new.journal d e _ (tt {0}) (c.in_ok-restore_page.ensures.honest flashes both.steady still read) (λ p. p))
     (λ y done. done ∙ ap₂ (λ (xs flash : List ℕ). with_page c.args.chip.now c.args.n xs flash) page_is (ap (λ (x : Device). x.flash) device_is)))
+
+pub returns-in_err-held-clause-puts : goal.returns-in_err-held-clause-puts
+returns-in_err-held-clause-puts g c =
+    let V = g.R.Rig.view in
+    let size = c.page_size-size.result in
+    let here : InPage c.args.chip.now c.args.n c.page_start-start.result size =
+    record { exists = c.requires.exists; begins = omega (arith, c.page_start-start.ensures.address); ends = omega (arith, c.page_start-start.ensures.address, c.page_size-size.ensures.bytes) } in
+    let most : 12 + 2 * size ≤ 13 * page_size c.args.chip.now c.args.n = omega (arith, c.page_size-size.ensures.bytes, c.page_size-size.ensures.blocks.0) in
+    part_fails (Some c.args.chip.now) (12 + 2 * size) (13 * page_size c.args.chip.now c.args.n) (V c.args.rig.now).calls (V c.read_range.new.rig).calls _ c.from_residual.result most c.from_residual.ensures.1
+    (c.in_err-held.ensures.few c.args.n here)
+
+pub returns-in_err-page-clause-puts : goal.returns-in_err-page-clause-puts
+returns-in_err-page-clause-puts g c =
+    let V = g.R.Rig.view in
+    let size = c.page_size-size.result in
+    let here : InPage c.args.chip.now c.args.n c.page_start-start.result size =
+    record { exists = c.requires.exists; begins = omega (arith, c.page_start-start.ensures.address); ends = omega (arith, c.page_start-start.ensures.address, c.page_size-size.ensures.bytes) } in
+    let most : 12 + 2 * size ≤ 13 * page_size c.args.chip.now c.args.n = omega (arith, c.page_size-size.ensures.bytes, c.page_size-size.ensures.blocks.0) in
+    part_weaker (Some c.args.chip.now) (is_whole c.from_residual-in_err-page.result) (12 + 2 * size) (13 * page_size c.args.chip.now c.args.n) (V c.args.rig.now).calls (V c.read_range.new.rig).calls most
+    (c.in_ok-held.ensures.few c.args.n here)
+
+pub returns-in_err-fetch_page-clause-puts : goal.returns-in_err-fetch_page-clause-puts
+returns-in_err-fetch_page-clause-puts g c =
+    let V = g.R.Rig.view in
+    let size = c.page_size-size.result in
+    let here : InPage c.args.chip.now c.args.n c.page_start-start.result size =
+    record { exists = c.requires.exists; begins = omega (arith, c.page_start-start.ensures.address); ends = omega (arith, c.page_start-start.ensures.address, c.page_size-size.ensures.bytes) } in
+    let most : (12 + 2 * size) + 0 ≤ 13 * page_size c.args.chip.now c.args.n = omega (arith, c.page_size-size.ensures.bytes, c.page_size-size.ensures.blocks.0) in
+    let chip = Some c.args.chip.now in
+    let b = (V c.read_range.new.rig).calls in
+    let d = (V c.fetch_page.new.rig).calls in
+    let whole = is_whole c.from_residual-in_err-fetch_page.result in
+    part_after chip whole (12 + 2 * size) 0 (13 * page_size c.args.chip.now c.args.n) (V c.args.rig.now).calls b d most (c.in_ok-held.ensures.few c.args.n here)
+    (fetch_part chip whole 0 b d c.in_err-fetch_page.ensures.calls)
+
+pub returns-in_err-restore_page-clause-puts : goal.returns-in_err-restore_page-clause-puts
+returns-in_err-restore_page-clause-puts g c =
+    let V = g.R.Rig.view in
+    let size = c.page_size-size.result in
+    let here : InPage c.args.chip.now c.args.n c.page_start-start.result size =
+    record { exists = c.requires.exists; begins = omega (arith, c.page_start-start.ensures.address); ends = omega (arith, c.page_start-start.ensures.address, c.page_size-size.ensures.bytes) } in
+    let chip = Some c.args.chip.now in
+    let a = (V c.args.rig.now).calls in
+    let b = (V c.read_range.new.rig).calls in
+    let d = (V c.fetch_page.new.rig).calls in
+    let e = (V c.restore_page.new.rig).calls in
+    let many : length c.deref-2.result.now ≡ page_size c.args.chip.now c.args.n = search rules in
+    let most : (12 + 2 * size) + (9 + 2 * length c.deref-2.result.now) ≤ 13 * page_size c.args.chip.now c.args.n = omega (arith, many, c.page_size-size.ensures.bytes, c.page_size-size.ensures.blocks.0) in
+    part_fails_after chip (12 + 2 * size) (9 + 2 * length c.deref-2.result.now) (13 * page_size c.args.chip.now c.args.n) a d e _ c.from_residual-in_err-restore_page.result most c.from_residual-in_err-restore_page.ensures.1
+    (part_after chip true (12 + 2 * size) 0 (12 + 2 * size) a b d (omega arith) (c.in_ok-held.ensures.few c.args.n here) (fetch_part chip true 0 b d c.in_ok-fetch_page.ensures.calls))
+    c.in_err-restore_page.ensures.puts
+
+pub returns-clause-puts : goal.returns-clause-puts
+returns-clause-puts g c =
+    let V = g.R.Rig.view in
+    let size = c.page_size-size.result in
+    let here : InPage c.args.chip.now c.args.n c.page_start-start.result size =
+    record { exists = c.requires.exists; begins = omega (arith, c.page_start-start.ensures.address); ends = omega (arith, c.page_start-start.ensures.address, c.page_size-size.ensures.bytes) } in
+    let chip = Some c.args.chip.now in
+    let a = (V c.args.rig.now).calls in
+    let b = (V c.read_range.new.rig).calls in
+    let d = (V c.fetch_page.new.rig).calls in
+    let e = (V c.restore_page.new.rig).calls in
+    let many : length c.deref-2.result.now ≡ page_size c.args.chip.now c.args.n = search rules in
+    let most : (12 + 2 * size) + (9 + 2 * length c.deref-2.result.now) ≤ 13 * page_size c.args.chip.now c.args.n = omega (arith, many, c.page_size-size.ensures.bytes, c.page_size-size.ensures.blocks.0) in
+    part_after chip true (12 + 2 * size) (9 + 2 * length c.deref-2.result.now) (13 * page_size c.args.chip.now c.args.n) a d e most
+    (part_after chip true (12 + 2 * size) 0 (12 + 2 * size) a b d (omega arith) (c.in_ok-held.ensures.few c.args.n here) (fetch_part chip true 0 b d c.in_ok-fetch_page.ensures.calls))
+    c.in_ok-restore_page.ensures.puts

@@ -3,6 +3,9 @@ use Rattle.stm_session.specs.declared.fault.Fault.{Fault}
 use Rattle.stm_session.specs.Promises.{UndoContract}
 use Rattle.stm_session.specs.Undoes.{Undoes, taken_count}
 use Rattle.stm_session.proofs.Going.{at_exit}
+use Rattle.stm_wire.specs.Intents.{settling_byte}
+use Rattle.stm_journal.specs.States.{intent_of}
+use Rattle.stm_session.proofs.SentUndo.{sends_back, sends_failed, sends_met, sends_nothing}
 use Rattle.stm_session.proofs.Unread.{contract_unread, none_some}
 use Rattle.stm_session.proofs.Undone.{contract_none, contract_unfound, contract_when, contract_after, refuses_elsewhere, undoes_unmet, undoes_stopped, undoes_all, loaded_then, undoable_then, flashes_depth, elsewhere_back, harmless_then, owed_then, own_chip, err_as}
 use Rattle.stm_session.proofs.reversal.undo.Goals as goal
@@ -96,3 +99,54 @@ returns-clause-promised g c =
     let U : ℕ → Type 0 = λ n. Undoes n flashes (V c.args.rig.now) (V c.take_back_newest.new.rig) (Ok c.taken_count-taken.result) in
     subst U count_is
     (undoes_all c.args.table.now c.in_ok-journal.journal (V c.args.rig.now) (V c.load.new.rig) loads some c.in-Some.id named c.step_laws.ensures c.in_ok-chip.chip.now c.in_ok-chip.ensures.chip c.in_ok-chip.ensures.accepted c.taken_count-taken.result flashes u (V c.meet.new.rig) model_b goes settled (V c.take_back_newest.new.rig) c.take_back_newest.new.journal c.taken_count-taken.result refl one (g.met.R.Rig.model c.take_back_newest.new.rig back.honest) back)))
+
+pub returns-in_err-journal-clause-puts : goal.returns-in_err-journal-clause-puts
+returns-in_err-journal-clause-puts g c =
+    let V = g.R.Rig.view in
+    let a = V c.args.rig.now in
+    let b = V c.load.new.rig in
+    sends_failed c.args.table.now c.args.count a b _ c.from_residual.result c.from_residual.ensures.1 (sends_nothing c.args.table.now c.args.count a b _ c.in_err-journal.ensures.calls tt)
+
+pub returns-then-depth-eq0-clause-puts : goal.returns-then-depth-eq0-clause-puts
+returns-then-depth-eq0-clause-puts g c =
+    let V = g.R.Rig.view in
+    sends_nothing c.args.table.now c.args.count (V c.args.rig.now) (V c.load.new.rig) _ c.in_ok-journal.ensures.calls refl
+
+pub returns-in_err-chip-clause-puts : goal.returns-in_err-chip-clause-puts
+returns-in_err-chip-clause-puts g c =
+    let V = g.R.Rig.view in
+    let a = V c.args.rig.now in
+    let b = V c.load.new.rig in
+    sends_failed c.args.table.now c.args.count a b _ c.from_residual-in_err-chip.result c.from_residual-in_err-chip.ensures.1 (sends_nothing c.args.table.now c.args.count a b _ c.in_ok-journal.ensures.calls tt)
+
+pub returns-in_err-meet-clause-puts : goal.returns-in_err-meet-clause-puts
+returns-in_err-meet-clause-puts g c =
+    let V = g.R.Rig.view in
+    let a = V c.args.rig.now in
+    let d = V c.meet.new.rig in
+    let byte = settling_byte (intent_of c.in_ok-journal.journal.state) in
+    sends_failed c.args.table.now c.args.count a d _ c.from_residual-in_err-meet.result c.from_residual-in_err-meet.ensures.1
+    (sends_met c.args.table.now c.args.count a byte (V c.load.new.rig) d _ c.in_ok-journal.ensures.calls c.in_err-meet.ensures.puts)
+
+pub returns-in_err-take_back_newest-clause-puts : goal.returns-in_err-take_back_newest-clause-puts
+returns-in_err-take_back_newest-clause-puts g c =
+    let V = g.R.Rig.view in
+    let a = V c.args.rig.now in
+    let d = V c.take_back_newest.new.rig in
+    let byte = settling_byte (intent_of c.in_ok-journal.journal.state) in
+    let taken = c.taken_count-taken in
+    let limit : taken.result ≤ 65535 = omega (arith, taken.ensures.most, c.depth-depth.ensures.value, c.depth-depth.ensures.sound.depth) in
+    sends_failed c.args.table.now c.args.count a d _ c.from_residual-in_err-take_back_newest.result c.from_residual-in_err-take_back_newest.ensures.1
+    (sends_back c.args.table.now c.args.count a byte c.in-Some.id taken.result c.in_ok-chip.chip.now (V c.load.new.rig) (V c.meet.new.rig) d _ c.in_ok-chip.ensures.chip limit taken.ensures.asked tt
+    c.in_ok-journal.ensures.calls c.in_ok-meet.ensures.puts c.in_err-take_back_newest.ensures.puts)
+
+pub returns-clause-puts : goal.returns-clause-puts
+returns-clause-puts g c =
+    let V = g.R.Rig.view in
+    let a = V c.args.rig.now in
+    let d = V c.take_back_newest.new.rig in
+    let byte = settling_byte (intent_of c.in_ok-journal.journal.state) in
+    let taken = c.taken_count-taken in
+    let limit : taken.result ≤ 65535 = omega (arith, taken.ensures.most, c.depth-depth.ensures.value, c.depth-depth.ensures.sound.depth) in
+    sends_back c.args.table.now c.args.count a byte c.in-Some.id taken.result c.in_ok-chip.chip.now (V c.load.new.rig) (V c.meet.new.rig) d _ c.in_ok-chip.ensures.chip limit taken.ensures.asked refl
+    c.in_ok-journal.ensures.calls c.in_ok-meet.ensures.puts c.in_ok-take_back_newest.ensures.puts

@@ -7,6 +7,9 @@ use Rattle.stm_journal.specs.declared.entry.Entry.TheVariants.{Erases, Programs}
 use Rattle.stm_session.specs.Lines.{program_entries}
 use Rattle.stm_session.proofs.Frames.{no_frames, some_frames, written-none}
 use Rattle.stm_session.proofs.Going.{goes_as, goes_then, goes_failed, goes_ok, at_exit}
+use Rattle.std.proofs.Common.{◌+◌, ◌*◌, true, Some, arith}
+use Rattle.stm_wire.specs.PartLaws.{part_longer}
+use Rattle.stm_session.proofs.SentParts.{part_after, part_fails, part_fails_after}
 use Rattle.stm_session.proofs.rewriting.rewrite_kept.Goals as goal
 
 pub returns-in_err-erase_kept-clause-honest : goal.returns-in_err-erase_kept-clause-honest
@@ -56,3 +59,26 @@ returns-then-is_empty-clause-honest g c flashes steady chip =
     (goes_ok flashes (Erases c.args.n ∷ []) c.erase_kept.new.journal (V c.args.rig.now) (V c.erase_kept.new.rig) _ (tt {0}) (c.in_ok-erase_kept.ensures.honest flashes steady chip)
     (λ done. done ∙ ap (λ (xs : List ℕ). with_page c.args.chip.now c.args.n xs (V c.args.rig.now).device.flash)
     (sym (ap (λ (fs : List Frame). written c.args.page.now fs (erased_page c.args.chip.now c.args.n)) none ∙ written-none c.args.page.now (erased_page c.args.chip.now c.args.n)) ∙ c.requires.gives)))
+
+pub returns-in_err-erase_kept-clause-puts : goal.returns-in_err-erase_kept-clause-puts
+returns-in_err-erase_kept-clause-puts g c =
+    let V = g.R.Rig.view in
+    part_fails (Some c.args.chip.now) 9 (9 + 2 * length c.args.page.now) (V c.args.rig.now).calls (V c.erase_kept.new.rig).calls _ c.from_residual.result (omega arith) c.from_residual.ensures.1 c.in_err-erase_kept.ensures.puts
+
+pub returns-then-is_empty-clause-puts : goal.returns-then-is_empty-clause-puts
+returns-then-is_empty-clause-puts g c =
+    let V = g.R.Rig.view in
+    part_longer (Some c.args.chip.now) true 9 (9 + 2 * length c.args.page.now) (V c.args.rig.now).calls (V c.erase_kept.new.rig).calls (omega arith) c.in_ok-erase_kept.ensures.puts
+
+pub returns-in_err-program_kept-clause-puts : goal.returns-in_err-program_kept-clause-puts
+returns-in_err-program_kept-clause-puts g c =
+    let V = g.R.Rig.view in
+    let more = 2 * length c.args.page.now in
+    part_fails_after (Some c.args.chip.now) 9 more (9 + more) (V c.args.rig.now).calls (V c.erase_kept.new.rig).calls (V c.program_kept.new.rig).calls _ c.from_residual-in_err-program_kept.result (omega arith)
+    c.from_residual-in_err-program_kept.ensures.1 c.in_ok-erase_kept.ensures.puts c.in_err-program_kept.ensures.puts
+
+pub returns-clause-puts : goal.returns-clause-puts
+returns-clause-puts g c =
+    let V = g.R.Rig.view in
+    let more = 2 * length c.args.page.now in
+    part_after (Some c.args.chip.now) true 9 more (9 + more) (V c.args.rig.now).calls (V c.erase_kept.new.rig).calls (V c.program_kept.new.rig).calls (omega arith) c.in_ok-erase_kept.ensures.puts c.in_ok-program_kept.ensures.puts

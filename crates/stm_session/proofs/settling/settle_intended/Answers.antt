@@ -5,6 +5,8 @@ use Rattle.stm_wire.specs.Settling.{KeepsSettling}
 use Rattle.stm_session.specs.Undoable.{risked_pages, state_at}
 use Rattle.stm_session.proofs.Settlings.{intent_text, settled_goes, settling_failed}
 use Rattle.stm_session.proofs.Straying.{strays_settled, strays_stopped}
+use Rattle.stm_wire.specs.Dialogue.{GoesOn}
+use Rattle.stm_wire.specs.Settling.{SettlesWithin}
 use Rattle.stm_session.proofs.settling.settle_intended.Goals as goal
 
 pub returns-in_err-settle-clause-honest : goal.returns-in_err-settle-clause-honest
@@ -52,3 +54,17 @@ returns-clause-strays g c h loaded harmless owed =
     let K : ℕ → Type 0 = λ b. KeepsSettling b risked a.device a (V c.settle.new.rig) in
     let settles = c.in_ok-settle.ensures.honest h (lit≤ tt) risked (subst H (sym byte) harmless) owed in
     strays_settled a (V c.settle.new.rig) (subst K byte settles.keeps) (g.met.R.Rig.model c.settle.new.rig settles.keeps.honest) (tt {0}) settles.ok
+
+pub returns-in_err-settle-clause-calls : goal.returns-in_err-settle-clause-calls
+returns-in_err-settle-clause-calls g c =
+    let V = g.R.Rig.view in
+    let byte = c.settling_byte-byte.ensures ∙ ap settling_byte c.last_intent.ensures in
+    let P : ℕ → Type 0 = λ b. GoesOn (SettlesWithin b 131072) (V c.args.rig.now).calls (V c.settle.new.rig).calls in
+    subst P byte c.settle.ensures.calls
+
+pub returns-clause-calls : goal.returns-clause-calls
+returns-clause-calls g c =
+    let V = g.R.Rig.view in
+    let byte = c.settling_byte-byte.ensures ∙ ap settling_byte c.last_intent.ensures in
+    let P : ℕ → Type 0 = λ b. GoesOn (SettlesWithin b 131072) (V c.args.rig.now).calls (V c.settle.new.rig).calls in
+    subst P byte c.settle.ensures.calls

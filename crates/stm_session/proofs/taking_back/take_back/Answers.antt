@@ -6,6 +6,9 @@ use Rattle.stm_session.specs.TakingBack.{newest_at, return_lines}
 use Rattle.stm_session.specs.Undoable.{state_at}
 use Rattle.stm_session.proofs.Keeping.{depth_text, good_at}
 use Rattle.stm_session.proofs.TakingBack.{back_failed, back_then, first_flash, intents_returns, takes_as, undone_fails, undone_goes}
+use Rattle.std.proofs.Common.{Some, true}
+use Rattle.stm_session.specs.Sending.{is_whole, most_of_command}
+use Rattle.stm_session.proofs.SentParts.{line_part, part_after, part_fails}
 use Rattle.stm_session.proofs.taking_back.take_back.Goals as goal
 
 pub returns-in_err-restore_lines-clause-honest : goal.returns-in_err-restore_lines-clause-honest
@@ -59,3 +62,27 @@ returns-clause-honest g c flash flashes steady chip =
     takes_as (front ++ Undoes k ∷ []) (front ++ Undoes (length (state_at a.journal).stack) ∷ []) flash flashes c.undone.new.self a d _ (ap (λ (m : ℕ). front ++ Undoes m ∷ []) number)
     (back_then front (Undoes k ∷ []) flash flashes l2 c.undone.new.self a b d (tt {0}) _ model (intents_returns c.args.chip.now a.device.flash (newest_at a.journal)) first
     (undone_goes c.step_laws.ensures flash flashes l2 c.undone.new.self k b d model first.steady k_is some restored _ (tt {0}) appends c.in_ok-undone.ensures.after has))
+
+pub returns-in_err-restore_lines-clause-puts : goal.returns-in_err-restore_lines-clause-puts
+returns-in_err-restore_lines-clause-puts g c =
+    let V = g.R.Rig.view in
+    part_fails (Some c.args.chip.now) most_of_command most_of_command (V c.args.rig.now).calls (V c.restore_lines.new.rig).calls _ c.from_residual.result (omega arith) c.from_residual.ensures.1 c.in_err-restore_lines.ensures.puts
+
+pub returns-in_err-undone-clause-puts : goal.returns-in_err-undone-clause-puts
+returns-in_err-undone-clause-puts g c =
+    let V = g.R.Rig.view in
+    let l = c.restore_lines.new.journal in
+    let b = (V c.restore_lines.new.rig).calls in
+    let d = (V c.undone.new.rig).calls in
+    let whole = is_whole c.from_residual-in_err-undone.result in
+    part_after (Some c.args.chip.now) whole most_of_command 0 most_of_command (V c.args.rig.now).calls b d (omega arith) c.in_ok-restore_lines.ensures.puts
+    (line_part (Some c.args.chip.now) whole 0 l (Undoes (length l.state.stack) ∷ []) c.undone.result b d c.undone.ensures.calls)
+
+pub returns-clause-puts : goal.returns-clause-puts
+returns-clause-puts g c =
+    let V = g.R.Rig.view in
+    let l = c.restore_lines.new.journal in
+    let b = (V c.restore_lines.new.rig).calls in
+    let d = (V c.undone.new.rig).calls in
+    part_after (Some c.args.chip.now) true most_of_command 0 most_of_command (V c.args.rig.now).calls b d (omega arith) c.in_ok-restore_lines.ensures.puts
+    (line_part (Some c.args.chip.now) true 0 l (Undoes (length l.state.stack) ∷ []) c.undone.result b d c.undone.ensures.calls)

@@ -1,0 +1,118 @@
+// Chips, devices and journals that the tests of stopped sessions share.
+use std::test::Fail;
+use stm_chip::{Table, read_table};
+use stm_wire::{MemoryRig, Rig, RigCall};
+
+/// Chips 0410 and 0412 of the sample table, and three for tests: 0A01 and 0A02, erased by 44, and 0A03, whose erased byte is 00.
+const TABLE: &str = r#"
+[[chip]]
+id = 0x410
+base = 0x08000000
+pages = [[128, 1024]]
+erase = "page"
+
+[[chip]]
+id = 0x412
+base = 0x08000000
+pages = [[32, 1024]]
+erase = "page"
+
+[[chip]]
+id = 0xA01
+base = 0x08000000
+pages = [[256, 256]]
+erase = "extended"
+
+[[chip]]
+id = 0xA02
+base = 0x08000000
+pages = [[512, 256]]
+erase = "extended"
+
+[[chip]]
+id = 0xA03
+base = 0x08000000
+pages = [[4, 256]]
+erase = "page"
+erased = 0
+"#;
+
+pub fn table(rt: &HostRuntime) -> Result<Table, Fail> {
+    match read_table(rt.alloc(), TABLE.as_bytes()) {
+        Ok(table) => Ok(table),
+        Err(_) => Err(Fail::new("no table")),
+    }
+}
+
+/// A fresh device with this chip of the table, this byte in each place of its flash, and a journal.
+pub fn device(
+    rt: &HostRuntime,
+    table: &Table,
+    id: u16,
+    byte: u8,
+    journal: Vec<u8>,
+) -> Result<MemoryRig, Fail> {
+    let chip = table.find(id).ok_or("no chip")?;
+    let chip = chip.clone()?;
+    let size = chip.flash_size() as usize;
+    let flash = vec![in rt.alloc(); byte; size]?;
+    Ok(MemoryRig::new(rt.alloc(), chip, flash, journal).ok_or("no rig")?)
+}
+
+/// The device is connected, and these bytes came; nobody took its replies.
+pub fn send(rig: &mut MemoryRig, bytes: &[u8]) -> Result<(), Fail> {
+    rig.put(0x7F)?;
+    for byte in bytes {
+        rig.put(*byte)?;
+    }
+    Ok(())
+}
+
+/// Adds the digits of so many bytes, each of them written by these two.
+pub fn add_digits(text: &mut Vec<u8>, digits: &[u8], size: usize) -> Result<(), Fail> {
+    for _i in 0..size {
+        text.extend_from_slice(digits)?;
+    }
+    Ok(())
+}
+
+/// A journal's text: what stands before a page's digits, the digits of so many bytes 00, and what stands behind.
+pub fn kept(rt: &HostRuntime, head: &[u8], size: usize, tail: &[u8]) -> Result<Vec<u8>, Fail> {
+    let mut text = Vec::from_slice(rt.alloc(), head)?;
+    add_digits(&mut text, b"00", size)?;
+    text.extend_from_slice(tail)?;
+    Ok(text)
+}
+
+/// Whether these are bytes of one value.
+pub fn is_all(bytes: &[u8], byte: u8) -> bool {
+    bytes.iter().all(|found| *found == byte)
+}
+
+/// Whether the bytes put behind the first `before` calls begin with these: each of them so often, one after another.
+pub fn puts_begin(rig: &MemoryRig, before: usize, runs: &[(u8, u32)]) -> bool {
+    let mut due = runs.iter();
+    let mut byte = 0x00;
+    let mut left = 0_u32;
+    for call in rig.calls().iter().skip(before) {
+        if let RigCall::Put(put) = call {
+            if left == 0 {
+                let Some(run) = due.next() else {
+                    return true;
+                };
+                byte = run.0;
+                left = run.1;
+            }
+            if *put != byte {
+                return false;
+            }
+            left = left.saturating_sub(1);
+        }
+    }
+    left == 0 && due.next().is_none()
+}
+
+/// Whether no byte was put or awaited, and none added to the journal.
+pub fn only_fetched(rig: &MemoryRig) -> bool {
+    rig.calls().iter().all(|call| *call == RigCall::Fetch)
+}
