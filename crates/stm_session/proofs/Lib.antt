@@ -44,3 +44,4 @@ pub mod CommandLists
 pub mod Runs
 pub mod RunEnds
 pub mod RunStarts
+pub mod RunLoop

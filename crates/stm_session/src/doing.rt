@@ -21,26 +21,6 @@ use stm_journal::Journal;
 use stm_wire::{Chip, Commands, Rig};
 
 /// Stub.
-pub fn check_commands(
-    journal: &Journal,
-    chip: &Chip,
-    told: &Commands,
-    commands: &[Command],
-) -> Result<(), Fault>
-    ensures in_flash { OnOk result
-        (list_all (lies_in_flash chip.now) (commands_in commands.now) ≡ true) }
-    ensures room { OnOk result
-        (length journal.now.state.stack + length (changes_of (commands_in commands.now)) ≤ 65535) }
-    ensures refusal { (d : Device) → d.codes ≡ take told.now.count told.now.codes
-        → let refusals = command_refusals journal.now.state d chip.now (commands_in commands.now) in
-        MatchResult result (λ _. first_refusal refusals ≡ None)
-        (λ fault. first_refusal refusals ≡ Some fault) }
-    ensures named { IfErr result IsLaterRefusal }
-{
-    Err(Fault::Full)
-}
-
-/// Stub.
 pub fn run_command<R: Rig>(
     alloc: Global,
     rig: &mut R,

@@ -15,9 +15,10 @@ ghost use Rattle.stm_session.specs.Runs.{Runs};
 ghost use Rattle.stm_session.specs.Sending.{SendsAsRun, is_whole, most_of_command};
 ghost use Rattle.stm_session.specs.Steps.{IsSteady};
 
-use crate::doing::{check_commands, run_command};
+use crate::command_check::check_commands;
+use crate::doing::run_command;
 use crate::laws_of_steps::step_laws;
-use crate::opening::{Opened, open};
+use crate::opening::open;
 use crate::{Command, Fault, Outcome, Report};
 use std::alloc::Global;
 use stm_chip::Table;
@@ -76,12 +77,9 @@ pub fn run<R: Rig>(
         RunContract table.now (commands_in commands.now) old new result outcomes_in }
 {
     step_laws();
-    let Opened {
-        mut journal,
-        chip,
-        commands: told,
-    } = open(alloc, rig, table)?;
-    check_commands(&journal, chip, &told, commands)?;
-    let outcomes = run_commands(alloc, rig, &mut journal, chip, commands)?;
+    let mut opened = open(alloc, rig, table)?;
+    let chip = opened.chip;
+    check_commands(&opened.journal, chip, &opened.commands, commands)?;
+    let outcomes = run_commands(alloc, rig, &mut opened.journal, chip, commands)?;
     Ok(Report { outcomes })
 }
