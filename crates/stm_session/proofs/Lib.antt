@@ -34,10 +34,12 @@ pub mod Unread
 pub mod Undone
 pub mod SentUndo
 pub mod Savings
+pub mod SentChanges
 pub mod Changes
 pub mod Turns
 pub mod Beginnings
 pub mod Closings
+pub mod CommandChecks
 pub mod Commandings
 pub mod Doings
 pub mod CommandLists

@@ -1,8 +1,8 @@
 -- What a session puts on any line, honest or not, and in how many calls.
-use Rattle.std.specs.Prelude.{◌≡◌, ◌⊎◌, ℕ, ◌+◌, ◌*◌, ◌<◌, ◌≤◌, Bool, true, false, List, [], ◌++◌, Option, Some, None, Result, Ok, Err, IfOk}
+use Rattle.std.specs.Prelude.{◌≡◌, ◌⊎◌, ℕ, ◌+◌, ◌*◌, ◌<◌, ◌≤◌, ◌==◌, nat_lt, if◌then◌else◌, Bool, true, false, List, [], ◌++◌, Option, Some, None, Result, Ok, Err, IfOk}
 use Rattle.stm_wire.specs.declared.rig.RigCall.{RigCall}
 use Rattle.stm_wire.specs.declared.fault.WireFault.{WireFault}
-use Rattle.stm_wire.specs.Chip.{ChipData}
+use Rattle.stm_wire.specs.Chip.{ChipData, flash_size, page_offset, page_size}
 use Rattle.stm_wire.specs.Dialogue.{Turn, GoesOn, IsBrokenOff, calls_of}
 use Rattle.stm_wire.specs.Parts.{AreFew, IsSession}
 use Rattle.stm_wire.specs.Rig.{RigState}
@@ -19,6 +19,18 @@ most_of_command = 13 * 2097152
 -- of a session with so many commands: settling, Get and Get ID, and the commands
 abbrev pub most_calls : ℕ → ℕ
 most_calls n = 4100 * 131076 + 268 + n * most_of_command
+
+-- of keeping the page that has to be kept with page 1: it is read, and no chip has more pages than its flash
+abbrev pub most_of_companion : ChipData → ℕ → ℕ
+most_of_companion chip n = if n == 1 then 3 * flash_size chip else 0
+
+-- of one page of a command: it is read, kept, erased and written
+abbrev pub most_of_page : ChipData → ℕ → ℕ
+most_of_page chip n = 5 * page_size chip n + most_of_companion chip n
+
+-- of the pages below one
+abbrev pub most_below : ChipData → ℕ → ℕ
+most_below chip k = 5 * page_offset chip k + (if nat_lt 1 k then 3 * flash_size chip else 0)
 
 -- only the line, or a device that doesn't follow the protocol, breaks a frame off
 abbrev pub leaves_whole : Cause → Bool

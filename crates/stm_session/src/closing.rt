@@ -1,10 +1,14 @@
 // Ending the segment of a command.
-ghost use Rattle.std.specs.Prelude.{◌≡◌, ◌∷◌, [], false, List, ℕ, length, OnOk, IsTrue};
+ghost use Rattle.std.specs.Prelude.{◌≡◌, ◌∷◌, [], false, List, ℕ, length, Option, OnOk, IsTrue};
+ghost use Rattle.stm_wire.specs.Chip.{ChipData};
+ghost use Rattle.stm_wire.specs.Dialogue.{GoesOn};
+ghost use Rattle.stm_wire.specs.Parts.{IsPart};
 ghost use Rattle.stm_journal.specs.declared.entry.Entry.TheVariants.{Ends};
 ghost use Rattle.stm_journal.specs.States.{newest_is_open};
 ghost use Rattle.stm_journal.specs.Newest.{HasEnded};
 ghost use Rattle.stm_session.specs.Fault.{HasSessionCause};
 ghost use Rattle.stm_session.specs.Lines.{depth_at};
+ghost use Rattle.stm_session.specs.Sending.{is_whole};
 ghost use Rattle.stm_session.specs.Segments.{Closes};
 ghost use Rattle.stm_session.specs.Steps.{IsSteady};
 
@@ -18,6 +22,8 @@ pub fn end_segment<R: Rig>(rig: &mut R, journal: &mut Journal) -> Result<(), Fau
     requires { IsTrue (newest_is_open journal.old.state) }
     ensures ended { OnOk result (HasEnded journal.old.state journal.new.state) }
     ensures cause { HasSessionCause (R.view rig.old) (R.view rig.new) result }
+    ensures puts { let old = R.view rig.old in let new = R.view rig.new in
+        (chip : Option ChipData) → GoesOn (IsPart chip (is_whole result) 0) old.calls new.calls }
     ensures honest { let old = R.view rig.old in let new = R.view rig.new in
         (flashes : List (List ℕ)) → IsSteady flashes journal.old old
         → Closes flashes (Ends (depth_at old.journal) ∷ []) journal.new old new result }

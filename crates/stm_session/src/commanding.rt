@@ -1,10 +1,13 @@
 // A command that changes the flash, as one segment of the journal.
-ghost use Rattle.std.specs.Prelude.{◌≡◌, ◌<◌, ◌+◌, false, List, ℕ, length, IfOk, OnOk};
+ghost use Rattle.std.specs.Prelude.{◌≡◌, ◌<◌, ◌+◌, false, List, ℕ, length, Some, IfOk, OnOk};
+ghost use Rattle.stm_wire.specs.Dialogue.{GoesOn};
+ghost use Rattle.stm_wire.specs.Parts.{IsPart};
 ghost use Rattle.stm_journal.specs.States.{is_unfinished};
 ghost use Rattle.stm_session.specs.Contents.{IsMade, command_of};
 ghost use Rattle.stm_session.specs.Fault.{HasSessionCause};
 ghost use Rattle.stm_session.specs.Lines.{depth_at, is_named_at, segment_entries};
 ghost use Rattle.stm_session.specs.Meaning.{flash_after};
+ghost use Rattle.stm_session.specs.Sending.{is_whole, most_of_command};
 ghost use Rattle.stm_session.specs.Segments.{Changes};
 ghost use Rattle.stm_session.specs.Steps.{IsSteady};
 
@@ -32,6 +35,8 @@ pub fn change_flash<R: Rig>(
     ensures depth { OnOk result (length journal.new.state.stack ≡ length journal.old.state.stack + 1) }
     ensures number { IfOk result (λ answer. answer.0 ≡ length journal.old.state.stack + 1) }
     ensures cause { HasSessionCause (R.view rig.old) (R.view rig.new) result }
+    ensures puts { let old = R.view rig.old in let new = R.view rig.new in
+        GoesOn (IsPart (Some chip.now) (is_whole result) most_of_command) old.calls new.calls }
     ensures honest { let old = R.view rig.old in let new = R.view rig.new in
         (flashes : List (List ℕ)) → IsSteady flashes journal.old old → old.device.chip ≡ chip.now
         → let flash = old.device.flash in let after = flash_after chip.now flash (command_of change.now) in

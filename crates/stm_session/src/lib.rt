@@ -22,6 +22,7 @@ mod inspect;
 mod laws;
 mod laws_of_steps;
 mod leave;
+mod listing;
 mod meeting;
 mod opening;
 mod outcome;

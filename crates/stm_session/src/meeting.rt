@@ -5,13 +5,12 @@ ghost use Rattle.stm_wire.specs.Dialogue.{GoesOn};
 ghost use Rattle.stm_wire.specs.Harmless.{Harmless};
 ghost use Rattle.stm_wire.specs.Intents.{settling_byte};
 ghost use Rattle.stm_wire.specs.Parts.{IsPart, IsSession};
-ghost use Rattle.stm_wire.specs.Exchange.{is_listed};
 ghost use Rattle.stm_journal.specs.Journals.{IsLoaded};
 ghost use Rattle.stm_journal.specs.States.{intent_of};
 ghost use Rattle.stm_session.specs.Asking.{Asks};
 ghost use Rattle.stm_session.specs.Fault.{HasSessionCause, IsLaterRefusal};
 ghost use Rattle.stm_session.specs.Meeting.{Meets};
-ghost use Rattle.stm_session.specs.Refusals.{can_erase, erase_code, undo_misfit};
+ghost use Rattle.stm_session.specs.Refusals.{can_erase, undo_misfit};
 ghost use Rattle.stm_session.specs.Sending.{is_whole, most_calls};
 ghost use Rattle.stm_session.specs.Steps.{Goes};
 ghost use Rattle.stm_session.specs.Undoable.{Undoable};
@@ -20,26 +19,10 @@ ghost use Rattle.stm_session.specs.Undoes.{byte_at_journal, risked_at};
 use crate::Fault;
 use crate::contact::{ask_commands, ask_id};
 use crate::laws_of_steps::step_laws;
+use crate::listing::lists_erase;
 use crate::settling::settle_intended;
 use stm_journal::Journal;
-use stm_wire::{Chip, EraseKind, Rig};
-
-/// The code of the command that erases pages.
-fn erase_code(kind: EraseKind) -> u8
-    ensures { result ≡ erase_code kind }
-{
-    match kind {
-        EraseKind::Page => 0x43,
-        EraseKind::Extended => 0x44,
-    }
-}
-
-/// Whether a code is one of these.
-fn is_listed(codes: &[u8], code: u8) -> bool
-    ensures { result ≡ is_listed codes.now code }
-{
-    codes.iter().any(|c| *c == code)
-}
+use stm_wire::{Chip, Rig};
 
 /// Asks a settled device whether it lists the command by which the chip's pages are erased.
 fn ask_erase<R: Rig>(rig: &mut R, chip: &Chip) -> Result<bool, Fault>
@@ -51,10 +34,7 @@ fn ask_erase<R: Rig>(rig: &mut R, chip: &Chip) -> Result<bool, Fault>
         → Asks old new result (λ can. can ≡ can_erase chip.now old.device) }
 {
     let commands = ask_commands(rig)?;
-    Ok(is_listed(
-        &commands.codes[..usize::from(commands.count)],
-        erase_code(chip.kind()),
-    ))
+    Ok(lists_erase(chip, &commands))
 }
 
 /// Asks a settled device whether it is this chip, and what is refused where it isn't.

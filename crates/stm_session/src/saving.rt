@@ -1,9 +1,12 @@
 // Keeping pages in the journal before they change.
-ghost use Rattle.std.specs.Prelude.{◌≡◌, ◌<◌, ◌==◌, ◌&&◌, ◌∷◌, [], List, ℕ, length, true, false, OnOk, IsTrue};
-ghost use Rattle.stm_wire.specs.Chip.{page_count, page_size, page_of};
+ghost use Rattle.std.specs.Prelude.{◌≡◌, ◌<◌, ◌*◌, ◌==◌, ◌&&◌, ◌∷◌, [], List, ℕ, length, true, false, Some, OnOk, IsTrue};
+ghost use Rattle.stm_wire.specs.Chip.{flash_size, page_count, page_size, page_of};
+ghost use Rattle.stm_wire.specs.Dialogue.{GoesOn};
+ghost use Rattle.stm_wire.specs.Parts.{IsPart};
 ghost use Rattle.stm_journal.specs.declared.entry.Entry.TheVariants.{Keeps};
 ghost use Rattle.stm_journal.specs.States.{newest_keeps, newest_may_keep};
 ghost use Rattle.stm_session.specs.Fault.{HasSessionCause};
+ghost use Rattle.stm_session.specs.Sending.{is_whole, most_of_companion};
 ghost use Rattle.stm_session.specs.Undoable.{has_companion};
 ghost use Rattle.stm_session.specs.Steps.{IsSteady, Goes};
 ghost use Rattle.stm_session.specs.Changing.{HasSaved, HasAllSaved, save_entries};
@@ -29,6 +32,8 @@ fn save_page<R: Rig>(
     requires companion { n ≡ 1 → IsTrue (has_companion chip.now) → IsTrue (newest_keeps 257 journal.old.state) }
     ensures saved { OnOk result (HasSaved n journal.old.state journal.new.state) }
     ensures cause { HasSessionCause (R.view rig.old) (R.view rig.new) result }
+    ensures puts { let old = R.view rig.old in let new = R.view rig.new in
+        GoesOn (IsPart (Some chip.now) (is_whole result) 0) old.calls new.calls }
     ensures honest { let old = R.view rig.old in let new = R.view rig.new in
         (flashes : List (List ℕ)) → IsSteady flashes journal.old old → old.device.chip ≡ chip.now
         → held.now ≡ page_of chip.now old.device.flash n
@@ -53,6 +58,9 @@ fn save_companion<R: Rig>(
     requires may { IsTrue (newest_may_keep 257 journal.old.state) }
     ensures saved { OnOk result (HasSaved 257 journal.old.state journal.new.state) }
     ensures cause { HasSessionCause (R.view rig.old) (R.view rig.new) result }
+    ensures puts { let old = R.view rig.old in let new = R.view rig.new in
+        let most = 3 * flash_size chip.now in
+        GoesOn (IsPart (Some chip.now) (is_whole result) most) old.calls new.calls }
     ensures honest { let old = R.view rig.old in let new = R.view rig.new in
         (flashes : List (List ℕ)) → IsSteady flashes journal.old old → old.device.chip ≡ chip.now
         → Goes flashes (Keeps 257 (page_of chip.now old.device.flash 257) ∷ []) journal.new old new
@@ -81,6 +89,9 @@ fn save_both<R: Rig>(
     requires companion { IsTrue (newest_may_keep 257 journal.old.state) }
     ensures saved { OnOk result (HasAllSaved false chip.now 1 journal.old.state journal.new.state) }
     ensures cause { HasSessionCause (R.view rig.old) (R.view rig.new) result }
+    ensures puts { let old = R.view rig.old in let new = R.view rig.new in
+        let most = 3 * flash_size chip.now in
+        GoesOn (IsPart (Some chip.now) (is_whole result) most) old.calls new.calls }
     ensures honest { let old = R.view rig.old in let new = R.view rig.new in
         (flashes : List (List ℕ)) → IsSteady flashes journal.old old → old.device.chip ≡ chip.now
         → held.now ≡ page_of chip.now old.device.flash 1
@@ -118,6 +129,9 @@ pub fn save_pages<R: Rig>(
         → IsTrue (newest_may_keep 257 journal.old.state) }
     ensures saved { OnOk result (HasAllSaved kept chip.now n journal.old.state journal.new.state) }
     ensures cause { HasSessionCause (R.view rig.old) (R.view rig.new) result }
+    ensures puts { let old = R.view rig.old in let new = R.view rig.new in
+        let most = most_of_companion chip.now n in
+        GoesOn (IsPart (Some chip.now) (is_whole result) most) old.calls new.calls }
     ensures honest { let old = R.view rig.old in let new = R.view rig.new in
         (flashes : List (List ℕ)) → IsSteady flashes journal.old old → old.device.chip ≡ chip.now
         → held.now ≡ page_of chip.now old.device.flash n

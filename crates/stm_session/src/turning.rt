@@ -1,9 +1,12 @@
 // The pages of a command, one after another.
-ghost use Rattle.std.specs.Prelude.{◌≡◌, ◌<◌, ◌==◌, ◌&&◌, if◌then◌else◌, List, ℕ, length, true, false, IfOk, OnOk, IsTrue};
+ghost use Rattle.std.specs.Prelude.{◌≡◌, ◌<◌, ◌==◌, ◌&&◌, if◌then◌else◌, List, ℕ, length, true, false, Some, IfOk, OnOk, IsTrue};
 ghost use Rattle.stm_wire.specs.Chip.{page_count, page_of};
+ghost use Rattle.stm_wire.specs.Dialogue.{GoesOn};
+ghost use Rattle.stm_wire.specs.Parts.{IsPart};
 ghost use Rattle.stm_journal.specs.States.{newest_is_open, newest_keeps, newest_may_keep};
 ghost use Rattle.stm_journal.specs.Newest.{next_page};
 ghost use Rattle.stm_session.specs.Fault.{HasSessionCause};
+ghost use Rattle.stm_session.specs.Sending.{is_whole, most_of_command, most_of_page};
 ghost use Rattle.stm_session.specs.Undoable.{has_companion};
 ghost use Rattle.stm_session.specs.Steps.{IsSteady, Goes};
 ghost use Rattle.stm_session.specs.Changing.{HasTurned, change_entries};
@@ -41,6 +44,9 @@ fn turn_page<R: Rig>(
     ensures turned { IfOk result
         (λ changed. HasTurned kept changed chip.now n journal.old.state journal.new.state) }
     ensures cause { HasSessionCause (R.view rig.old) (R.view rig.new) result }
+    ensures puts { let old = R.view rig.old in let new = R.view rig.new in
+        let most = most_of_page chip.now n in
+        GoesOn (IsPart (Some chip.now) (is_whole result) most) old.calls new.calls }
     ensures honest { let old = R.view rig.old in let new = R.view rig.new in
         (flashes : List (List ℕ)) → IsSteady flashes journal.old old → old.device.chip ≡ chip.now
         → let made = content chip.now change.now n (page_of chip.now old.device.flash n) in
@@ -89,6 +95,8 @@ pub fn turn_pages<R: Rig>(
     ensures open { OnOk result (IsTrue (newest_is_open journal.new.state)) }
     ensures depth { OnOk result (length journal.new.state.stack ≡ length journal.old.state.stack) }
     ensures cause { HasSessionCause (R.view rig.old) (R.view rig.new) result }
+    ensures puts { let old = R.view rig.old in let new = R.view rig.new in
+        GoesOn (IsPart (Some chip.now) (is_whole result) most_of_command) old.calls new.calls }
     ensures honest { let old = R.view rig.old in let new = R.view rig.new in
         (flashes : List (List ℕ)) → IsSteady flashes journal.old old → old.device.chip ≡ chip.now
         → let other = flash_after chip.now old.device.flash (command_of change.now) in

@@ -1,7 +1,8 @@
 -- The program's subcommands, as `clap` sees them.
-use Rattle.std.specs.Prelude.{◌≡◌, List, [], ◌∷◌, Some, codes, map, true, false}
+use Rattle.std.specs.Prelude.{◌≡◌, ℕ, List, [], ◌∷◌, Some, codes, map, true, false}
 use Rattle.std.specs.Borrow.{Bor}
 use Rattle.clap.specs.Words.{App, Rule, Text, app_of, found_of, matches_of, new_app, new_rule, rows_of, subcommand_of, subcommand_rows_of, with_rule, with_subcommand}
+use Rattle.clap.specs.declared.builder.ArgAction.TheVariants.{Append, SetTrue}
 use Rattle.clap.specs.declared.builder.command.Command.{Command}
 use Rattle.clap.specs.declared.builder.command.Command.TheViews.{out-Command as fields_of}
 use Rattle.clap.specs.declared.builder.value_parser.ValueParser.{ValueParser}
@@ -24,9 +25,25 @@ default_option_rule name text = record (option_rule name) { defaults = text ∷ 
 abbrev pub range_rule : Rule
 range_rule = record (new_rule (codes "range")) { short = Some 83; value_names = 1 }
 
+-- a flag of one letter
+abbrev pub letter_rule : Text → ℕ → Rule
+letter_rule id letter = record (new_rule id) { short = Some letter; action = Some SetTrue }
+
+-- `--all`
+abbrev pub all_rule : Rule
+all_rule = record (new_rule (codes "all")) { long = Some (codes "all"); action = Some SetTrue }
+
 -- a further word, which has to be given
 abbrev pub needed_rule : Text → Rule
 needed_rule id = record (new_rule id) { required = true }
+
+-- any number of further words
+abbrev pub repeated_rule : Text → Rule
+repeated_rule id = record (new_rule id) { action = Some Append }
+
+-- a further word, which is this one where none is given
+abbrev pub default_rule : Text → Text → Rule
+default_rule id text = record (new_rule id) { defaults = text ∷ [] }
 
 -- a further word that `kinds` reads
 abbrev pub kind_rule : ValueParser → Rule
@@ -44,6 +61,21 @@ info_app = on_device (codes "info")
 
 abbrev pub read_app : App
 read_app = with_rule (with_rule (on_device (codes "read")) range_rule) (needed_rule (codes "OUT"))
+
+abbrev pub write_app : App
+write_app = with_rule (with_rule (with_rule (with_rule (on_device (codes "write"))
+    (letter_rule (codes "force") 102)) (letter_rule (codes "check") 118)) range_rule)
+    (needed_rule (codes "IMAGE"))
+
+abbrev pub verify_app : App
+verify_app = with_rule (with_rule (with_rule (on_device (codes "verify"))
+    (letter_rule (codes "force") 102)) range_rule) (needed_rule (codes "IMAGE"))
+
+abbrev pub erase_app : App
+erase_app = with_rule (with_rule (on_device (codes "erase")) all_rule) (repeated_rule (codes "PAGE"))
+
+abbrev pub undo_app : App
+undo_app = with_rule (on_device (codes "undo")) (default_rule (codes "COUNT") (codes "0"))
 
 abbrev pub go_app : App
 go_app = with_rule (on_device (codes "go")) (needed_rule (codes "ADDRESS"))
@@ -65,8 +97,10 @@ bare_app =
 
 -- all subcommands; `kinds` reads the word of `protect`
 unfoldable pub command_set : ValueParser → App
-command_set kinds = with_subcommand (with_subcommand (with_subcommand (with_subcommand (with_subcommand bare_app
-    info_app.top) read_app.top) go_app.top) (protect_app kinds).top) sim_app.top
+command_set kinds = with_subcommand (with_subcommand (with_subcommand (with_subcommand
+    (with_subcommand (with_subcommand (with_subcommand (with_subcommand (with_subcommand bare_app
+    info_app.top) read_app.top) write_app.top) verify_app.top) erase_app.top) undo_app.top)
+    go_app.top) (protect_app kinds).top) sim_app.top
 
 -- c is the command that a stands for, with no global argument
 abbrev pub Makes : App → Command → Type 0

@@ -1,11 +1,12 @@
 -- What the words ask for.
-use Rattle.std.specs.Prelude.{◌≡◌, ℕ, List, Some, codes, option_and_then}
-use Rattle.clap.specs.Matches.{first_value}
+use Rattle.std.specs.Prelude.{◌≡◌, ℕ, Bool, List, [], None, Some, codes, false, map, option_and_then, option_map, true, unwrap_or}
+use Rattle.clap.specs.Matches.{first_value, matched_of, one_text, raw_values}
 use Rattle.clap.specs.declared.parser.matches.Found.{Found}
 use Rattle.stm_words.specs.declared.device.Device.{Device}
 use Rattle.stm_words.specs.declared.device.Device.TheVariants.{Simulator, Socket}
-use Rattle.stm_words.specs.declared.request.Task.{Task}
-use Rattle.stm_words.specs.declared.request.Task.TheVariants.{Info, Read, Go, Protect}
+use Rattle.stm_words.specs.declared.image_file.ImageFile.{ImageFile}
+use Rattle.stm_words.specs.declared.task.Task.{Task}
+use Rattle.stm_words.specs.declared.task.Task.TheVariants.{Info, Read, Write, Verify, Erase, Undo, Go, Protect}
 use Rattle.stm_words.specs.Number.{number_of}
 
 -- a socket's path is the word
@@ -17,9 +18,38 @@ abbrev pub IsSimulator : Device → Type 0
 IsSimulator (Simulator id file) = Unit {0}
 IsSimulator (Socket path) = ⊥
 
+-- b tells whether the flag of this id was given
+abbrev pub IsFlag : Found → List ℕ → Bool → Type 0
+IsFlag given id b = (one_text given id ≡ None → b ≡ false) × (one_text given id ≡ Some (codes "true") → b ≡ true)
+    × (one_text given id ≡ Some (codes "false") → b ≡ false)
+
+-- all words that were given under this id
+abbrev pub texts_of : Found → List ℕ → List (List ℕ)
+texts_of given id = unwrap_or (option_map raw_values (matched_of given id)) []
+
+-- the image that a subcommand's words name
+abbrev pub IsImageFile : Found → ImageFile → Type 0
+IsImageFile given image = (first_value given (codes "IMAGE") ≡ Some image.name.now) × IsFlag given (codes "force") image.is_raw
+
+-- the pages that `erase` names, each by its number
+abbrev pub IsErase : Found → Task → Type 0
+IsErase given (Erase is_all pages) = IsFlag given (codes "all") is_all
+    × (map number_of (texts_of given (codes "PAGE")) ≡ map Some pages.items)
+IsErase given Info = ⊥
+IsErase given (Read range out) = ⊥
+IsErase given (Write image verifies) = ⊥
+IsErase given (Verify image) = ⊥
+IsErase given (Undo count) = ⊥
+IsErase given (Go address) = ⊥
+IsErase given (Protect kind) = ⊥
+
 -- the subcommand of this name, with these words, asks for this
 abbrev pub IsTask : List ℕ → Found → Task → Type 0
 IsTask name given Info = name ≡ codes "info"
 IsTask name given (Read range out) = (name ≡ codes "read") × (first_value given (codes "OUT") ≡ Some out.now)
+IsTask name given (Write image verifies) = (name ≡ codes "write") × IsImageFile given image × IsFlag given (codes "check") verifies
+IsTask name given (Verify image) = (name ≡ codes "verify") × IsImageFile given image
+IsTask name given (Erase is_all pages) = (name ≡ codes "erase") × IsErase given (Erase is_all pages)
+IsTask name given (Undo count) = (name ≡ codes "undo") × (option_and_then number_of (first_value given (codes "COUNT")) ≡ Some count)
 IsTask name given (Go address) = (name ≡ codes "go") × (option_and_then number_of (first_value given (codes "ADDRESS")) ≡ Some address)
 IsTask name given (Protect kind) = (name ≡ codes "protect") × (first_value given (codes "KIND") ≡ Some kind.now)

@@ -1,77 +1,16 @@
 // The subcommands and their words, for `clap`.
-ghost use Rattle.std.specs.Prelude.{◌≡◌, IfOk, codes, false};
-ghost use Rattle.clap.specs.Words.{rule_of};
-ghost use Rattle.stm_words.specs.CommandSet.{Makes, TakesKinds, command_set, default_option_rule, go_app, kind_rule, needed_option_rule, needed_rule, on_device, option_rule, protect_app, range_rule, read_app, sim_app};
+ghost use Rattle.std.specs.Prelude.{IfOk};
+ghost use Rattle.stm_words.specs.CommandSet.{Makes, TakesKinds, command_set, erase_app, go_app, on_device, protect_app, read_app, sim_app, undo_app, verify_app, write_app};
 
+use crate::argument::{
+    all, default_option, kind, letter, needed, needed_option, option, optional, range, repeated,
+};
 use crate::help;
-use clap::{Arg, Command};
+use clap::Command;
 use std::alloc::{AllocError, Global};
 
 /// The version that `--version` tells.
 const VERSION: &str = "0.1.0";
-
-/// The words that `protect` takes.
-static KINDS: [&str; 3] = ["write-unprotect", "readout-protect", "readout-unprotect"];
-
-/// The option `--name VALUE`.
-fn option<'a>(alloc: Global, name: &'a str, value: &'a str, help: &'a str) -> Arg<'a>
-    ensures rule { rule_of result ≡ option_rule name.entry.now }
-    ensures local { result.global ≡ false }
-{
-    Arg::new(alloc, name)
-        .long(name)
-        .value_name(value)
-        .help(help)
-}
-
-/// The same, where it has to be given.
-fn needed_option<'a>(alloc: Global, name: &'a str, value: &'a str, help: &'a str) -> Arg<'a>
-    ensures rule { rule_of result ≡ needed_option_rule name.entry.now }
-    ensures local { result.global ≡ false }
-{
-    option(alloc, name, value, help).required(true)
-}
-
-/// The same, with a value where it is not given.
-fn default_option<'a>(
-    alloc: Global,
-    name: &'a str,
-    value: &'a str,
-    text: &'a str,
-    help: &'a str,
-) -> Arg<'a>
-    ensures rule { rule_of result ≡ default_option_rule name.entry.now text.entry.now }
-    ensures local { result.global ≡ false }
-{
-    option(alloc, name, value, help).default_value(text)
-}
-
-/// `-S RANGE`.
-fn range<'a>(alloc: Global, help: &'a str) -> Arg<'a>
-    ensures rule { rule_of result ≡ range_rule }
-    ensures local { result.global ≡ false }
-{
-    Arg::new(alloc, "range")
-        .short('S')
-        .value_name("RANGE")
-        .help(help)
-}
-
-/// A further word, which has to be given.
-fn needed<'a>(alloc: Global, id: &'a str, help: &'a str) -> Arg<'a>
-    ensures rule { rule_of result ≡ needed_rule id.entry.now }
-    ensures local { result.global ≡ false }
-{
-    Arg::new(alloc, id).required(true).help(help)
-}
-
-/// The word of `protect`.
-fn kind<'a>(alloc: Global) -> Arg<'a>
-    ensures rule { (p : _) × (rule_of result ≡ kind_rule p) × TakesKinds p }
-    ensures local { result.global ≡ false }
-{
-    needed(alloc, "KIND", help::KIND).value_parser(KINDS.as_slice())
-}
 
 /// A subcommand with the options that every use of a device has.
 fn on_device<'a>(alloc: Global, name: &'a str, about: &'a str) -> Result<Command<'a>, AllocError>
@@ -92,6 +31,39 @@ fn read<'a>(alloc: Global) -> Result<Command<'a>, AllocError>
     on_device(alloc, "read", help::READ)?
         .arg(range(alloc, help::READ_RANGE))?
         .arg(needed(alloc, "OUT", help::OUT))
+}
+
+fn write<'a>(alloc: Global) -> Result<Command<'a>, AllocError>
+    ensures { IfOk result (Makes write_app) }
+{
+    on_device(alloc, "write", help::WRITE)?
+        .arg(letter(alloc, "force", 'f', help::FORCE))?
+        .arg(letter(alloc, "check", 'v', help::CHECK))?
+        .arg(range(alloc, help::IMAGE_RANGE))?
+        .arg(needed(alloc, "IMAGE", help::IMAGE))
+}
+
+fn verify<'a>(alloc: Global) -> Result<Command<'a>, AllocError>
+    ensures { IfOk result (Makes verify_app) }
+{
+    on_device(alloc, "verify", help::VERIFY)?
+        .arg(letter(alloc, "force", 'f', help::FORCE))?
+        .arg(range(alloc, help::IMAGE_RANGE))?
+        .arg(needed(alloc, "IMAGE", help::IMAGE))
+}
+
+fn erase<'a>(alloc: Global) -> Result<Command<'a>, AllocError>
+    ensures { IfOk result (Makes erase_app) }
+{
+    on_device(alloc, "erase", help::ERASE)?
+        .arg(all(alloc, help::ALL))?
+        .arg(repeated(alloc, "PAGE", help::PAGE))
+}
+
+fn undo<'a>(alloc: Global) -> Result<Command<'a>, AllocError>
+    ensures { IfOk result (Makes undo_app) }
+{
+    on_device(alloc, "undo", help::UNDO)?.arg(optional(alloc, "COUNT", "0", help::COUNT))
 }
 
 fn go<'a>(alloc: Global) -> Result<Command<'a>, AllocError>
@@ -128,6 +100,10 @@ pub fn command_set<'a>(alloc: Global) -> Result<Command<'a>, AllocError>
         .subcommand_required(true)
         .subcommand(on_device(alloc, "info", help::INFO)?)?
         .subcommand(read(alloc)?)?
+        .subcommand(write(alloc)?)?
+        .subcommand(verify(alloc)?)?
+        .subcommand(erase(alloc)?)?
+        .subcommand(undo(alloc)?)?
         .subcommand(go(alloc)?)?
         .subcommand(protect(alloc)?)?
         .subcommand(sim(alloc)?)

@@ -6,6 +6,15 @@ pub const INFO: &str = "Tells what the device is";
 
 pub const READ: &str = "Reads the flash, or a part of it, into a file";
 
+pub const WRITE: &str =
+    "Writes an image: the pages that it touches are kept, erased and written; every other byte stays";
+
+pub const VERIFY: &str = "Compares the flash with an image";
+
+pub const ERASE: &str = "Erases pages, and keeps what they hold";
+
+pub const UNDO: &str = "Takes back the newest writes and erases, also one that was stopped";
+
 pub const GO: &str = "Lets the device leave the bootloader and run what stands at an address";
 
 pub const PROTECT: &str = "Changes a protection; readout-unprotect erases the chip for good";
@@ -25,6 +34,22 @@ pub const STOP: &str = "Stops a simulated device after K steps";
 pub const READ_RANGE: &str = "What to read: address[:length]; without it the whole flash";
 
 pub const OUT: &str = "The file for the bytes";
+
+pub const FORCE: &str = "Takes the file as raw bytes, also where it begins with a colon";
+
+pub const CHECK: &str = "Verifies what was written, in the same session";
+
+pub const IMAGE_RANGE: &str =
+    "Where a raw image lies: address[:length]; without it, from the flash's first byte on";
+
+pub const IMAGE: &str =
+    "The file of the image: Intel HEX where its first byte is a colon, and raw bytes otherwise";
+
+pub const ALL: &str = "Erases every page";
+
+pub const PAGE: &str = "The numbers of pages, counted from 0";
+
+pub const COUNT: &str = "How many writes and erases, the newest first; 0: all";
 
 pub const ADDRESS: &str = "Where to go on: 0x and hexadecimal digits, or a decimal number";
 

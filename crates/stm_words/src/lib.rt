@@ -1,20 +1,30 @@
 //! The words of the command line: what `clap` finds in them, and what they ask for.
 #![tactic(auto)]
 
+mod argument;
 mod command_set;
 mod device;
+mod given;
 mod help;
+mod image_file;
 mod number;
+mod options;
 mod range;
 mod request;
+mod served;
+mod task;
 mod unread;
 mod usage_fault;
 mod words;
 
 pub use device::Device;
+pub use image_file::ImageFile;
 pub use number::parse_number;
+pub use options::Options;
 pub use range::Range;
-pub use request::{Options, Request, Served, Task};
+pub use request::Request;
+pub use served::Served;
+pub use task::Task;
 pub use unread::Unread;
 pub use usage_fault::UsageFault;
 pub use words::{read_request, read_words};

@@ -1,6 +1,7 @@
 // Why words ask for nothing that can be done.
 
 use crate::usage_fault::UsageFault;
+use std::alloc::AllocFailed;
 
 /// Why words ask for nothing that can be done.
 #[derive(Drop)]
@@ -18,5 +19,11 @@ pub enum Unread<'a> {
 impl<'a> From<UsageFault<'a>> for Unread<'a> {
     fn from(fault: UsageFault<'a>) -> Self {
         Unread::Usage(fault)
+    }
+}
+
+impl<T: Drop> From<AllocFailed<T>> for Unread<'_> {
+    fn from(_failed: AllocFailed<T>) -> Self {
+        Unread::Memory
     }
 }

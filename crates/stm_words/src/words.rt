@@ -38,7 +38,7 @@ fn unread<'a>(alloc: Global, error: &Error) -> Unread<'a> {
 /// What the words ask for. The first word is the program's name.
 pub fn read_request<'a>(alloc: Global, words: &'a [&'a str]) -> Result<Request<'a>, Unread<'a>> {
     match read_words(alloc, words) {
-        Ok(matches) => Ok(Request::parse(&matches)?),
+        Ok(matches) => Request::parse(alloc, &matches),
         Err(error) => Err(unread(alloc, &error)),
     }
 }

@@ -14,6 +14,8 @@ pub enum Answer {
     Told(Info, u8),
     /// Bytes of the flash, for a file.
     Bytes(Vec<u8>),
+    /// How many segments were taken back.
+    Undone(u32),
 }
 
 impl Answer {
@@ -21,7 +23,8 @@ impl Answer {
     pub fn print<O: Write>(&self, out: &mut O) -> io::Result<()> {
         match self {
             Answer::Told(info, erased) => print_info(info, *erased, out),
-            _ => Ok(()),
+            Answer::Undone(count) => writeln!(out, "undone {count}"),
+            Answer::Nothing | Answer::Bytes(_) => Ok(()),
         }
     }
 }

@@ -1,6 +1,7 @@
-//! Reads the flash of an STM32 through the bootloader in its ROM (ST AN3155), over a Unix socket or a simulator of one.
+//! Flashes an STM32 through the bootloader in its ROM (ST AN3155), over a Unix socket or a simulator of one.
 #![tactic(auto)]
 
+mod action;
 mod answer;
 mod failure;
 mod files;
@@ -13,6 +14,8 @@ mod on_device;
 #[cfg(test)]
 mod option_tests;
 mod program;
+mod protection;
+mod reading;
 mod restoring;
 mod serving;
 mod simulator_file;
@@ -24,9 +27,10 @@ mod socket_rig;
 #[cfg(test)]
 mod socket_tests;
 mod standing;
-mod task;
 #[cfg(test)]
 mod tests;
+#[cfg(test)]
+mod undo_tests;
 
 use program::program;
 use std::io::ErrorKind;

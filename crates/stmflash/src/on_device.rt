@@ -1,6 +1,7 @@
 // A use of a device: the files that belong to it are opened, the task is done, and they are closed, whatever came of it.
 // Nothing is printed here.
 
+use crate::action::Action;
 use crate::answer::Answer;
 use crate::failure::Failure;
 use crate::files::is_same_file;
@@ -9,7 +10,6 @@ use crate::simulator_file::{line_name, load, store_rig};
 use crate::simulator_rig::SimulatorRig;
 use crate::socket_line::SocketLine;
 use crate::socket_rig::SocketRig;
-use crate::task::Action;
 use std::fs;
 use std::fs::Files;
 use std::net::Net;
@@ -23,12 +23,12 @@ pub fn use_device<'a, R: Files + Net + AllocGlobal>(
     options: &Options<'a>,
     task: Task<'a>,
 ) -> Result<Answer, Failure<'a>> {
-    let action = Action::of(task)?;
-    let table = read_chips(rt, options.table)?;
-    let out = match task {
-        Task::Read { out, .. } => Some(out),
+    let out = match &task {
+        Task::Read { out, .. } => Some(*out),
         _ => None,
     };
+    let action = Action::of(task)?;
+    let table = read_chips(rt, options.table)?;
     if let Some(name) = out {
         if is_in_use(rt, options, name)? {
             return Err(Failure::CannotWrite(name));

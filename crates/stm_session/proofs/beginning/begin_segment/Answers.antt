@@ -5,6 +5,10 @@ use Rattle.stm_session.specs.Segments.{Changes}
 use Rattle.stm_session.specs.Undoable.{state_at}
 use Rattle.stm_session.proofs.Beginnings.{begins, unbegun, untorn_begin}
 use Rattle.stm_session.proofs.Keeping.{good_at}
+use Rattle.std.proofs.Common.{Some, true}
+use Rattle.stm_journal.specs.Journals.{begin_entries}
+use Rattle.stm_session.specs.Sending.{is_whole}
+use Rattle.stm_session.proofs.SentParts.{line_part}
 use Rattle.stm_session.proofs.beginning.begin_segment.Goals as goal
 
 pub returns-in_err-segment-clause-honest : goal.returns-in_err-segment-clause-honest
@@ -36,3 +40,15 @@ returns-clause-honest g c flashes after steady chip =
     subst C c.id.ensures
     (begins c.step_laws.ensures c.a_stopped_append_is_good.ensures flashes after l a c.id.result model steady own (omega (arith, c.id.type_inv)) c.requires.room c.requires.finished
     l2 d c.in_ok-segment.segment c.in_ok-segment.segment appends (untorn_begin c.id.result l l2 call.after) has)
+
+pub returns-in_err-segment-clause-puts : goal.returns-in_err-segment-clause-puts
+returns-in_err-segment-clause-puts g c =
+    let V = g.R.Rig.view in
+    let l = c.args.journal.now in
+    line_part (Some c.args.chip.now) (is_whole c.from_residual.result) 0 l (begin_entries c.id.result l.state) c.begin.result (V c.args.rig.now).calls (V c.begin.new.rig).calls c.begin.ensures.calls
+
+pub returns-clause-puts : goal.returns-clause-puts
+returns-clause-puts g c =
+    let V = g.R.Rig.view in
+    let l = c.args.journal.now in
+    line_part (Some c.args.chip.now) true 0 l (begin_entries c.id.result l.state) c.begin.result (V c.args.rig.now).calls (V c.begin.new.rig).calls c.begin.ensures.calls

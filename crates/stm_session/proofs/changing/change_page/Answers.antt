@@ -9,6 +9,10 @@ use Rattle.stm_session.specs.Changing.{change_entries, save_entries}
 use Rattle.stm_session.specs.Lines.{program_entries}
 use Rattle.stm_session.proofs.Changes.{change_lines, not_turned, same_lines_of, saved_turned, told_other, told_same}
 use Rattle.stm_session.proofs.Going.{goes_as, goes_nowhere, goes_failed, goes_ok, goes_refused, goes_then, page_held}
+use Rattle.std.proofs.Common.{◌+◌, ◌*◌, Some, arith}
+use Rattle.stm_wire.specs.PartLaws.{nothing_is_part}
+use Rattle.stm_session.specs.Sending.{most_of_companion}
+use Rattle.stm_session.proofs.SentParts.{part_after, part_fails, part_fails_after}
 use Rattle.stm_session.proofs.changing.change_page.Goals as goal
 
 pub returns-in-Same-clause-changed : goal.returns-in-Same-clause-changed
@@ -105,3 +109,32 @@ returns-in_ok-rewrite_kept-in-Erase-clause-honest g c flashes steady chip read =
     (goes_then flashes before own l2 l3 a b d (tt {0}) _ model_b first
     (goes_ok flashes own l3 b d _ true (c.in_ok-rewrite_kept-in-Erase.ensures.honest flashes first.steady still) (λ p. p))
     (λ y done. done ∙ ap (λ (x : Device). with_page c.args.chip.now c.args.n c.args.page.now x.flash) first.done))
+
+pub returns-in_default-clause-puts : goal.returns-in_default-clause-puts
+returns-in_default-clause-puts g c = nothing_is_part (Some c.args.chip.now) _ (most_of_companion c.args.chip.now c.args.n + (9 + 2 * length c.args.page.now)) (g.R.Rig.view c.args.rig.now).calls
+
+pub returns-in-Same-clause-puts : goal.returns-in-Same-clause-puts
+returns-in-Same-clause-puts g c = nothing_is_part (Some c.args.chip.now) _ (most_of_companion c.args.chip.now c.args.n + (9 + 2 * length c.args.page.now)) (g.R.Rig.view c.args.rig.now).calls
+
+pub returns-in_err-save_pages-in-Erase-clause-puts : goal.returns-in_err-save_pages-in-Erase-clause-puts
+returns-in_err-save_pages-in-Erase-clause-puts g c =
+    let V = g.R.Rig.view in
+    let first = most_of_companion c.args.chip.now c.args.n in
+    let more = 9 + 2 * length c.args.page.now in
+    part_fails (Some c.args.chip.now) first (first + more) (V c.args.rig.now).calls (V c.save_pages.new.rig).calls _ c.from_residual.result (omega arith) c.from_residual.ensures.1 c.in_err-save_pages-in-Erase.ensures.puts
+
+pub returns-in_err-rewrite_kept-in-Erase-clause-puts : goal.returns-in_err-rewrite_kept-in-Erase-clause-puts
+returns-in_err-rewrite_kept-in-Erase-clause-puts g c =
+    let V = g.R.Rig.view in
+    let first = most_of_companion c.args.chip.now c.args.n in
+    let more = 9 + 2 * length c.args.page.now in
+    part_fails_after (Some c.args.chip.now) first more (first + more) (V c.args.rig.now).calls (V c.save_pages.new.rig).calls (V c.rewrite_kept.new.rig).calls _ c.from_residual-in_err-rewrite_kept-in-Erase.result (omega arith)
+    c.from_residual-in_err-rewrite_kept-in-Erase.ensures.1 c.in_ok-save_pages-in-Erase.ensures.puts c.in_err-rewrite_kept-in-Erase.ensures.puts
+
+pub returns-in_ok-rewrite_kept-in-Erase-clause-puts : goal.returns-in_ok-rewrite_kept-in-Erase-clause-puts
+returns-in_ok-rewrite_kept-in-Erase-clause-puts g c =
+    let V = g.R.Rig.view in
+    let first = most_of_companion c.args.chip.now c.args.n in
+    let more = 9 + 2 * length c.args.page.now in
+    part_after (Some c.args.chip.now) true first more (first + more) (V c.args.rig.now).calls (V c.save_pages.new.rig).calls (V c.rewrite_kept.new.rig).calls (omega arith)
+    c.in_ok-save_pages-in-Erase.ensures.puts c.in_ok-rewrite_kept-in-Erase.ensures.puts

@@ -10,6 +10,9 @@ use Rattle.stm_session.specs.Steps.{Goes}
 use Rattle.stm_session.specs.Undoable.{is_unfinished_at}
 use Rattle.stm_session.proofs.Commandings.{begin_fails, changes_as, end_fails, end_goes, pages_fail, pages_go, turned_make}
 use Rattle.stm_session.proofs.Keeping.{depth_text, unfinished_text}
+use Rattle.std.proofs.Common.{Some, arith}
+use Rattle.stm_session.specs.Sending.{most_of_command}
+use Rattle.stm_session.proofs.SentParts.{part_after, part_fails, part_fails_after}
 use Rattle.stm_session.proofs.commanding.change_flash.Goals as goal
 
 pub returns-in_err-segment-clause-honest : goal.returns-in_err-segment-clause-honest
@@ -104,3 +107,32 @@ returns-clause-honest g c flashes steady chip =
     (end_goes flashes (xs ++ ys) zs after l3 l4 a d e c.in_ok-pages.pages (pages_go flashes xs ys after l2 a b d c.in_ok-segment.segment first same unfinished l3 c.in_ok-pages.pages goes) make goes.done.flash
     (tt {0}) (c.in_ok-segment.segment, c.in_ok-pages.pages) closes
     (record { flash = ap (λ (x : Device). x.flash) closes.same_device ∙ goes.done.flash; counts = goes.done.counts }))
+
+pub returns-in_err-segment-clause-puts : goal.returns-in_err-segment-clause-puts
+returns-in_err-segment-clause-puts g c =
+    let V = g.R.Rig.view in
+    part_fails (Some c.args.chip.now) 0 most_of_command (V c.args.rig.now).calls (V c.begin_segment.new.rig).calls _ c.from_residual.result (omega arith) c.from_residual.ensures.1 c.in_err-segment.ensures.puts
+
+pub returns-in_err-pages-clause-puts : goal.returns-in_err-pages-clause-puts
+returns-in_err-pages-clause-puts g c =
+    let V = g.R.Rig.view in
+    part_fails_after (Some c.args.chip.now) 0 most_of_command most_of_command (V c.args.rig.now).calls (V c.begin_segment.new.rig).calls (V c.turn_pages.new.rig).calls _ c.from_residual-in_err-pages.result (omega arith)
+    c.from_residual-in_err-pages.ensures.1 c.in_ok-segment.ensures.puts c.in_err-pages.ensures.puts
+
+pub returns-in_err-end_segment-clause-puts : goal.returns-in_err-end_segment-clause-puts
+returns-in_err-end_segment-clause-puts g c =
+    let V = g.R.Rig.view in
+    let chip = Some c.args.chip.now in
+    let a = (V c.args.rig.now).calls in
+    let d = (V c.turn_pages.new.rig).calls in
+    part_fails_after chip most_of_command 0 most_of_command a d (V c.end_segment.new.rig).calls _ c.from_residual-in_err-end_segment.result (omega arith) c.from_residual-in_err-end_segment.ensures.1
+    (part_after chip true 0 most_of_command most_of_command a (V c.begin_segment.new.rig).calls d (omega arith) c.in_ok-segment.ensures.puts c.in_ok-pages.ensures.puts) (c.in_err-end_segment.ensures.puts chip)
+
+pub returns-clause-puts : goal.returns-clause-puts
+returns-clause-puts g c =
+    let V = g.R.Rig.view in
+    let chip = Some c.args.chip.now in
+    let a = (V c.args.rig.now).calls in
+    let d = (V c.turn_pages.new.rig).calls in
+    part_after chip true most_of_command 0 most_of_command a d (V c.end_segment.new.rig).calls (omega arith)
+    (part_after chip true 0 most_of_command most_of_command a (V c.begin_segment.new.rig).calls d (omega arith) c.in_ok-segment.ensures.puts c.in_ok-pages.ensures.puts) (c.in_ok-end_segment.ensures.puts chip)

@@ -4,6 +4,9 @@ use Rattle.stm_wire.specs.Device.{Device}
 use Rattle.stm_journal.specs.declared.entry.Entry.TheVariants.{Keeps}
 use Rattle.stm_session.proofs.Going.{goes_failed, goes_then}
 use Rattle.stm_session.proofs.Savings.{both_saved, may_still}
+use Rattle.std.proofs.Common.{◌*◌, Some, true, arith}
+use Rattle.stm_wire.specs.Chip.{flash_size}
+use Rattle.stm_session.proofs.SentParts.{part_after, part_fails, part_fails_after}
 use Rattle.stm_session.proofs.saving.save_both.Goals as goal
 
 pub save_page-requires-clause-may : goal.save_page-requires-clause-may
@@ -54,3 +57,22 @@ returns-clause-honest g c flashes steady chip read =
     let same = read ∙ sym (ap (λ (x : Device). page_of c.args.chip.now x.flash 1) first.done) in
     goes_then flashes (Keeps 257 (page_of c.args.chip.now a.device.flash 257) ∷ []) (Keeps 1 c.args.held.now ∷ []) l2 l3 a b d (tt {0}) _ model_b first
     (c.in_ok-save_page.ensures.honest flashes first.steady still same) (λ y done. done ∙ first.done)
+
+pub returns-in_err-save_companion-clause-puts : goal.returns-in_err-save_companion-clause-puts
+returns-in_err-save_companion-clause-puts g c =
+    let V = g.R.Rig.view in
+    let most = 3 * flash_size c.args.chip.now in
+    part_fails (Some c.args.chip.now) most most (V c.args.rig.now).calls (V c.save_companion.new.rig).calls _ c.from_residual.result (omega arith) c.from_residual.ensures.1 c.in_err-save_companion.ensures.puts
+
+pub returns-in_err-save_page-clause-puts : goal.returns-in_err-save_page-clause-puts
+returns-in_err-save_page-clause-puts g c =
+    let V = g.R.Rig.view in
+    let most = 3 * flash_size c.args.chip.now in
+    part_fails_after (Some c.args.chip.now) most 0 most (V c.args.rig.now).calls (V c.save_companion.new.rig).calls (V c.save_page.new.rig).calls _ c.from_residual-in_err-save_page.result (omega arith)
+    c.from_residual-in_err-save_page.ensures.1 c.in_ok-save_companion.ensures.puts c.in_err-save_page.ensures.puts
+
+pub returns-clause-puts : goal.returns-clause-puts
+returns-clause-puts g c =
+    let V = g.R.Rig.view in
+    let most = 3 * flash_size c.args.chip.now in
+    part_after (Some c.args.chip.now) true most 0 most (V c.args.rig.now).calls (V c.save_companion.new.rig).calls (V c.save_page.new.rig).calls (omega arith) c.in_ok-save_companion.ensures.puts c.in_ok-save_page.ensures.puts

@@ -5,6 +5,11 @@ use Rattle.stm_journal.specs.declared.entry.Entry.{Entry}
 use Rattle.stm_journal.specs.declared.entry.Entry.TheVariants.{Keeps}
 use Rattle.stm_session.proofs.Going.{asks_fail, asks_on, goes_as, goes_failed, goes_then}
 use Rattle.stm_session.proofs.Restorings.{page_read}
+use Rattle.std.proofs.Common.{◌+◌, ◌*◌, Some, true, arith}
+use Rattle.stm_wire.specs.Chip.{flash_size}
+use Rattle.stm_wire.specs.Intents.{InPage}
+use Rattle.stm_session.proofs.SentChanges.{page_read_few}
+use Rattle.stm_session.proofs.SentParts.{part_after, part_fails, part_fails_after}
 use Rattle.stm_session.proofs.saving.save_companion.Goals as goal
 
 pub returns-in_err-held-clause-honest : goal.returns-in_err-held-clause-honest
@@ -54,3 +59,32 @@ returns-clause-honest g c flashes steady chip =
     let own = Keeps 257 c.deref.result.now ∷ [] in
     goes_as flashes own _ l2 a d _ (ap (λ (bytes : List ℕ). let e : Entry = Keeps 257 bytes in e ∷ []) held_is)
     (goes_then flashes [] own l l2 a b d (tt {0}) _ model_b first (c.in_ok-save_page.ensures.honest flashes first.steady still read) (λ y done. done ∙ asks.same))
+
+pub returns-in_err-held-clause-puts : goal.returns-in_err-held-clause-puts
+returns-in_err-held-clause-puts g c =
+    let V = g.R.Rig.view in
+    let size = c.page_size-size.result in
+    let here : InPage c.args.chip.now 257 c.page_start-start.result size =
+    record { exists = c.requires.exists; begins = omega (arith, c.page_start-start.ensures.address); ends = omega (arith, c.page_start-start.ensures.address, c.page_size-size.ensures.bytes) } in
+    part_fails (Some c.args.chip.now) (12 + 2 * size) (3 * flash_size c.args.chip.now) (V c.args.rig.now).calls (V c.read_range.new.rig).calls _ c.from_residual.result
+    (page_read_few c.args.chip.now 257 size c.page_size-size.ensures.bytes c.page_size-size.ensures.blocks.0) c.from_residual.ensures.1 (c.in_err-held.ensures.few 257 here)
+
+pub returns-in_err-save_page-clause-puts : goal.returns-in_err-save_page-clause-puts
+returns-in_err-save_page-clause-puts g c =
+    let V = g.R.Rig.view in
+    let size = c.page_size-size.result in
+    let here : InPage c.args.chip.now 257 c.page_start-start.result size =
+    record { exists = c.requires.exists; begins = omega (arith, c.page_start-start.ensures.address); ends = omega (arith, c.page_start-start.ensures.address, c.page_size-size.ensures.bytes) } in
+    let few = page_read_few c.args.chip.now 257 size c.page_size-size.ensures.bytes c.page_size-size.ensures.blocks.0 in
+    part_fails_after (Some c.args.chip.now) (12 + 2 * size) 0 (3 * flash_size c.args.chip.now) (V c.args.rig.now).calls (V c.read_range.new.rig).calls (V c.save_page.new.rig).calls _ c.from_residual-in_err-save_page.result
+    (omega (arith, few)) c.from_residual-in_err-save_page.ensures.1 (c.in_ok-held.ensures.few 257 here) c.in_err-save_page.ensures.puts
+
+pub returns-clause-puts : goal.returns-clause-puts
+returns-clause-puts g c =
+    let V = g.R.Rig.view in
+    let size = c.page_size-size.result in
+    let here : InPage c.args.chip.now 257 c.page_start-start.result size =
+    record { exists = c.requires.exists; begins = omega (arith, c.page_start-start.ensures.address); ends = omega (arith, c.page_start-start.ensures.address, c.page_size-size.ensures.bytes) } in
+    let few = page_read_few c.args.chip.now 257 size c.page_size-size.ensures.bytes c.page_size-size.ensures.blocks.0 in
+    part_after (Some c.args.chip.now) true (12 + 2 * size) 0 (3 * flash_size c.args.chip.now) (V c.args.rig.now).calls (V c.read_range.new.rig).calls (V c.save_page.new.rig).calls
+    (omega (arith, few)) (c.in_ok-held.ensures.few 257 here) c.in_ok-save_page.ensures.puts

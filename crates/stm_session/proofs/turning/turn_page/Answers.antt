@@ -9,6 +9,12 @@ use Rattle.stm_session.proofs.Changes.{same_lines_of, told_same}
 use Rattle.stm_session.proofs.Going.{asks_fail, asks_on, goes_as, goes_nowhere, goes_failed, goes_ok, goes_refused, goes_then, page_held}
 use Rattle.stm_session.proofs.Restorings.{page_read}
 use Rattle.stm_session.proofs.Turns.{given_on}
+use Rattle.std.proofs.Common.{◌≤◌, ◌+◌, ◌*◌, Some, true, arith, rules}
+use Rattle.stm_wire.specs.Chip.{page_size}
+use Rattle.stm_wire.specs.Intents.{InPage}
+use Rattle.stm_wire.specs.PartLaws.{nothing_is_part, part_weaker}
+use Rattle.stm_session.specs.Sending.{most_of_companion, most_of_page}
+use Rattle.stm_session.proofs.SentParts.{part_after, part_fails, part_fails_after}
 use Rattle.stm_session.proofs.turning.turn_page.Goals as goal
 
 pub returns-then-not-touches-clause-turned : goal.returns-then-not-touches-clause-turned
@@ -98,3 +104,55 @@ returns-clause-honest g c flashes steady chip =
     (λ y put. given_on c.args.chip.now c.args.n a.device.flash b.device.flash d.device.flash c.deref-2.result.now c.deref-3.result.now (made (page_of c.args.chip.now a.device.flash c.args.n)) c.in_ok-changed.changed
     (ap (λ (x : Device). x.flash) asks.same) (c.deref-2.ensures.value ∙ items_are) page_is put c.in_ok-changed.ensures.changed))
     (λ given. given))
+
+pub returns-then-not-touches-clause-puts : goal.returns-then-not-touches-clause-puts
+returns-then-not-touches-clause-puts g c = nothing_is_part (Some c.args.chip.now) true (most_of_page c.args.chip.now c.args.n) (g.R.Rig.view c.args.rig.now).calls
+
+pub returns-in_err-held-clause-puts : goal.returns-in_err-held-clause-puts
+returns-in_err-held-clause-puts g c =
+    let V = g.R.Rig.view in
+    let size = c.page_size-size.result in
+    let here : InPage c.args.chip.now c.args.n c.page_start-start.result size =
+    record { exists = c.requires.exists; begins = omega (arith, c.page_start-start.ensures.address); ends = omega (arith, c.page_start-start.ensures.address, c.page_size-size.ensures.bytes) } in
+    let first = 12 + 2 * size in
+    let whole = most_of_page c.args.chip.now c.args.n in
+    let most : first ≤ whole = omega (arith, c.page_size-size.ensures.bytes, c.page_size-size.ensures.blocks.0) in
+    part_fails (Some c.args.chip.now) first whole (V c.args.rig.now).calls (V c.read_range.new.rig).calls _ c.from_residual.result most c.from_residual.ensures.1 (c.in_err-held.ensures.few c.args.n here)
+
+pub returns-in_err-page-clause-puts : goal.returns-in_err-page-clause-puts
+returns-in_err-page-clause-puts g c =
+    let V = g.R.Rig.view in
+    let size = c.page_size-size.result in
+    let here : InPage c.args.chip.now c.args.n c.page_start-start.result size =
+    record { exists = c.requires.exists; begins = omega (arith, c.page_start-start.ensures.address); ends = omega (arith, c.page_start-start.ensures.address, c.page_size-size.ensures.bytes) } in
+    let first = 12 + 2 * size in
+    let whole = most_of_page c.args.chip.now c.args.n in
+    let most : first ≤ whole = omega (arith, c.page_size-size.ensures.bytes, c.page_size-size.ensures.blocks.0) in
+    part_weaker (Some c.args.chip.now) _ first whole (V c.args.rig.now).calls (V c.read_range.new.rig).calls most (c.in_ok-held.ensures.few c.args.n here)
+
+pub returns-in_err-changed-clause-puts : goal.returns-in_err-changed-clause-puts
+returns-in_err-changed-clause-puts g c =
+    let V = g.R.Rig.view in
+    let size = c.page_size-size.result in
+    let here : InPage c.args.chip.now c.args.n c.page_start-start.result size =
+    record { exists = c.requires.exists; begins = omega (arith, c.page_start-start.ensures.address); ends = omega (arith, c.page_start-start.ensures.address, c.page_size-size.ensures.bytes) } in
+    let first = 12 + 2 * size in
+    let whole = most_of_page c.args.chip.now c.args.n in
+    let many : length c.deref-3.result.now ≡ page_size c.args.chip.now c.args.n = search rules in
+    let more = most_of_companion c.args.chip.now c.args.n + (9 + 2 * length c.deref-3.result.now) in
+    let most : first + more ≤ whole = omega (arith, many, c.page_size-size.ensures.bytes, c.page_size-size.ensures.blocks.0) in
+    part_fails_after (Some c.args.chip.now) first more whole (V c.args.rig.now).calls (V c.read_range.new.rig).calls (V c.change_page.new.rig).calls _ c.from_residual-in_err-changed.result most
+    c.from_residual-in_err-changed.ensures.1 (c.in_ok-held.ensures.few c.args.n here) c.in_err-changed.ensures.puts
+
+pub returns-clause-puts : goal.returns-clause-puts
+returns-clause-puts g c =
+    let V = g.R.Rig.view in
+    let size = c.page_size-size.result in
+    let here : InPage c.args.chip.now c.args.n c.page_start-start.result size =
+    record { exists = c.requires.exists; begins = omega (arith, c.page_start-start.ensures.address); ends = omega (arith, c.page_start-start.ensures.address, c.page_size-size.ensures.bytes) } in
+    let first = 12 + 2 * size in
+    let whole = most_of_page c.args.chip.now c.args.n in
+    let many : length c.deref-3.result.now ≡ page_size c.args.chip.now c.args.n = search rules in
+    let more = most_of_companion c.args.chip.now c.args.n + (9 + 2 * length c.deref-3.result.now) in
+    let most : first + more ≤ whole = omega (arith, many, c.page_size-size.ensures.bytes, c.page_size-size.ensures.blocks.0) in
+    part_after (Some c.args.chip.now) true first more whole (V c.args.rig.now).calls (V c.read_range.new.rig).calls (V c.change_page.new.rig).calls most (c.in_ok-held.ensures.few c.args.n here) c.in_ok-changed.ensures.puts

@@ -1,0 +1,7 @@
+use Rattle.std.proofs.Common.{arith, nat_le, ◌≡◌, ◌+◌, ◌-◌, length, ap, ◌∙◌}
+use Rattle.std.proofs.lemmas.Bool.Decides.{nat_tests}
+use Rattle.stm_session.proofs.CommandChecks.{counted, room_for}
+use Rattle.stm_session.proofs.command_check.has_room.Goals as goal
+
+pub returns : goal.returns
+returns c = room_for _ _ _ _ c.depth-room.ensures.value c.depth-room.ensures.sound.depth (c.count_changes.ensures ∙ counted c.args.commands.now)

@@ -1,0 +1,109 @@
+// The options and further words of which subcommands are made, for `clap`.
+ghost use Rattle.std.specs.Prelude.{◌≡◌, false};
+ghost use Rattle.clap.specs.Words.{rule_of};
+ghost use Rattle.stm_words.specs.CommandSet.{TakesKinds, all_rule, default_option_rule, default_rule, kind_rule, letter_rule, needed_option_rule, needed_rule, option_rule, range_rule, repeated_rule};
+
+use crate::help;
+use clap::{Arg, ArgAction};
+use std::alloc::Global;
+
+/// The words that `protect` takes.
+static KINDS: [&str; 3] = ["write-unprotect", "readout-protect", "readout-unprotect"];
+
+/// The option `--name VALUE`.
+pub fn option<'a>(alloc: Global, name: &'a str, value: &'a str, help: &'a str) -> Arg<'a>
+    ensures rule { rule_of result ≡ option_rule name.entry.now }
+    ensures local { result.global ≡ false }
+{
+    Arg::new(alloc, name)
+        .long(name)
+        .value_name(value)
+        .help(help)
+}
+
+/// The same, where it has to be given.
+pub fn needed_option<'a>(alloc: Global, name: &'a str, value: &'a str, help: &'a str) -> Arg<'a>
+    ensures rule { rule_of result ≡ needed_option_rule name.entry.now }
+    ensures local { result.global ≡ false }
+{
+    option(alloc, name, value, help).required(true)
+}
+
+/// The same, with a value where it is not given.
+pub fn default_option<'a>(
+    alloc: Global,
+    name: &'a str,
+    value: &'a str,
+    text: &'a str,
+    help: &'a str,
+) -> Arg<'a>
+    ensures rule { rule_of result ≡ default_option_rule name.entry.now text.entry.now }
+    ensures local { result.global ≡ false }
+{
+    option(alloc, name, value, help).default_value(text)
+}
+
+/// `-S RANGE`.
+pub fn range<'a>(alloc: Global, help: &'a str) -> Arg<'a>
+    ensures rule { rule_of result ≡ range_rule }
+    ensures local { result.global ≡ false }
+{
+    Arg::new(alloc, "range")
+        .short('S')
+        .value_name("RANGE")
+        .help(help)
+}
+
+/// A flag of one letter.
+pub fn letter<'a>(alloc: Global, id: &'a str, letter: char, help: &'a str) -> Arg<'a>
+    ensures rule { rule_of result ≡ letter_rule id.entry.now letter }
+    ensures local { result.global ≡ false }
+{
+    Arg::new(alloc, id)
+        .short(letter)
+        .action(ArgAction::SetTrue)
+        .help(help)
+}
+
+/// The flag `--all`.
+pub fn all<'a>(alloc: Global, help: &'a str) -> Arg<'a>
+    ensures rule { rule_of result ≡ all_rule }
+    ensures local { result.global ≡ false }
+{
+    Arg::new(alloc, "all")
+        .long("all")
+        .action(ArgAction::SetTrue)
+        .help(help)
+}
+
+/// A further word, which has to be given.
+pub fn needed<'a>(alloc: Global, id: &'a str, help: &'a str) -> Arg<'a>
+    ensures rule { rule_of result ≡ needed_rule id.entry.now }
+    ensures local { result.global ≡ false }
+{
+    Arg::new(alloc, id).required(true).help(help)
+}
+
+/// Any number of further words.
+pub fn repeated<'a>(alloc: Global, id: &'a str, help: &'a str) -> Arg<'a>
+    ensures rule { rule_of result ≡ repeated_rule id.entry.now }
+    ensures local { result.global ≡ false }
+{
+    Arg::new(alloc, id).action(ArgAction::Append).help(help)
+}
+
+/// A further word, with a value where it is not given.
+pub fn optional<'a>(alloc: Global, id: &'a str, text: &'a str, help: &'a str) -> Arg<'a>
+    ensures rule { rule_of result ≡ default_rule id.entry.now text.entry.now }
+    ensures local { result.global ≡ false }
+{
+    Arg::new(alloc, id).default_value(text).help(help)
+}
+
+/// The word of `protect`.
+pub fn kind<'a>(alloc: Global) -> Arg<'a>
+    ensures rule { (p : _) × (rule_of result ≡ kind_rule p) × TakesKinds p }
+    ensures local { result.global ≡ false }
+{
+    needed(alloc, "KIND", help::KIND).value_parser(KINDS.as_slice())
+}

@@ -1,0 +1,103 @@
+// The values that `clap` found, each read as what it stands for.
+ghost use Rattle.std.specs.Prelude.{◌≡◌, ◌≤◌, IfOk, Some, map, option_and_then};
+ghost use Rattle.clap.specs.Words.{first_value, found_of};
+ghost use Rattle.stm_words.specs.Number.{number_of};
+ghost use Rattle.stm_words.specs.Request.{IsFlag, texts_of};
+
+use crate::number::parse_number;
+use crate::range::Range;
+use crate::unread::Unread;
+use crate::usage_fault::UsageFault;
+use clap::ArgMatches;
+use std::alloc::Global;
+
+/// The word that was given under this name.
+pub fn word<'a>(given: &ArgMatches<'a>, id: &str) -> Result<&'a str, UsageFault<'a>>
+    ensures { IfOk result (λ word. first_value (found_of given.now) id.now ≡ Some word.now) }
+{
+    match given.get_str(id) {
+        Some(word) => Ok(word),
+        None => Err(UsageFault::UnknownWords),
+    }
+}
+
+/// Whether the flag of this name was given.
+pub fn flag(given: &ArgMatches, id: &str) -> bool
+    ensures { IsFlag (found_of given.now) id.now result }
+{
+    given.get_flag(id)
+}
+
+/// The number that was given under this name.
+pub fn number<'a>(given: &ArgMatches<'a>, id: &str) -> Result<u32, UsageFault<'a>>
+    ensures { IfOk result (λ n. option_and_then number_of (first_value (found_of given.now) id.now) ≡ Some n) }
+{
+    let text = word(given, id)?;
+    match parse_number(text) {
+        Some(n) => Ok(n),
+        None => Err(UsageFault::BadNumber(text)),
+    }
+}
+
+/// The number that was given under this name, which is at least 1 and not over a limit.
+pub fn number_within<'a>(given: &ArgMatches<'a>, id: &str, limit: u32) -> Result<u32, UsageFault<'a>>
+    ensures within { IfOk result (λ n. (1 ≤ n) × (n ≤ limit)) }
+    ensures number { IfOk result (λ n. option_and_then number_of (first_value (found_of given.now) id.now) ≡ Some n) }
+{
+    let n = number(given, id)?;
+    if 1 <= n && n <= limit {
+        Ok(n)
+    } else {
+        Err(UsageFault::BadNumber(word(given, id)?))
+    }
+}
+
+/// The stop, where one is asked for.
+pub fn stop<'a>(given: &ArgMatches<'a>) -> Result<Option<u32>, UsageFault<'a>> {
+    if given.get_str("stop").is_none() {
+        return Ok(None);
+    }
+    Ok(Some(number(given, "stop")?))
+}
+
+/// The part of the flash, where one is named.
+pub fn range<'a>(given: &ArgMatches<'a>) -> Result<Option<Range>, UsageFault<'a>> {
+    let Some(text) = given.get_str("range") else {
+        return Ok(None);
+    };
+    match Range::parse(text) {
+        Some(range) => Ok(Some(range)),
+        None => Err(UsageFault::BadNumber(text)),
+    }
+}
+
+/// The page that a word names by its number, which is at most 65535.
+fn page<'a>(word: &'a str) -> Result<u16, UsageFault<'a>>
+    ensures { IfOk result (λ n. number_of word.entry.now ≡ Some n) }
+{
+    match parse_number(word) {
+        Some(n) if n <= 0xFFFF => Ok(n as u16),
+        _ => Err(UsageFault::BadNumber(word)),
+    }
+}
+
+/// The pages that words name, in their order.
+fn numbers_of<'a>(alloc: Global, words: &[&'a str]) -> Result<Vec<u16>, Unread<'a>>
+    ensures { IfOk result (λ pages. map number_of (map (λ w. w.now) words.now) ≡ map Some pages.items) }
+{
+    let mut pages = Vec::new(alloc);
+    for word in words {
+        pages.push(page(word)?)?;
+    }
+    Ok(pages)
+}
+
+/// The pages that were given under this name, in their order.
+pub fn pages<'a>(alloc: Global, given: &ArgMatches<'a>, id: &str) -> Result<Vec<u16>, Unread<'a>>
+    ensures { IfOk result (λ pages. map number_of (texts_of (found_of given.now) id.now) ≡ map Some pages.items) }
+{
+    match given.get_strs(id) {
+        Some(words) => numbers_of(alloc, words),
+        None => Ok(Vec::new(alloc)),
+    }
+}

@@ -1,0 +1,39 @@
+// A simulator that is to be served on a socket.
+
+use crate::device::parse_id;
+use crate::given::{number_within, word};
+use crate::usage_fault::UsageFault;
+use clap::ArgMatches;
+
+/// A simulator that is to be served on a socket.
+#[derive(Clone, Copy, Debug)]
+pub struct Served<'a> {
+    /// The file of the chip table.
+    pub table: &'a str,
+    /// The number of the chip.
+    pub id: u16,
+    /// The file that holds the flash.
+    pub flash: &'a str,
+    /// The path of the socket.
+    pub socket: &'a str,
+    /// How many clients, one after the other: 1 to 1,000,000.
+    pub clients: u32,
+}
+
+impl<'a> Served<'a> {
+    /// The simulator that the words of `sim` name.
+    pub fn parse(given: &ArgMatches<'a>) -> Result<Served<'a>, UsageFault<'a>> {
+        let table = word(given, "table")?;
+        let id = word(given, "id")?;
+        let Some(id) = parse_id(id) else {
+            return Err(UsageFault::BadNumber(id));
+        };
+        Ok(Served {
+            table,
+            id,
+            flash: word(given, "flash")?,
+            socket: word(given, "socket")?,
+            clients: number_within(given, "clients", 1_000_000)?,
+        })
+    }
+}
