@@ -47,3 +47,4 @@ pub mod Runs
 pub mod RunEnds
 pub mod RunStarts
 pub mod RunLoop
+pub mod RunContracts

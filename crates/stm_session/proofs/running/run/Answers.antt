@@ -1,0 +1,85 @@
+use Rattle.std.proofs.Common.{◌≡◌, ◌*◌, [], List, ℕ, ◌∷◌, Bool, None, Some, length, map, true, arith, refl}
+use Rattle.stm_wire.specs.PartLaws.{session_joins, session_of_any, session_weaker}
+use Rattle.stm_session.specs.declared.command.Command.{Command}
+use Rattle.stm_session.specs.Answers.{outcome_data, outcomes_in}
+use Rattle.stm_session.specs.Meaning.{commands_in}
+use Rattle.stm_session.specs.Sending.{SendsAsRun, is_whole, most_calls, most_of_command}
+use Rattle.stm_session.proofs.RunContracts.{contract_ran, contract_refused, contract_unopened, runs_err, runs_ok}
+use Rattle.stm_session.proofs.Sending.{same_fault}
+use Rattle.stm_session.proofs.running.run.Goals as goal
+
+no_commands : (commands : List Command) → commands_in commands ≡ [] → commands ≡ []
+no_commands [] e = refl
+no_commands (c ∷ commands) e = cc
+
+pub returns-in_err-opened-clause-promised : goal.returns-in_err-opened-clause-promised
+returns-in_err-opened-clause-promised g c =
+    let V = g.R.Rig.view in
+    contract_unopened c.args.table.now (commands_in c.args.commands.now) (V c.args.rig.now) (V c.open.new.rig) _ c.from_residual.result outcomes_in c.in_err-opened.ensures.unsent c.in_err-opened.ensures.unsent_calls
+    c.in_err-opened.ensures.honest c.in_err-opened.ensures.memory c.from_residual.ensures.1
+
+pub returns-in_err-check_commands-clause-promised : goal.returns-in_err-check_commands-clause-promised
+returns-in_err-check_commands-clause-promised g c =
+    let V = g.R.Rig.view in
+    contract_refused c.args.table.now (commands_in c.args.commands.now) (V c.args.rig.now) (V c.open.new.rig) c.in_ok-opened.opened c.in_ok-opened.ensures.coherent c.in_ok-opened.ensures.unsent c.in_ok-opened.ensures.honest
+    _ c.from_residual-in_err-check_commands.result outcomes_in c.in_ok-opened.ensures.unsent_calls c.in_err-check_commands.ensures.refusal c.in_err-check_commands.ensures.named c.from_residual-in_err-check_commands.ensures.1
+
+pub returns-in_err-outcomes-clause-promised : goal.returns-in_err-outcomes-clause-promised
+returns-in_err-outcomes-clause-promised g c =
+    let V = g.R.Rig.view in
+    let commands = commands_in c.args.commands.now in
+    let mid = V c.open.new.rig in
+    let new = V c.run_commands.new.rig in
+    contract_ran c.args.table.now commands (V c.args.rig.now) mid c.in_ok-opened.opened c.in_ok-opened.ensures.coherent c.in_ok-opened.ensures.unsent c.in_ok-opened.ensures.honest
+    new c.from_residual-in_err-outcomes.result outcomes_in c.in_ok-check_commands.ensures.refusal
+    (λ flashes steady chip. runs_err commands flashes mid new _ c.from_residual-in_err-outcomes.result (λ outcomes. map outcome_data outcomes.items) outcomes_in c.from_residual-in_err-outcomes.ensures.1 (c.in_err-outcomes.ensures.honest flashes steady chip))
+    (λ none. absurd (c.in_err-outcomes.ensures.nothing (no_commands c.args.commands.now none)))
+
+pub returns-clause-promised : goal.returns-clause-promised
+returns-clause-promised g c =
+    let V = g.R.Rig.view in
+    let commands = commands_in c.args.commands.now in
+    let mid = V c.open.new.rig in
+    let new = V c.run_commands.new.rig in
+    contract_ran c.args.table.now commands (V c.args.rig.now) mid c.in_ok-opened.opened c.in_ok-opened.ensures.coherent c.in_ok-opened.ensures.unsent c.in_ok-opened.ensures.honest
+    new _ outcomes_in c.in_ok-check_commands.ensures.refusal
+    (λ flashes steady chip. runs_ok commands flashes mid new _ _ (λ outcomes. map outcome_data outcomes.items) outcomes_in refl (c.in_ok-outcomes.ensures.honest flashes steady chip))
+    (λ none. tt)
+
+pub returns-in_err-check_commands-clause-puts : goal.returns-in_err-check_commands-clause-puts
+returns-in_err-check_commands-clause-puts g c =
+    let V = g.R.Rig.view in
+    let a = (V c.args.rig.now).calls in
+    let b = (V c.open.new.rig).calls in
+    let n = length c.args.commands.now in
+    record { chip = None; listed = tt; calls = session_weaker None 0x7F 131072 (is_whole c.from_residual-in_err-check_commands.result) (most_calls 0) (most_calls n) a b (omega arith) c.in_ok-opened.ensures.puts }
+
+pub returns-in_err-outcomes-clause-puts : goal.returns-in_err-outcomes-clause-puts
+returns-in_err-outcomes-clause-puts g c =
+    let V = g.R.Rig.view in
+    let a = (V c.args.rig.now).calls in
+    let b = (V c.open.new.rig).calls in
+    let d = (V c.run_commands.new.rig).calls in
+    let n = length c.args.commands.now in
+    let chip = Some c.in_ok-opened.opened.chip.now in
+    let P : Bool → Type 0 = λ w. SendsAsRun c.args.table.now w n (V c.args.rig.now) (V c.run_commands.new.rig) in
+    same_fault P _ c.from_residual-in_err-outcomes.result c.from_residual-in_err-outcomes.ensures.1
+    (record {
+      chip = chip;
+      listed = c.in_ok-opened.ensures.coherent.chip;
+      calls = session_joins chip 0x7F 131072 _ (most_calls 0) (n * most_of_command) a b d (session_of_any chip 0x7F 131072 true (most_calls 0) a b c.in_ok-opened.ensures.puts) c.in_err-outcomes.ensures.puts;
+    })
+
+pub returns-clause-puts : goal.returns-clause-puts
+returns-clause-puts g c =
+    let V = g.R.Rig.view in
+    let a = (V c.args.rig.now).calls in
+    let b = (V c.open.new.rig).calls in
+    let d = (V c.run_commands.new.rig).calls in
+    let n = length c.args.commands.now in
+    let chip = Some c.in_ok-opened.opened.chip.now in
+    record {
+      chip = chip;
+      listed = c.in_ok-opened.ensures.coherent.chip;
+      calls = session_joins chip 0x7F 131072 true (most_calls 0) (n * most_of_command) a b d (session_of_any chip 0x7F 131072 true (most_calls 0) a b c.in_ok-opened.ensures.puts) c.in_ok-outcomes.ensures.puts;
+    }
