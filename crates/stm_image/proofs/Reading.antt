@@ -6,7 +6,7 @@ use Rattle.stm_image.specs.Record.{Scan, Ended, Stray, Broken, Cut, Whole, scan,
 use Rattle.stm_image.specs.Text.{Means, Stands, IsOutOfMemory, Follows, IsFault, scan_fault, flaw_fault, placed, pairs_of, form_of, form_after}
 use Rattle.stm_image.specs.declared.place.Form.{Form}
 use Rattle.std.proofs.lemmas.List.{append-nil}
-use Rattle.stm_image.specs.Reads.{Reads, EndsAt, PassStopsAt, HasConflict}
+use Rattle.stm_image.specs.Reads.{Reads, EndsAt, PassStopsAt}
 use Rattle.stm_image.specs.declared.faults.HexFault.{HexFault}
 use Rattle.stm_image.specs.declared.faults.HexFault.TheVariants.{BadDigit, Short, Checksum, Kind, Length, Conflict, NoEnd, NoColon, Memory}
 
@@ -30,14 +30,6 @@ means_from text set pairs reads is agree =
       agree = subst Agree reads.pairs_are agree;
       is_set = let P : Pairs → Type 0 = λ ps. IsSetOf set ps in subst P reads.pairs_are is;
     }
-
-pub conflict_from : (text : List ℕ) (pairs : Pairs) (stop : Option HexFault) → Reads text pairs stop → (Agree pairs → ⊥) → HasConflict text
-conflict_from text pairs stop reads differ = record {
-  records = reads.records;
-  rest = reads.rest;
-  follows = reads.follows;
-  differs = λ agree. differ (subst Agree (sym reads.pairs_are) agree);
-}
 
 -- a scan's fault is no conflict
 no_conflict : (n m : ℕ) (s : Scan) → scan_fault n s ≡ Some (Conflict m) → ⊥

@@ -31,7 +31,7 @@ pairs_at-append bytes [] ys = refl
 pairs_at-append bytes (x ∷ xs) ys = ap (λ ps. pairs_of_piece bytes x ++ ps) (pairs_at-append bytes xs ys) ∙ sym (append_assoc (pairs_of_piece bytes x) (pairs_at bytes xs) (pairs_at bytes ys))
 
 -- pieces that end before an address have no pair from it on
-ends_before : (bytes : List ℕ) (to address : ℕ) (ps : List Piece) (n : ℕ) → Stand 0 to ps → AllWithin (λ (p : Piece). p.last < address) ps 0 n
+pub ends_before : (bytes : List ℕ) (to address : ℕ) (ps : List Piece) (n : ℕ) → Stand 0 to ps → AllWithin (λ (p : Piece). p.last < address) ps 0 n
     → (q : ℕ × ℕ) → Contains (pairs_at bytes (take n ps)) q → q.0 < address
 ends_before bytes to address ps n stand low q held =
     let found = piece_of bytes (take n ps) q held in

@@ -1,7 +1,7 @@
 -- A text has one verdict at most: one meaning, or one fault.
-use Rattle.std.proofs.Common.{◌≡◌, ◌≢◌, ℕ, zero, suc, ◌+◌, ◌≤◌, ◌++◌, List, [], ◌∷◌, length, get_or, ◌⊎◌, inl, inr, Option, Some, None, refl, sym, ap, ap₂, ◌∙◌, subst, append_assoc, arith}
+use Rattle.std.proofs.Common.{◌≡◌, ◌≢◌, ℕ, zero, suc, ◌+◌, ◌≤◌, ◌++◌, List, [], ◌∷◌, length, get_or, ◌⊎◌, inl, inr, Option, Some, None, refl, sym, ap, ap₂, ◌∙◌, subst, append_assoc, length-append, take, arith}
 use Rattle.std.specs.Prelude.{Contains, ◌↔◌}
-use Rattle.std.proofs.lemmas.List.{append-nil}
+use Rattle.std.proofs.lemmas.List.{append-nil, take-append-le}
 use Rattle.std.proofs.lemmas.List.Elements.{Contains-append_left}
 use Rattle.stm_image.specs.Pairs.{Pairs, Rises, Agree, IsSetOf}
 use Rattle.stm_image.specs.Record.{Whole, scan, flaw_of, kind_of}
@@ -182,22 +182,33 @@ not_both text s f m n =
     let same = meet text m.records m.rest n.records n.rest m.follows n.follows m.agree n.agree (halts_at_end m.records m.rest end) (halts_at n.records n.rest f fault) in
     no_fault_at_end n.records n.rest f (subst EndsAt same.1 end) fault
 
--- WHERE A PASS STOPS WITHOUT A CONFLICT, no records of the text disagree
-halts_at_stop : (n : ℕ) (records : List (List ℕ)) (rest : List ℕ) (stop : Option HexFault) → StopsAt n rest stop → Halts records rest
-halts_at_stop n records rest None end = halts_at_end records rest end
-halts_at_stop n records rest (Some fault) e = halts_at_fault n records rest fault e
-
-pub agree_at_stop : (text : List ℕ) (n : ℕ) (xs : List (List ℕ)) (at : List ℕ) (stop : Option HexFault) → Follows text xs at → Agree (all_pairs xs) → StopsAt n at stop
-    → (ys : List (List ℕ)) (to : List ℕ) → Follows text ys to → Agree (all_pairs ys)
-agree_at_stop text n xs at stop fx agree stops ys to fy = elim (front_of text xs at ys to fx fy) [
+-- WHERE A PASS STOPS no record goes on, so its records have all pairs
+pub longest_at_stop : (text : List ℕ) (n : ℕ) (xs : List (List ℕ)) (at : List ℕ) (stop : Option HexFault) → Follows text xs at → StopsAt n at stop
+    → (ys : List (List ℕ)) (to : List ℕ) → Follows text ys to → length (all_pairs ys) ≤ length (all_pairs xs)
+longest_at_stop text n xs at stop fx stops ys to fy = elim (front_of text xs at ys to fx fy) [
   | inl front ↦ all_the_way front.more front.is front.follows
-  | inr front ↦ agree_front ys front.more (subst (λ zs. Agree (all_pairs zs)) front.is agree)
+  | inr front ↦
+      let whole = ap (λ (zs : List (List ℕ)). length (all_pairs zs)) front.is in
+      let parts = ap (λ (ps : Pairs). length ps) (placed-append (Linear 0) ys front.more) in
+      let both = length-append (all_pairs ys) (placed (form_of (Linear 0) ys) front.more) in
+      omega arith
 ]
   where
-    all_the_way : (more : List (List ℕ)) → ys ≡ xs ++ more → Follows at more to → Agree (all_pairs ys)
-    all_the_way [] is follows = subst (λ zs. Agree (all_pairs zs)) (sym (is ∙ append-nil xs)) agree
+    all_the_way : (more : List (List ℕ)) → ys ≡ xs ++ more → Follows at more to → length (all_pairs ys) ≤ length (all_pairs xs)
+    all_the_way [] is follows = let same = ap (λ (zs : List (List ℕ)). length (all_pairs zs)) (is ∙ append-nil xs) in omega arith
     all_the_way (r ∷ more) is (after, s, f, k, rest) = absurd (ends stop stops r after s f k)
       where
         ends : (stop : Option HexFault) → StopsAt n at stop → (r after : List ℕ) → scan at ≡ Whole r after → flaw_of r ≡ None → kind_of r ≢ 1 → ⊥
         ends None end r after s f k = k (ap kind_of (whole_same r end.last after end.after (sym s ∙ end.stops)).0 ∙ end.ends)
         ends (Some fault) e r after s f k = no_fault_in_good n r after at fault s f e
+
+-- two lists of records of a text have the same pairs up to a place that both reach
+pub same_up_to : (text : List ℕ) (xs : List (List ℕ)) (at : List ℕ) (ys : List (List ℕ)) (to : List ℕ) (n : ℕ) → Follows text xs at → Follows text ys to
+    → n ≤ length (all_pairs xs) → n ≤ length (all_pairs ys) → take n (all_pairs xs) ≡ take n (all_pairs ys)
+same_up_to text xs at ys to n fx fy in_x in_y = elim (front_of text xs at ys to fx fy) [
+  | inl front ↦ longer xs front.more in_x ∙ ap (λ (zs : List (List ℕ)). take n (all_pairs zs)) (sym front.is)
+  | inr front ↦ ap (λ (zs : List (List ℕ)). take n (all_pairs zs)) front.is ∙ sym (longer ys front.more in_y)
+]
+  where
+    longer : (zs more : List (List ℕ)) → n ≤ length (all_pairs zs) → take n (all_pairs zs) ≡ take n (all_pairs (zs ++ more))
+    longer zs more within = sym (ap (λ (ps : Pairs). take n ps) (placed-append (Linear 0) zs more) ∙ take-append-le n (all_pairs zs) (placed (form_of (Linear 0) zs) more) within)

@@ -1,6 +1,6 @@
 pub mod Canon
+pub mod Clash
 pub mod Digits
-pub mod Held
 pub mod Lay
 pub mod Layout
 pub mod Pairs

@@ -1,8 +1,8 @@
 -- What one pass over a text learns: its records' pairs, and what stops them.
-use Rattle.std.specs.Prelude.{ℕ, ◌≡◌, ◌≢◌, ◌≤◌, ◌<◌, ◌+◌, ◌⊎◌, List, length, take, Option, Some, None}
+use Rattle.std.specs.Prelude.{ℕ, ◌≡◌, ◌≢◌, ◌≤◌, ◌<◌, ◌+◌, ◌⊎◌, List, [], ◌∷◌, ◌++◌, length, take, Option, Some, None}
 use Rattle.stm_image.specs.declared.step.Step.{Step}
 use Rattle.stm_image.specs.declared.step.Step.TheVariants.{Stop, Goes}
-use Rattle.stm_image.specs.Pairs.{Pairs, Agree}
+use Rattle.stm_image.specs.Pairs.{Pairs}
 use Rattle.stm_image.specs.Record.{Whole, scan, flaw_of, kind_of}
 use Rattle.stm_image.specs.Text.{Follows, all_pairs, scan_fault}
 use Rattle.stm_image.specs.declared.faults.HexFault.{HexFault}
@@ -33,12 +33,26 @@ pub record Reads (text : List ℕ) (pairs : Pairs) (stop : Option HexFault) : Ty
   pub pairs_are : pairs ≡ all_pairs records
   pub stops : PassStopsAt (length records + 1) rest stop
 
--- some records at the front of the text do not agree
-pub record HasConflict (text : List ℕ) : Type 0 where
+-- the records at the front of the text have so many bytes and more
+pub record HasByte (text : List ℕ) (place : ℕ) : Type 0 where
   pub records : List (List ℕ)
   pub rest : List ℕ
   pub follows : Follows text records rest
-  pub differs : ¬ Agree (all_pairs records)
+  pub within : place < length (all_pairs records)
+
+-- record n has the byte at a place among those of all records
+pub record IsRecordOf (text : List ℕ) (place n : ℕ) : Type 0 where
+  pub records : List (List ℕ)
+  pub rest : List ℕ
+  pub follows : Follows text records rest
+  pub next : List ℕ
+  pub after : List ℕ
+  pub stands : scan rest ≡ Whole next after
+  pub flawless : flaw_of next ≡ None
+  pub goes_on : kind_of next ≢ 1
+  pub before : length (all_pairs records) ≤ place
+  pub within : place < length (all_pairs (records ++ next ∷ []))
+  pub number : n ≡ length records + 1
 
 -- what one step over a text says, where record n may begin: what stops there, or a good record, in the buffer, and the text after it
 abbrev pub IsStep : List ℕ → ℕ → Step → List ℕ → Type 0

@@ -77,8 +77,8 @@ fn first_other(run: &[u8], bytes: &[u8]) -> Option<usize>
     None
 }
 
-// Puts bytes over others from a place on, as far as both go.
-fn put_at(from: &[u8], to: &mut [u8], skip: usize)
+/// Puts bytes over others from a place on, as far as both go.
+pub fn put_at(from: &[u8], to: &mut [u8], skip: usize)
     requires { skip ≤ length to.old }
     ensures { IsPutAt from.now to.old skip to.new }
 {

@@ -1,42 +1,48 @@
 //! The set of pieces that may overlap.
-ghost use Rattle.std.specs.Prelude.{◌≡◌, IfOk, IsTrue, MatchBool, MatchOption, length};
+ghost use Rattle.std.specs.Prelude.{◌≡◌, IfOk, IsTrue, MatchBool, MatchResult, length};
 ghost use Rattle.std.specs.List.Sorted.{IsNonDecreasingBy, IsPermutation};
+ghost use Rattle.stm_image.specs.Clash.{IsClash};
 ghost use Rattle.stm_image.specs.Layout.{AllAgree, AllWithin, Covers, HasDifference, IsAmong};
 ghost use Rattle.stm_image.specs.Pairs.{Agree, IsSetOf};
 ghost use Rattle.stm_image.specs.Pieces.{AllStand, Apart, pairs_at, pairs_in};
 ghost use Rattle.stm_image.specs.declared.pieces.Piece.{Piece};
 
 use crate::Image;
+use crate::clash::first_clash;
 use crate::pieces::{Piece, Pieces};
 use std::alloc::{AllocError, Global};
 
-/// The set of the pairs of some pieces, if no address has two bytes among them.
-pub fn set_of(alloc: Global, pieces: Pieces) -> Result<Option<Image>, AllocError>
+/// The set of the pairs of some pieces; or, where an address has two bytes among them, the first
+/// place of a byte that differs from one before it.
+pub fn set_of(alloc: Global, pieces: Pieces) -> Result<Result<Image, usize>, AllocError>
     requires { AllStand pieces }
-    ensures { IfOk result (λ found. MatchOption found (¬ Agree (pairs_in pieces))
-        (λ set. IsSetOf set (pairs_in pieces) × Agree (pairs_in pieces))) }
+    ensures { IfOk result (λ found. MatchResult found
+        (λ set. IsSetOf set (pairs_in pieces) × Agree (pairs_in pieces))
+        (IsClash (pairs_in pieces))) }
 {
     if are_apart(pieces.list.as_slice()) {
-        return Ok(Some(Image::from_runs(pieces)));
+        return Ok(Ok(Image::from_runs(pieces)));
     }
     sorted_set(alloc, pieces)
 }
 
 // The set of the pairs of some pieces, which are sorted for it.
-fn sorted_set(alloc: Global, mut pieces: Pieces) -> Result<Option<Image>, AllocError>
+fn sorted_set(alloc: Global, mut pieces: Pieces) -> Result<Result<Image, usize>, AllocError>
     requires { AllStand pieces }
-    ensures { IfOk result (λ found. MatchOption found (¬ Agree (pairs_in pieces))
-        (λ set. IsSetOf set (pairs_in pieces) × Agree (pairs_in pieces))) }
+    ensures { IfOk result (λ found. MatchResult found
+        (λ set. IsSetOf set (pairs_in pieces) × Agree (pairs_in pieces))
+        (IsClash (pairs_in pieces))) }
 {
     sort_pieces(&mut pieces.list);
     let bytes = pieces.bytes.as_slice();
     let list = pieces.list.as_slice();
     let set = lay_out(alloc, bytes, list)?;
+    set.rises();
     if all_agree(&set, bytes, list) {
-        Ok(Some(set))
-    } else {
-        Ok(None)
+        return Ok(Ok(set));
     }
+    sort_back(&mut pieces.list);
+    Ok(Err(first_clash(set, &pieces)))
 }
 
 // Whether each piece begins after a gap behind the one before it.
@@ -59,6 +65,14 @@ fn sort_pieces(list: &mut Vec<Piece>)
     ensures order { IsNonDecreasingBy (λ (p : Piece). p.first) list.new.items }
 {
     list.sort_unstable_by_key(|p| p.first);
+}
+
+// Sorts pieces by their places, in which order they were added.
+fn sort_back(list: &mut Vec<Piece>)
+    ensures moved { IsPermutation list.old.items list.new.items }
+    ensures order { IsNonDecreasingBy (λ (p : Piece). p.place) list.new.items }
+{
+    list.sort_unstable_by_key(|p| p.place);
 }
 
 // The set of sorted pieces, in which an address that two of them have keeps the byte of the first.

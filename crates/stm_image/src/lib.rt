@@ -1,6 +1,7 @@
 //! Images for a chip's memory: Intel HEX and raw bytes, read into a set of (address, byte).
 #![tactic(auto)]
 
+mod clash;
 mod conflict;
 mod data;
 mod digit_table;

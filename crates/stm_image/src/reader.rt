@@ -4,7 +4,7 @@ ghost use Rattle.stm_image.specs.Pieces.{AllStand, pairs_in};
 ghost use Rattle.stm_image.specs.Reads.{Reads};
 ghost use Rattle.stm_image.specs.Text.{Means, Stands, IsOutOfMemory};
 
-use crate::conflict::find_conflict;
+use crate::conflict::record_of;
 use crate::data::take_up;
 use crate::digit_table::digit_values;
 use crate::layout::set_of;
@@ -64,10 +64,10 @@ pub fn read_hex(alloc: Global, text: &[u8]) -> Result<Image, HexFault>
         return Err(HexFault::Memory(1));
     };
     match found {
-        Some(image) => match reading.stop {
+        Ok(image) => match reading.stop {
             None => Ok(image),
             Some(fault) => Err(fault),
         },
-        None => Err(find_conflict(alloc, text)),
+        Err(place) => Err(HexFault::Conflict(record_of(text, place))),
     }
 }

@@ -1,9 +1,11 @@
 //! A set of addresses with a byte each.
 ghost use Rattle.std.specs.Prelude.{◌≡◌, ◌==◌, ◌<◌, All, MatchOption, length};
+ghost use Rattle.stm_image.specs.Clash.{IsPutOver, Names};
 ghost use Rattle.stm_image.specs.Pairs.{Pairs, IsImage, byte_at, IsNext, HasNone};
 ghost use Rattle.stm_image.specs.Pieces.{AllStand, Apart, AreRuns, pairs_in};
 ghost use Rattle.stm_image.specs.Runs.{IsRunFrom};
 
+use crate::laying::put_at;
 use crate::pieces::{Piece, Pieces, first_ending_from};
 use std::alloc::AllocError;
 use std::marker::Model;
@@ -86,6 +88,21 @@ impl Image {
         let skip = address.saturating_sub(piece.first);
         let (_before, rest) = bytes.split_at(skip as usize);
         Some((piece.first + skip, rest))
+    }
+
+    // Puts bytes over those that stand from an address on, each of which the image has.
+    pub(crate) fn put_over(&mut self, address: u32, bytes: &[u8])
+        requires { Names self.old address (length bytes.now) }
+        ensures { IsPutOver self.old address bytes.now self.new }
+    {
+        if bytes.is_empty() {
+            return;
+        }
+        let place = first_ending_from(self.runs.list.as_slice(), address);
+        let piece = self.runs.list[place];
+        let skip = piece.place + (address - piece.first) as usize;
+        put_at(bytes, self.runs.bytes.as_mut_slice(), skip);
+        are_bytes(self.runs.bytes.as_slice());
     }
 
     // The runs by rising address.

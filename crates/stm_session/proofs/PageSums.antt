@@ -11,7 +11,7 @@ use Rattle.stm_wire.specs.Dialogue.{GoesOn}
 use Rattle.stm_wire.specs.Parts.{IsPart}
 use Rattle.stm_wire.specs.PartLaws.{part_longer}
 use Rattle.stm_journal.specs.declared.kept.Kept.{Kept}
-use Rattle.stm_journal.specs.Fits.{FitsChip, AllKeptFit}
+use Rattle.stm_journal.specs.Fits.{AllKeptFit}
 use Rattle.stm_journal.specs.States.{LacksPage, PagesOnce}
 use Rattle.stm_session.specs.Sending.{most_of_command}
 use Rattle.stm_session.proofs.SentParts.{part_after}

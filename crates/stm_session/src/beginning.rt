@@ -1,5 +1,5 @@
 // Beginning the segment of a command.
-ghost use Rattle.std.specs.Prelude.{◌≡◌, ◌<◌, ◌+◌, false, List, ℕ, length, Some, IfOk, OnOk};
+ghost use Rattle.std.specs.Prelude.{◌≡◌, ◌≢◌, ◌<◌, ◌+◌, false, List, ℕ, length, Some, IfOk, OnOk, IfErr};
 ghost use Rattle.stm_wire.specs.Dialogue.{GoesOn};
 ghost use Rattle.stm_wire.specs.Parts.{IsPart};
 ghost use Rattle.stm_journal.specs.States.{is_unfinished};
@@ -22,6 +22,7 @@ pub fn begin_segment<R: Rig>(rig: &mut R, journal: &mut Journal, chip: &Chip) ->
     ensures begun { OnOk result (HasBegun chip.now.id journal.old.state journal.new.state) }
     ensures number { IfOk result (λ k. k ≡ length journal.old.state.stack + 1) }
     ensures cause { HasSessionCause (R.view rig.old) (R.view rig.new) result }
+    ensures named { IfErr result (λ fault. fault ≢ Fault.Unfinished) }
     ensures puts { let old = R.view rig.old in let new = R.view rig.new in
         GoesOn (IsPart (Some chip.now) (is_whole result) 0) old.calls new.calls }
     ensures honest { let old = R.view rig.old in let new = R.view rig.new in

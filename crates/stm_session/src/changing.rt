@@ -1,5 +1,5 @@
 // Changing a page in a command.
-ghost use Rattle.std.specs.Prelude.{◌≡◌, ◌<◌, ◌+◌, ◌*◌, List, ℕ, length, not, bytes_eq, true, false, Some, IfOk, IsTrue};
+ghost use Rattle.std.specs.Prelude.{◌≡◌, ◌≢◌, ◌<◌, ◌+◌, ◌*◌, List, ℕ, length, not, bytes_eq, true, false, Some, IfOk, IsTrue, IfErr};
 ghost use Rattle.stm_wire.specs.Chip.{page_count, page_size, page_of, with_page};
 ghost use Rattle.stm_wire.specs.Dialogue.{GoesOn};
 ghost use Rattle.stm_wire.specs.Parts.{IsPart};
@@ -42,6 +42,7 @@ pub fn change_page<R: Rig>(
     ensures turned { IfOk result
         (λ changed. HasTurned kept changed chip.now n journal.old.state journal.new.state) }
     ensures cause { HasSessionCause (R.view rig.old) (R.view rig.new) result }
+    ensures named { IfErr result (λ fault. fault ≢ Fault.Unfinished) }
     ensures puts { let old = R.view rig.old in let new = R.view rig.new in
         let most = most_of_companion chip.now n + (9 + 2 * length page.now) in
         GoesOn (IsPart (Some chip.now) (is_whole result) most) old.calls new.calls }

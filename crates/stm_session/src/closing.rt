@@ -1,5 +1,5 @@
 // Ending the segment of a command.
-ghost use Rattle.std.specs.Prelude.{◌≡◌, ◌∷◌, [], false, List, ℕ, length, Option, OnOk, IsTrue};
+ghost use Rattle.std.specs.Prelude.{◌≡◌, ◌≢◌, ◌∷◌, [], false, List, ℕ, length, Option, OnOk, IsTrue, IfErr};
 ghost use Rattle.stm_wire.specs.Chip.{ChipData};
 ghost use Rattle.stm_wire.specs.Dialogue.{GoesOn};
 ghost use Rattle.stm_wire.specs.Parts.{IsPart};
@@ -22,6 +22,7 @@ pub fn end_segment<R: Rig>(rig: &mut R, journal: &mut Journal) -> Result<(), Fau
     requires { IsTrue (newest_is_open journal.old.state) }
     ensures ended { OnOk result (HasEnded journal.old.state journal.new.state) }
     ensures cause { HasSessionCause (R.view rig.old) (R.view rig.new) result }
+    ensures named { IfErr result (λ fault. fault ≢ Fault.Unfinished) }
     ensures puts { let old = R.view rig.old in let new = R.view rig.new in
         (chip : Option ChipData) → GoesOn (IsPart chip (is_whole result) 0) old.calls new.calls }
     ensures honest { let old = R.view rig.old in let new = R.view rig.new in

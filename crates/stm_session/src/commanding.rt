@@ -1,5 +1,5 @@
 // A command that changes the flash, as one segment of the journal.
-ghost use Rattle.std.specs.Prelude.{◌≡◌, ◌<◌, ◌+◌, false, List, ℕ, length, Some, IfOk, OnOk};
+ghost use Rattle.std.specs.Prelude.{◌≡◌, ◌≢◌, ◌<◌, ◌+◌, false, List, ℕ, length, Some, IfOk, OnOk, IfErr};
 ghost use Rattle.stm_wire.specs.Dialogue.{GoesOn};
 ghost use Rattle.stm_wire.specs.Parts.{IsPart};
 ghost use Rattle.stm_journal.specs.States.{is_unfinished};
@@ -35,6 +35,7 @@ pub fn change_flash<R: Rig>(
     ensures depth { OnOk result (length journal.new.state.stack ≡ length journal.old.state.stack + 1) }
     ensures number { IfOk result (λ answer. answer.0 ≡ length journal.old.state.stack + 1) }
     ensures cause { HasSessionCause (R.view rig.old) (R.view rig.new) result }
+    ensures named { IfErr result (λ fault. fault ≢ Fault.Unfinished) }
     ensures puts { let old = R.view rig.old in let new = R.view rig.new in
         GoesOn (IsPart (Some chip.now) (is_whole result) most_of_command) old.calls new.calls }
     ensures honest { let old = R.view rig.old in let new = R.view rig.new in

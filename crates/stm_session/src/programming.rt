@@ -1,5 +1,5 @@
 // Programming a page that the journal keeps.
-ghost use Rattle.std.specs.Prelude.{◌≡◌, ◌<◌, ◌≤◌, ◌+◌, ◌*◌, ◌∷◌, [], List, ℕ, length, take, drop, Some, OnOk, IsTrue};
+ghost use Rattle.std.specs.Prelude.{◌≡◌, ◌≢◌, ◌<◌, ◌≤◌, ◌+◌, ◌*◌, ◌∷◌, [], List, ℕ, length, take, drop, Some, OnOk, IsTrue, IfErr};
 ghost use Rattle.stm_wire.specs.Chip.{page_count, page_size, page_offset, with_bytes, with_page, erased_page, flash_size};
 ghost use Rattle.stm_wire.specs.Dialogue.{GoesOn};
 ghost use Rattle.stm_wire.specs.Parts.{IsPart};
@@ -32,6 +32,7 @@ fn program_frame<R: Rig>(
     requires size { length page.now ≡ page_size chip.now n }
     requires frame { IsFrame 0 (length page.now) frame }
     ensures cause { HasSessionCause (R.view rig.old) (R.view rig.new) result }
+    ensures named { IfErr result (λ fault. fault ≢ Fault.Unfinished) }
     ensures puts { let old = R.view rig.old in let new = R.view rig.new in
         GoesOn (IsPart (Some chip.now) (is_whole result) 268) old.calls new.calls }
     ensures honest { (flashes : List (List ℕ)) (l : Loaded) → IsSteady flashes l (R.view rig.old) → (R.view rig.old).device.chip ≡ chip.now
@@ -59,6 +60,7 @@ fn program_frames<R: Rig>(
     requires size { length page.now ≡ page_size chip.now n }
     requires frames { AreFrames 0 (length page.now) frames.now }
     ensures cause { HasSessionCause (R.view rig.old) (R.view rig.new) result }
+    ensures named { IfErr result (λ fault. fault ≢ Fault.Unfinished) }
     ensures puts { let old = R.view rig.old in let new = R.view rig.new in
         GoesOn (IsPart (Some chip.now) (is_whole result) (2 * length page.now)) old.calls new.calls }
     ensures honest { (flashes : List (List ℕ)) (l : Loaded) (base : List ℕ) → IsSteady flashes l (R.view rig.old) → (R.view rig.old).device.chip ≡ chip.now
@@ -89,6 +91,7 @@ pub fn program_kept<R: Rig>(
     requires frames { AreFrames 0 (length page.now) frames.now }
     ensures intended { OnOk result (HasIntended n (Intent.Program n) journal.old.state journal.new.state) }
     ensures cause { HasSessionCause (R.view rig.old) (R.view rig.new) result }
+    ensures named { IfErr result (λ fault. fault ≢ Fault.Unfinished) }
     ensures puts { let old = R.view rig.old in let new = R.view rig.new in
         GoesOn (IsPart (Some chip.now) (is_whole result) (2 * length page.now)) old.calls new.calls }
     ensures honest { (flashes : List (List ℕ)) (base : List ℕ) → IsSteady flashes journal.old (R.view rig.old) → (R.view rig.old).device.chip ≡ chip.now

@@ -1,5 +1,5 @@
 // Keeping pages in the journal before they change.
-ghost use Rattle.std.specs.Prelude.{◌≡◌, ◌<◌, ◌*◌, ◌==◌, ◌&&◌, ◌∷◌, [], List, ℕ, length, true, false, Some, OnOk, IsTrue};
+ghost use Rattle.std.specs.Prelude.{◌≡◌, ◌≢◌, ◌<◌, ◌*◌, ◌==◌, ◌&&◌, ◌∷◌, [], List, ℕ, length, true, false, Some, OnOk, IsTrue, IfErr};
 ghost use Rattle.stm_wire.specs.Chip.{flash_size, page_count, page_size, page_of};
 ghost use Rattle.stm_wire.specs.Dialogue.{GoesOn};
 ghost use Rattle.stm_wire.specs.Parts.{IsPart};
@@ -32,6 +32,7 @@ fn save_page<R: Rig>(
     requires companion { n ≡ 1 → IsTrue (has_companion chip.now) → IsTrue (newest_keeps 257 journal.old.state) }
     ensures saved { OnOk result (HasSaved n journal.old.state journal.new.state) }
     ensures cause { HasSessionCause (R.view rig.old) (R.view rig.new) result }
+    ensures named { IfErr result (λ fault. fault ≢ Fault.Unfinished) }
     ensures puts { let old = R.view rig.old in let new = R.view rig.new in
         GoesOn (IsPart (Some chip.now) (is_whole result) 0) old.calls new.calls }
     ensures honest { let old = R.view rig.old in let new = R.view rig.new in
@@ -58,6 +59,7 @@ fn save_companion<R: Rig>(
     requires may { IsTrue (newest_may_keep 257 journal.old.state) }
     ensures saved { OnOk result (HasSaved 257 journal.old.state journal.new.state) }
     ensures cause { HasSessionCause (R.view rig.old) (R.view rig.new) result }
+    ensures named { IfErr result (λ fault. fault ≢ Fault.Unfinished) }
     ensures puts { let old = R.view rig.old in let new = R.view rig.new in
         let most = 3 * flash_size chip.now in
         GoesOn (IsPart (Some chip.now) (is_whole result) most) old.calls new.calls }
@@ -89,6 +91,7 @@ fn save_both<R: Rig>(
     requires companion { IsTrue (newest_may_keep 257 journal.old.state) }
     ensures saved { OnOk result (HasAllSaved false chip.now 1 journal.old.state journal.new.state) }
     ensures cause { HasSessionCause (R.view rig.old) (R.view rig.new) result }
+    ensures named { IfErr result (λ fault. fault ≢ Fault.Unfinished) }
     ensures puts { let old = R.view rig.old in let new = R.view rig.new in
         let most = 3 * flash_size chip.now in
         GoesOn (IsPart (Some chip.now) (is_whole result) most) old.calls new.calls }
@@ -129,6 +132,7 @@ pub fn save_pages<R: Rig>(
         → IsTrue (newest_may_keep 257 journal.old.state) }
     ensures saved { OnOk result (HasAllSaved kept chip.now n journal.old.state journal.new.state) }
     ensures cause { HasSessionCause (R.view rig.old) (R.view rig.new) result }
+    ensures named { IfErr result (λ fault. fault ≢ Fault.Unfinished) }
     ensures puts { let old = R.view rig.old in let new = R.view rig.new in
         let most = most_of_companion chip.now n in
         GoesOn (IsPart (Some chip.now) (is_whole result) most) old.calls new.calls }

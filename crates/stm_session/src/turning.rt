@@ -1,5 +1,5 @@
 // The pages of a command, one after another.
-ghost use Rattle.std.specs.Prelude.{◌≡◌, ◌<◌, ◌==◌, ◌&&◌, if◌then◌else◌, List, ℕ, length, true, false, Some, IfOk, OnOk, IsTrue};
+ghost use Rattle.std.specs.Prelude.{◌≡◌, ◌≢◌, ◌<◌, ◌==◌, ◌&&◌, if◌then◌else◌, List, ℕ, length, true, false, Some, IfOk, OnOk, IsTrue, IfErr};
 ghost use Rattle.stm_wire.specs.Chip.{page_count, page_of};
 ghost use Rattle.stm_wire.specs.Dialogue.{GoesOn};
 ghost use Rattle.stm_wire.specs.Parts.{IsPart};
@@ -44,6 +44,7 @@ fn turn_page<R: Rig>(
     ensures turned { IfOk result
         (λ changed. HasTurned kept changed chip.now n journal.old.state journal.new.state) }
     ensures cause { HasSessionCause (R.view rig.old) (R.view rig.new) result }
+    ensures named { IfErr result (λ fault. fault ≢ Fault.Unfinished) }
     ensures puts { let old = R.view rig.old in let new = R.view rig.new in
         let most = most_of_page chip.now n in
         GoesOn (IsPart (Some chip.now) (is_whole result) most) old.calls new.calls }
@@ -95,6 +96,7 @@ pub fn turn_pages<R: Rig>(
     ensures open { OnOk result (IsTrue (newest_is_open journal.new.state)) }
     ensures depth { OnOk result (length journal.new.state.stack ≡ length journal.old.state.stack) }
     ensures cause { HasSessionCause (R.view rig.old) (R.view rig.new) result }
+    ensures named { IfErr result (λ fault. fault ≢ Fault.Unfinished) }
     ensures puts { let old = R.view rig.old in let new = R.view rig.new in
         GoesOn (IsPart (Some chip.now) (is_whole result) most_of_command) old.calls new.calls }
     ensures honest { let old = R.view rig.old in let new = R.view rig.new in

@@ -1,4 +1,5 @@
 //! Worked examples, and texts that other tools made.
+mod faults;
 mod large;
 mod runs;
 
@@ -202,22 +203,4 @@ fn texts_of_other_tools_are_read(rt: HostRuntime) {
     assert!(rt; means_raw(alloc, OBJCOPY_LINEAR, RAW, 0x0800_FFF0));
     assert!(rt; means_raw(alloc, OBJCOPY_SEGMENT, RAW, 0x0002_FFF0));
     assert!(rt; means_raw(alloc, SREC_CAT, RAW, 0x0800_FFF0));
-}
-
-// The text is whole from its 49th byte on: the end record's last digit.
-#[test]
-fn beginnings_are_read_or_refused(rt: HostRuntime) {
-    let alloc = rt.alloc();
-    for n in 0..=FOUR.len() {
-        let Some(beginning) = FOUR.get(..n) else {
-            continue
-        };
-        let read = match fault(alloc, beginning) {
-            None => n >= 49,
-            Some(HexFault::Short(_)) => n < 49,
-            Some(HexFault::NoEnd(_)) => n < 49,
-            Some(_) => false,
-        };
-        assert!(rt; read, "{n}");
-    }
 }

@@ -8,7 +8,6 @@ use Rattle.stm_session.proofs.Going.{goes_as, goes_nowhere, goes_failed, goes_ok
 use Rattle.stm_session.proofs.Restorings.{no_lines, some_lines}
 use Rattle.std.proofs.Common.{◌+◌, ◌*◌, Some, arith}
 use Rattle.stm_wire.specs.PartLaws.{nothing_is_part}
-use Rattle.stm_session.specs.Sending.{is_whole}
 use Rattle.stm_session.proofs.SentParts.{part_fails}
 use Rattle.stm_session.proofs.restoring.restore_page.Goals as goal
 

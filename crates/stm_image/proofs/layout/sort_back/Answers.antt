@@ -1,0 +1,7 @@
+use Rattle.std.proofs.Common.{rules}
+use Rattle.std.proofs.lemmas.List.Sorted.{IsNonDecreasingBy-from_sort_by_key}
+use Rattle.stm_image.specs.declared.pieces.Piece.{Piece}
+use Rattle.stm_image.proofs.layout.sort_back.Goals as goal
+
+pub returns-clause-order : goal.returns-clause-order
+returns-clause-order c = IsNonDecreasingBy-from_sort_by_key (λ (p : Piece). p.place) _ c.sort_unstable_by_key.ensures.sorted (λ a r q k. search rules)

@@ -1,0 +1,108 @@
+use Rattle.std.proofs.Common.{◌≡◌, ◌<◌, ◌≤◌, ◌+◌, ◌-◌, ℕ, List, length, sym, ap, ◌∙◌, subst, arith}
+use Rattle.std.specs.Prelude.{All}
+use Rattle.std.specs.List.{AllWithin}
+use Rattle.std.specs.List.Sorted.{IsNonDecreasingBy}
+use Rattle.std.proofs.lemmas.Bool.Decides.{nat_tests}
+use Rattle.std.proofs.lemmas.List.{with_items_is}
+use Rattle.stm_image.specs.Clash.{IsPutOver, Names}
+use Rattle.stm_image.specs.Lay.{IsPutAt}
+use Rattle.stm_image.specs.Pairs.{Pairs, IsImage}
+use Rattle.stm_image.specs.Pieces.{Stand, pairs_at}
+use Rattle.stm_image.specs.declared.pieces.Piece.{Piece}
+use Rattle.stm_image.proofs.Lying.{is_image}
+use Rattle.stm_image.proofs.Putting.{reaches, found_at, puts_over}
+use Rattle.stm_image.proofs.Running.{lasts_rise}
+use Rattle.stm_image.proofs.set.Image.put_over.Goals as goal
+
+-- the piece at a place is the first to end at an address or after it
+abbrev Low : List Piece → ℕ → ℕ → Type 0
+Low list address place = AllWithin (λ (p : Piece). p.last < address) list 0 place
+
+abbrev High : List Piece → ℕ → ℕ → Type 0
+High list address place = AllWithin (λ (p : Piece). address ≤ p.last) list place (length list)
+
+pub first_ending_from-place-requires : goal.first_ending_from-place-requires
+first_ending_from-place-requires c =
+    let runs = c.self.inside.runs in
+    let R : List Piece → Type 0 = λ l. IsNonDecreasingBy (λ (p : Piece). p.last) l in
+    subst R (sym c.as_slice.ensures.value) (lasts_rise 0 (length runs.bytes.items) 0 runs.list.items c.self.invariant.stand c.self.invariant.apart)
+
+pub index-piece-requires : goal.index-piece-requires
+index-piece-requires c =
+    let runs = c.self.inside.runs in
+    let place = c.first_ending_from-place.result in
+    let N : Pairs → Type 0 = λ ps. Names ps c.args.address (length c.args.bytes.now) in
+    let low = subst (λ (l : List Piece). Low l c.args.address place) c.as_slice.ensures.value c.first_ending_from-place.ensures.before in
+    let some : 0 < length c.args.bytes.now = grind (arith, nat_tests) in
+    let lt = reaches runs.bytes.items runs.list.items place c.args.address (length c.args.bytes.now) c.self.invariant.stand low (subst N (sym c.self.view_is) c.requires) some in
+    omega (arith, lt, runs.list.ok.0)
+
+pub overflow_sub-skip : goal.overflow_sub-skip
+overflow_sub-skip c =
+    let runs = c.self.inside.runs in
+    let place = c.first_ending_from-place.result in
+    let N : Pairs → Type 0 = λ ps. Names ps c.args.address (length c.args.bytes.now) in
+    let same = c.as_slice.ensures.value in
+    let low = subst (λ (l : List Piece). Low l c.args.address place) same c.first_ending_from-place.ensures.before in
+    let high = subst (λ (l : List Piece). High l c.args.address place) same c.first_ending_from-place.ensures.here in
+    let some : 0 < length c.args.bytes.now = grind (arith, nat_tests) in
+    let found = found_at runs.bytes.items runs.list.items place c.index-piece.result.now c.self.invariant.stand c.self.invariant.apart c.args.address (length c.args.bytes.now) low high (subst N (sym c.self.view_is) c.requires) some c.index-piece.ensures in
+    found.begins
+
+pub overflow_add-skip : goal.overflow_add-skip
+overflow_add-skip c =
+    let runs = c.self.inside.runs in
+    let place = c.first_ending_from-place.result in
+    let N : Pairs → Type 0 = λ ps. Names ps c.args.address (length c.args.bytes.now) in
+    let same = c.as_slice.ensures.value in
+    let low = subst (λ (l : List Piece). Low l c.args.address place) same c.first_ending_from-place.ensures.before in
+    let high = subst (λ (l : List Piece). High l c.args.address place) same c.first_ending_from-place.ensures.here in
+    let some : 0 < length c.args.bytes.now = grind (arith, nat_tests) in
+    let found = found_at runs.bytes.items runs.list.items place c.index-piece.result.now c.self.invariant.stand c.self.invariant.apart c.args.address (length c.args.bytes.now) low high (subst N (sym c.self.view_is) c.requires) some c.index-piece.ensures in
+    let within = found.ends in let begins = found.begins in let own = found.own.ends in let fits = runs.bytes.ok in omega arith
+
+pub put_at-requires : goal.put_at-requires
+put_at-requires c =
+    let runs = c.self.inside.runs in
+    let place = c.first_ending_from-place.result in
+    let N : Pairs → Type 0 = λ ps. Names ps c.args.address (length c.args.bytes.now) in
+    let same = c.as_slice.ensures.value in
+    let low = subst (λ (l : List Piece). Low l c.args.address place) same c.first_ending_from-place.ensures.before in
+    let high = subst (λ (l : List Piece). High l c.args.address place) same c.first_ending_from-place.ensures.here in
+    let some : 0 < length c.args.bytes.now = grind (arith, nat_tests) in
+    let found = found_at runs.bytes.items runs.list.items place c.index-piece.result.now c.self.invariant.stand c.self.invariant.apart c.args.address (length c.args.bytes.now) low high (subst N (sym c.self.view_is) c.requires) some c.index-piece.ensures in
+    let within = found.ends in let begins = found.begins in let own = found.own.ends in omega (arith, c.as_mut_slice.ensures.len, runs.bytes.ok.0)
+
+pub invariant_of-self : goal.invariant_of-self
+invariant_of-self c =
+    let runs = c.self.inside.runs in
+    let new = c.put_at.new.to in
+    let long : length new ≡ length runs.bytes.items = c.put_at.ensures.same_length ∙ ap (λ (b : List ℕ). length b) c.as_mut_slice.ensures.value in
+    let stand = subst (λ (n : ℕ). Stand 0 n runs.list.items) (sym long) c.self.invariant.stand in
+    let is = with_items_is runs.bytes new (omega (arith, long, runs.bytes.ok.0)) in
+    let B : List ℕ → Type 0 = λ bytes. All (λ b. b < 256) bytes in
+    let image = is_image new (length new) runs.list.items stand c.self.invariant.apart (subst B (c.as_slice-2.ensures.value ∙ is) c.are_bytes.ensures) in
+    record {
+      stand = subst (λ (b : List ℕ). Stand 0 (length b) runs.list.items) (sym is) stand;
+      apart = c.self.invariant.apart;
+      image = subst (λ (b : List ℕ). IsImage (pairs_at b runs.list.items)) (sym is) image;
+    }
+
+pub returns : goal.returns
+returns c =
+    let runs = c.self.inside.runs in
+    let place = c.first_ending_from-place.result in
+    let N : Pairs → Type 0 = λ ps. Names ps c.args.address (length c.args.bytes.now) in
+    let same = c.as_slice.ensures.value in
+    let low = subst (λ (l : List Piece). Low l c.args.address place) same c.first_ending_from-place.ensures.before in
+    let high = subst (λ (l : List Piece). High l c.args.address place) same c.first_ending_from-place.ensures.here in
+    let some : 0 < length c.args.bytes.now = grind (arith, nat_tests) in
+    let found = found_at runs.bytes.items runs.list.items place c.index-piece.result.now c.self.invariant.stand c.self.invariant.apart c.args.address (length c.args.bytes.now) low high (subst N (sym c.self.view_is) c.requires) some c.index-piece.ensures in
+    let P : List ℕ → Type 0 = λ b. IsPutAt c.args.bytes.now b (c.index-piece.result.now.place + (c.args.address - c.index-piece.result.now.first)) c.put_at.new.to in
+    let over = puts_over runs.bytes.items runs.list.items place c.index-piece.result.now c.self.invariant.stand c.self.invariant.apart found.lt found.is c.args.address c.args.bytes.now c.put_at.new.to low found.high (subst N (sym c.self.view_is) c.requires) some
+    (subst P c.as_mut_slice.ensures.value c.put_at.ensures) in
+    let new = c.put_at.new.to in
+    let long : length new ≡ length runs.bytes.items = c.put_at.ensures.same_length ∙ ap (λ (b : List ℕ). length b) c.as_mut_slice.ensures.value in
+    let is = with_items_is runs.bytes new (omega (arith, long, runs.bytes.ok.0)) in
+    let N : List ℕ → Type 0 = λ b. IsPutOver c.args.self.now c.args.address c.args.bytes.now (pairs_at b runs.list.items) in
+    subst N (sym is) (subst (λ (ps : Pairs). IsPutOver ps c.args.address c.args.bytes.now (pairs_at new runs.list.items)) c.self.view_is over)
