@@ -48,3 +48,4 @@ pub mod RunEnds
 pub mod RunStarts
 pub mod RunLoop
 pub mod RunContracts
+pub mod ReadRuns
