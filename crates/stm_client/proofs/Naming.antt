@@ -6,10 +6,11 @@ use Rattle.stm_journal.specs.Journals.{JournalData, good, bad}
 use Rattle.stm_journal.specs.States.{StateData, is_unfinished, names_other}
 use Rattle.stm_session.specs.declared.command.Command.{Command}
 use Rattle.stm_session.specs.declared.fault.Fault.{Fault}
-use Rattle.stm_session.specs.declared.fault.Fault.TheVariants.{Unfinished, UnknownChip, OutOfFlash, BadJournal, OtherDevice, Device as DeviceFault}
+use Rattle.stm_session.specs.declared.fault.Fault.TheVariants.{Unfinished, UnknownChip, OutOfFlash, NoErase, Full, BadJournal, OtherDevice, Device as DeviceFault}
 use Rattle.stm_session.specs.Fault.{IsJournalOrMemory, IsOutsideFault}
 use Rattle.stm_session.specs.Refusal.{AnswersRefusal, AnswersUnsent, chip_with, first_refusal, opening_refusal, refused_unless, table_refusal}
-use Rattle.stm_session.specs.Refusals.{range_refusal, refusal_of}
+use Rattle.stm_session.specs.Meaning.{CommandData, commands_in}
+use Rattle.stm_session.specs.Refusals.{commands_refused, run_refusal}
 
 abbrev pub IsOther : Fault → Type 0
 IsOther fault = fault ≡ DeviceFault → ⊥
@@ -40,12 +41,14 @@ opening_other (good s) d table =
     first_other _ _ (unless_other (not (is_unfinished s)) Unfinished (λ e. cc))
     (first_other _ _ (unless_other (not (names_other d.chip.id s)) OtherDevice (λ e. cc)) (first_other _ _ (table_other s d.chip.id (chip_with table d.chip.id)) tt))
 
-range_other : (chip : Option ChipData) (commands : List Command) → IsOtherThere (range_refusal chip commands)
-range_other None commands = tt
-range_other (Some chip) commands = unless_other _ OutOfFlash (λ e. cc)
+commands_other : (j : JournalData) (d : Device) (chip : Option ChipData) (commands : List CommandData) → IsOtherThere (commands_refused j d chip commands)
+commands_other (bad line) d chip commands = tt
+commands_other (good s) d None commands = tt
+commands_other (good s) d (Some chip) commands =
+    first_other _ _ (unless_other _ NoErase (λ e. cc)) (first_other _ _ (unless_other _ OutOfFlash (λ e. cc)) (first_other _ _ (unless_other _ Full (λ e. cc)) tt))
 
-pub refusal_other : (j : JournalData) (d : Device) (table : List ChipData) (commands : List Command) → IsOtherThere (refusal_of j d table commands)
-refusal_other j d table commands = first_other _ _ (opening_other j d table) (first_other _ _ (range_other (chip_with table d.chip.id) commands) tt)
+pub refusal_other : (j : JournalData) (d : Device) (table : List ChipData) (commands : List Command) → IsOtherThere (run_refusal j d table (commands_in commands))
+refusal_other j d table commands = first_other _ _ (opening_other j d table) (first_other _ _ (commands_other j d (chip_with table d.chip.id) (commands_in commands)) tt)
 
 pub outside_other : (fault : Fault) → IsOutsideFault fault → IsOther fault
 outside_other fault outside e = subst IsOutsideFault e outside

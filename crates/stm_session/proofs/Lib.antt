@@ -4,9 +4,9 @@ pub mod Leavings
 mod Forgetting
 pub mod Misfits
 pub mod Openings
-pub mod OpenedRuns
+pub mod Informing
 pub mod Ranges
-pub mod ReadCommands
+pub mod OutcomeKinds
 pub mod Sending
 pub mod Unbegun
 pub mod Undoing

@@ -1,11 +1,14 @@
 -- A run that only reads.
-use Rattle.std.proofs.Common.{◌≡◌, ℕ, zero, suc, ◌+◌, ◌≤◌, ◌&&◌, Bool, true, false, if◌then◌else◌, List, [], ◌∷◌, ◌++◌, length, map, take, Result, Ok, Err, IfErr, IfOk, refl, sym, ap, ap₂, ◌∙◌, subst, arith, append-nil}
-use Rattle.std.specs.List.{list_all}
+use Rattle.std.proofs.Common.{◌≡◌, ℕ, zero, suc, ◌+◌, ◌≤◌, ◌&&◌, Bool, true, false, if◌then◌else◌, List, [], ◌∷◌, ◌++◌, length, map, take, Result, Ok, Err, IfErr, IfOk, Option, Some, None, nat_le, refl, sym, ap, ap₂, ◌∙◌, subst, arith, append-nil}
+use Rattle.std.specs.List.{list_all, list_any}
 use Rattle.std.proofs.lemmas.Bool.{true≢false}
+use Rattle.std.proofs.lemmas.Bool.Decides.{nat_tests}
 use Rattle.stm_wire.specs.Chip.{ChipData}
 use Rattle.stm_wire.specs.Device.{Device}
 use Rattle.stm_wire.specs.MomentLaws.{weaker}
 use Rattle.stm_wire.specs.Rig.{RigState}
+use Rattle.stm_journal.specs.Journals.{JournalData, bad, good, journal_of}
+use Rattle.stm_journal.specs.States.{StateData, IsSound}
 use Rattle.stm_session.specs.declared.command.Command.{Command}
 use Rattle.stm_session.specs.declared.command.Command.TheVariants as command
 use Rattle.stm_session.specs.declared.outcome.Outcome.{Outcome}
@@ -15,12 +18,15 @@ use Rattle.stm_session.specs.declared.fault.Fault.TheVariants as fault
 use Rattle.stm_session.specs.Answers.{OutcomeData, was_written, was_erased, was_verified, was_read, agreeing, answers_of, in_front_of, outcome_data}
 use Rattle.stm_session.specs.Fault.{IsOutsideFault}
 use Rattle.stm_session.specs.Lines.{depth_at, is_named_at, is_torn_at, text_added}
-use Rattle.stm_session.specs.Meaning.{CommandData, reads, changes_of, commands_in, flash_after_all, flashes_before}
+use Rattle.stm_session.specs.Meaning.{CommandData, reads, changes_of, commands_in, flash_after_all, is_change}
 use Rattle.stm_session.specs.Moments.{IsUnbegun}
+use Rattle.stm_session.specs.Refusal.{chip_with, first_refusal, opening_refusal}
+use Rattle.stm_session.specs.Refusals.{commands_refused, is_in_flash, lies_in_flash, run_refusal}
 use Rattle.stm_session.specs.Running.{AreRead, RunsReads, bytes_of, bytes_read, is_read}
 use Rattle.stm_session.specs.Runs.{AmidRun, RunFails, Runs, answers_from, flashes_with, run_text, standing}
 use Rattle.stm_session.specs.Undoable.{Undoable, is_unfinished_at}
 use Rattle.stm_session.proofs.CommandLists.{entries-none}
+use Rattle.stm_session.proofs.Openings.{alone}
 use Rattle.stm_session.proofs.Undoing.{finished_is_safe}
 
 both : (a b : Bool) → (a && b) ≡ true → (a ≡ true) × (b ≡ true)
@@ -147,3 +153,30 @@ reads_only {T} commands flashes old new result outcomes_of all finished runs =
     told : (r : Result T Fault) → IfOk r (λ x. answers_from old (commands_in commands) ≡ Ok (map outcome_data (outcomes_of x))) → IfOk r (λ x. AreRead old.device commands (outcomes_of x))
     told (Ok x) said = are_read old commands (outcomes_of x) all said
     told (Err e) said = tt
+
+-- what is refused of reads
+reads_inside : (chip : ChipData) (commands : List Command) → list_all (is_in_flash chip) commands ≡ true → list_all (lies_in_flash chip) (commands_in commands) ≡ true
+reads_inside chip [] inside = refl
+reads_inside chip (c ∷ commands) inside = let two = both (is_in_flash chip c) (list_all (is_in_flash chip) commands) inside in rw two.0 (reads_inside chip commands two.1)
+
+no_change : (commands : List Command) → list_all is_read commands ≡ true → list_any is_change (commands_in commands) ≡ false
+no_change [] all = refl
+no_change (command.Write image ∷ commands) all = none_read all
+no_change (command.Erase pages ∷ commands) all = none_read all
+no_change (command.Verify image ∷ commands) all = none_read all
+no_change (command.Read start size ∷ commands) all = no_change commands all
+
+pub reads_unrefused : ((bytes : List ℕ) (s : StateData) → journal_of bytes ≡ good s → IsSound s) → (journal : List ℕ) (d : Device) (table : List ChipData) (chip : ChipData) (commands : List Command) → list_all is_read commands ≡ true
+    → opening_refusal (journal_of journal) d table ≡ None → chip_with table d.chip.id ≡ Some chip → list_all (is_in_flash chip) commands ≡ true → run_refusal (journal_of journal) d table (commands_in commands) ≡ None
+reads_unrefused sound journal d table chip commands all opened held inside =
+    ap (λ (o : Option Fault). first_refusal (o ∷ commands_refused (journal_of journal) d (chip_with table d.chip.id) (commands_in commands) ∷ [])) opened
+    ∙ alone (commands_refused (journal_of journal) d (chip_with table d.chip.id) (commands_in commands))
+    ∙ ap (λ (c : Option ChipData). commands_refused (journal_of journal) d c (commands_in commands)) held
+    ∙ at (journal_of journal) refl
+  where
+    at : (j : JournalData) → journal_of journal ≡ j → commands_refused j d (Some chip) (commands_in commands) ≡ None
+    at (bad line) is = refl
+    at (good s) is =
+        let depth = (sound journal s is).depth in
+        let room : nat_le (length s.stack + 0) 65535 ≡ true = grind (arith, nat_tests, depth) in
+        rw (no_change commands all, reads_inside chip commands inside, no_changes commands all, room) refl

@@ -1,5 +1,5 @@
 use Rattle.std.proofs.Common.{Bool, None, refl}
-use Rattle.stm_session.proofs.OpenedRuns.{informs_all, informs_nothing}
+use Rattle.stm_session.proofs.Informing.{informs_all, informs_nothing}
 use Rattle.stm_wire.specs.Dialogue.{GoesOn}
 use Rattle.stm_wire.specs.Parts.{IsSession}
 use Rattle.stm_session.specs.Sending.{most_calls}

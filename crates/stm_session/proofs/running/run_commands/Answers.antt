@@ -11,7 +11,7 @@ use Rattle.stm_session.specs.Refusals.{lies_in_flash}
 use Rattle.stm_session.specs.Running.{AreKindsOf, IsKindOf}
 use Rattle.stm_session.specs.Runs.{Runs}
 use Rattle.stm_session.specs.Sending.{is_whole, most_of_command}
-use Rattle.stm_session.proofs.ReadCommands.{kinds_more}
+use Rattle.stm_session.proofs.OutcomeKinds.{kinds_more}
 use Rattle.stm_session.proofs.RunEnds.{run_all, run_refused, run_stopped}
 use Rattle.stm_session.proofs.RunLoop.{IsRunSoFar, depth_next, passes_next, room_next, taken_next, whole_list}
 use Rattle.stm_session.proofs.Runs.{HasRun, made_so_far, run_next, run_nothing}
