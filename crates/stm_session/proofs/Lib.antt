@@ -40,6 +40,7 @@ pub mod Turns
 pub mod Beginnings
 pub mod Closings
 pub mod CommandChecks
+pub mod Comparisons
 pub mod Commandings
 pub mod Doings
 pub mod CommandLists
@@ -49,3 +50,4 @@ pub mod RunStarts
 pub mod RunLoop
 pub mod RunContracts
 pub mod ReadRuns
+pub mod OneCommands

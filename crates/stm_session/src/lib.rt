@@ -9,6 +9,7 @@ mod closing;
 mod command;
 mod command_check;
 mod commanding;
+mod comparing;
 mod contact;
 mod content;
 mod doing;

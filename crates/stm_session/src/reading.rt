@@ -27,13 +27,21 @@ pub fn is_within(chip: &Chip, start: u32, size: u32) -> bool
 
 /// A page, and how many bytes of the flash lie before it.
 #[derive(Clone, Copy)]
-struct Place {
-    page: u16,
-    before: u32,
+pub struct Place {
+    pub page: u16,
+    pub before: u32,
+}
+
+/// Bytes of one page, that one call reads.
+#[derive(Clone, Copy)]
+pub struct Block {
+    pub address: u32,
+    pub place: Place,
+    pub size: u32,
 }
 
 /// The page that holds an address, looked for from one on that doesn't lie behind it.
-fn page_at(chip: &Chip, address: u32, from: Place) -> Place
+pub fn page_at(chip: &Chip, address: u32, from: Place) -> Place
     requires inside { IsTrue (is_inside chip.now address) }
     requires from { IsNotBehind chip.now address from }
     ensures { HoldsAddress chip.now address result }
@@ -52,7 +60,7 @@ fn page_at(chip: &Chip, address: u32, from: Place) -> Place
 }
 
 /// How many bytes the next call reads, where so many are left to read from this address on, which lies in this page.
-fn block_size(chip: &Chip, address: u32, place: Place, left: u32) -> u32
+pub fn block_size(chip: &Chip, address: u32, place: Place, left: u32) -> u32
     requires { HoldsAddress chip.now address place }
     ensures { IsBlock chip.now address left result }
 {
@@ -63,7 +71,12 @@ fn block_size(chip: &Chip, address: u32, place: Place, left: u32) -> u32
 }
 
 /// Reads 1 to 256 bytes of flash into the buffer.
-fn read_part<R: Rig>(rig: &mut R, chip: &Chip, address: u32, buf: &mut [u8]) -> Result<(), Fault>
+pub fn read_part<R: Rig>(
+    rig: &mut R,
+    chip: &Chip,
+    address: u32,
+    buf: &mut [u8],
+) -> Result<(), Fault>
     requires some { 1 ≤ length buf.old }
     requires limit { length buf.old ≤ 256 }
     ensures size { length buf.new ≡ length buf.old }
