@@ -5,6 +5,7 @@ mod Forgetting
 pub mod Misfits
 pub mod Openings
 pub mod Informing
+pub mod InfoContracts
 pub mod Ranges
 pub mod OutcomeKinds
 pub mod Sending
@@ -21,6 +22,7 @@ pub mod Erasings
 pub mod Frames
 pub mod Programmings
 pub mod SentParts
+pub mod Orders
 pub mod PageSums
 pub mod Settlings
 pub mod Restorings

@@ -1,5 +1,6 @@
 pub mod Fault
 pub mod Sending
+pub mod Order
 pub mod Undoable
 pub mod Moments
 pub mod Asking
