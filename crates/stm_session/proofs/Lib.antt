@@ -4,10 +4,10 @@ pub mod Leavings
 mod Forgetting
 pub mod Misfits
 pub mod Openings
-pub mod OpenedRuns
+pub mod Informing
 pub mod InfoContracts
 pub mod Ranges
-pub mod ReadCommands
+pub mod OutcomeKinds
 pub mod Sending
 pub mod Unbegun
 pub mod Undoing
@@ -45,4 +45,11 @@ pub mod CommandChecks
 pub mod Comparisons
 pub mod Commandings
 pub mod Doings
+pub mod CommandLists
+pub mod Runs
+pub mod RunEnds
+pub mod RunStarts
+pub mod RunLoop
+pub mod RunContracts
+pub mod ReadRuns
 pub mod OneCommands
