@@ -43,9 +43,9 @@ changed_some kept chip n held page frames saved other is is_saved =
     subst P (sym differs) rewritten
 
 -- one page more
-pub turned_more : (chip : ChipData) (c : Change) (n : ℕ) (was kept changed first : Bool) (before own : List Step) → kept ≡ (n == 257 && was) → first ≡ (if n == 1 then changed else was) → AreTurned chip c n was before
+pub all_turned : (chip : ChipData) (c : Change) (n : ℕ) (was kept changed first : Bool) (before own : List Step) → kept ≡ (n == 257 && was) → first ≡ (if n == 1 then changed else was) → AreTurned chip c n was before
     → IsTurnOf kept chip c n changed own → AreTurned chip c (n + 1) first (before ++ own)
-turned_more chip c n was kept changed first before own kept_is first_is are turn =
+all_turned chip c n was kept changed first before own kept_is first_is are turn =
     let K : Bool → Type 0 = λ k. IsTurnOf k chip c n changed own in
     let F : Bool → Type 0 = λ f. AreTurned chip c (n + 1) f (before ++ own) in
     subst F (sym first_is) (more n was changed before own are (subst K kept_is turn))

@@ -70,9 +70,11 @@ pub data AreTurned (chip : ChipData) (c : Change) : ℕ → Bool → List Step �
   more : (n : ℕ) (was changed : Bool) (before own : List Step) → AreTurned chip c n was before → IsTurnOf (n == 257 && was) chip c n changed own
       → AreTurned chip c (n + 1) (if n == 1 then changed else was) (before ++ own)
 
+abbrev pub AreAllTurned : ChipData → Change → List Step → Type 0
+AreAllTurned chip c steps = (first : Bool) × AreTurned chip c (page_count chip) first steps
+
 -- A command's segment: its first lines, its pages, and its last line.
 pub record IsOneSegment (chip : ChipData) (c : Change) (s : StateData) (steps : List Step) : Type 0 where
-  pub first : Bool
   pub turned : List Step
-  pub are_turned : AreTurned chip c (page_count chip) first turned
+  pub are_turned : AreAllTurned chip c turned
   pub is : steps ≡ Adds (begin_entries chip.id s) ∷ (turned ++ Adds (Ends (length s.stack + 1) ∷ []) ∷ [])

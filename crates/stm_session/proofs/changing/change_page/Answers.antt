@@ -155,8 +155,7 @@ returns-in_ok-rewrite_kept-in-Erase-clause-order g c =
     let planned = subst P c.in-Erase.is c.in-Ok.ensures.plan in
     let framed = c.deref.ensures.value ∙ planned.1 ∙ ap (λ (e : ℕ). frames_of e c.args.page.now (length c.args.page.now / 256)) c.erased.ensures.byte in
     let saved = c.in_ok-save_pages-in-Erase.ensures.order in
-    let own = rewrite_steps chip c.args.n c.args.page.now c.deref.result.now in
-    (
+    let own = rewrite_steps chip c.args.n c.args.page.now c.deref.result.now in (
       saved.0 ++ own,
       changed_some c.args.kept chip c.args.n c.args.held.now c.args.page.now c.deref.result.now saved.0 planned.0 framed saved.1,
       does_then saved.0 own c.args.journal.now c.save_pages.new.journal c.rewrite_kept.new.journal (V c.args.rig.now) (V c.save_pages.new.rig) (V c.rewrite_kept.new.rig) saved.2 c.in_ok-rewrite_kept-in-Erase.ensures.order,
