@@ -37,6 +37,7 @@ pub mod Undone
 pub mod SentUndo
 pub mod Savings
 pub mod SentChanges
+pub mod ChangeOrders
 pub mod Changes
 pub mod Turns
 pub mod Beginnings
