@@ -1,6 +1,8 @@
 -- How bytes of flash are read: in blocks that stay within a page.
 use Rattle.std.specs.Prelude.{◌≡◌, ℕ, ◌+◌, ◌-◌, ◌<◌, ◌≤◌, min}
-use Rattle.stm_wire.specs.Chip.{ChipData, page_count, page_offset, page_size}
+use Rattle.stm_wire.specs.Chip.{ChipData, flash_size, page_count, page_offset, page_size}
+use Rattle.stm_image.specs.Pairs.{Pairs, IsNext}
+use Rattle.stm_session.specs.declared.reading.Block.{Block}
 use Rattle.stm_session.specs.declared.reading.Place.{Place}
 
 -- a page, and how many bytes of the flash lie before it; the page doesn't lie behind this address
@@ -29,3 +31,11 @@ pub record IsBlock (chip : ChipData) (address left size : ℕ) : Type 0 where
   pub rest : ℕ
   pub is_rest : IsPageRest chip address rest
   pub cut : size ≡ min (min 256 rest) left
+
+-- The next block in which the image names a place, where the bytes before this offset were compared: it begins at that place.
+pub record IsNextBlock (chip : ChipData) (image : Pairs) (done : ℕ) (block : Block) : Type 0 where
+  pub byte : ℕ
+  pub next : IsNext image (chip.base + done) (block.address, byte)
+  pub inside : block.address < chip.base + flash_size chip
+  pub place : HoldsAddress chip block.address block.place
+  pub size : IsBlock chip block.address (flash_size chip - (block.address - chip.base)) block.size

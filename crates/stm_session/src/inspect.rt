@@ -1,14 +1,12 @@
 // Asking a device what it is.
-ghost use Rattle.std.specs.Prelude.{◌≡◌, ◌≢◌, [], IfErr, IfOk, None, Some};
+ghost use Rattle.std.specs.Prelude.{◌≡◌, IfErr, IfOk, None};
 ghost use Rattle.stm_wire.specs.Dialogue.{GoesOn};
 ghost use Rattle.stm_wire.specs.Parts.{IsSession};
-ghost use Rattle.stm_journal.specs.Calls.{AreFetches, IsUntouched};
-ghost use Rattle.stm_journal.specs.Journals.{journal_of};
+ghost use Rattle.stm_journal.specs.Calls.{AreFetches};
 ghost use Rattle.stm_session.specs.Fault.{HasSessionCause};
-ghost use Rattle.stm_session.specs.Moments.{IsSafe};
-ghost use Rattle.stm_session.specs.Refusal.{RefusesUnsent, unsent_refusal};
 ghost use Rattle.stm_session.specs.Sending.{is_whole, most_calls};
-ghost use Rattle.stm_session.specs.Information.{Describes, Informs};
+ghost use Rattle.stm_session.specs.Information.{Describes};
+ghost use Rattle.stm_session.specs.Promises.{InfoContract};
 
 use crate::opening::open;
 use crate::{Fault, Info};
@@ -25,16 +23,7 @@ pub fn info<R: Rig>(alloc: Global, rig: &mut R, table: &Table) -> Result<Info, F
     ensures told { IfOk result (Describes table.now) }
     ensures silent { let old = R.view rig.old in let new = R.view rig.new in
         IfErr result (λ fault. fault ≡ Fault.Unfinished → GoesOn AreFetches old.calls new.calls) }
-    ensures unsent { let old = R.view rig.old in let new = R.view rig.new in
-        old.is_honest → (fault : Fault) → unsent_refusal (journal_of old.journal) ≡ Some fault
-        → RefusesUnsent (IsUntouched old) fault old new result }
-    ensures unsent_calls { let old = R.view rig.old in let new = R.view rig.new in
-        old.is_honest → (fault : Fault) → unsent_refusal (journal_of old.journal) ≡ Some fault
-        → GoesOn AreFetches old.calls new.calls }
-    ensures honest { let old = R.view rig.old in let new = R.view rig.new in
-        old.is_honest → IsSafe old.device → Informs table.now old new result }
-    ensures spared { let old = R.view rig.old in
-        old.is_honest → old.journal ≡ [] → IfErr result (λ fault. fault ≢ Fault.Memory) }
+    ensures promised { InfoContract table.now (R.view rig.old) (R.view rig.new) result }
 {
     let opened = open(alloc, rig, table)?;
     Ok(Info {

@@ -1,13 +1,15 @@
 // Reads any part of the flash, in calls that the bootloader takes.
-ghost use Rattle.std.specs.Prelude.{◌≡◌, ℕ, ◌+◌, ◌-◌, ◌*◌, ◌<◌, ◌≤◌, ◌||◌, ◌==◌, ◌++◌, IsTrue, IfErr, IfOk, OnOk, length, vec_len, Some};
+ghost use Rattle.std.specs.Prelude.{◌≡◌, ℕ, Bool, ◌+◌, ◌-◌, ◌*◌, ◌/◌, ◌%◌, ◌∷◌, [], ◌<◌, ◌≤◌, ◌||◌, ◌==◌, ◌++◌, IsTrue, IfErr, IfOk, OnOk, length, vec_len, Some};
 ghost use Rattle.stm_wire.specs.Chip.{fits_inside, is_inside};
 ghost use Rattle.stm_wire.specs.Device.{IsSettled};
 ghost use Rattle.stm_wire.specs.Dialogue.{GoesOn};
+ghost use Rattle.stm_wire.specs.Frames.{read_frame};
 ghost use Rattle.stm_wire.specs.Intents.{InPage};
 ghost use Rattle.stm_wire.specs.Parts.{IsPart};
 ghost use Rattle.stm_session.specs.Fault.{HasSessionCause, IsRefusal};
 ghost use Rattle.stm_session.specs.Asking.{Asks};
 ghost use Rattle.stm_session.specs.Reading.{HoldsAddress, IsBlock, IsNotBehind};
+ghost use Rattle.stm_session.specs.Order.{IsInOrder, Sends, read_steps};
 ghost use Rattle.stm_session.specs.Sending.{is_whole, most_of_command};
 ghost use Rattle.stm_session.specs.Running.{bytes_at};
 
@@ -27,13 +29,21 @@ pub fn is_within(chip: &Chip, start: u32, size: u32) -> bool
 
 /// A page, and how many bytes of the flash lie before it.
 #[derive(Clone, Copy)]
-struct Place {
-    page: u16,
-    before: u32,
+pub struct Place {
+    pub page: u16,
+    pub before: u32,
+}
+
+/// Bytes of one page, that one call reads.
+#[derive(Clone, Copy)]
+pub struct Block {
+    pub address: u32,
+    pub place: Place,
+    pub size: u32,
 }
 
 /// The page that holds an address, looked for from one on that doesn't lie behind it.
-fn page_at(chip: &Chip, address: u32, from: Place) -> Place
+pub fn page_at(chip: &Chip, address: u32, from: Place) -> Place
     requires inside { IsTrue (is_inside chip.now address) }
     requires from { IsNotBehind chip.now address from }
     ensures { HoldsAddress chip.now address result }
@@ -52,7 +62,7 @@ fn page_at(chip: &Chip, address: u32, from: Place) -> Place
 }
 
 /// How many bytes the next call reads, where so many are left to read from this address on, which lies in this page.
-fn block_size(chip: &Chip, address: u32, place: Place, left: u32) -> u32
+pub fn block_size(chip: &Chip, address: u32, place: Place, left: u32) -> u32
     requires { HoldsAddress chip.now address place }
     ensures { IsBlock chip.now address left result }
 {
@@ -63,7 +73,12 @@ fn block_size(chip: &Chip, address: u32, place: Place, left: u32) -> u32
 }
 
 /// Reads 1 to 256 bytes of flash into the buffer.
-fn read_part<R: Rig>(rig: &mut R, chip: &Chip, address: u32, buf: &mut [u8]) -> Result<(), Fault>
+pub fn read_part<R: Rig>(
+    rig: &mut R,
+    chip: &Chip,
+    address: u32,
+    buf: &mut [u8],
+) -> Result<(), Fault>
     requires some { 1 ≤ length buf.old }
     requires limit { length buf.old ≤ 256 }
     ensures size { length buf.new ≡ length buf.old }
@@ -73,6 +88,9 @@ fn read_part<R: Rig>(rig: &mut R, chip: &Chip, address: u32, buf: &mut [u8]) -> 
         (page : ℕ) → InPage chip.now page address (length buf.old)
         → GoesOn (IsPart (Some chip.now) (is_whole result) (12 + length buf.old))
         old.calls new.calls }
+    ensures order { let old = R.view rig.old in let new = R.view rig.new in
+        (torn : Bool) → let steps = Sends (read_frame address (length buf.old)) ∷ [] in
+        OnOk result (GoesOn (IsInOrder torn steps) old.calls new.calls) }
     ensures sent { IfErr result (λ fault. IsRefusal fault → ⊥) }
     ensures honest { let old = R.view rig.old in let new = R.view rig.new in
         old.is_honest → IsSettled old.device → old.device.chip ≡ chip.now
@@ -101,6 +119,9 @@ fn read_block<R: Rig>(
     ensures puts { let old = R.view rig.old in let new = R.view rig.new in
         (page : ℕ) → InPage chip.now page address size
         → GoesOn (IsPart (Some chip.now) (is_whole result) (12 + size)) old.calls new.calls }
+    ensures order { let old = R.view rig.old in let new = R.view rig.new in
+        (torn : Bool) → let steps = Sends (read_frame address size) ∷ [] in
+        OnOk result (GoesOn (IsInOrder torn steps) old.calls new.calls) }
     ensures sent { IfErr result (λ fault. IsRefusal fault → ⊥) }
     ensures honest { let old = R.view rig.old in let new = R.view rig.new in
         old.is_honest → IsSettled old.device → old.device.chip ≡ chip.now
@@ -132,6 +153,10 @@ pub fn read_range<R: Rig>(
     ensures few { let old = R.view rig.old in let new = R.view rig.new in
         (page : ℕ) → InPage chip.now page start size
         → GoesOn (IsPart (Some chip.now) (is_whole result) (12 + 2 * size)) old.calls new.calls }
+    ensures order { let old = R.view rig.old in let new = R.view rig.new in
+        (page : ℕ) → InPage chip.now page start size → size % 256 ≡ 0 → (torn : Bool)
+        → let steps = read_steps start (size / 256) in
+        OnOk result (GoesOn (IsInOrder torn steps) old.calls new.calls) }
     ensures cause { let old = R.view rig.old in let new = R.view rig.new in
         HasSessionCause old new result }
     ensures sent { IfErr result (λ fault. IsRefusal fault → ⊥) }

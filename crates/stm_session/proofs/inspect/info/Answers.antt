@@ -1,20 +1,22 @@
 use Rattle.std.proofs.Common.{Bool, None, refl}
-use Rattle.stm_session.proofs.OpenedRuns.{informs_all, informs_nothing}
 use Rattle.stm_wire.specs.Dialogue.{GoesOn}
 use Rattle.stm_wire.specs.Parts.{IsSession}
 use Rattle.stm_session.specs.Sending.{most_calls}
+use Rattle.stm_session.proofs.InfoContracts.{info_opened, info_unopened}
 use Rattle.stm_session.proofs.Sending.{same_fault}
 use Rattle.stm_session.proofs.inspect.info.Goals as goal
 
-pub returns-in_err-opened-clause-honest : goal.returns-in_err-opened-clause-honest
-returns-in_err-opened-clause-honest g c h safe =
+pub returns-in_err-opened-clause-promised : goal.returns-in_err-opened-clause-promised
+returns-in_err-opened-clause-promised g c =
     let V = g.R.Rig.view in
-    informs_nothing c.args.table.now (V c.args.rig.now) (V c.open.new.rig) _ c.from_residual.result (c.in_err-opened.ensures.honest h safe) c.from_residual.ensures.1
+    let said = c.in_err-opened.ensures in
+    info_unopened c.args.table.now (V c.args.rig.now) (V c.open.new.rig) _ c.from_residual.result said.unsent said.unsent_calls said.honest said.memory c.from_residual.ensures.1
 
-pub returns-clause-honest : goal.returns-clause-honest
-returns-clause-honest g c h safe =
+pub returns-clause-promised : goal.returns-clause-promised
+returns-clause-promised g c =
     let V = g.R.Rig.view in
-    informs_all c.args.table.now (V c.args.rig.now) (V c.open.new.rig) c.in_ok-opened.opened _ (c.in_ok-opened.ensures.honest h safe) c.id.ensures refl
+    let said = c.in_ok-opened.ensures in
+    info_opened c.args.table.now (V c.args.rig.now) (V c.open.new.rig) c.in_ok-opened.opened _ said.unsent said.unsent_calls said.honest c.id.ensures refl
 
 pub returns-in_err-opened-clause-puts : goal.returns-in_err-opened-clause-puts
 returns-in_err-opened-clause-puts g c =

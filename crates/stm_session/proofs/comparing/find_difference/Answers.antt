@@ -1,0 +1,101 @@
+-- A round of the loop compares a block more.
+use Rattle.std.proofs.Common.{rules, ◌≡◌, ◌≤◌, ◌+◌, ◌-◌, ◌*◌, arith, ap, subst, sym, ◌∙◌, ℕ, List, Bool, Option, Some, true, false, is_some, refl, drop}
+use Rattle.stm_wire.specs.Chip.{flash_size}
+use Rattle.stm_wire.specs.Dialogue.{GoesOn}
+use Rattle.stm_wire.specs.Parts.{IsPart}
+use Rattle.stm_wire.specs.PartLaws.{nothing_is_part, part_longer}
+use Rattle.stm_session.specs.Answers.{first_difference}
+use Rattle.stm_session.specs.Sending.{is_whole, most_of_command}
+use Rattle.stm_session.proofs.Asking.{asks_failed, asks_ok, nothing_asked}
+use Rattle.stm_session.proofs.Comparisons.{block_agrees, block_differs, block_further, block_within, compare_asks, compared_part}
+use Rattle.stm_session.proofs.Sending.{same_fault}
+use Rattle.stm_session.proofs.comparing.find_difference.Goals as goal
+
+pub loop-block-init : goal.loop-block-init
+loop-block-init g c =
+    let V = g.R.Rig.view in (
+      record {
+        within = omega arith;
+        line = omega arith;
+        journal = omega arith;
+        parts = nothing_is_part (Some c.args.chip.now) true 0 (V c.args.rig.now).calls;
+        honest = λ h settled chip.
+            nothing_asked c.sending_is_harmless.ensures.asking (V c.args.rig.now) (tt {0}) _ h (g.met.R.Rig.model c.args.rig.now h) settled
+            (ap (λ (a : ℕ). first_difference c.args.image.now a (V c.args.rig.now).device.flash) (omega arith));
+      },
+      record { exists = omega arith; before = refl; begins = omega arith },
+    )
+
+pub loop-block-preserved : goal.loop-block-preserved
+loop-block-preserved g c =
+    let V = g.R.Rig.view in
+    let so_far = c.loop-block.invariant.0 in
+    let chip = c.args.chip.now in
+    let image = c.args.image.now in
+    let block = c.in-Some.block in
+    let a = V c.args.rig.now in
+    let b = V c.loop-block.rig in
+    let d = V c.compare_block.new.rig in
+    let next = c.in-Some.ensures in
+    let none : is_some c.in_ok-found.found ≡ false = search (rules, c.is_some.ensures, c.if-is_some.false) in
+    let base : c.base.result ≡ chip.base = c.base.ensures in (
+      record {
+        within = omega (arith, base, block_within chip image c.loop-block.done block a b d so_far next);
+        line = omega (arith, so_far.line, c.in_ok-found.ensures.cause.line_later);
+        journal = omega (arith, so_far.journal, c.in_ok-found.ensures.cause.journal_later);
+        parts = subst (λ (n : ℕ). GoesOn (IsPart (Some chip) true (13 * (block.address - n + block.size))) a.calls d.calls) (sym base)
+            (compared_part chip image c.loop-block.done block a b d so_far next true c.in_ok-found.ensures.puts);
+        honest = λ h settled chip_is.
+            compare_asks chip image c.loop-block.done block a b d so_far next c.unnamed_places_agree.ensures.before h settled chip_is _ _ _ c.in_ok-found.ensures.honest
+            (λ asks. asks_ok b d c.in_ok-found.found (tt {0}) asks
+            (λ told. block_agrees chip image c.loop-block.done block a b d so_far next c.unnamed_places_agree.ensures.before h settled chip_is c.in_ok-found.found none told
+            ∙ ap (λ (n : ℕ). first_difference image (chip.base + (block.address - n + block.size)) (drop (block.address - n + block.size) a.device.flash)) (sym base)));
+      },
+      record { exists = omega (arith, next.place.exists); before = next.place.before; begins = omega (arith, base, next.place.begins) },
+    )
+
+pub returns-in_err-found-clause-honest : goal.returns-in_err-found-clause-honest
+returns-in_err-found-clause-honest g c h settled chip =
+    let V = g.R.Rig.view in
+    let b = V c.loop-block.rig in
+    let d = V c.compare_block.new.rig in
+    compare_asks c.args.chip.now c.args.image.now c.loop-block.done c.in-Some.block (V c.args.rig.now) b d c.loop-block.invariant.0 c.in-Some.ensures c.unnamed_places_agree.ensures.before h settled chip
+    _ c.from_residual.result _ c.in_err-found.ensures.honest (λ asks. asks_failed b d _ c.from_residual.result asks c.from_residual.ensures.1)
+
+pub returns-then-is_some-clause-honest : goal.returns-then-is_some-clause-honest
+returns-then-is_some-clause-honest g c h settled chip =
+    let V = g.R.Rig.view in
+    let b = V c.loop-block.rig in
+    let d = V c.compare_block.new.rig in
+    let some : is_some c.in_ok-found.found ≡ true = search (rules, c.is_some.ensures, c.if-is_some.true) in
+    compare_asks c.args.chip.now c.args.image.now c.loop-block.done c.in-Some.block (V c.args.rig.now) b d c.loop-block.invariant.0 c.in-Some.ensures c.unnamed_places_agree.ensures.before h settled chip
+    _ _ _ c.in_ok-found.ensures.honest
+    (λ asks. asks_ok b d c.in_ok-found.found c.in_ok-found.found asks
+    (λ told. block_differs c.args.chip.now c.args.image.now c.loop-block.done c.in-Some.block (V c.args.rig.now) b d c.loop-block.invariant.0 c.in-Some.ensures c.unnamed_places_agree.ensures.before h settled chip
+    c.in_ok-found.found some told))
+
+pub returns-in_err-found-clause-puts : goal.returns-in_err-found-clause-puts
+returns-in_err-found-clause-puts g c =
+    let V = g.R.Rig.view in
+    let a = V c.args.rig.now in
+    let b = V c.loop-block.rig in
+    let d = V c.compare_block.new.rig in
+    let chip = c.args.chip.now in
+    let block = c.in-Some.block in
+    let within = block_within chip c.args.image.now c.loop-block.done block a b d c.loop-block.invariant.0 c.in-Some.ensures in
+    let P : Bool → Type 0 = λ w. GoesOn (IsPart (Some chip) w most_of_command) a.calls d.calls in
+    same_fault P _ c.from_residual.result c.from_residual.ensures.1
+    (part_longer (Some chip) _ (13 * (block.address - chip.base + block.size)) most_of_command a.calls d.calls (omega (arith, within, c.keeps_limits.ensures.chip.size))
+    (compared_part chip c.args.image.now c.loop-block.done block a b d c.loop-block.invariant.0 c.in-Some.ensures _ c.in_err-found.ensures.puts))
+
+pub returns-then-is_some-clause-puts : goal.returns-then-is_some-clause-puts
+returns-then-is_some-clause-puts g c =
+    let V = g.R.Rig.view in
+    let a = V c.args.rig.now in
+    let b = V c.loop-block.rig in
+    let d = V c.compare_block.new.rig in
+    let chip = c.args.chip.now in
+    let block = c.in-Some.block in
+    let within = block_within chip c.args.image.now c.loop-block.done block a b d c.loop-block.invariant.0 c.in-Some.ensures in
+    part_longer (Some chip) true (13 * (block.address - chip.base + block.size)) most_of_command a.calls d.calls (omega (arith, within, c.keeps_limits.ensures.chip.size))
+    (compared_part chip c.args.image.now c.loop-block.done block a b d c.loop-block.invariant.0 c.in-Some.ensures true c.in_ok-found.ensures.puts)

@@ -1,0 +1,22 @@
+use Rattle.std.proofs.Common.{◌≡◌, ℕ, Ok, refl, sym, ◌∙◌, ap, List}
+use Rattle.stm_wire.specs.Chip.{ChipData}
+use Rattle.stm_session.specs.Answers.{OutcomeData, outcome_data, was_read}
+use Rattle.stm_session.specs.Meaning.{reads}
+use Rattle.stm_session.specs.Running.{bytes_at}
+use Rattle.stm_session.proofs.Doings.{asks_does, asks_fails}
+use Rattle.stm_session.proofs.doing.read_part_of.Goals as goal
+
+pub returns-in_err-bytes-clause-honest : goal.returns-in_err-bytes-clause-honest
+returns-in_err-bytes-clause-honest g c flashes l steady chip =
+    let V = g.R.Rig.view in
+    asks_fails c.step_laws.ensures flashes (reads c.args.start c.args.length) l (V c.args.rig.now) (V c.read_range.new.rig) refl steady outcome_data l _ c.from_residual.result
+    (c.in_err-bytes.ensures.honest steady.honest steady.settled chip) c.from_residual.ensures.1
+
+pub returns-clause-honest : goal.returns-clause-honest
+returns-clause-honest g c flashes l steady chip =
+    let V = g.R.Rig.view in
+    let a = V c.args.rig.now in
+    let asks = c.in_ok-bytes.ensures.honest steady.honest steady.settled chip in
+    let said : List ℕ → OutcomeData = λ bytes. was_read bytes in
+    asks_does c.step_laws.ensures flashes (reads c.args.start c.args.length) l a (V c.read_range.new.rig) refl steady outcome_data c.in_ok-bytes.bytes _ asks
+    (ap (λ (p : ChipData). Ok (said (bytes_at p a.device.flash c.args.start c.args.length))) chip ∙ ap (λ (bytes : List ℕ). Ok (said bytes)) (sym asks.done))

@@ -1,0 +1,17 @@
+use Rattle.std.proofs.Common.{refl}
+use Rattle.stm_session.specs.Answers.{outcome_data, was_written}
+use Rattle.stm_session.specs.declared.change.Change.TheVariants as change
+use Rattle.stm_session.proofs.OneCommands.{change_broken, change_made}
+use Rattle.stm_session.proofs.doing.write_image.Goals as goal
+
+pub returns-in_err-segment-clause-honest : goal.returns-in_err-segment-clause-honest
+returns-in_err-segment-clause-honest g c flashes steady chip =
+    let V = g.R.Rig.view in
+    change_broken flashes (change.Write c.args.image) c.args.chip.now c.args.journal.now c.change_flash.new.journal (V c.args.rig.now) (V c.change_flash.new.rig) refl chip outcome_data _ c.from_residual.result
+    (c.in_err-segment.ensures.honest flashes steady chip) c.from_residual.ensures.1
+
+pub returns-clause-honest : goal.returns-clause-honest
+returns-clause-honest g c flashes steady chip =
+    let V = g.R.Rig.view in
+    change_made flashes (change.Write c.args.image) c.args.chip.now c.args.journal.now c.change_flash.new.journal (V c.args.rig.now) (V c.change_flash.new.rig) refl chip
+    c.in_ok-segment.segment c.in_ok-segment.pages _ (λ s p. was_written s p) steady c.in_ok-segment.ensures.number (c.in_ok-segment.ensures.honest flashes steady chip) refl refl
