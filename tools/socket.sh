@@ -1,13 +1,11 @@
 #!/usr/bin/env sh
 # The program and the served simulator meet over a real socket.
-#   tools/socket.sh PROGRAM [KILLS]
-# Reads, writes, verifies, erases and takes back through a socket, once a client after the other, and looks at what is left
-# behind. Then it kills the program (signal 9) at random moments of a write, an erase and an undo, KILLS times (60 without
-# it), takes back what was stopped, sometimes after a reset of the device, and compares the flash with what it was.
+#   tools/socket.sh PROGRAM
+# Reads, writes, verifies, erases and takes back through a socket, one client after the other, also with standard output
+# closed, and looks at what is left behind. tools/kills stops the program there at random moments.
 set -eu
 top=$(cd "$(dirname "$0")/.." && pwd)
 program=$1
-kills=${2:-60}
 room=$(mktemp -d)
 sim=
 trap 'if [ -n "$sim" ]; then kill "$sim" 2> /dev/null || true; fi; rm -rf "$room"' EXIT
@@ -117,78 +115,3 @@ wait "$asking" && fail "a device that went away still answers"
 grep -qx 'stmflash: line failed' "$room/said" || fail "a line that broke isn't told"
 rm -f "$room/board"
 echo "the program and the simulator meet over a socket"
-
-# A number below another one, by chance.
-chance() {
-    echo $(($(od -An -N4 -tu4 /dev/urandom) % $1))
-}
-
-# Runs a use with a short wait, and tells how many milliseconds it took.
-quick() {
-    name=$1
-    shift
-    "$program" "$name" --table "$top/chips.toml" --device "$room/board" --journal "$room/journal" --wait 5 "$@" > "$room/said" 2>&1
-}
-
-clock() {
-    began=$(date +%s%N)
-    "$@" || fail "$1 says: $(cat "$room/said")"
-    echo $((($(date +%s%N) - began) / 1000000))
-}
-
-# Starts a use, kills it at a random moment of the time that it takes, and waits until the simulator has stored where it
-# stands. A use that was killed before it reached the socket leaves the simulator waiting: another client lets it end.
-kill_in() {
-    time=$1
-    shift
-    serve 1
-    name=$1
-    shift
-    "$program" "$name" --table "$top/chips.toml" --device "$room/board" --journal "$room/journal" --wait 5 "$@" > /dev/null 2>&1 &
-    victim=$!
-    sleep "$(printf '%d.%03d' 0 "$(chance "$time")")"
-    kill -9 "$victim" 2> /dev/null || true
-    wait "$victim" 2> /dev/null || true
-    quick info || true
-    served
-    if [ "$(chance 4)" -eq 0 ]; then
-        rm -f "$room/flash.line"
-        resets=$((resets + 1))
-    fi
-}
-
-# Takes back all that the journal has, and compares the flash.
-take_back() {
-    serve 1
-    quick undo || fail "after a kill undo says: $(cat "$room/said")"
-    served
-    cmp "$room/flash" "$room/before" || fail "after a kill the flash isn't as before"
-    grep -qx 'undone 0' "$room/said" || stopped=$((stopped + 1))
-}
-
-rm -f "$room/journal"
-serve 4
-writing=$(clock quick write -S 0x08000201 -f "$room/image")
-returning=$(clock quick undo)
-erasing=$(clock quick erase 3 4 5 31)
-quick undo || fail "undo says: $(cat "$room/said")"
-served
-i=0
-resets=0
-stopped=0
-while [ "$i" -lt "$kills" ]; do
-    rm -f "$room/journal"
-    case $((i % 3)) in
-        0) kill_in "$writing" write -S 0x08000201 -f "$room/image" ;;
-        1) kill_in "$erasing" erase 3 4 5 31 ;;
-        2)
-            serve 1
-            quick write -S 0x08000201 -f "$room/image" || fail "write says: $(cat "$room/said")"
-            served
-            kill_in "$returning" undo
-            ;;
-    esac
-    take_back
-    i=$((i + 1))
-done
-echo "$kills kills, $stopped with something to take back, $resets resets: the flash is as before, every time"
