@@ -26,5 +26,6 @@ pub mod GoingBack
 pub mod Meeting
 pub mod Changing
 pub mod Contents
+pub mod ChangeOrder
 pub mod Segments
 pub mod Doing
