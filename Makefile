@@ -9,12 +9,15 @@
 #   make bench  builds what is measured, measures it beside its peers, and prints ratios (needs python3; Debian's binutils
 #               and srecord for the peers of HEX)
 #   make beside lets the real stm32flash drive our simulator (docs/BESIDE.md); skipped with a word where it isn't installed
+#   make soak   20,000 random sessions of the program that `make demo` leaves, beside a second model of it (tools/soak; needs
+#               python3); the seed is printed
 #   make clean  removes what was made
 
 PREFIX ?= /usr/local
 DESTDIR ?=
+JOBS ?= $(shell nproc)
 
-.PHONY: all demo test install bench beside clean
+.PHONY: all demo test soak install bench beside clean
 
 all: bin/stmflash
 
@@ -34,6 +37,11 @@ test:
 	rt ci
 	sh tools/demo.sh
 	sh tools/socket.sh bin/stmflash-unproved
+	python3 tools/soak bin/stmflash-unproved --sessions 300 --jobs $(JOBS)
+
+soak:
+	@test -x bin/stmflash-unproved || sh tools/demo.sh
+	python3 tools/soak bin/stmflash-unproved --jobs $(JOBS)
 
 install: bin/stmflash
 	install -d $(DESTDIR)$(PREFIX)/bin $(DESTDIR)$(PREFIX)/share/man/man1 $(DESTDIR)$(PREFIX)/share/stmflash

@@ -1,6 +1,9 @@
 """Random sessions of the built program over its simulator, beside a second model of them. See README.md."""
 
 import argparse
+import functools
+import itertools
+import multiprocessing
 import os
 import random
 import shutil
@@ -13,8 +16,6 @@ sys.path.insert(0, os.path.dirname(os.path.abspath(__file__)))
 from journal import BadLine, Journal
 from program import World
 import stories
-
-NAMES = ("F", "F.line", "J", "OUT", "I", "T")
 
 
 class Difference(Exception):
@@ -208,18 +209,46 @@ def shown(held, other):
     return "%d bytes, from %d on %r" % (len(held), begin, held[begin:at + 60])
 
 
-def report(story, difference, room, program):
-    print("tools/soak: a difference in the story %s, use %d" % (story.name, len(story.told)))
-    for text in story.told:
-        print("    " + text)
-    print(difference)
+def report(story, difference, room):
+    """What differs and after which uses; the files that the program and the model left are kept."""
     kept = "soak-difference"
     shutil.rmtree(kept, ignore_errors=True)
     shutil.copytree(room, kept)
-    print("What the program left is in %s; the model's files are beside it, NAME.model" % kept)
     for name, held in story.world.files.items():
         with open(os.path.join(kept, name + ".model"), "wb") as file:
             file.write(held)
+    return "\n".join([
+        "tools/soak: a difference in the story %s, use %d" % (story.name, len(story.told)),
+        *("    " + text for text in story.told), str(difference),
+        "What the program left is in %s; the model's files are beside it, NAME.model" % kept])
+
+
+def play(program, seed, allowed, index):
+    """One story in a folder of its own, in memory where there is one: what it counted, and its difference or none."""
+    top = "/dev/shm" if os.path.isdir("/dev/shm") else None
+    with tempfile.TemporaryDirectory(dir=top) as room:
+        story = Story(program, seed, index, allowed, room)
+        try:
+            story.play()
+        except Difference as difference:
+            return story.counts, report(story, difference, room)
+        return story.counts, None
+
+
+def play_all(stories, sessions):
+    """Takes stories up to so many sessions, or a difference. The exit status."""
+    totals = {"stories": 0}
+    for counts, difference in stories:
+        if difference is not None:
+            print(difference)
+            return 1
+        totals["stories"] += 1
+        for name, count in counts.items():
+            totals[name] = totals.get(name, 0) + count
+        if totals["sessions"] >= sessions:
+            break
+    print("tools/soak: no difference: " + ", ".join("%d %s" % (count, name) for name, count in totals.items()))
+    return 0
 
 
 def main():
@@ -229,30 +258,20 @@ def main():
     parser.add_argument("--seed", help="any text; one is drawn without it, and printed")
     parser.add_argument("--story", type=int, help="this story alone")
     parser.add_argument("--only", help="these subcommands alone, with commas")
+    parser.add_argument("--jobs", type=int, default=1, help="how many stories are played at a time")
     given = parser.parse_args()
     program = os.path.abspath(given.program)
     seed = given.seed if given.seed is not None else str(random.SystemRandom().randrange(1000000))
     allowed = given.only.split(",") if given.only else None
+    one = functools.partial(play, program, seed, allowed)
+    if given.story is not None:
+        return play_all(map(one, [given.story]), 0)
     print("tools/soak: seed %s" % seed, flush=True)
-    top = "/dev/shm" if os.path.isdir("/dev/shm") else None
-    totals = {}
-    index = given.story or 0
-    while given.story is not None or totals.get("sessions", 0) < given.sessions:
-        with tempfile.TemporaryDirectory(dir=top) as room:
-            story = Story(program, seed, index, allowed, room)
-            try:
-                story.play()
-            except Difference as difference:
-                report(story, difference, room, program)
-                return 1
-            for name, count in story.counts.items():
-                totals[name] = totals.get(name, 0) + count
-        index += 1
-        if given.story is not None:
-            break
-    print("tools/soak: %d stories, no difference: %s" % (
-        index if given.story is None else 1, ", ".join("%d %s" % (count, name) for name, count in totals.items())))
-    return 0
+    if given.jobs == 1:
+        return play_all(map(one, itertools.count()), given.sessions)
+    with multiprocessing.Pool(given.jobs) as pool:
+        # more stories than are needed: each has 3 uses at least
+        return play_all(pool.imap(one, range(given.sessions)), given.sessions)
 
 
 if __name__ == "__main__":
