@@ -100,13 +100,10 @@ pub fn kept(rt: &HostRuntime, head: &[u8], size: usize, tail: &[u8]) -> Result<V
 
 /// Whether these are bytes of one value. A plain loop, since the sweeps look at a flash after each stop.
 pub fn is_all(bytes: &[u8], byte: u8) -> bool {
-    let size = bytes.len();
-    let mut place = 0;
-    while place < size {
-        if bytes[place] != byte {
+    for found in bytes {
+        if *found != byte {
             return false;
         }
-        place += 1;
     }
     true
 }

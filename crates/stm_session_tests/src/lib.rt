@@ -8,6 +8,8 @@ mod bad_devices;
 #[cfg(test)]
 mod bad_lines;
 #[cfg(test)]
+mod beginnings;
+#[cfg(test)]
 mod client;
 #[cfg(test)]
 mod devices;
