@@ -12,6 +12,8 @@ mod beginnings;
 #[cfg(test)]
 mod client;
 #[cfg(test)]
+mod comparing;
+#[cfg(test)]
 mod devices;
 #[cfg(test)]
 mod every_stop;
@@ -21,6 +23,8 @@ mod failing_calls;
 mod faults;
 #[cfg(test)]
 mod flipped_bytes;
+#[cfg(test)]
+mod full;
 #[cfg(test)]
 mod large;
 #[cfg(test)]
