@@ -3,7 +3,7 @@
 #               at bin/stmflash-unproved
 #   make        proves and builds bin/stmflash
 #   make test   the whole gate: every proof from nothing, the wrong bodies, the tests, the programs; then the demo, the
-#               program and the simulator over a real socket, and 60 kills of the program there (python3)
+#               program and the simulator over a real socket, 60 kills of the program there, and 300 random sessions (python3)
 #   make install PREFIX=/usr/local DESTDIR=
 #               the proved program, its manual page and the sample table
 #   make bench  builds what is measured, measures it beside its peers, and prints ratios (needs python3; Debian's binutils
