@@ -35,6 +35,11 @@ def is_there(tool):
 
 def best(words, runs, folder=None):
     """The least processor time of some runs, in seconds."""
+    return min(times_of(words, runs, folder))
+
+
+def times_of(words, runs, folder=None):
+    """The processor times of some runs, in seconds."""
     times = []
     for _ in range(runs):
         child = subprocess.Popen(words, cwd=folder, stdout=subprocess.DEVNULL, stderr=subprocess.DEVNULL)
@@ -43,7 +48,7 @@ def best(words, runs, folder=None):
         if status:
             sys.exit(f"failed: {' '.join(words)}")
         times.append(used.ru_utime + used.ru_stime)
-    return min(times)
+    return times
 
 
 def peak_of(words):

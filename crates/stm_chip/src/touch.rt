@@ -38,8 +38,7 @@ pub fn is_inside_flash(chip: &Chip, image: &Image) -> bool
     ensures inside { IsTrue result ↔ ¬ HasOutside chip.now image.now }
     ensures outside { result ≡ false → HasOutside chip.now image.now }
 {
-    let end = u64::from(chip.base()) + u64::from(chip.flash_size());
-    !has_before(image, chip.base()) && !has_from(image, end)
+    !has_before(image, chip.base()) && !has_from(image, chip.end())
 }
 
 /// Whether a place of the image lies among the `size` bytes from `start` on.

@@ -21,7 +21,8 @@ use Rattle.stm_session.specs.Fault.{IsOutsideFault}
 use Rattle.stm_session.specs.Information.{Informs, IsInfoOf}
 use Rattle.stm_session.specs.Moments.{IsSafe, IsUnbegun, SameMake}
 use Rattle.stm_session.specs.Refusal.{AnswersRefusal, AnswersUnsent, Refuses, RefusesUnsent, chip_with, device_refusals, first_refusal, opening_refusal, refused_unless, unsent_refusal}
-use Rattle.stm_session.specs.Refusals.{refusal_of}
+use Rattle.stm_session.specs.Meaning.{commands_in}
+use Rattle.stm_session.specs.Refusals.{run_refusal}
 use Rattle.stm_session.specs.Running.{AreRead, RunsReads}
 use Rattle.stm_session.specs.Undoable.{Undoable, is_unfinished_at, risked_pages, state_at}
 use Rattle.stm_client.specs.Keeping.{CanBegin, HoldsIts, IsKept, Keeps}
@@ -180,17 +181,17 @@ info_unrefused laws table flashes old new result can informs none =
 
 -- without the device's chip in the table a finished journal is refused
 new_is_refused : IsLacking → (table : List ChipData) (flashes : List (List ℕ)) (d : Device) (journal : List ℕ) (commands : List Command) → Undoable flashes d journal → is_unfinished_at journal ≡ false
-    → IsNewId table d.chip.id → refusal_of (journal_of journal) d table commands ≡ Some (UnknownChip d.chip.id)
+    → IsNewId table d.chip.id → run_refusal (journal_of journal) d table (commands_in commands) ≡ Some (UnknownChip d.chip.id)
 new_is_refused lacking table flashes d journal commands u finished new_id =
-    ap (λ j. refusal_of j d table commands) u.good_journal ∙ rw (finished, u.own, lacking table d.chip.id new_id) refl
+    ap (λ j. run_refusal j d table (commands_in commands)) u.good_journal ∙ rw (finished, u.own, lacking table d.chip.id new_id) refl
 
-unrefused_run_finished : (flashes : List (List ℕ)) (d : Device) (journal : List ℕ) (table : List ChipData) (commands : List Command) → Undoable flashes d journal → refusal_of (journal_of journal) d table commands ≡ None
+unrefused_run_finished : (flashes : List (List ℕ)) (d : Device) (journal : List ℕ) (table : List ChipData) (commands : List Command) → Undoable flashes d journal → run_refusal (journal_of journal) d table (commands_in commands) ≡ None
     → is_unfinished_at journal ≡ false
 unrefused_run_finished flashes d journal table commands u none = by_stage (is_unfinished_at journal) refl
   where
     by_stage : (b : Bool) → is_unfinished_at journal ≡ b → is_unfinished_at journal ≡ false
     by_stage true e =
-        let said : refusal_of (journal_of journal) d table commands ≡ Some Unfinished = ap (λ (j : JournalData). refusal_of j d table commands) u.good_journal ∙ rw e refl in
+        let said : run_refusal (journal_of journal) d table (commands_in commands) ≡ Some Unfinished = ap (λ (j : JournalData). run_refusal j d table (commands_in commands)) u.good_journal ∙ rw e refl in
         absurd (let h : None ≡ Some Unfinished = sym none ∙ said in cc)
     by_stage false e = e
 
@@ -198,21 +199,21 @@ unrefused_run_finished flashes d journal table commands u none = by_stage (is_un
 module _ {T : Type 0} (laws : Laws) (lacking : IsLacking) (table : List ChipData) (commands : List Command) (flashes : List (List ℕ)) (old new : RigState) (result : Result T Fault) (outcomes_of : T → List Outcome)
     (can : CanBegin table flashes old)
     (unsent : (fault : Fault) → unsent_refusal (journal_of old.journal) ≡ Some fault → RefusesUnsent (IsUntouched old) fault old new result)
-    (refused : IsSafe old.device → (fault : Fault) → refusal_of (journal_of old.journal) old.device table commands ≡ Some fault → Refuses (IsUnbegun old) fault old new result)
-    (reads : IsSafe old.device → IsChipWith table old.device.chip.id old.device.chip → refusal_of (journal_of old.journal) old.device table commands ≡ None → RunsReads commands old new result outcomes_of) where
-  runs_unrefused : is_unfinished_at old.journal ≡ false → refusal_of (journal_of old.journal) old.device table commands ≡ None → RunsReads commands old new result outcomes_of
+    (refused : IsSafe old.device → (fault : Fault) → run_refusal (journal_of old.journal) old.device table (commands_in commands) ≡ Some fault → Refuses (IsUnbegun old) fault old new result)
+    (reads : is_unfinished_at old.journal ≡ false → IsChipWith table old.device.chip.id old.device.chip → run_refusal (journal_of old.journal) old.device table (commands_in commands) ≡ None → RunsReads commands old new result outcomes_of) where
+  runs_unrefused : is_unfinished_at old.journal ≡ false → run_refusal (journal_of old.journal) old.device table (commands_in commands) ≡ None → RunsReads commands old new result outcomes_of
   runs_unrefused finished none =
       let own : IsChipWith table old.device.chip.id old.device.chip =
       ⊎_elim (λ new_id. absurd (let h : None ≡ Some (UnknownChip old.device.chip.id) = sym none ∙ new_is_refused lacking table flashes old.device old.journal commands can.undoable finished new_id in cc)) (λ is. is) can.tabled in
-      reads (safe_now laws flashes old can.undoable finished) own none
+      reads finished own none
 
-  pub run_unrefused : refusal_of (journal_of old.journal) old.device table commands ≡ None → IfErr result IsOutsideFault
+  pub run_unrefused : run_refusal (journal_of old.journal) old.device table (commands_in commands) ≡ None → IfErr result IsOutsideFault
   run_unrefused none = (runs_unrefused (unrefused_run_finished flashes old.device old.journal table commands can.undoable none) none).fails
 
   pub run_keeps : Keeps flashes old new result (λ x. AreRead old.device commands (outcomes_of x))
   run_keeps = by_stage (is_unfinished_at old.journal) refl
     where
-      by_refusal : is_unfinished_at old.journal ≡ false → (r : Option Fault) → refusal_of (journal_of old.journal) old.device table commands ≡ r → Keeps flashes old new result (λ x. AreRead old.device commands (outcomes_of x))
+      by_refusal : is_unfinished_at old.journal ≡ false → (r : Option Fault) → run_refusal (journal_of old.journal) old.device table (commands_in commands) ≡ r → Keeps flashes old new result (λ x. AreRead old.device commands (outcomes_of x))
       by_refusal finished (Some fault) e =
           keeps_refused laws flashes old can.undoable finished new fault result (subst IsOtherThere e (refusal_other (journal_of old.journal) old.device table commands))
           (refused (safe_now laws flashes old can.undoable finished) fault e)

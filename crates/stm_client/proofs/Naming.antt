@@ -1,15 +1,17 @@
 -- No refusal says that the device doesn't follow the protocol.
-use Rattle.std.proofs.Common.{◌≡◌, ◌⊎◌, ⊎_elim, ℕ, Bool, true, false, not, List, [], ◌∷◌, ◌++◌, Option, Some, None, option_map, Result, Ok, Err, IfErr, sym, ◌∙◌, subst}
+use Rattle.std.proofs.Common.{◌≡◌, ◌⊎◌, ⊎_elim, ℕ, ◌+◌, ◌||◌, nat_le, length, Bool, true, false, not, List, [], ◌∷◌, ◌++◌, Option, Some, None, option_map, Result, Ok, Err, IfErr, sym, ◌∙◌, subst}
+use Rattle.std.specs.List.{list_all, list_any}
 use Rattle.stm_wire.specs.Chip.{ChipData}
 use Rattle.stm_wire.specs.Device.{Device}
 use Rattle.stm_journal.specs.Journals.{JournalData, good, bad}
 use Rattle.stm_journal.specs.States.{StateData, is_unfinished, names_other}
 use Rattle.stm_session.specs.declared.command.Command.{Command}
 use Rattle.stm_session.specs.declared.fault.Fault.{Fault}
-use Rattle.stm_session.specs.declared.fault.Fault.TheVariants.{Unfinished, UnknownChip, OutOfFlash, BadJournal, OtherDevice, Device as DeviceFault}
+use Rattle.stm_session.specs.declared.fault.Fault.TheVariants.{Unfinished, UnknownChip, OutOfFlash, NoErase, Full, BadJournal, OtherDevice, Device as DeviceFault}
 use Rattle.stm_session.specs.Fault.{IsJournalOrMemory, IsOutsideFault}
 use Rattle.stm_session.specs.Refusal.{AnswersRefusal, AnswersUnsent, chip_with, first_refusal, opening_refusal, refused_unless, table_refusal}
-use Rattle.stm_session.specs.Refusals.{range_refusal, refusal_of}
+use Rattle.stm_session.specs.Meaning.{CommandData, changes_of, commands_in, is_change}
+use Rattle.stm_session.specs.Refusals.{can_erase, commands_refused, lies_in_flash, run_refusal}
 
 abbrev pub IsOther : Fault → Type 0
 IsOther fault = fault ≡ DeviceFault → ⊥
@@ -40,12 +42,20 @@ opening_other (good s) d table =
     first_other _ _ (unless_other (not (is_unfinished s)) Unfinished (λ e. cc))
     (first_other _ _ (unless_other (not (names_other d.chip.id s)) OtherDevice (λ e. cc)) (first_other _ _ (table_other s d.chip.id (chip_with table d.chip.id)) tt))
 
-range_other : (chip : Option ChipData) (commands : List Command) → IsOtherThere (range_refusal chip commands)
-range_other None commands = tt
-range_other (Some chip) commands = unless_other _ OutOfFlash (λ e. cc)
+three_other : (can_erase inside room : Bool) → IsOtherThere (first_refusal (refused_unless can_erase NoErase ∷ refused_unless inside OutOfFlash ∷ refused_unless room Full ∷ []))
+three_other false inside room = λ e. cc
+three_other true false room = λ e. cc
+three_other true true false = λ e. cc
+three_other true true true = tt
 
-pub refusal_other : (j : JournalData) (d : Device) (table : List ChipData) (commands : List Command) → IsOtherThere (refusal_of j d table commands)
-refusal_other j d table commands = first_other _ _ (opening_other j d table) (first_other _ _ (range_other (chip_with table d.chip.id) commands) tt)
+commands_other : (j : JournalData) (d : Device) (chip : Option ChipData) (commands : List CommandData) → IsOtherThere (commands_refused j d chip commands)
+commands_other (bad line) d chip commands = tt
+commands_other (good s) d None commands = tt
+commands_other (good s) d (Some chip) commands =
+    three_other (not (list_any is_change commands) || can_erase chip d) (list_all (lies_in_flash chip) commands) (nat_le (length s.stack + length (changes_of commands)) 65535)
+
+pub refusal_other : (j : JournalData) (d : Device) (table : List ChipData) (commands : List Command) → IsOtherThere (run_refusal j d table (commands_in commands))
+refusal_other j d table commands = first_other _ _ (opening_other j d table) (first_other _ _ (commands_other j d (chip_with table d.chip.id) (commands_in commands)) tt)
 
 pub outside_other : (fault : Fault) → IsOutsideFault fault → IsOther fault
 outside_other fault outside e = subst IsOutsideFault e outside

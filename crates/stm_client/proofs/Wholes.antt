@@ -1,6 +1,7 @@
 -- The whole flash of a device that was asked what it is.
 use Rattle.std.proofs.Common.{◌≡◌, ◌⊎◌, ⊎_elim, ℕ, ◌-◌, ◌||◌, ◌==◌, Bool, true, false, List, [], ◌∷◌, length, take, drop, map, Some, None, refl, sym, ◌∙◌, ap, ap₂, subst, arith, take_all}
 use Rattle.std.proofs.lemmas.Bool.Decides.{nat_tests}
+use Rattle.std.specs.List.{list_all}
 use Rattle.std.specs.Prelude.{Contains}
 use Rattle.stm_wire.specs.Chip.{ChipData, flash_size, fits_inside}
 use Rattle.stm_wire.specs.Device.{Device}
@@ -13,8 +14,9 @@ use Rattle.stm_session.specs.declared.information.Info.{Info}
 use Rattle.stm_session.specs.declared.outcome.Outcome.{Outcome}
 use Rattle.stm_session.specs.Information.{Describes}
 use Rattle.stm_session.specs.Refusal.{chip_with, opening_refusal}
-use Rattle.stm_session.specs.Refusals.{is_in_flash, range_refusal, refusal_of}
-use Rattle.stm_session.specs.Running.{AreRead, bytes_at, bytes_of}
+use Rattle.stm_session.specs.Meaning.{commands_in}
+use Rattle.stm_session.specs.Refusals.{is_in_flash, run_refusal}
+use Rattle.stm_session.specs.Running.{AreRead, bytes_at, bytes_of, is_read}
 use Rattle.stm_client.specs.Keeping.{HoldsIts, IsKept}
 
 whole_inside : (chip : ChipData) → fits_inside chip chip.base (flash_size chip) ≡ true
@@ -63,8 +65,10 @@ module _ (table : List ChipData) (d : Device) (info : Info) (tabled : HoldsIts t
       tabled
 
   -- nothing is refused of a read of the whole
-  pub told_unrefused : (held : (table : List ChipData) (id : ℕ) (chip : ChipData) → IsChipWith table id chip → chip_with table id ≡ Some chip) (journal : List ℕ)
-      → opening_refusal (journal_of journal) d table ≡ None → refusal_of (journal_of journal) d table (Read info.base info.size ∷ []) ≡ None
-  told_unrefused held journal none =
-      ap₂ (λ (b s : ℕ). refusal_of (journal_of journal) d table (Read b s ∷ [])) base_is size_is
-      ∙ rw (none, held table d.chip.id d.chip own_chip, whole_in_flash d.chip) refl
+  pub told_unrefused : (held : (table : List ChipData) (id : ℕ) (chip : ChipData) → IsChipWith table id chip → chip_with table id ≡ Some chip)
+      → ((journal : List ℕ) (d : Device) (table : List ChipData) (chip : ChipData) (commands : List Command) → list_all is_read commands ≡ true → opening_refusal (journal_of journal) d table ≡ None
+      → chip_with table d.chip.id ≡ Some chip → list_all (is_in_flash chip) commands ≡ true → run_refusal (journal_of journal) d table (commands_in commands) ≡ None)
+      → (journal : List ℕ) → opening_refusal (journal_of journal) d table ≡ None → run_refusal (journal_of journal) d table (commands_in (Read info.base info.size ∷ [])) ≡ None
+  told_unrefused held reads journal none =
+      ap₂ (λ (b s : ℕ). run_refusal (journal_of journal) d table (commands_in (Read b s ∷ []))) base_is size_is
+      ∙ reads journal d table d.chip (Read d.chip.base (flash_size d.chip) ∷ []) refl none (held table d.chip.id d.chip own_chip) (rw (whole_in_flash d.chip) refl)

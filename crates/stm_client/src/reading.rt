@@ -5,15 +5,16 @@ ghost use Rattle.stm_journal.specs.Journals.{journal_of};
 ghost use Rattle.stm_session.specs.Fault.{IsOutsideFault};
 ghost use Rattle.stm_session.specs.Information.{Describes, IsInfoOf};
 ghost use Rattle.stm_session.specs.Refusal.{opening_refusal};
-ghost use Rattle.stm_session.specs.Refusals.{refusal_of};
+ghost use Rattle.stm_session.specs.Meaning.{commands_in};
+ghost use Rattle.stm_session.specs.Refusals.{run_refusal};
 ghost use Rattle.stm_session.specs.Running.{AreRead, bytes_of, is_read};
 ghost use Rattle.stm_client.specs.Keeping.{CanBegin, Keeps};
 
 use std::alloc::Global;
 use stm_chip::Table;
 use stm_session::{
-    Command, Fault, Info, Report, a_chip_is_looked_up_by_its_id,
-    asking_keeps_what_can_be_taken_back, info, run,
+    Command, Fault, Info, Report, a_chip_is_looked_up_by_its_id, a_run_of_reads_begins_no_segment,
+    asking_keeps_what_can_be_taken_back, info, reads_in_the_flash_are_not_refused, run,
 };
 use stm_wire::{Rig, harmless_is_kept};
 
@@ -47,12 +48,14 @@ pub fn read<R: Rig>(
         (λ report. AreRead old.device commands.now report.outcomes.items) }
     ensures unrefused { let old = R.view rig.old in
         (flashes : List (List ℕ)) → CanBegin table.now flashes old
-        → refusal_of (journal_of old.journal) old.device table.now commands.now ≡ None
+        → let commands = commands_in commands.now in
+        run_refusal (journal_of old.journal) old.device table.now commands ≡ None
         → IfErr result IsOutsideFault }
 {
     harmless_is_kept();
     asking_keeps_what_can_be_taken_back();
     a_chip_is_looked_up_by_its_id();
+    a_run_of_reads_begins_no_segment::<R>();
     run(alloc, rig, table, commands)
 }
 
@@ -89,6 +92,7 @@ pub fn read_flash<R: Rig>(alloc: Global, rig: &mut R, table: &Table) -> Result<R
         → IfErr result IsOutsideFault }
 {
     a_chip_is_looked_up_by_its_id();
+    reads_in_the_flash_are_not_refused();
     let told = tell(alloc, rig, table)?;
     let commands = [Command::Read {
         start: told.base,

@@ -1,14 +1,12 @@
 // Sessions that change the flash, on a device that nothing was begun on: written, and stopped and taken back.
-ghost use Rattle.std.specs.Prelude.{◌≡◌, IfOk, IfSome};
-ghost use Rattle.stm_image.specs.Lay.{lay};
+ghost use Rattle.std.specs.Prelude.{◌≡◌, IfOk};
 ghost use Rattle.stm_wire.specs.Memory.{rig_state};
-ghost use Rattle.stm_chip.specs.Document.{IsChipWith};
 ghost use Rattle.stm_session.specs.Headline.{IsStart, now_of};
 
 use std::alloc::Global;
 use stm_chip::Table;
 use stm_session::{
-    Command, Fault, Report, a_ready_device_can_begin, a_session_can_be_taken_back, run, undo,
+    Command, Fault, a_ready_device_can_begin, a_session_can_be_taken_back, run, undo,
 };
 use stm_wire::MemoryRig;
 

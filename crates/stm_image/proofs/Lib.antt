@@ -18,5 +18,4 @@ pub mod Scanning
 pub mod Sets
 pub mod Standing
 pub mod Tables
-pub mod Upper
 pub mod Verdicts

@@ -18,6 +18,10 @@ use Rattle.stm_image.proofs.Running.{pairs_at-append, ends_before, none_from, be
 pub byte_of_piece : (bytes : List ℕ) (p : Piece) (k : ℕ) → k < size_of p → slice_index (bytes_at bytes p) k ≡ slice_index bytes (p.place + k)
 byte_of_piece bytes p k lt = get_or-take (size_of p) (drop p.place bytes) k 0 lt ∙ get_or-drop p.place bytes k 0
 
+-- a pair of a piece
+in_place : (bytes : List ℕ) (p : Piece) (k a b : ℕ) → k < length (bytes_at bytes p) → p.first + k ≡ a → slice_index (bytes_at bytes p) k ≡ b → Contains (pairs_of_piece bytes p) (a, b)
+in_place bytes p k a b lt at byte = subst (λ (r : ℕ × ℕ). Contains (pairs_of_piece bytes p) r) (ap₂ (λ (x y : ℕ). (x, y)) at byte) (raw_holds p.first (bytes_at bytes p) k lt)
+
 -- where pieces stand that come before one, and after it
 pub Stand-split : (from to : ℕ) (front : List Piece) (p : Piece) (back : List Piece) → Stand from to (front ++ p ∷ back) → Stand from p.place front × Stand p.place to (p ∷ back)
 Stand-split from to [] p back (at, order, fits, more) = (sym at, (refl, order, fits, subst (λ n. Stand (n + size_of p) to back) (sym at) more))
@@ -154,8 +158,7 @@ module _ (bytes : List ℕ) (list : List Piece) (n : ℕ) (p : Piece) (stand : S
         let within = stands_within 0 (length bytes) list q stand s.held in
         let fits = within.ends in
         let long = length-bytes_at to q (omega arith) in
-        let held : Contains (pairs_of_piece to q) (q.first + k, slice_index (bytes_at to q) k) = raw_holds q.first (bytes_at to q) k (omega (arith, s.within)) in
-        let moved : Contains (pairs_of_piece to q) (a, b) = subst (λ (r : ℕ × ℕ). Contains (pairs_of_piece to q) r) (ap₂ (λ (x y : ℕ). (x, y)) s.at byte) held in
+        let moved = in_place to q k a b (omega (arith, s.within)) s.at byte in
         byte_held (pairs_at to list) a b (rises_apart to 0 (length bytes) 0 list stand apart) (holds_piece to list q (a, b) s.held moved)
 
     pub puts_over : IsPutOver (pairs_at bytes list) address more (pairs_at new list)
@@ -172,8 +175,7 @@ module _ (bytes : List ℕ) (list : List Piece) (n : ℕ) (p : Piece) (stand : S
       let short : k < size_of p = omega arith in
       let byte : slice_index (bytes_at new p) k ≡ slice_index more i = byte_of_piece new p k short ∙ ap (slice_index new) place ∙ put.over i inside (omega arith) in
       let long = length-bytes_at new p (omega arith) in
-      let held : Contains (pairs_of_piece new p) (p.first + k, slice_index (bytes_at new p) k) = raw_holds p.first (bytes_at new p) k (omega arith) in
-      let moved : Contains (pairs_of_piece new p) (address + i, slice_index more i) = subst (λ (r : ℕ × ℕ). Contains (pairs_of_piece new p) r) (ap₂ (λ (x y : ℕ). (x, y)) at byte) held in
+      let moved = in_place new p k (address + i) (slice_index more i) (omega arith) at byte in
       byte_held (pairs_at new list) (address + i) (slice_index more i) (rises_apart new 0 (length bytes) 0 list stand apart) (holds_piece new list p (address + i, slice_index more i) there moved);
       outside = λ a out. of_byte a out (byte_at (pairs_at bytes list) a) (byte_at (pairs_at new list) a) refl refl;
     }

@@ -1,6 +1,6 @@
 //! Prints records.
-ghost use Rattle.std.specs.Prelude.{◌≡◌, ◌≤◌, ◌+◌, ◌*◌, ◌++◌, ◌∷◌, [], take, length, OnOk};
-ghost use Rattle.hex.specs.Hex.{encode_upper};
+ghost use Rattle.std.specs.Prelude.{◌≡◌, ◌<◌, ◌≤◌, ◌+◌, ◌*◌, ◌++◌, ◌∷◌, [], take, length, slice_index, OnOk};
+ghost use Rattle.hex.specs.Hex.{encode_upper, upper_digits};
 ghost use Rattle.stm_image.specs.Canon.{line, upper_line};
 
 use crate::step::sum_of;
@@ -11,8 +11,19 @@ fn print_digits(bytes: &[u8], out: &mut [u8])
     requires { length out.old ≡ 2 * length bytes.now }
     ensures { out.new ≡ encode_upper bytes.now }
 {
-    let _ = hex::encode_to_slice(bytes, out);
-    out.make_ascii_uppercase();
+    'bytes: for i in 0..bytes.len() {
+        let byte = bytes[i];
+        out[2 * i] = digit_of(byte / 16);
+        out[2 * i + 1] = digit_of(byte % 16);
+    }
+}
+
+// The digit of a value.
+fn digit_of(value: u8) -> u8
+    requires { value < 16 }
+    ensures { result ≡ slice_index upper_digits value }
+{
+    if value < 10 { b'0' + value } else { b'A' + (value - 10) }
 }
 
 // Prints bytes into a line, behind its first byte.

@@ -20,6 +20,7 @@ use Rattle.stm_session.specs.declared.fault.Fault.{Fault}
 use Rattle.stm_session.specs.Fault.{IsOutsideFault}
 use Rattle.stm_session.specs.GoingBack.{AmidBack, GoesBack, going_lines}
 use Rattle.stm_session.specs.Lines.{is_torn_at, text_added, undo_entries}
+use Rattle.stm_session.specs.Order.{Follows, AreTakenBack}
 use Rattle.stm_session.specs.Sending.{most_of_command}
 use Rattle.stm_session.specs.StepLaws.{StepLaws}
 use Rattle.stm_session.specs.Steps.{IsSteady, Stands, torn_after}
@@ -254,4 +255,5 @@ pub record IsBackSoFar (chip : ChipData) (i : ℕ) (l l2 : Loaded) (old new : Ri
   pub line : old.line_failures ≤ new.line_failures
   pub journal : old.journal_failures ≤ new.journal_failures
   pub puts : GoesOn (IsPart (Some chip) true (i * most_of_command)) old.calls new.calls
+  pub order : Follows (AreTakenBack chip i (pages_of_segments l.state.stack)) l l2 old new
   pub honest : (flashes : List (List ℕ)) → IsSteady flashes l old → old.device.chip ≡ chip → GoesBack {T = Unit {0}} i flashes l2 old new (Ok tt)

@@ -13,7 +13,7 @@ use Rattle.stm_session.specs.Moments.{IsSafe}
 use Rattle.stm_session.specs.Opening.{Opens}
 use Rattle.stm_session.specs.Promises.{InfoContract}
 use Rattle.stm_session.specs.Refusal.{RefusesUnsent, unsent_refusal}
-use Rattle.stm_session.proofs.OpenedRuns.{informs_all, informs_nothing}
+use Rattle.stm_session.proofs.Informing.{informs_all, informs_nothing}
 
 -- the session isn't opened
 pub info_unopened : (table : List ChipData) (old new : RigState) (e : Fault) (result : Result Info Fault)

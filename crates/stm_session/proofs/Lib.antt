@@ -4,10 +4,10 @@ pub mod Leavings
 mod Forgetting
 pub mod Misfits
 pub mod Openings
-pub mod OpenedRuns
+pub mod Informing
 pub mod InfoContracts
 pub mod Ranges
-pub mod ReadCommands
+pub mod OutcomeKinds
 pub mod Sending
 pub mod Unbegun
 pub mod Undoing
@@ -22,6 +22,7 @@ pub mod Erasings
 pub mod Frames
 pub mod Programmings
 pub mod SentParts
+pub mod Orders
 pub mod PageSums
 pub mod Settlings
 pub mod Restorings
@@ -36,6 +37,7 @@ pub mod Undone
 pub mod SentUndo
 pub mod Savings
 pub mod SentChanges
+pub mod ChangeOrders
 pub mod Changes
 pub mod Turns
 pub mod Beginnings
@@ -44,4 +46,11 @@ pub mod CommandChecks
 pub mod Comparisons
 pub mod Commandings
 pub mod Doings
+pub mod CommandLists
+pub mod Runs
+pub mod RunEnds
+pub mod RunStarts
+pub mod RunLoop
+pub mod RunContracts
+pub mod ReadRuns
 pub mod OneCommands

@@ -142,7 +142,7 @@ pub on_err : {T : Type 0} (P : Fault → Type 0) (r : Result T Fault) (e : Fault
 on_err P (Ok x) e is p = tt
 on_err P (Err x) e is p = subst P (sym is) p
 
-alone : (x : Option Fault) → first_refusal (x ∷ []) ≡ x
+pub alone : (x : Option Fault) → first_refusal (x ∷ []) ≡ x
 alone None = refl
 alone (Some fault) = refl
 

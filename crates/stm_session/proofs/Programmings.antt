@@ -1,5 +1,5 @@
 -- A page that the newest segment keeps is written, frame by frame.
-use Rattle.std.proofs.Common.{◌≡◌, inr, ℕ, ◌+◌, ◌-◌, ◌*◌, ◌<◌, ◌≤◌, true, List, [], length, append-nil, get_or, take, drop, replicate, Some, Result, Ok, IsErrAnd, refl, sym, ◌∙◌, ap, subst, arith, IsTrue}
+use Rattle.std.proofs.Common.{◌≡◌, inr, ℕ, ◌+◌, ◌-◌, ◌*◌, ◌<◌, ◌≤◌, Bool, true, List, [], length, append-nil, get_or, take, drop, replicate, Some, Result, Ok, IsErrAnd, refl, sym, ◌∙◌, ap, subst, arith, IsTrue}
 use Rattle.std.proofs.lemmas.Bool.Decides.{nat_tests}
 use Rattle.stm_wire.specs.declared.fault.WireFault.{WireFault}
 use Rattle.stm_wire.specs.declared.fault.WireFault.TheVariants.{Line}
@@ -23,6 +23,7 @@ use Rattle.stm_journal.specs.declared.entry.Entry.{Entry}
 use Rattle.stm_journal.specs.Journals.{Loaded}
 use Rattle.stm_session.specs.declared.fault.Fault.{Fault}
 use Rattle.stm_session.specs.Fault.{fault_of}
+use Rattle.stm_session.specs.Order.{IsInOrder, write_steps}
 use Rattle.stm_session.specs.StepLaws.{StepLaws}
 use Rattle.stm_session.specs.Steps.{IsSteady, Goes, IsUnder}
 use Rattle.stm_session.specs.Undoable.{state_at}
@@ -85,6 +86,7 @@ pub record IsProgrammedSoFar (chip : ChipData) (n : ℕ) (page : List ℕ) (fram
   pub line : old.line_failures ≤ new.line_failures
   pub journal : old.journal_failures ≤ new.journal_failures
   pub puts : GoesOn (IsPart (Some chip) true (268 * length frames)) old.calls new.calls
+  pub order : (torn : Bool) → GoesOn (IsInOrder torn (write_steps chip n page frames)) old.calls new.calls
   pub honest : (flashes : List (List ℕ)) (l : Loaded) (base : List ℕ) → IsSteady flashes l old → old.device.chip ≡ chip → IsUnder n (Program n) (state_at old.journal) → length base ≡ flash_size chip
       → old.device.flash ≡ with_page chip n (erased_page chip n) base
       → Goes {T = Unit {0}} flashes [] l old new (Ok tt) (λ x. new.device.flash ≡ with_page chip n (written page frames (erased_page chip n)) base)

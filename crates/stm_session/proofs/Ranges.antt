@@ -1,5 +1,5 @@
 -- Parts of a flash: that they lie inside it, and how a part grows by the block after it.
-use Rattle.std.proofs.Common.{◌≡◌, ℕ, zero, suc, Bool, ◌+◌, ◌-◌, ◌<◌, ◌≤◌, ◌||◌, ◌==◌, ◌⊎◌, inl, inr, IsTrue, List, ◌++◌, take, drop, Result, Ok, Some, true, ◌*◌, sym, ◌∙◌, ap, ap₂, arith}
+use Rattle.std.proofs.Common.{◌≡◌, ℕ, zero, suc, Bool, ◌+◌, ◌-◌, ◌%◌, ◌/◌, ◌<◌, ◌≤◌, ◌||◌, ◌==◌, ◌⊎◌, inl, inr, IsTrue, List, [], ◌∷◌, ◌++◌, take, drop, Option, subst, Result, Ok, Some, true, ◌*◌, sym, ◌∙◌, ap, ap₂, arith}
 use Rattle.std.proofs.lemmas.Bool.{cases_order}
 use Rattle.std.proofs.lemmas.Bool.Decides.{nat_tests}
 use Rattle.std.proofs.lemmas.List.{drop-drop}
@@ -7,6 +7,7 @@ use Rattle.std.proofs.Math.Seq.{take-add}
 use Rattle.stm_wire.specs.Chip.{ChipData, flash_size, fits_inside, page_count, page_offset, page_size, IsChip}
 use Rattle.stm_wire.specs.Device.{IsSettled}
 use Rattle.stm_wire.specs.Dialogue.{GoesOn}
+use Rattle.stm_wire.specs.Frames.{read_frame}
 use Rattle.stm_wire.specs.Intents.{InPage}
 use Rattle.stm_wire.specs.PageLaws.{page_end}
 use Rattle.stm_wire.specs.Parts.{IsPart}
@@ -15,8 +16,10 @@ use Rattle.stm_wire.specs.Rig.{RigState}
 use Rattle.stm_session.specs.declared.fault.Fault.{Fault}
 use Rattle.stm_session.specs.Asking.{Asks}
 use Rattle.stm_session.specs.Reading.{IsBlock, IsPageRest}
+use Rattle.stm_session.specs.Order.{IsInOrder, Sends, read_steps}
 use Rattle.stm_session.specs.Running.{bytes_at}
 use Rattle.stm_session.proofs.Asking.{asks_then, settled_still}
+use Rattle.stm_session.proofs.Orders.{blocks_next}
 use Rattle.stm_session.proofs.Sending.{block_in_page}
 
 -- bytes within the flash, where there are any
@@ -40,6 +43,12 @@ pub record IsReadInPage (chip : ChipData) (size done : ℕ) (old new : RigState)
   pub blocks : done < size → most ≤ 2 * done
   pub parts : GoesOn (IsPart (Some chip) true most) old.calls new.calls
 
+-- those blocks are read, rising
+pub record AreBlocksRead (start done : ℕ) (torn : Bool) (old new : RigState) : Type 0 where
+  pub blocks : ℕ
+  pub is : done ≡ 256 * blocks
+  pub steps : GoesOn (IsInOrder torn (read_steps start blocks)) old.calls new.calls
+
 -- how far the bytes of a range are read
 pub record IsReadSoFar (chip : ChipData) (start size done : ℕ) (bytes : List ℕ) (old new : RigState) : Type 0 where
   pub within : done ≤ size
@@ -47,6 +56,7 @@ pub record IsReadSoFar (chip : ChipData) (start size done : ℕ) (bytes : List �
   pub journal : old.journal_failures ≤ new.journal_failures
   pub parts : GoesOn (IsPart (Some chip) true (13 * done)) old.calls new.calls
   pub few : (page : ℕ) → InPage chip page start size → IsReadInPage chip size done old new
+  pub order : (page : ℕ) → InPage chip page start size → size % 256 ≡ 0 → (torn : Bool) → AreBlocksRead start done torn old new
   pub honest : old.is_honest → IsSettled old.device → old.device.chip ≡ chip
       → Asks {T = Unit {0}} old new (Ok tt) (λ x. bytes ≡ bytes_at chip old.device.flash start done)
 
@@ -116,3 +126,33 @@ module _ (chip : ChipData) (start size done block page : ℕ) (old mid new : Rig
         blocks = λ (lt : done + block < size). omega (arith, so_far.blocks more, lt, is.cut, left, within.ends);
         parts = parts_join (Some chip) true so_far.most (12 + block) old.calls mid.calls new.calls so_far.parts (reads in_page.0 in_page.1);
       }
+
+-- one block of 256 bytes more
+module _ (chip : ChipData) (start size done block page : ℕ) (torn : Bool) (old mid new : RigState) (more : done < size) (so_far : AreBlocksRead start done torn old mid) (is : IsBlock chip (start + done) (size - done) block)
+    (within : InPage chip page start size) (even : size % 256 ≡ 0) (reads : GoesOn (IsInOrder torn (Sends (read_frame (start + done) block) ∷ [])) mid.calls new.calls) where
+  rest_is : start + done + is.rest ≡ chip.base + page_offset chip page + page_size chip page
+  rest_is = rest_of_page chip page (start + done) is.rest within.exists (omega (arith, within.begins)) (omega (arith, within.ends, more)) is.is_rest
+
+  left_is : done + 256 ≤ size
+  left_is = omega (arith, so_far.is, even, more)
+
+  whole_block : block ≡ 256
+  whole_block = omega (arith, left_is, is.cut, rest_is, within.ends)
+
+  pub blocks_more : AreBlocksRead start (done + block) torn old new
+  blocks_more =
+      let at : start + done ≡ start + 256 * so_far.blocks = omega (arith, so_far.is) in
+      let P : ℕ → Type 0 = λ k. GoesOn (IsInOrder torn (Sends (read_frame k 256) ∷ [])) mid.calls new.calls in
+      let Q : ℕ → Type 0 = λ z. GoesOn (IsInOrder torn (Sends (read_frame (start + done) z) ∷ [])) mid.calls new.calls in
+      record {
+        blocks = suc so_far.blocks;
+        is = omega (arith, so_far.is, whole_block);
+        steps = blocks_next torn start so_far.blocks old.calls mid.calls new.calls so_far.steps (subst P at (subst Q whole_block reads));
+      }
+
+-- all of them
+pub blocks_all : (start size done : ℕ) (torn : Bool) (old new : RigState) → done ≡ size → AreBlocksRead start done torn old new → GoesOn (IsInOrder torn (read_steps start (size / 256))) old.calls new.calls
+blocks_all start size done torn old new all read =
+    let is : read.blocks ≡ size / 256 = omega (arith, read.is, all) in
+    let P : ℕ → Type 0 = λ k. GoesOn (IsInOrder torn (read_steps start k)) old.calls new.calls in
+    subst P is read.steps

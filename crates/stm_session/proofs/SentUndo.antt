@@ -18,7 +18,7 @@ sends_failed table count old new e (Ok n) is p = absurd is
 sends_failed table count old new e (Err x) is p = let P : Fault → Type 0 = λ y. SendsAsUndo table count old new (Err y) in subst P (sym is) p
 
 -- the chip of the table that was found by an id
-own-id : (table : List ChipData) (id : ℕ) (chip : ChipData) → IsChipWith table id chip → IsChipWith table chip.id chip
+pub own-id : (table : List ChipData) (id : ℕ) (chip : ChipData) → IsChipWith table id chip → IsChipWith table chip.id chip
 own-id table id chip is = record { id_is = refl; held = is.held; only = λ other held same. is.only other held (same ∙ is.id_is) }
 
 module _ (table : List ChipData) (count : ℕ) (old : RigState) where

@@ -27,6 +27,7 @@ use Rattle.stm_journal.specs.States.{StateData, SegmentData, allows, is_unfinish
 use Rattle.stm_session.specs.declared.fault.Fault.{Fault}
 use Rattle.stm_session.specs.Fault.{IsOutsideFault, fault_of_journal}
 use Rattle.stm_session.specs.Lines.{is_torn_at, program_entries, return_entries, rewrite_entries, text_added}
+use Rattle.stm_session.specs.Order.{Follows, AreReturned}
 use Rattle.stm_session.specs.StepLaws.{StepLaws}
 use Rattle.stm_session.specs.Steps.{AddsLines, AreIntents, KeepsFlashes, IsSteady, Stands, Goes, torn_after}
 use Rattle.stm_session.specs.TakingBack.{AmidTakingBack, TakesBack, newest_at, return_lines, with_pages}
@@ -60,6 +61,7 @@ pub record IsReturnedSoFar (chip : ChipData) (i : ℕ) (l l2 : Loaded) (old new 
   pub line : old.line_failures ≤ new.line_failures
   pub journal : old.journal_failures ≤ new.journal_failures
   pub puts : GoesOn (IsPart (Some chip) true (13 * kept_size chip (take i (newest_kept l.state.stack)))) old.calls new.calls
+  pub order : Follows (AreReturned chip (take i (newest_kept l.state.stack))) l l2 old new
   pub honest : (flashes : List (List ℕ)) → IsSteady flashes l old → old.device.chip ≡ chip
       → Goes {T = Unit {0}} flashes (return_lines chip old.device.flash (take i (newest_at old.journal))) l2 old new (Ok tt)
       (λ x. new.device.flash ≡ with_pages chip (take i (newest_at old.journal)) old.device.flash)

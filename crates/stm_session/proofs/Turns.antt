@@ -23,6 +23,8 @@ use Rattle.stm_session.specs.Lines.{differs_in, keep_entries, page_entries, page
 use Rattle.stm_session.specs.Changing.{HasTurned, both_entries, change_entries, save_entries}
 use Rattle.stm_session.specs.Meaning.{flash_after}
 use Rattle.stm_session.specs.Steps.{Goes, IsSteady}
+use Rattle.stm_session.specs.ChangeOrder.{AreTurned}
+use Rattle.stm_session.specs.Order.{Follows}
 use Rattle.stm_session.specs.Sending.{most_below}
 use Rattle.stm_session.specs.Undoable.{has_companion}
 
@@ -63,6 +65,7 @@ pub record IsTurnedSoFar (chip : ChipData) (c : Change) (k count : ℕ) (first :
   pub begun : k ≤ 1 → first ≡ false
   pub small : count ≤ k
   pub puts : GoesOn (IsPart (Some chip) true (most_below chip k)) old.calls new.calls
+  pub order : Follows (AreTurned chip c k first) l l2 old new
   pub line : old.line_failures ≤ new.line_failures
   pub journal : old.journal_failures ≤ new.journal_failures
   pub honest : (flashes : List (List ℕ)) → IsSteady flashes l old → old.device.chip ≡ chip

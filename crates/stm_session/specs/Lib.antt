@@ -1,5 +1,6 @@
 pub mod Fault
 pub mod Sending
+pub mod Order
 pub mod Undoable
 pub mod Moments
 pub mod Asking
@@ -25,5 +26,6 @@ pub mod GoingBack
 pub mod Meeting
 pub mod Changing
 pub mod Contents
+pub mod ChangeOrder
 pub mod Segments
 pub mod Doing

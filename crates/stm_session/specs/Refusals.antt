@@ -38,15 +38,6 @@ lies_in_flash chip (reads start size) = size == 0 || fits_inside chip start size
 abbrev pub is_in_flash : ChipData → Command → Bool
 is_in_flash chip c = lies_in_flash chip (command_data c)
 
-abbrev pub range_refusal : Option ChipData → List Command → Option Fault
-range_refusal None commands = None
-range_refusal (Some chip) commands = refused_unless (list_all (is_in_flash chip) commands) fault.OutOfFlash
-
--- what a run of these commands, which are reads, refuses
-abbrev pub refusal_of : JournalData → Device → List ChipData → List Command → Option Fault
-refusal_of journal d table commands =
-    first_refusal (opening_refusal journal d table ∷ range_refusal (chip_with table d.chip.id) commands ∷ [])
-
 -- what is refused of the commands, on a chip that is known
 abbrev pub command_refusals : StateData → Device → ChipData → List CommandData → List (Option Fault)
 command_refusals s d chip commands =

@@ -1,10 +1,12 @@
 // Changing a page in a command.
-ghost use Rattle.std.specs.Prelude.{◌≡◌, ◌≢◌, ◌<◌, ◌+◌, ◌*◌, List, ℕ, length, not, bytes_eq, true, false, Some, IfOk, IsTrue, IfErr};
+ghost use Rattle.std.specs.Prelude.{◌≡◌, ◌≢◌, ◌<◌, ◌+◌, ◌*◌, List, ℕ, length, not, bytes_eq, true, false, Some, IfOk, OnOk, IsTrue, IfErr};
 ghost use Rattle.stm_wire.specs.Chip.{page_count, page_size, page_of, with_page};
 ghost use Rattle.stm_wire.specs.Dialogue.{GoesOn};
 ghost use Rattle.stm_wire.specs.Parts.{IsPart};
 ghost use Rattle.stm_journal.specs.States.{newest_keeps, newest_may_keep};
 ghost use Rattle.stm_session.specs.Fault.{HasSessionCause};
+ghost use Rattle.stm_session.specs.ChangeOrder.{IsChanged};
+ghost use Rattle.stm_session.specs.Order.{Follows};
 ghost use Rattle.stm_session.specs.Sending.{is_whole, most_of_companion};
 ghost use Rattle.stm_session.specs.Undoable.{has_companion};
 ghost use Rattle.stm_session.specs.Steps.{IsSteady, Goes};
@@ -46,6 +48,9 @@ pub fn change_page<R: Rig>(
     ensures puts { let old = R.view rig.old in let new = R.view rig.new in
         let most = most_of_companion chip.now n + (9 + 2 * length page.now) in
         GoesOn (IsPart (Some chip.now) (is_whole result) most) old.calls new.calls }
+    ensures order { let old = R.view rig.old in let new = R.view rig.new in
+        let Made = IsChanged kept chip.now n held.now page.now in
+        OnOk result (Follows Made journal.old journal.new old new) }
     ensures honest { let old = R.view rig.old in let new = R.view rig.new in
         (flashes : List (List ℕ)) → IsSteady flashes journal.old old → old.device.chip ≡ chip.now
         → held.now ≡ page_of chip.now old.device.flash n

@@ -9,6 +9,7 @@ ghost use Rattle.stm_journal.specs.Newest.{HasEnded};
 ghost use Rattle.stm_session.specs.Fault.{HasSessionCause};
 ghost use Rattle.stm_session.specs.Lines.{depth_at};
 ghost use Rattle.stm_session.specs.Sending.{is_whole};
+ghost use Rattle.stm_session.specs.Order.{Adds, DoesSteps};
 ghost use Rattle.stm_session.specs.Segments.{Closes};
 ghost use Rattle.stm_session.specs.Steps.{IsSteady};
 
@@ -25,6 +26,9 @@ pub fn end_segment<R: Rig>(rig: &mut R, journal: &mut Journal) -> Result<(), Fau
     ensures named { IfErr result (λ fault. fault ≢ Fault.Unfinished) }
     ensures puts { let old = R.view rig.old in let new = R.view rig.new in
         (chip : Option ChipData) → GoesOn (IsPart chip (is_whole result) 0) old.calls new.calls }
+    ensures order { let old = R.view rig.old in let new = R.view rig.new in
+        let steps = Adds (Ends (length journal.old.state.stack) ∷ []) ∷ [] in
+        OnOk result (DoesSteps steps journal.old journal.new old new) }
     ensures honest { let old = R.view rig.old in let new = R.view rig.new in
         (flashes : List (List ℕ)) → IsSteady flashes journal.old old
         → Closes flashes (Ends (depth_at old.journal) ∷ []) journal.new old new result }

@@ -8,6 +8,8 @@ ghost use Rattle.stm_session.specs.Fault.{HasSessionCause};
 ghost use Rattle.stm_session.specs.Lines.{depth_at, is_named_at, segment_entries};
 ghost use Rattle.stm_session.specs.Meaning.{flash_after};
 ghost use Rattle.stm_session.specs.Sending.{is_whole, most_of_command};
+ghost use Rattle.stm_session.specs.ChangeOrder.{IsOneSegment};
+ghost use Rattle.stm_session.specs.Order.{Follows};
 ghost use Rattle.stm_session.specs.Segments.{Changes};
 ghost use Rattle.stm_session.specs.Steps.{IsSteady};
 
@@ -38,6 +40,9 @@ pub fn change_flash<R: Rig>(
     ensures named { IfErr result (λ fault. fault ≢ Fault.Unfinished) }
     ensures puts { let old = R.view rig.old in let new = R.view rig.new in
         GoesOn (IsPart (Some chip.now) (is_whole result) most_of_command) old.calls new.calls }
+    ensures order { let old = R.view rig.old in let new = R.view rig.new in
+        let Done = IsOneSegment chip.now change.now journal.old.state in
+        OnOk result (Follows Done journal.old journal.new old new) }
     ensures honest { let old = R.view rig.old in let new = R.view rig.new in
         (flashes : List (List ℕ)) → IsSteady flashes journal.old old → old.device.chip ≡ chip.now
         → let flash = old.device.flash in let after = flash_after chip.now flash (command_of change.now) in

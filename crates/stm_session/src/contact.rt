@@ -1,13 +1,15 @@
 // How a session reaches a device: whatever it was sent before is ended, and it is asked who it is.
-ghost use Rattle.std.specs.Prelude.{◌≡◌, ⊤, IfErr, None};
+ghost use Rattle.std.specs.Prelude.{◌≡◌, ⊤, Bool, ◌∷◌, [], IfErr, OnOk, None};
 ghost use Rattle.stm_wire.specs.Device.{IsSettled};
 ghost use Rattle.stm_wire.specs.Dialogue.{GoesOn};
+ghost use Rattle.stm_wire.specs.Frames.{command};
 ghost use Rattle.stm_wire.specs.Parts.{IsPart};
 ghost use Rattle.stm_wire.specs.Settling.{SettlesWithin};
 ghost use Rattle.stm_session.specs.Fault.{HasSessionCause, IsOfLine};
 ghost use Rattle.stm_session.specs.Asking.{Asks};
 ghost use Rattle.stm_session.specs.Moments.{BeginsNothing, IsSafe};
 ghost use Rattle.stm_session.specs.Opening.{AreCommandsOf, Tells};
+ghost use Rattle.stm_session.specs.Order.{IsInOrder, Sends};
 ghost use Rattle.stm_session.specs.Sending.{is_whole};
 
 use crate::Fault;
@@ -43,6 +45,9 @@ pub fn ask_commands<R: Rig>(rig: &mut R) -> Result<Commands, Fault>
         HasSessionCause old new result }
     ensures puts { let old = R.view rig.old in let new = R.view rig.new in
         GoesOn (IsPart None (is_whole result) 261) old.calls new.calls }
+    ensures order { let old = R.view rig.old in let new = R.view rig.new in
+        (torn : Bool) → let steps = Sends (command 0x00) ∷ [] in
+        OnOk result (GoesOn (IsInOrder torn steps) old.calls new.calls) }
     ensures sent { IfErr result IsOfLine }
     ensures honest { let old = R.view rig.old in let new = R.view rig.new in
         old.is_honest → IsSettled old.device → Asks old new result (AreCommandsOf old.device) }
@@ -58,6 +63,9 @@ pub fn ask_id<R: Rig>(rig: &mut R) -> Result<u16, Fault>
         HasSessionCause old new result }
     ensures puts { let old = R.view rig.old in let new = R.view rig.new in
         GoesOn (IsPart None (is_whole result) 7) old.calls new.calls }
+    ensures order { let old = R.view rig.old in let new = R.view rig.new in
+        (torn : Bool) → let steps = Sends (command 0x02) ∷ [] in
+        OnOk result (GoesOn (IsInOrder torn steps) old.calls new.calls) }
     ensures sent { IfErr result IsOfLine }
     ensures honest { let old = R.view rig.old in let new = R.view rig.new in
         old.is_honest → IsSettled old.device

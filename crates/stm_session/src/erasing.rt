@@ -7,6 +7,7 @@ ghost use Rattle.stm_journal.specs.declared.entry.Entry.TheVariants.{Erases};
 ghost use Rattle.stm_journal.specs.States.{newest_keeps};
 ghost use Rattle.stm_journal.specs.Newest.{HasIntended};
 ghost use Rattle.stm_session.specs.Fault.{HasSessionCause};
+ghost use Rattle.stm_session.specs.Order.{DoesSteps, erase_steps};
 ghost use Rattle.stm_session.specs.Sending.{is_whole};
 ghost use Rattle.stm_session.specs.Steps.{IsSteady, Goes};
 
@@ -29,6 +30,8 @@ pub fn erase_kept<R: Rig>(
     ensures named { IfErr result (λ fault. fault ≢ Fault.Unfinished) }
     ensures puts { let old = R.view rig.old in let new = R.view rig.new in
         GoesOn (IsPart (Some chip.now) (is_whole result) 9) old.calls new.calls }
+    ensures order { let old = R.view rig.old in let new = R.view rig.new in
+        OnOk result (DoesSteps (erase_steps chip.now n) journal.old journal.new old new) }
     ensures honest { (flashes : List (List ℕ)) → IsSteady flashes journal.old (R.view rig.old) → (R.view rig.old).device.chip ≡ chip.now
         → Goes flashes (Erases n ∷ []) journal.new (R.view rig.old) (R.view rig.new) result
         (λ _. (R.view rig.new).device.flash ≡ with_page chip.now n (erased_page chip.now n) (R.view rig.old).device.flash) }

@@ -1,10 +1,12 @@
 // Taking the newest segments back, one after another.
-ghost use Rattle.std.specs.Prelude.{◌≡◌, ◌≤◌, ◌*◌, List, ℕ, length, Some};
+ghost use Rattle.std.specs.Prelude.{◌≡◌, ◌≤◌, ◌*◌, List, ℕ, length, Some, OnOk};
 ghost use Rattle.stm_wire.specs.Dialogue.{GoesOn};
 ghost use Rattle.stm_wire.specs.Parts.{IsPart};
 ghost use Rattle.stm_journal.specs.Fits.{AllFit};
+ghost use Rattle.stm_journal.specs.Newest.{pages_of_segments};
 ghost use Rattle.stm_session.specs.Fault.{HasSessionCause};
 ghost use Rattle.stm_session.specs.GoingBack.{GoesBack};
+ghost use Rattle.stm_session.specs.Order.{Follows, AreTakenBack};
 ghost use Rattle.stm_session.specs.Sending.{is_whole, most_of_command};
 ghost use Rattle.stm_session.specs.Steps.{IsSteady};
 
@@ -29,6 +31,9 @@ pub fn take_back_newest<R: Rig>(
     ensures puts { let old = R.view rig.old in let new = R.view rig.new in
         let most = taken * most_of_command in
         GoesOn (IsPart (Some chip.now) (is_whole result) most) old.calls new.calls }
+    ensures order { let old = R.view rig.old in let new = R.view rig.new in
+        let Taken = AreTakenBack chip.now taken (pages_of_segments journal.old.state.stack) in
+        OnOk result (Follows Taken journal.old journal.new old new) }
     ensures honest { let old = R.view rig.old in let new = R.view rig.new in
         (flashes : List (List ℕ)) → IsSteady flashes journal.old old → old.device.chip ≡ chip.now
         → GoesBack taken flashes journal.new old new result }

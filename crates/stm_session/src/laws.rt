@@ -1,14 +1,25 @@
 //! Laws of what can be taken back: each is the contract of a function that does nothing.
-ghost use Rattle.std.specs.Prelude.{◌≡◌, ℕ, List, [], Some, None, false};
+ghost use Rattle.std.specs.Prelude.{◌≡◌, ℕ, List, [], Result, Some, None, false, true};
+ghost use Rattle.std.specs.List.{list_all};
 ghost use Rattle.stm_wire.specs.Chip.{ChipData};
 ghost use Rattle.stm_wire.specs.Device.{Device, IsDevice, IsReady, reset};
 ghost use Rattle.stm_chip.specs.Document.{IsChipWith, IsNewId};
+ghost use Rattle.stm_journal.specs.Journals.{journal_of};
 ghost use Rattle.stm_journal.specs.States.{StateData};
+ghost use Rattle.stm_session.specs.declared.command.Command.{Command};
+ghost use Rattle.stm_session.specs.declared.fault.Fault.{Fault};
+ghost use Rattle.stm_session.specs.declared.outcome.Report.{Report};
+ghost use Rattle.stm_session.specs.Answers.{outcomes_in};
+ghost use Rattle.stm_session.specs.Meaning.{commands_in};
 ghost use Rattle.stm_session.specs.Moments.{IsSafe, SameMake};
-ghost use Rattle.stm_session.specs.Refusal.{chip_with, misfit_refusal};
+ghost use Rattle.stm_session.specs.Refusal.{chip_with, misfit_refusal, opening_refusal};
+ghost use Rattle.stm_session.specs.Refusals.{is_in_flash, run_refusal};
+ghost use Rattle.stm_session.specs.Running.{RunsReads, is_read};
+ghost use Rattle.stm_session.specs.Runs.{Runs};
 ghost use Rattle.stm_session.specs.Undoable.{IsJournalOf, Undoable, is_unfinished_at};
 
-use stm_wire::{harmless_is_kept, stopped_is_harmless};
+use stm_journal::a_journal_is_sound;
+use stm_wire::{Rig, harmless_is_kept, stopped_is_harmless};
 
 /// A ready device is safe, and with an empty journal there is nothing to take back.
 pub fn a_ready_device_can_begin()
@@ -51,3 +62,25 @@ pub fn a_journal_of_the_chip_is_not_refused()
     ensures fits { (chip : ChipData) (s : StateData)
         → misfit_refusal chip s ≡ None → IsJournalOf chip s }
 {}
+
+/// A run that only reads, and is refused nothing, begins no segment: its outcomes hold the flash's own bytes, and it fails by the
+/// line, the journal or memory alone.
+pub fn a_run_of_reads_begins_no_segment<R: Rig>()
+    ensures { (commands : List Command) (flashes : List (List ℕ)) (old new : R)
+        (result : Result Report Fault) → list_all is_read commands ≡ true
+        → is_unfinished_at (R.view old).journal ≡ false
+        → Runs (commands_in commands) flashes (R.view old) (R.view new) result outcomes_in
+        → RunsReads commands (R.view old) (R.view new) result
+        (λ report. report.outcomes.items) }
+{}
+
+/// Of reads no more is refused, once a session is opened, than a place outside the flash.
+pub fn reads_in_the_flash_are_not_refused()
+    ensures { (journal : List ℕ) (d : Device) (table : List ChipData) (chip : ChipData)
+        (commands : List Command) → list_all is_read commands ≡ true
+        → opening_refusal (journal_of journal) d table ≡ None
+        → chip_with table d.chip.id ≡ Some chip → list_all (is_in_flash chip) commands ≡ true
+        → run_refusal (journal_of journal) d table (commands_in commands) ≡ None }
+{
+    a_journal_is_sound();
+}

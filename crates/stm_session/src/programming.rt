@@ -1,5 +1,5 @@
 // Programming a page that the journal keeps.
-ghost use Rattle.std.specs.Prelude.{◌≡◌, ◌≢◌, ◌<◌, ◌≤◌, ◌+◌, ◌*◌, ◌∷◌, [], List, ℕ, length, take, drop, Some, OnOk, IsTrue, IfErr};
+ghost use Rattle.std.specs.Prelude.{◌≡◌, ◌≢◌, ◌<◌, ◌≤◌, ◌+◌, ◌*◌, ◌∷◌, [], List, ℕ, length, take, drop, Some, OnOk, IsTrue, Bool, IfErr};
 ghost use Rattle.stm_wire.specs.Chip.{page_count, page_size, page_offset, with_bytes, with_page, erased_page, flash_size};
 ghost use Rattle.stm_wire.specs.Dialogue.{GoesOn};
 ghost use Rattle.stm_wire.specs.Parts.{IsPart};
@@ -9,6 +9,7 @@ ghost use Rattle.stm_journal.specs.States.{newest_keeps};
 ghost use Rattle.stm_journal.specs.Newest.{HasIntended};
 ghost use Rattle.stm_journal.specs.Journals.{Loaded};
 ghost use Rattle.stm_session.specs.Fault.{HasSessionCause};
+ghost use Rattle.stm_session.specs.Order.{Adds, DoesSteps, IsInOrder, write_step, write_steps};
 ghost use Rattle.stm_session.specs.Sending.{is_whole};
 ghost use Rattle.stm_wire.specs.FlashLaws.{IsErasedAt};
 ghost use Rattle.stm_session.specs.Undoable.{state_at};
@@ -35,6 +36,9 @@ fn program_frame<R: Rig>(
     ensures named { IfErr result (λ fault. fault ≢ Fault.Unfinished) }
     ensures puts { let old = R.view rig.old in let new = R.view rig.new in
         GoesOn (IsPart (Some chip.now) (is_whole result) 268) old.calls new.calls }
+    ensures order { let old = R.view rig.old in let new = R.view rig.new in
+        (torn : Bool) → let steps = write_step chip.now n page.now frame ∷ [] in
+        OnOk result (GoesOn (IsInOrder torn steps) old.calls new.calls) }
     ensures honest { (flashes : List (List ℕ)) (l : Loaded) → IsSteady flashes l (R.view rig.old) → (R.view rig.old).device.chip ≡ chip.now
         → IsUnder n (Intent.Program n) (state_at (R.view rig.old).journal) → IsErasedAt chip.now (page_offset chip.now n + frame.offset) frame.length (R.view rig.old).device.flash
         → Goes flashes [] l (R.view rig.old) (R.view rig.new) result
@@ -63,6 +67,9 @@ fn program_frames<R: Rig>(
     ensures named { IfErr result (λ fault. fault ≢ Fault.Unfinished) }
     ensures puts { let old = R.view rig.old in let new = R.view rig.new in
         GoesOn (IsPart (Some chip.now) (is_whole result) (2 * length page.now)) old.calls new.calls }
+    ensures order { let old = R.view rig.old in let new = R.view rig.new in
+        (torn : Bool) → let steps = write_steps chip.now n page.now frames.now in
+        OnOk result (GoesOn (IsInOrder torn steps) old.calls new.calls) }
     ensures honest { (flashes : List (List ℕ)) (l : Loaded) (base : List ℕ) → IsSteady flashes l (R.view rig.old) → (R.view rig.old).device.chip ≡ chip.now
         → IsUnder n (Intent.Program n) (state_at (R.view rig.old).journal) → length base ≡ flash_size chip.now
         → (R.view rig.old).device.flash ≡ with_page chip.now n (erased_page chip.now n) base
@@ -94,6 +101,9 @@ pub fn program_kept<R: Rig>(
     ensures named { IfErr result (λ fault. fault ≢ Fault.Unfinished) }
     ensures puts { let old = R.view rig.old in let new = R.view rig.new in
         GoesOn (IsPart (Some chip.now) (is_whole result) (2 * length page.now)) old.calls new.calls }
+    ensures order { let old = R.view rig.old in let new = R.view rig.new in
+        let steps = Adds (Programs n ∷ []) ∷ write_steps chip.now n page.now frames.now in
+        OnOk result (DoesSteps steps journal.old journal.new old new) }
     ensures honest { (flashes : List (List ℕ)) (base : List ℕ) → IsSteady flashes journal.old (R.view rig.old) → (R.view rig.old).device.chip ≡ chip.now
         → length base ≡ flash_size chip.now
         → (R.view rig.old).device.flash ≡ with_page chip.now n (erased_page chip.now n) base

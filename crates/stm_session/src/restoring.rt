@@ -7,6 +7,7 @@ ghost use Rattle.stm_journal.specs.States.{newest_keeps};
 ghost use Rattle.stm_journal.specs.Newest.{KeepsSame};
 ghost use Rattle.stm_session.specs.Fault.{HasSessionCause};
 ghost use Rattle.stm_session.specs.Lines.{rewrite_entries};
+ghost use Rattle.stm_session.specs.Order.{DoesSteps, restore_steps};
 ghost use Rattle.stm_session.specs.Sending.{is_whole};
 ghost use Rattle.stm_session.specs.Steps.{IsSteady, Goes};
 
@@ -36,6 +37,9 @@ pub fn restore_page<R: Rig>(
     ensures cause { HasSessionCause (R.view rig.old) (R.view rig.new) result }
     ensures puts { let old = R.view rig.old in let new = R.view rig.new in
         GoesOn (IsPart (Some chip.now) (is_whole result) (9 + 2 * length page.now)) old.calls new.calls }
+    ensures order { let old = R.view rig.old in let new = R.view rig.new in
+        let steps = restore_steps chip.now n held.now page.now in
+        OnOk result (DoesSteps steps journal.old journal.new old new) }
     ensures honest { (flashes : List (List ℕ)) → IsSteady flashes journal.old (R.view rig.old)
         → (R.view rig.old).device.chip ≡ chip.now
         → held.now ≡ page_of chip.now (R.view rig.old).device.flash n

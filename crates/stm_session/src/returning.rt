@@ -9,6 +9,7 @@ ghost use Rattle.stm_journal.specs.KeptPlaces.{IsPlaceIn, kept_entry, place_of};
 ghost use Rattle.stm_journal.specs.Newest.{KeepsSame};
 ghost use Rattle.stm_session.specs.Fault.{HasSessionCause};
 ghost use Rattle.stm_session.specs.Lines.{return_entries};
+ghost use Rattle.stm_session.specs.Order.{Follows, IsReturned};
 ghost use Rattle.stm_session.specs.Sending.{is_whole};
 ghost use Rattle.stm_session.specs.Steps.{IsSteady, Goes};
 ghost use Rattle.stm_session.specs.Undoable.{state_at};
@@ -38,6 +39,8 @@ pub fn restore_line<R: Rig>(
     ensures cause { HasSessionCause (R.view rig.old) (R.view rig.new) result }
     ensures puts { let old = R.view rig.old in let new = R.view rig.new in
         GoesOn (IsPart (Some chip.now) (is_whole result) (13 * page_size chip.now n)) old.calls new.calls }
+    ensures order { let old = R.view rig.old in let new = R.view rig.new in
+        OnOk result (Follows (IsReturned chip.now n) journal.old journal.new old new) }
     ensures honest { let old = R.view rig.old in let new = R.view rig.new in
         (flashes : List (List ℕ)) (k i : ℕ) (kept : Kept) → IsSteady flashes journal.old old
         → old.device.chip ≡ chip.now → kept_entry (state_at old.journal) k i ≡ Some kept

@@ -9,6 +9,7 @@ ghost use Rattle.stm_journal.specs.States.{newest_keeps, newest_is_open};
 ghost use Rattle.stm_journal.specs.Newest.{KeepsSame};
 ghost use Rattle.stm_session.specs.Fault.{HasSessionCause};
 ghost use Rattle.stm_session.specs.Lines.{program_entries};
+ghost use Rattle.stm_session.specs.Order.{DoesSteps, rewrite_steps};
 ghost use Rattle.stm_session.specs.Sending.{is_whole};
 ghost use Rattle.stm_session.specs.Steps.{IsSteady, Goes};
 
@@ -40,6 +41,9 @@ pub fn rewrite_kept<R: Rig>(
     ensures named { IfErr result (λ fault. fault ≢ Fault.Unfinished) }
     ensures puts { let old = R.view rig.old in let new = R.view rig.new in
         GoesOn (IsPart (Some chip.now) (is_whole result) (9 + 2 * length page.now)) old.calls new.calls }
+    ensures order { let old = R.view rig.old in let new = R.view rig.new in
+        let steps = rewrite_steps chip.now n page.now frames.now in
+        OnOk result (DoesSteps steps journal.old journal.new old new) }
     ensures honest { (flashes : List (List ℕ)) → IsSteady flashes journal.old (R.view rig.old) → (R.view rig.old).device.chip ≡ chip.now
         → Goes flashes (Erases n ∷ program_entries n frames.now) journal.new (R.view rig.old) (R.view rig.new) result
         (λ _. (R.view rig.new).device.flash ≡ with_page chip.now n page.now (R.view rig.old).device.flash) }

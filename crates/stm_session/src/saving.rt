@@ -6,6 +6,8 @@ ghost use Rattle.stm_wire.specs.Parts.{IsPart};
 ghost use Rattle.stm_journal.specs.declared.entry.Entry.TheVariants.{Keeps};
 ghost use Rattle.stm_journal.specs.States.{newest_keeps, newest_may_keep};
 ghost use Rattle.stm_session.specs.Fault.{HasSessionCause};
+ghost use Rattle.stm_session.specs.ChangeOrder.{AreBothSaved, IsCompanionSaved, IsSaved};
+ghost use Rattle.stm_session.specs.Order.{Adds, DoesSteps, Follows};
 ghost use Rattle.stm_session.specs.Sending.{is_whole, most_of_companion};
 ghost use Rattle.stm_session.specs.Undoable.{has_companion};
 ghost use Rattle.stm_session.specs.Steps.{IsSteady, Goes};
@@ -35,6 +37,9 @@ fn save_page<R: Rig>(
     ensures named { IfErr result (λ fault. fault ≢ Fault.Unfinished) }
     ensures puts { let old = R.view rig.old in let new = R.view rig.new in
         GoesOn (IsPart (Some chip.now) (is_whole result) 0) old.calls new.calls }
+    ensures order { let old = R.view rig.old in let new = R.view rig.new in
+        let steps = Adds (Keeps n held.now ∷ []) ∷ [] in
+        OnOk result (DoesSteps steps journal.old journal.new old new) }
     ensures honest { let old = R.view rig.old in let new = R.view rig.new in
         (flashes : List (List ℕ)) → IsSteady flashes journal.old old → old.device.chip ≡ chip.now
         → held.now ≡ page_of chip.now old.device.flash n
@@ -63,6 +68,8 @@ fn save_companion<R: Rig>(
     ensures puts { let old = R.view rig.old in let new = R.view rig.new in
         let most = 3 * flash_size chip.now in
         GoesOn (IsPart (Some chip.now) (is_whole result) most) old.calls new.calls }
+    ensures order { let old = R.view rig.old in let new = R.view rig.new in
+        OnOk result (Follows (IsCompanionSaved chip.now) journal.old journal.new old new) }
     ensures honest { let old = R.view rig.old in let new = R.view rig.new in
         (flashes : List (List ℕ)) → IsSteady flashes journal.old old → old.device.chip ≡ chip.now
         → Goes flashes (Keeps 257 (page_of chip.now old.device.flash 257) ∷ []) journal.new old new
@@ -95,6 +102,9 @@ fn save_both<R: Rig>(
     ensures puts { let old = R.view rig.old in let new = R.view rig.new in
         let most = 3 * flash_size chip.now in
         GoesOn (IsPart (Some chip.now) (is_whole result) most) old.calls new.calls }
+    ensures order { let old = R.view rig.old in let new = R.view rig.new in
+        let Saved = AreBothSaved chip.now 1 held.now in
+        OnOk result (Follows Saved journal.old journal.new old new) }
     ensures honest { let old = R.view rig.old in let new = R.view rig.new in
         (flashes : List (List ℕ)) → IsSteady flashes journal.old old → old.device.chip ≡ chip.now
         → held.now ≡ page_of chip.now old.device.flash 1
@@ -136,6 +146,9 @@ pub fn save_pages<R: Rig>(
     ensures puts { let old = R.view rig.old in let new = R.view rig.new in
         let most = most_of_companion chip.now n in
         GoesOn (IsPart (Some chip.now) (is_whole result) most) old.calls new.calls }
+    ensures order { let old = R.view rig.old in let new = R.view rig.new in
+        let Saved = IsSaved kept chip.now n held.now in
+        OnOk result (Follows Saved journal.old journal.new old new) }
     ensures honest { let old = R.view rig.old in let new = R.view rig.new in
         (flashes : List (List ℕ)) → IsSteady flashes journal.old old → old.device.chip ≡ chip.now
         → held.now ≡ page_of chip.now old.device.flash n

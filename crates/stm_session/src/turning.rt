@@ -6,6 +6,8 @@ ghost use Rattle.stm_wire.specs.Parts.{IsPart};
 ghost use Rattle.stm_journal.specs.States.{newest_is_open, newest_keeps, newest_may_keep};
 ghost use Rattle.stm_journal.specs.Newest.{next_page};
 ghost use Rattle.stm_session.specs.Fault.{HasSessionCause};
+ghost use Rattle.stm_session.specs.ChangeOrder.{AreAllTurned, IsTurnOf};
+ghost use Rattle.stm_session.specs.Order.{Follows};
 ghost use Rattle.stm_session.specs.Sending.{is_whole, most_of_command, most_of_page};
 ghost use Rattle.stm_session.specs.Undoable.{has_companion};
 ghost use Rattle.stm_session.specs.Steps.{IsSteady, Goes};
@@ -48,6 +50,9 @@ fn turn_page<R: Rig>(
     ensures puts { let old = R.view rig.old in let new = R.view rig.new in
         let most = most_of_page chip.now n in
         GoesOn (IsPart (Some chip.now) (is_whole result) most) old.calls new.calls }
+    ensures order { let old = R.view rig.old in let new = R.view rig.new in
+        IfOk result (λ changed. let Turned = IsTurnOf kept chip.now change.now n changed in
+        Follows Turned journal.old journal.new old new) }
     ensures honest { let old = R.view rig.old in let new = R.view rig.new in
         (flashes : List (List ℕ)) → IsSteady flashes journal.old old → old.device.chip ≡ chip.now
         → let made = content chip.now change.now n (page_of chip.now old.device.flash n) in
@@ -99,6 +104,9 @@ pub fn turn_pages<R: Rig>(
     ensures named { IfErr result (λ fault. fault ≢ Fault.Unfinished) }
     ensures puts { let old = R.view rig.old in let new = R.view rig.new in
         GoesOn (IsPart (Some chip.now) (is_whole result) most_of_command) old.calls new.calls }
+    ensures order { let old = R.view rig.old in let new = R.view rig.new in
+        let Turned = AreAllTurned chip.now change.now in
+        OnOk result (Follows Turned journal.old journal.new old new) }
     ensures honest { let old = R.view rig.old in let new = R.view rig.new in
         (flashes : List (List ℕ)) → IsSteady flashes journal.old old → old.device.chip ≡ chip.now
         → let other = flash_after chip.now old.device.flash (command_of change.now) in

@@ -30,7 +30,8 @@ returns-in_err-report-clause-unrefused g c flashes can none =
     let same : c.in_ok-told.told.id ≡ (V c.tell.new.rig).device.chip.id = first.done.id ∙ sym (ap (λ (chip : ChipData). chip.id) first.left.make.chip) in
     fails_as _ c.from_residual-in_err-report.result c.from_residual-in_err-report.ensures.1
     (c.in_err-report.ensures.unrefused flashes again
-    (told_unrefused c.args.table.now (V c.tell.new.rig).device c.in_ok-told.told again.tabled c.in_ok-told.ensures.told same c.a_chip_is_looked_up_by_its_id.ensures.held (V c.tell.new.rig).journal
+    (told_unrefused c.args.table.now (V c.tell.new.rig).device c.in_ok-told.told again.tabled c.in_ok-told.ensures.told same c.a_chip_is_looked_up_by_its_id.ensures.held
+    c.reads_in_the_flash_are_not_refused.ensures (V c.tell.new.rig).journal
     (opening_kept c.args.table.now flashes (V c.args.rig.now) (V c.tell.new.rig) first.left none)))
 
 pub returns-clause-keeps : goal.returns-clause-keeps

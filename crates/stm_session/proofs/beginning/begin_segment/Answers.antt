@@ -9,6 +9,9 @@ use Rattle.std.proofs.Common.{Some, true}
 use Rattle.stm_journal.specs.Journals.{begin_entries}
 use Rattle.stm_session.specs.Sending.{is_whole}
 use Rattle.stm_session.proofs.SentParts.{line_part}
+use Rattle.std.proofs.Common.{◌∷◌, []}
+use Rattle.stm_session.specs.Order.{Adds, DoesSteps}
+use Rattle.stm_session.proofs.Orders.{does_add}
 use Rattle.stm_session.proofs.beginning.begin_segment.Goals as goal
 
 pub returns-in_err-segment-clause-honest : goal.returns-in_err-segment-clause-honest
@@ -52,3 +55,13 @@ returns-clause-puts g c =
     let V = g.R.Rig.view in
     let l = c.args.journal.now in
     line_part (Some c.args.chip.now) true 0 l (begin_entries c.id.result l.state) c.begin.result (V c.args.rig.now).calls (V c.begin.new.rig).calls c.begin.ensures.calls
+
+pub returns-clause-order : goal.returns-clause-order
+returns-clause-order g c =
+    let V = g.R.Rig.view in
+    let l = c.args.journal.now in
+    let l2 = c.begin.new.self in
+    let a = V c.args.rig.now in
+    let d = V c.begin.new.rig in
+    let P : ℕ → Type 0 = λ i. DoesSteps (Adds (begin_entries i l.state) ∷ []) l l2 a d in
+    subst P c.id.ensures (does_add c.in_ok-segment.segment (begin_entries c.id.result l.state) l l2 a d c.in_ok-segment.ensures.calls (untorn_begin c.id.result l l2 c.in_ok-segment.ensures.after))

@@ -13,6 +13,9 @@ use Rattle.std.proofs.Common.{◌+◌, ◌*◌, Some, arith}
 use Rattle.stm_wire.specs.PartLaws.{nothing_is_part}
 use Rattle.stm_session.specs.Sending.{most_of_companion}
 use Rattle.stm_session.proofs.SentParts.{part_after, part_fails, part_fails_after}
+use Rattle.stm_session.specs.Order.{rewrite_steps}
+use Rattle.stm_session.proofs.ChangeOrders.{changed_none, changed_some}
+use Rattle.stm_session.proofs.Orders.{does_nothing, does_then}
 use Rattle.stm_session.proofs.changing.change_page.Goals as goal
 
 pub returns-in-Same-clause-changed : goal.returns-in-Same-clause-changed
@@ -138,3 +141,22 @@ returns-in_ok-rewrite_kept-in-Erase-clause-puts g c =
     let more = 9 + 2 * length c.args.page.now in
     part_after (Some c.args.chip.now) true first more (first + more) (V c.args.rig.now).calls (V c.save_pages.new.rig).calls (V c.rewrite_kept.new.rig).calls (omega arith)
     c.in_ok-save_pages-in-Erase.ensures.puts c.in_ok-rewrite_kept-in-Erase.ensures.puts
+
+pub returns-in-Same-clause-order : goal.returns-in-Same-clause-order
+returns-in-Same-clause-order g c =
+    let same : c.args.held.now ≡ c.args.page.now = search rules in
+    ([], changed_none c.args.kept c.args.chip.now c.args.n c.args.held.now c.args.page.now same, does_nothing c.args.journal.now (g.R.Rig.view c.args.rig.now))
+
+pub returns-in_ok-rewrite_kept-in-Erase-clause-order : goal.returns-in_ok-rewrite_kept-in-Erase-clause-order
+returns-in_ok-rewrite_kept-in-Erase-clause-order g c =
+    let V = g.R.Rig.view in
+    let chip = c.args.chip.now in
+    let P : PagePlan → Type 0 = λ p. IsPlan c.erased.result c.args.held.now c.args.page.now p in
+    let planned = subst P c.in-Erase.is c.in-Ok.ensures.plan in
+    let framed = c.deref.ensures.value ∙ planned.1 ∙ ap (λ (e : ℕ). frames_of e c.args.page.now (length c.args.page.now / 256)) c.erased.ensures.byte in
+    let saved = c.in_ok-save_pages-in-Erase.ensures.order in
+    let own = rewrite_steps chip c.args.n c.args.page.now c.deref.result.now in (
+      saved.0 ++ own,
+      changed_some c.args.kept chip c.args.n c.args.held.now c.args.page.now c.deref.result.now saved.0 planned.0 framed saved.1,
+      does_then saved.0 own c.args.journal.now c.save_pages.new.journal c.rewrite_kept.new.journal (V c.args.rig.now) (V c.save_pages.new.rig) (V c.rewrite_kept.new.rig) saved.2 c.in_ok-rewrite_kept-in-Erase.ensures.order,
+    )

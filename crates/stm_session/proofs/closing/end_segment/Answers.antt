@@ -5,6 +5,9 @@ use Rattle.std.proofs.Common.{◌∷◌, [], length, true}
 use Rattle.stm_journal.specs.declared.entry.Entry.TheVariants.{Ends}
 use Rattle.stm_session.specs.Sending.{is_whole}
 use Rattle.stm_session.proofs.SentParts.{line_part}
+use Rattle.std.proofs.Common.{ap}
+use Rattle.stm_journal.specs.Journals.{Loaded}
+use Rattle.stm_session.proofs.Orders.{does_add}
 use Rattle.stm_session.proofs.closing.end_segment.Goals as goal
 
 pub returns-in_err-end-clause-honest : goal.returns-in_err-end-clause-honest
@@ -36,3 +39,9 @@ returns-clause-puts g c chip =
     let V = g.R.Rig.view in
     let l = c.args.journal.now in
     line_part chip true 0 l (Ends (length l.state.stack) ∷ []) c.end.result (V c.args.rig.now).calls (V c.end.new.rig).calls c.end.ensures.calls
+
+pub returns-clause-order : goal.returns-clause-order
+returns-clause-order g c =
+    let V = g.R.Rig.view in
+    let l = c.args.journal.now in
+    does_add (tt {0}) (Ends (length l.state.stack) ∷ []) l c.end.new.self (V c.args.rig.now) (V c.end.new.rig) c.in_ok-end.ensures.calls (ap (λ (m : Loaded). m.is_torn) c.in_ok-end.ensures.after)

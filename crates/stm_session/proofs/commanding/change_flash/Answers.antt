@@ -13,6 +13,11 @@ use Rattle.stm_session.proofs.Keeping.{depth_text, unfinished_text}
 use Rattle.std.proofs.Common.{Some, arith}
 use Rattle.stm_session.specs.Sending.{most_of_command}
 use Rattle.stm_session.proofs.SentParts.{part_after, part_fails, part_fails_after}
+use Rattle.std.proofs.Common.{length, refl}
+use Rattle.stm_journal.specs.Journals.{begin_entries}
+use Rattle.stm_session.specs.ChangeOrder.{IsOneSegment}
+use Rattle.stm_session.specs.Order.{Step, Adds, DoesSteps}
+use Rattle.stm_session.proofs.Orders.{does_then}
 use Rattle.stm_session.proofs.commanding.change_flash.Goals as goal
 
 pub returns-in_err-segment-clause-honest : goal.returns-in_err-segment-clause-honest
@@ -136,3 +141,24 @@ returns-clause-puts g c =
     let d = (V c.turn_pages.new.rig).calls in
     part_after chip true most_of_command 0 most_of_command a d (V c.end_segment.new.rig).calls (omega arith)
     (part_after chip true 0 most_of_command most_of_command a (V c.begin_segment.new.rig).calls d (omega arith) c.in_ok-segment.ensures.puts c.in_ok-pages.ensures.puts) (c.in_ok-end_segment.ensures.puts chip)
+
+pub returns-clause-order : goal.returns-clause-order
+returns-clause-order g c =
+    let V = g.R.Rig.view in
+    let chip = c.args.chip.now in
+    let l = c.args.journal.now in
+    let l2 = c.begin_segment.new.journal in
+    let l3 = c.turn_pages.new.journal in
+    let l4 = c.end_segment.new.journal in
+    let a = V c.args.rig.now in
+    let b = V c.begin_segment.new.rig in
+    let d = V c.turn_pages.new.rig in
+    let e = V c.end_segment.new.rig in
+    let first : List Step = Adds (begin_entries chip.id l.state) ∷ [] in
+    let turned = c.in_ok-pages.ensures.order in
+    let deep : length l3.state.stack ≡ length l.state.stack + 1 = c.in_ok-pages.ensures.depth ∙ c.in_ok-segment.ensures.begun.depth in
+    let E : ℕ → Type 0 = λ m. DoesSteps (Adds (Ends m ∷ []) ∷ []) l3 l4 d e in
+    let last : List Step = Adds (Ends (length l.state.stack + 1) ∷ []) ∷ [] in
+    let all = does_then first (turned.0 ++ last) l l2 l4 a b e c.in_ok-segment.ensures.order (does_then turned.0 last l2 l3 l4 b d e turned.2 (subst E deep c.in_ok-end_segment.ensures.order)) in
+    let done : IsOneSegment chip c.args.change.now l.state (first ++ (turned.0 ++ last)) = record { turned = turned.0; are_turned = turned.1; is = refl } in
+    (first ++ (turned.0 ++ last), done, all)

@@ -5,6 +5,7 @@ use Rattle.stm_wire.specs.PartLaws.{get_broken, get_held}
 use Rattle.stm_wire.specs.Stopped.{get}
 use Rattle.stm_session.proofs.Asking.{asked, broken_off}
 use Rattle.stm_session.proofs.Sending.{with_fault}
+use Rattle.stm_session.proofs.Orders.{order_get}
 use Rattle.stm_session.proofs.contact.ask_commands.Goals as goal
 
 pub returns-in_err-commands-clause-honest : goal.returns-in_err-commands-clause-honest
@@ -37,3 +38,10 @@ returns-clause-puts g c =
     let codes : List ℕ = take c.in_ok-commands.commands.count c.in_ok-commands.commands.codes in
     let small : length codes < 256 = search rules in
     get_held None version codes (V c.args.rig.now).calls (V c.get_commands.new.rig).calls small c.in_ok-commands.ensures.held.recorded
+
+pub returns-clause-order : goal.returns-clause-order
+returns-clause-order g c torn =
+    let V = g.R.Rig.view in
+    let version : ℕ = c.in_ok-commands.commands.version in
+    let codes : List ℕ = take c.in_ok-commands.commands.count c.in_ok-commands.commands.codes in
+    order_get torn version codes (V c.args.rig.now).calls (V c.get_commands.new.rig).calls c.in_ok-commands.ensures.held.recorded

@@ -5,6 +5,7 @@ use Rattle.stm_wire.specs.PartLaws.{get_id_broken, get_id_held}
 use Rattle.stm_wire.specs.Stopped.{get_id}
 use Rattle.stm_session.proofs.Asking.{asked, broken_off}
 use Rattle.stm_session.proofs.Sending.{with_fault}
+use Rattle.stm_session.proofs.Orders.{order_get_id}
 use Rattle.stm_session.proofs.contact.ask_id.Goals as goal
 
 pub returns-in_err-id-clause-honest : goal.returns-in_err-id-clause-honest
@@ -34,3 +35,8 @@ pub returns-clause-puts : goal.returns-clause-puts
 returns-clause-puts g c =
     let V = g.R.Rig.view in
     get_id_held None _ _ (V c.args.rig.now).calls (V c.get_id.new.rig).calls c.in_ok-id.ensures.held.recorded
+
+pub returns-clause-order : goal.returns-clause-order
+returns-clause-order g c torn =
+    let V = g.R.Rig.view in
+    order_get_id torn _ _ (V c.args.rig.now).calls (V c.get_id.new.rig).calls c.in_ok-id.ensures.held.recorded

@@ -10,6 +10,10 @@ use Rattle.stm_session.proofs.Keeping.{good_at}
 use Rattle.std.proofs.Common.{Some, true}
 use Rattle.stm_session.specs.Sending.{is_whole}
 use Rattle.stm_session.proofs.SentParts.{command_fails, erase_cut, erase_sent, line_part, part_after}
+use Rattle.stm_journal.specs.Journals.{Loaded}
+use Rattle.stm_wire.specs.Frames.{erase_frame}
+use Rattle.stm_session.specs.Order.{Adds, Sends}
+use Rattle.stm_session.proofs.Orders.{does_add, does_erase, does_then}
 use Rattle.stm_session.proofs.erasing.erase_kept.Goals as goal
 
 pub returns-in_err-intend_erase-clause-honest : goal.returns-in_err-intend_erase-clause-honest
@@ -91,3 +95,16 @@ returns-clause-puts g c =
     let d = (V c.erase_page.new.rig).calls in
     part_after (Some chip) true 0 9 9 a b d (omega arith) (line_part (Some chip) true 0 c.args.journal.now (Erases c.args.n ∷ []) c.intend_erase.result a b c.intend_erase.ensures.calls)
     (erase_sent chip c.args.n c.kind.result b d c.requires.exists c.kind.ensures c.in_ok-erase_page.ensures.held.recorded)
+
+pub returns-clause-order : goal.returns-clause-order
+returns-clause-order g c =
+    let V = g.R.Rig.view in
+    let chip = c.args.chip.now in
+    let l = c.args.journal.now in
+    let l2 = c.intend_erase.new.self in
+    let a = V c.args.rig.now in
+    let b = V c.intend_erase.new.rig in
+    let d = V c.erase_page.new.rig in
+    does_then (Adds (Erases c.args.n ∷ []) ∷ []) (Sends (erase_frame chip.kind c.args.n) ∷ []) l l2 l2 a b d
+    (does_add (tt {0}) (Erases c.args.n ∷ []) l l2 a b c.in_ok-intend_erase.ensures.calls (ap (λ (m : Loaded). m.is_torn) c.in_ok-intend_erase.ensures.after))
+    (does_erase chip c.args.n c.kind.result l2 b d c.kind.ensures c.in_ok-erase_page.ensures.held.recorded)

@@ -8,6 +8,11 @@ use Rattle.stm_wire.specs.PartLaws.{nothing_is_part}
 use Rattle.stm_session.specs.Sending.{most_of_command}
 use Rattle.stm_session.proofs.Sending.{same_fault}
 use Rattle.stm_session.proofs.SentParts.{commands_next, commands_within}
+use Rattle.std.proofs.Common.{[], ℕ, ◌++◌, drop, sym, subst}
+use Rattle.stm_journal.specs.Newest.{pages_of_segments}
+use Rattle.stm_session.specs.Order.{Follows, AreTakenBack, IsTakenBack}
+use Rattle.stm_session.specs.Undoable.{newest_kept}
+use Rattle.stm_session.proofs.Orders.{does_nothing, does_then, segments_count, segments_split, taken_next}
 use Rattle.stm_session.proofs.going_back.take_back_newest.Goals as goal
 
 pub loop-i-init : goal.loop-i-init
@@ -18,6 +23,7 @@ loop-i-init g c =
       line = omega arith;
       journal = omega arith;
       puts = nothing_is_part (Some c.args.chip.now) true _ (V c.args.rig.now).calls;
+      order = ([], refl, does_nothing c.args.journal.now (V c.args.rig.now));
       honest = λ flashes steady chip. goes_back_nowhere c.step_laws.ensures flashes c.args.journal.now (V c.args.rig.now) (g.met.R.Rig.model c.args.rig.now steady.honest) steady;
     }
 
@@ -68,6 +74,16 @@ loop-i-preserved g c =
       line = omega (arith, c.loop-i.invariant.line, c.in_ok-take_back.ensures.cause.line_later);
       journal = omega (arith, c.loop-i.invariant.journal, c.in_ok-take_back.ensures.cause.journal_later);
       puts = commands_next c.args.chip.now i true a.calls b.calls d.calls c.loop-i.invariant.puts c.in_ok-take_back.ensures.puts;
+      order =
+          let all = pages_of_segments l.state.stack in
+          let below = pages_of_segments (drop 1 l2.state.stack) in
+          let before = c.loop-i.invariant.order in
+          let one = c.in_ok-take_back.ensures.order in
+          let P : ℕ → Type 0 = λ m. IsTakenBack c.args.chip.now (newest_kept l2.state.stack) m one.0 in (
+            before.0 ++ one.0,
+            taken_next c.args.chip.now all i (newest_kept l2.state.stack) below before.0 one.0 (sym c.loop-i.invariant.rest ∙ segments_split l2.state.stack some) before.1 (subst P (segments_count l2.state.stack some) one.1),
+            does_then before.0 one.0 l l2 c.take_back.new.journal a b d before.2 one.2,
+          );
       honest = λ flashes steady chip.
           let so_far = c.loop-i.invariant.honest flashes steady chip in
           let model = g.met.R.Rig.model c.loop-i.rig so_far.steady.honest in
@@ -100,3 +116,11 @@ returns-clause-puts g c =
     let V = g.R.Rig.view in
     let all : c.loop-i.i ≡ c.args.taken = omega (arith, c.loop-i-test.false, c.loop-i.auto.i-end) in
     commands_within c.args.chip.now c.loop-i.i c.args.taken true (V c.args.rig.now).calls (V c.loop-i.rig).calls (omega (arith, all)) c.loop-i.invariant.puts
+
+pub returns-clause-order : goal.returns-clause-order
+returns-clause-order g c =
+    let V = g.R.Rig.view in
+    let l = c.args.journal.now in
+    let all : c.loop-i.i ≡ c.args.taken = omega (arith, c.loop-i-test.false, c.loop-i.auto.i-end) in
+    let P : ℕ → Type 0 = λ m. Follows (AreTakenBack c.args.chip.now m (pages_of_segments l.state.stack)) l c.loop-i.journal (V c.args.rig.now) (V c.loop-i.rig) in
+    subst P all c.loop-i.invariant.order

@@ -12,6 +12,8 @@ use Rattle.stm_wire.specs.PartLaws.{session_joins, session_longer, session_weake
 use Rattle.stm_journal.specs.States.{intent_of}
 use Rattle.stm_session.specs.Sending.{is_whole, most_calls}
 use Rattle.stm_session.proofs.Sending.{same_fault}
+use Rattle.stm_session.specs.Order.{asking_steps}
+use Rattle.stm_session.proofs.Orders.{settles_then}
 use Rattle.stm_session.proofs.meeting.meet.Goals as goal
 
 pub returns-in_err-settle_intended-clause-honest : goal.returns-in_err-settle_intended-clause-honest
@@ -121,3 +123,9 @@ returns-in-None-clause-puts g c =
     let b = (V c.settle_intended.new.rig).calls in
     let d = (V c.ask_misfit.new.rig).calls in
     session_joins None byte 131072 true 537411600 268 a b d (settling_is_session None byte 131072 true 537411600 a b c.settle_intended.ensures.calls) c.in_ok-misfit.ensures.puts
+
+pub returns-in-None-clause-order : goal.returns-in-None-clause-order
+returns-in-None-clause-order g c torn =
+    let V = g.R.Rig.view in
+    let byte = settling_byte (intent_of c.args.journal.now.state) in
+    settles_then byte torn asking_steps (V c.args.rig.now).calls (V c.settle_intended.new.rig).calls (V c.ask_misfit.new.rig).calls c.settle_intended.ensures.calls (c.in_ok-misfit.ensures.order torn c.in-None.is)

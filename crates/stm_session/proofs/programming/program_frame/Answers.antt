@@ -2,6 +2,7 @@ use Rattle.std.proofs.Common.{[], ap, rules, ◌+◌}
 use Rattle.stm_session.proofs.Programmings.{may_write, write_goes, write_fails}
 use Rattle.std.proofs.Common.{Some, arith}
 use Rattle.stm_session.proofs.SentParts.{command_fails, write_cut, write_sent}
+use Rattle.stm_session.proofs.Orders.{order_written}
 use Rattle.stm_session.proofs.programming.program_frame.Goals as goal
 
 pub returns-in_err-program-clause-honest : goal.returns-in_err-program-clause-honest
@@ -40,3 +41,11 @@ returns-clause-puts g c =
     let b = (V c.program.new.rig).calls in
     let at = ap (λ x. x + c.args.frame.offset) c.page_start.ensures.address in
     write_sent c.args.chip.now c.args.n c.args.page.now c.args.frame c.requires.exists c.requires.size c.requires.frame _ at _ (search (rules, c.from.ensures)) a b c.in_ok-program.ensures.held.recorded
+
+pub returns-clause-order : goal.returns-clause-order
+returns-clause-order g c torn =
+    let V = g.R.Rig.view in
+    let a = (V c.args.rig.now).calls in
+    let b = (V c.program.new.rig).calls in
+    let at = ap (λ x. x + c.args.frame.offset) c.page_start.ensures.address in
+    order_written c.args.chip.now c.args.n c.args.page.now c.args.frame torn _ at _ (search (rules, c.from.ensures)) a b c.in_ok-program.ensures.held.recorded

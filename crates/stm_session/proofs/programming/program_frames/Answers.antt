@@ -12,6 +12,10 @@ use Rattle.stm_wire.specs.Parts.{IsPart}
 use Rattle.stm_wire.specs.PartLaws.{nothing_is_part}
 use Rattle.stm_session.proofs.Sending.{same_fault}
 use Rattle.stm_session.proofs.SentParts.{frames_next, frames_within}
+use Rattle.std.proofs.Common.{refl, subst}
+use Rattle.stm_wire.specs.DialogueLaws.{GoesOn-nothing}
+use Rattle.stm_session.specs.Order.{IsInOrder, write_steps}
+use Rattle.stm_session.proofs.Orders.{writes_next}
 use Rattle.stm_session.proofs.programming.program_frames.Goals as goal
 
 pub loop-frame-init : goal.loop-frame-init
@@ -21,6 +25,7 @@ loop-frame-init g c =
       line = omega arith;
       journal = omega arith;
       puts = nothing_is_part (Some c.args.chip.now) true _ (V c.args.rig.now).calls;
+      order = λ torn. GoesOn-nothing (IsInOrder torn []) (V c.args.rig.now).calls refl;
       honest = λ flashes l base steady chip under whole erased.
           goes_nowhere c.step_laws.ensures flashes l (V c.args.rig.now) (tt {0}) _ (g.met.R.Rig.model c.args.rig.now steady.honest) steady
           (erased ∙ ap (λ xs. with_page c.args.chip.now c.args.n xs base) (sym (written-none c.args.page.now (erased_page c.args.chip.now c.args.n))));
@@ -55,6 +60,9 @@ loop-frame-preserved g c =
       line = omega (arith, so_far.line, c.in_ok-program_frame.ensures.cause.line_later);
       journal = omega (arith, so_far.journal, c.in_ok-program_frame.ensures.cause.journal_later);
       puts = frames_next c.args.chip.now c.args.frames.now i true (V c.args.rig.now).calls (V c.loop-frame.rig).calls (V c.program_frame.new.rig).calls c.loop-frame-test.true so_far.puts c.in_ok-program_frame.ensures.puts;
+      order = λ torn.
+          writes_next c.args.chip.now c.args.n c.args.page.now torn c.args.frames.now (frame_with 0 0) i (V c.args.rig.now).calls (V c.loop-frame.rig).calls (V c.program_frame.new.rig).calls c.loop-frame-test.true
+          (so_far.order torn) (c.in_ok-program_frame.ensures.order torn);
       honest = λ flashes l base steady chip under whole erased.
           let model = λ (h : (V c.loop-frame.rig).is_honest). g.met.R.Rig.model c.loop-frame.rig h in
           let first = written_before c.step_laws.ensures c.args.chip.now c.args.n c.args.page.now c.args.frames.now (frame_with 0 0) i (V c.args.rig.now) (V c.loop-frame.rig) (V c.program_frame.new.rig) c.loop-frame-test.true
@@ -96,3 +104,10 @@ pub returns-clause-puts : goal.returns-clause-puts
 returns-clause-puts g c =
     let V = g.R.Rig.view in
     frames_within c.args.chip.now c.args.frames.now c.loop-frame.frame-index true (length c.args.page.now) (V c.args.rig.now).calls (V c.loop-frame.rig).calls c.requires.frames c.loop-frame.invariant.puts
+
+pub returns-clause-order : goal.returns-clause-order
+returns-clause-order g c torn =
+    let V = g.R.Rig.view in
+    let all = take_all c.loop-frame.frame-index c.args.frames.now (omega (arith, c.loop-frame-test.false)) in
+    let P : List Frame → Type 0 = λ fs. GoesOn (IsInOrder torn (write_steps c.args.chip.now c.args.n c.args.page.now fs)) (V c.args.rig.now).calls (V c.loop-frame.rig).calls in
+    subst P all (c.loop-frame.invariant.order torn)

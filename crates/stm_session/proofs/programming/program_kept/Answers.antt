@@ -9,6 +9,9 @@ use Rattle.stm_session.proofs.Keeping.{good_at}
 use Rattle.std.proofs.Common.{◌*◌, length, true, Some, arith}
 use Rattle.stm_session.specs.Sending.{is_whole}
 use Rattle.stm_session.proofs.SentParts.{line_part, part_after, part_fails_after}
+use Rattle.stm_journal.specs.Journals.{Loaded}
+use Rattle.stm_session.specs.Order.{Adds, write_steps}
+use Rattle.stm_session.proofs.Orders.{does_add, does_then, does_writes}
 use Rattle.stm_session.proofs.programming.program_kept.Goals as goal
 
 pub returns-in_err-intend_program-clause-honest : goal.returns-in_err-intend_program-clause-honest
@@ -88,3 +91,16 @@ returns-clause-puts g c =
     let most = 2 * length c.args.page.now in
     part_after chip true 0 most most a b d (omega arith)
     (line_part chip true 0 c.args.journal.now (Programs c.args.n ∷ []) c.intend_program.result a b c.intend_program.ensures.calls) c.in_ok-program_frames.ensures.puts
+
+pub returns-clause-order : goal.returns-clause-order
+returns-clause-order g c =
+    let V = g.R.Rig.view in
+    let chip = c.args.chip.now in
+    let l = c.args.journal.now in
+    let l2 = c.intend_program.new.self in
+    let a = V c.args.rig.now in
+    let b = V c.intend_program.new.rig in
+    let d = V c.program_frames.new.rig in
+    does_then (Adds (Programs c.args.n ∷ []) ∷ []) (write_steps chip c.args.n c.args.page.now c.args.frames.now) l l2 l2 a b d
+    (does_add (tt {0}) (Programs c.args.n ∷ []) l l2 a b c.in_ok-intend_program.ensures.calls (ap (λ (m : Loaded). m.is_torn) c.in_ok-intend_program.ensures.after))
+    (does_writes chip c.args.n c.args.page.now l2 c.args.frames.now b d (c.in_ok-program_frames.ensures.order l2.is_torn))

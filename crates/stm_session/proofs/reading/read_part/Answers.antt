@@ -6,6 +6,7 @@ use Rattle.stm_wire.specs.Dialogue.{GoesOn}
 use Rattle.stm_wire.specs.Parts.{IsPart}
 use Rattle.stm_wire.specs.PartLaws.{read_broken, read_held}
 use Rattle.stm_session.proofs.Sending.{with_fault}
+use Rattle.stm_session.proofs.Orders.{order_read}
 use Rattle.stm_session.proofs.reading.read_part.Goals as goal
 
 pub returns-in_err-read-clause-honest : goal.returns-in_err-read-clause-honest
@@ -47,3 +48,9 @@ returns-clause-puts g c page within =
     let b = (V c.read.new.rig).calls in
     let size : length c.read.new.buf ≡ length c.args.buf.now = search rules in
     read_held c.args.chip.now page c.args.address (length c.args.buf.now) c.requires.some c.requires.limit within c.read.new.buf a b size c.in_ok-read.ensures.held.recorded
+
+pub returns-clause-order : goal.returns-clause-order
+returns-clause-order g c torn =
+    let V = g.R.Rig.view in
+    let size : length c.read.new.buf ≡ length c.args.buf.now = search rules in
+    order_read torn c.args.address (length c.args.buf.now) c.read.new.buf (V c.args.rig.now).calls (V c.read.new.rig).calls size c.in_ok-read.ensures.held.recorded

@@ -1,14 +1,16 @@
 -- A round of the loop reads a block more.
-use Rattle.std.proofs.Common.{◌≡◌, ◌≤◌, ◌+◌, ◌-◌, ◌*◌, arith, ap, ◌∙◌, ℕ, Bool, Some, true, refl}
+use Rattle.std.proofs.Common.{◌≡◌, ◌≤◌, ◌+◌, ◌-◌, ◌*◌, arith, ap, ◌∙◌, ℕ, Bool, Some, [], true, refl}
 use Rattle.stm_session.specs.Running.{bytes_at}
 use Rattle.stm_session.proofs.Asking.{asks_failed, asks_ok, memory_refused, nothing_asked}
 use Rattle.stm_session.proofs.Ranges.{block_adds, block_asks, size-limit}
 use Rattle.stm_wire.specs.Dialogue.{GoesOn}
+use Rattle.stm_wire.specs.DialogueLaws.{GoesOn-nothing}
+use Rattle.stm_session.specs.Order.{IsInOrder}
 use Rattle.stm_wire.specs.Parts.{IsPart}
 use Rattle.stm_wire.specs.PartLaws.{nothing_is_part, part_longer}
 use Rattle.stm_session.specs.Sending.{is_whole, most_of_command}
 use Rattle.stm_session.proofs.Sending.{block_in_page, same_fault}
-use Rattle.stm_session.proofs.Ranges.{block_in_few, block_part}
+use Rattle.stm_session.proofs.Ranges.{block_in_few, block_part, blocks_all, blocks_more}
 use Rattle.stm_session.proofs.SentParts.{part_fails_after}
 use Rattle.stm_session.proofs.reading.read_range.Goals as goal
 
@@ -28,6 +30,7 @@ loop-done-init g c =
         journal = omega arith;
         parts = nothing_is_part (Some c.args.chip.now) true 0 (V c.args.rig.now).calls;
         few = λ page within. record { most = 0; within = omega arith; blocks = λ lt. omega arith; parts = nothing_is_part (Some c.args.chip.now) true 0 (V c.args.rig.now).calls };
+        order = λ page within even torn. record { blocks = 0; is = refl; steps = GoesOn-nothing (IsInOrder torn []) (V c.args.rig.now).calls refl };
         honest = λ h settled chip. nothing_asked c.sending_is_harmless.ensures.asking (V c.args.rig.now) (tt {0}) _ h (g.met.R.Rig.model c.args.rig.now h) settled c.in_ok-bytes.ensures.items;
       },
       record { exists = omega arith; before = refl; begins = omega arith },
@@ -47,6 +50,9 @@ loop-done-preserved g c =
         few = λ page within.
             block_in_few c.args.chip.now c.args.start c.args.size c.loop-done.done c.block_size-block.result page (V c.args.rig.now) (V c.loop-done.rig) (V c.read_block.new.rig)
             c.loop-done-test.true (so_far.few page within) c.block_size-block.ensures within c.in_ok-read_block.ensures.puts;
+        order = λ page within even torn.
+            blocks_more c.args.chip.now c.args.start c.args.size c.loop-done.done c.block_size-block.result page torn (V c.args.rig.now) (V c.loop-done.rig) (V c.read_block.new.rig)
+            c.loop-done-test.true (so_far.order page within even torn) c.block_size-block.ensures within even (c.in_ok-read_block.ensures.order torn);
         honest = λ h settled chip.
             block_asks c.args.chip.now c.args.start c.args.size c.loop-done.done c.block_size-block.result c.loop-done.bytes.items
             (V c.args.rig.now) (V c.loop-done.rig) (V c.read_block.new.rig) so_far c.loop-done-test.true c.requires c.block_size-block.ensures h settled chip
@@ -116,3 +122,10 @@ returns-clause-few g c page within =
     let V = g.R.Rig.view in
     let so_far = c.loop-done.invariant.1.few page within in
     part_longer (Some c.args.chip.now) true so_far.most (12 + 2 * c.args.size) (V c.args.rig.now).calls (V c.loop-done.rig).calls (omega (arith, so_far.within, c.loop-done.invariant.1.within)) so_far.parts
+
+pub returns-clause-order : goal.returns-clause-order
+returns-clause-order g c page within even torn =
+    let V = g.R.Rig.view in
+    let so_far = c.loop-done.invariant.1 in
+    let all : c.loop-done.done ≡ c.args.size = omega (arith, so_far.within, c.loop-done-test.false) in
+    blocks_all c.args.start c.args.size c.loop-done.done torn (V c.args.rig.now) (V c.loop-done.rig) all (so_far.order page within even torn)

@@ -9,6 +9,8 @@ use Rattle.stm_session.proofs.Restorings.{no_lines, some_lines}
 use Rattle.std.proofs.Common.{◌+◌, ◌*◌, Some, arith}
 use Rattle.stm_wire.specs.PartLaws.{nothing_is_part}
 use Rattle.stm_session.proofs.SentParts.{part_fails}
+use Rattle.stm_session.specs.Order.{restore_steps, rewrite_steps}
+use Rattle.stm_session.proofs.Orders.{does_as, does_nothing, no_steps, some_steps}
 use Rattle.stm_session.proofs.restoring.restore_page.Goals as goal
 
 pub returns-in_default-clause-honest : goal.returns-in_default-clause-honest
@@ -64,3 +66,20 @@ returns-in_err-rewrite_kept-in-Erase-clause-puts g c =
 
 pub returns-in_ok-rewrite_kept-in-Erase-clause-puts : goal.returns-in_ok-rewrite_kept-in-Erase-clause-puts
 returns-in_ok-rewrite_kept-in-Erase-clause-puts g c = c.in_ok-rewrite_kept-in-Erase.ensures.puts
+
+pub returns-in-Same-clause-order : goal.returns-in-Same-clause-order
+returns-in-Same-clause-order g c =
+    let a = g.R.Rig.view c.args.rig.now in
+    let l = c.args.journal.now in
+    let same : c.args.held.now ≡ c.args.page.now = search rules in
+    does_as [] (restore_steps c.args.chip.now c.args.n c.args.held.now c.args.page.now) l l a a (sym (no_steps c.args.chip.now c.args.n c.args.held.now c.args.page.now same)) (does_nothing l a)
+
+pub returns-in_ok-rewrite_kept-in-Erase-clause-order : goal.returns-in_ok-rewrite_kept-in-Erase-clause-order
+returns-in_ok-rewrite_kept-in-Erase-clause-order g c =
+    let V = g.R.Rig.view in
+    let chip = c.args.chip.now in
+    let P : PagePlan → Type 0 = λ p. IsPlan c.erased.result c.args.held.now c.args.page.now p in
+    let planned = subst P c.in-Erase.is c.in-Ok.ensures.plan in
+    let framed = c.deref.ensures.value ∙ planned.1 ∙ ap (λ (e : ℕ). frames_of e c.args.page.now (length c.args.page.now / 256)) c.erased.ensures.byte in
+    does_as (rewrite_steps chip c.args.n c.args.page.now c.deref.result.now) (restore_steps chip c.args.n c.args.held.now c.args.page.now) c.args.journal.now c.rewrite_kept.new.journal (V c.args.rig.now) (V c.rewrite_kept.new.rig)
+    (some_steps chip c.args.n c.args.held.now c.args.page.now c.deref.result.now planned.0 framed) c.in_ok-rewrite_kept-in-Erase.ensures.order

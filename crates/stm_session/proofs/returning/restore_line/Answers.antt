@@ -15,6 +15,9 @@ use Rattle.stm_wire.specs.Intents.{InPage}
 use Rattle.stm_wire.specs.PartLaws.{part_weaker}
 use Rattle.stm_session.specs.Sending.{is_whole}
 use Rattle.stm_session.proofs.SentParts.{fetch_part, part_after, part_fails, part_fails_after}
+use Rattle.std.proofs.Common.{◌/◌, ap₂, refl}
+use Rattle.stm_session.specs.Order.{Step, IsReturned, page_address, page_reads, read_steps, restore_steps}
+use Rattle.stm_session.proofs.Orders.{does_as, does_fetch, does_reads, does_then}
 use Rattle.stm_session.proofs.returning.restore_line.Goals as goal
 
 pub returns-in_err-held-clause-honest : goal.returns-in_err-held-clause-honest
@@ -183,3 +186,28 @@ returns-clause-puts g c =
     part_after chip true (12 + 2 * size) (9 + 2 * length c.deref-2.result.now) (13 * page_size c.args.chip.now c.args.n) a d e most
     (part_after chip true (12 + 2 * size) 0 (12 + 2 * size) a b d (omega arith) (c.in_ok-held.ensures.few c.args.n here) (fetch_part chip true 0 b d c.in_ok-fetch_page.ensures.calls))
     c.in_ok-restore_page.ensures.puts
+
+pub returns-clause-order : goal.returns-clause-order
+returns-clause-order g c =
+    let V = g.R.Rig.view in
+    let chip = c.args.chip.now in
+    let n = c.args.n in
+    let l = c.args.journal.now in
+    let l2 = c.restore_page.new.journal in
+    let a = V c.args.rig.now in
+    let b = V c.read_range.new.rig in
+    let d = V c.fetch_page.new.rig in
+    let e = V c.restore_page.new.rig in
+    let start = c.page_start-start.result in
+    let size = c.page_size-size.result in
+    let here : InPage chip n start size = record { exists = c.requires.exists; begins = omega (arith, c.page_start-start.ensures.address); ends = omega (arith, c.page_start-start.ensures.address, c.page_size-size.ensures.bytes) } in
+    let reads = read_steps start (size / 256) in
+    let own = restore_steps chip n c.deref.result.now c.deref-2.result.now in
+    let read = does_reads l start (size / 256) a b (c.in_ok-held.ensures.order n here c.page_size-size.ensures.blocks.1 l.is_torn) in
+    let fetched = does_then reads [] l l l a b d read (does_fetch l b d c.in_ok-fetch_page.ensures.calls) in
+    let all = does_then (reads ++ []) own l l l2 a d e fetched c.in_ok-restore_page.ensures.order in
+    let same : (reads ++ []) ++ own ≡ page_reads chip n ++ own =
+    ap (λ (ss : List Step). ss ++ own) (append-nil reads ∙ ap₂ (λ (k z : ℕ). read_steps k (z / 256)) c.page_start-start.ensures.address c.page_size-size.ensures.bytes) in
+    let many : length c.deref-2.result.now ≡ page_size chip n = search rules in
+    let returned : IsReturned chip n (page_reads chip n ++ own) = record { held = c.deref.result.now; page = c.deref-2.result.now; size = many; is = refl } in
+    (page_reads chip n ++ own, returned, does_as ((reads ++ []) ++ own) (page_reads chip n ++ own) l l2 a e same all)

@@ -8,6 +8,10 @@ use Rattle.stm_journal.specs.States.{intent_of}
 use Rattle.stm_session.proofs.SentUndo.{sends_back, sends_failed, sends_met, sends_nothing}
 use Rattle.stm_session.proofs.Unread.{contract_unread, none_some}
 use Rattle.stm_session.proofs.Undone.{contract_none, contract_unfound, contract_when, contract_after, refuses_elsewhere, undoes_unmet, undoes_stopped, undoes_all, loaded_then, undoable_then, flashes_depth, elsewhere_back, harmless_then, owed_then, own_chip, err_as}
+use Rattle.std.proofs.Common.{◌++◌}
+use Rattle.stm_session.specs.Order.{asking_steps}
+use Rattle.stm_session.proofs.Orders.{fetched_then, settled_then}
+use Rattle.stm_session.proofs.SentUndo.{own-id}
 use Rattle.stm_session.proofs.reversal.undo.Goals as goal
 
 pub returns-in_err-journal-clause-promised : goal.returns-in_err-journal-clause-promised
@@ -150,3 +154,27 @@ returns-clause-puts g c =
     let limit : taken.result ≤ 65535 = omega (arith, taken.ensures.most, c.depth-depth.ensures.value, c.depth-depth.ensures.sound.depth) in
     sends_back c.args.table.now c.args.count a byte c.in-Some.id taken.result c.in_ok-chip.chip.now (V c.load.new.rig) (V c.meet.new.rig) d _ c.in_ok-chip.ensures.chip limit taken.ensures.asked refl
     c.in_ok-journal.ensures.calls c.in_ok-meet.ensures.puts c.in_ok-take_back_newest.ensures.puts
+
+pub returns-then-depth-eq0-clause-order : goal.returns-then-depth-eq0-clause-order
+returns-then-depth-eq0-clause-order g c some = absurd (omega (arith, some))
+
+pub returns-clause-order : goal.returns-clause-order
+returns-clause-order g c some =
+    let V = g.R.Rig.view in
+    let l = c.in_ok-journal.journal in
+    let byte = settling_byte (intent_of l.state) in
+    let a = (V c.args.rig.now).calls in
+    let b = (V c.load.new.rig).calls in
+    let d = (V c.meet.new.rig).calls in
+    let e = (V c.take_back_newest.new.rig).calls in
+    let back = c.in_ok-take_back_newest.ensures.order in
+    record {
+      journal = l;
+      loaded = λ h. (c.in_ok-journal.ensures.honest h).loaded;
+      chip = c.in_ok-chip.chip.now;
+      listed = own-id c.args.table.now c.in-Some.id c.in_ok-chip.chip.now c.in_ok-chip.ensures.chip;
+      steps = back.0;
+      are_steps = back.1;
+      calls = fetched_then byte l.is_torn (asking_steps ++ back.0) a b e c.in_ok-journal.ensures.calls
+          (settled_then byte l.is_torn asking_steps back.0 b d e refl (c.in_ok-meet.ensures.order l.is_torn) back.2.acts);
+    }

@@ -10,6 +10,9 @@ use Rattle.stm_session.proofs.Going.{goes_as, goes_then, goes_failed, goes_ok, a
 use Rattle.std.proofs.Common.{◌+◌, ◌*◌, true, Some, arith}
 use Rattle.stm_wire.specs.PartLaws.{part_longer}
 use Rattle.stm_session.proofs.SentParts.{part_after, part_fails, part_fails_after}
+use Rattle.std.proofs.Common.{◌++◌, append-nil}
+use Rattle.stm_session.specs.Order.{Adds, Step, erase_steps, program_steps, rewrite_steps, write_steps}
+use Rattle.stm_session.proofs.Orders.{does_as, does_then, some_program}
 use Rattle.stm_session.proofs.rewriting.rewrite_kept.Goals as goal
 
 pub returns-in_err-erase_kept-clause-honest : goal.returns-in_err-erase_kept-clause-honest
@@ -82,3 +85,29 @@ returns-clause-puts g c =
     let V = g.R.Rig.view in
     let more = 2 * length c.args.page.now in
     part_after (Some c.args.chip.now) true 9 more (9 + more) (V c.args.rig.now).calls (V c.erase_kept.new.rig).calls (V c.program_kept.new.rig).calls (omega arith) c.in_ok-erase_kept.ensures.puts c.in_ok-program_kept.ensures.puts
+
+pub returns-then-is_empty-clause-order : goal.returns-then-is_empty-clause-order
+returns-then-is_empty-clause-order g c =
+    let V = g.R.Rig.view in
+    let chip = c.args.chip.now in
+    let zero : length c.args.frames.now ≡ 0 = search rules in
+    let none : c.args.frames.now ≡ [] = no_frames c.args.frames.now zero in
+    let own = erase_steps chip c.args.n in
+    does_as own (rewrite_steps chip c.args.n c.args.page.now c.args.frames.now) c.args.journal.now c.erase_kept.new.journal (V c.args.rig.now) (V c.erase_kept.new.rig)
+    (sym (ap (λ (fs : List Frame). own ++ program_steps chip c.args.n c.args.page.now fs) none ∙ append-nil own)) c.in_ok-erase_kept.ensures.order
+
+pub returns-clause-order : goal.returns-clause-order
+returns-clause-order g c =
+    let V = g.R.Rig.view in
+    let chip = c.args.chip.now in
+    let l = c.args.journal.now in
+    let l2 = c.erase_kept.new.journal in
+    let l3 = c.program_kept.new.journal in
+    let a = V c.args.rig.now in
+    let b = V c.erase_kept.new.rig in
+    let d = V c.program_kept.new.rig in
+    let own = erase_steps chip c.args.n in
+    let more : List Step = Adds (Programs c.args.n ∷ []) ∷ write_steps chip c.args.n c.args.page.now c.args.frames.now in
+    let some : more ≡ program_steps chip c.args.n c.args.page.now c.args.frames.now = some_program chip c.args.n c.args.page.now c.args.frames.now (search rules) in
+    does_as (own ++ more) (rewrite_steps chip c.args.n c.args.page.now c.args.frames.now) l l3 a d (ap (λ (ss : List Step). own ++ ss) some)
+    (does_then own more l l2 l3 a b d c.in_ok-erase_kept.ensures.order c.in_ok-program_kept.ensures.order)

@@ -1,95 +1,68 @@
-use Rattle.std.proofs.Common.{rules, true, false, ◌≡◌}
-use Rattle.std.specs.List.{list_all}
-use Rattle.stm_session.specs.Refusals.{is_in_flash}
-use Rattle.stm_session.proofs.Asking.{asks_failed, asks_ok}
-use Rattle.stm_session.proofs.Openings.{refused_nothing}
-use Rattle.stm_session.proofs.OpenedRuns.{chip_is, inside_is_accepted, outside_is_refused, reads_unopened, refuses_outside, refuses_unopened, runs_reads}
-use Rattle.std.proofs.Common.{arith, ◌*◌, length, Bool, Some, None}
-use Rattle.stm_wire.specs.PartLaws.{session_joins, session_longer, session_of_any}
-use Rattle.stm_session.specs.Sending.{SendsAsRun, most_calls, most_of_command}
+use Rattle.std.proofs.Common.{◌≡◌, ◌*◌, [], List, ℕ, ◌∷◌, Bool, None, Some, length, map, true, arith, refl}
+use Rattle.stm_wire.specs.PartLaws.{session_joins, session_of_any, session_weaker}
+use Rattle.stm_session.specs.declared.command.Command.{Command}
+use Rattle.stm_session.specs.Answers.{outcome_data, outcomes_in}
+use Rattle.stm_session.specs.Meaning.{commands_in}
+use Rattle.stm_session.specs.Sending.{SendsAsRun, is_whole, most_calls, most_of_command}
+use Rattle.stm_session.proofs.RunContracts.{contract_ran, contract_refused, contract_unopened, runs_err, runs_ok}
 use Rattle.stm_session.proofs.Sending.{same_fault}
 use Rattle.stm_session.proofs.running.run.Goals as goal
 
-pub returns-in_err-opened-clause-refused : goal.returns-in_err-opened-clause-refused
-returns-in_err-opened-clause-refused g c h safe fault said =
-    let V = g.R.Rig.view in
-    refuses_unopened c.args.table.now c.args.commands.now (V c.args.rig.now) (V c.open.new.rig) _ c.from_residual.result (c.in_err-opened.ensures.honest h safe) c.from_residual.ensures.1 fault said
+no_commands : (commands : List Command) → commands_in commands ≡ [] → commands ≡ []
+no_commands [] e = refl
+no_commands (c ∷ commands) e = cc
 
-pub returns-in_err-opened-clause-reads : goal.returns-in_err-opened-clause-reads
-returns-in_err-opened-clause-reads g c h safe own none =
+pub returns-in_err-opened-clause-promised : goal.returns-in_err-opened-clause-promised
+returns-in_err-opened-clause-promised g c =
     let V = g.R.Rig.view in
-    reads_unopened c.args.table.now c.args.commands.now (V c.args.rig.now) (V c.open.new.rig) _ c.from_residual.result (c.in_err-opened.ensures.honest h safe) c.from_residual.ensures.1 _ none
+    contract_unopened c.args.table.now (commands_in c.args.commands.now) (V c.args.rig.now) (V c.open.new.rig) _ c.from_residual.result outcomes_in c.in_err-opened.ensures.unsent c.in_err-opened.ensures.unsent_calls
+    c.in_err-opened.ensures.honest c.in_err-opened.ensures.memory c.from_residual.ensures.1
 
-pub returns-then-not-are_in_flash-clause-refused : goal.returns-then-not-are_in_flash-clause-refused
-returns-then-not-are_in_flash-clause-refused g c h safe fault said =
+pub returns-in_err-check_commands-clause-promised : goal.returns-in_err-check_commands-clause-promised
+returns-in_err-check_commands-clause-promised g c =
     let V = g.R.Rig.view in
-    let outside : list_all (is_in_flash c.in_ok-opened.opened.chip.now) c.args.commands.now ≡ false = search (rules, c.are_in_flash.ensures, c.if-not-are_in_flash.true) in
-    refuses_outside c.args.table.now c.args.commands.now (V c.args.rig.now) (V c.open.new.rig) c.in_ok-opened.opened c.in_ok-opened.ensures.coherent (c.in_ok-opened.ensures.honest h safe) fault outside said
+    contract_refused c.args.table.now (commands_in c.args.commands.now) (V c.args.rig.now) (V c.open.new.rig) c.in_ok-opened.opened c.in_ok-opened.ensures.coherent c.in_ok-opened.ensures.unsent c.in_ok-opened.ensures.honest
+    _ c.from_residual-in_err-check_commands.result outcomes_in c.in_ok-opened.ensures.unsent_calls c.in_err-check_commands.ensures.refusal c.in_err-check_commands.ensures.named c.from_residual-in_err-check_commands.ensures.1
 
-pub returns-then-not-are_in_flash-clause-reads : goal.returns-then-not-are_in_flash-clause-reads
-returns-then-not-are_in_flash-clause-reads g c h safe own none =
+pub returns-in_err-outcomes-clause-promised : goal.returns-in_err-outcomes-clause-promised
+returns-in_err-outcomes-clause-promised g c =
     let V = g.R.Rig.view in
-    let outside : list_all (is_in_flash c.in_ok-opened.opened.chip.now) c.args.commands.now ≡ false = search (rules, c.are_in_flash.ensures, c.if-not-are_in_flash.true) in
-    refused_nothing _ _ none
-    (outside_is_refused c.args.table.now c.args.commands.now (V c.args.rig.now) (V c.open.new.rig) c.in_ok-opened.opened c.in_ok-opened.ensures.coherent (c.in_ok-opened.ensures.honest h safe) outside)
+    let commands = commands_in c.args.commands.now in
+    let mid = V c.open.new.rig in
+    let new = V c.run_commands.new.rig in
+    contract_ran c.args.table.now commands (V c.args.rig.now) mid c.in_ok-opened.opened c.in_ok-opened.ensures.coherent c.in_ok-opened.ensures.unsent c.in_ok-opened.ensures.honest
+    new c.from_residual-in_err-outcomes.result outcomes_in c.in_ok-check_commands.ensures.refusal
+    (λ flashes steady chip. runs_err commands flashes mid new _ c.from_residual-in_err-outcomes.result (λ outcomes. map outcome_data outcomes.items) outcomes_in c.from_residual-in_err-outcomes.ensures.1 (c.in_err-outcomes.ensures.honest flashes steady chip))
+    (λ none. absurd (c.in_err-outcomes.ensures.nothing (no_commands c.args.commands.now none)))
 
-pub returns-in_err-outcomes-clause-refused : goal.returns-in_err-outcomes-clause-refused
-returns-in_err-outcomes-clause-refused g c h safe fault said =
+pub returns-clause-promised : goal.returns-clause-promised
+returns-clause-promised g c =
     let V = g.R.Rig.view in
-    let inside : list_all (is_in_flash c.in_ok-opened.opened.chip.now) c.args.commands.now ≡ true = search (rules, c.are_in_flash.ensures, c.if-not-are_in_flash.false) in
-    refused_nothing _ fault
-    (inside_is_accepted c.args.table.now c.args.commands.now (V c.args.rig.now) (V c.open.new.rig) c.in_ok-opened.opened c.in_ok-opened.ensures.coherent (c.in_ok-opened.ensures.honest h safe) inside) said
+    let commands = commands_in c.args.commands.now in
+    let mid = V c.open.new.rig in
+    let new = V c.run_commands.new.rig in
+    contract_ran c.args.table.now commands (V c.args.rig.now) mid c.in_ok-opened.opened c.in_ok-opened.ensures.coherent c.in_ok-opened.ensures.unsent c.in_ok-opened.ensures.honest
+    new _ outcomes_in c.in_ok-check_commands.ensures.refusal
+    (λ flashes steady chip. runs_ok commands flashes mid new _ _ (λ outcomes. map outcome_data outcomes.items) outcomes_in refl (c.in_ok-outcomes.ensures.honest flashes steady chip))
+    (λ none. tt)
 
-pub returns-in_err-outcomes-clause-reads : goal.returns-in_err-outcomes-clause-reads
-returns-in_err-outcomes-clause-reads g c h safe own none =
+pub returns-in_err-check_commands-clause-puts : goal.returns-in_err-check_commands-clause-puts
+returns-in_err-check_commands-clause-puts g c =
     let V = g.R.Rig.view in
-    let opens = c.in_ok-opened.ensures.honest h safe in
-    let chip = chip_is c.args.table.now c.args.commands.now (V c.args.rig.now) (V c.open.new.rig) c.in_ok-opened.opened c.in_ok-opened.ensures.coherent opens own in
-    runs_reads c.args.table.now c.args.commands.now (V c.args.rig.now) (V c.open.new.rig) c.in_ok-opened.opened c.in_ok-opened.ensures.coherent opens (V c.run_reads.new.rig) _ _
-    c.from_residual-in_err-outcomes.result (c.in_err-outcomes.ensures.honest opens.honest opens.answers.settled chip)
-    (λ asks. asks_failed (V c.open.new.rig) (V c.run_reads.new.rig) _ c.from_residual-in_err-outcomes.result asks c.from_residual-in_err-outcomes.ensures.1)
-
-pub returns-clause-refused : goal.returns-clause-refused
-returns-clause-refused g c h safe fault said =
-    let V = g.R.Rig.view in
-    let inside : list_all (is_in_flash c.in_ok-opened.opened.chip.now) c.args.commands.now ≡ true = search (rules, c.are_in_flash.ensures, c.if-not-are_in_flash.false) in
-    refused_nothing _ fault
-    (inside_is_accepted c.args.table.now c.args.commands.now (V c.args.rig.now) (V c.open.new.rig) c.in_ok-opened.opened c.in_ok-opened.ensures.coherent (c.in_ok-opened.ensures.honest h safe) inside) said
-
-pub returns-clause-reads : goal.returns-clause-reads
-returns-clause-reads g c h safe own none =
-    let V = g.R.Rig.view in
-    let opens = c.in_ok-opened.ensures.honest h safe in
-    let chip = chip_is c.args.table.now c.args.commands.now (V c.args.rig.now) (V c.open.new.rig) c.in_ok-opened.opened c.in_ok-opened.ensures.coherent opens own in
-    runs_reads c.args.table.now c.args.commands.now (V c.args.rig.now) (V c.open.new.rig) c.in_ok-opened.opened c.in_ok-opened.ensures.coherent opens (V c.run_reads.new.rig) _ _ _
-    (c.in_ok-outcomes.ensures.honest opens.honest opens.answers.settled chip) (λ asks. asks_ok (V c.open.new.rig) (V c.run_reads.new.rig) _ _ asks (λ read. read))
-
-pub returns-in_err-outcomes-clause-spared : goal.returns-in_err-outcomes-clause-spared
-returns-in_err-outcomes-clause-spared g c h journal commands = absurd (c.in_err-outcomes.ensures.nothing commands)
-
-pub returns-in_err-opened-clause-puts : goal.returns-in_err-opened-clause-puts
-returns-in_err-opened-clause-puts g c =
-    let V = g.R.Rig.view in
+    let a = (V c.args.rig.now).calls in
+    let b = (V c.open.new.rig).calls in
     let n = length c.args.commands.now in
-    let P : Bool → Type 0 = λ w. SendsAsRun c.args.table.now w n (V c.args.rig.now) (V c.open.new.rig) in
-    same_fault P _ c.from_residual.result c.from_residual.ensures.1
-    (record { chip = None; listed = tt; calls = session_longer None 0x7F 131072 _ (most_calls 0) (most_calls n) (V c.args.rig.now).calls (V c.open.new.rig).calls (omega arith) c.in_err-opened.ensures.puts })
-
-pub returns-then-not-are_in_flash-clause-puts : goal.returns-then-not-are_in_flash-clause-puts
-returns-then-not-are_in_flash-clause-puts g c =
-    let V = g.R.Rig.view in
-    let n = length c.args.commands.now in
-    record { chip = None; listed = tt; calls = session_longer None 0x7F 131072 true (most_calls 0) (most_calls n) (V c.args.rig.now).calls (V c.open.new.rig).calls (omega arith) c.in_ok-opened.ensures.puts }
+    record { chip = None; listed = tt; calls = session_weaker None 0x7F 131072 (is_whole c.from_residual-in_err-check_commands.result) (most_calls 0) (most_calls n) a b (omega arith) c.in_ok-opened.ensures.puts }
 
 pub returns-in_err-outcomes-clause-puts : goal.returns-in_err-outcomes-clause-puts
 returns-in_err-outcomes-clause-puts g c =
     let V = g.R.Rig.view in
     let a = (V c.args.rig.now).calls in
     let b = (V c.open.new.rig).calls in
-    let d = (V c.run_reads.new.rig).calls in
+    let d = (V c.run_commands.new.rig).calls in
     let n = length c.args.commands.now in
     let chip = Some c.in_ok-opened.opened.chip.now in
-    let P : Bool → Type 0 = λ w. SendsAsRun c.args.table.now w n (V c.args.rig.now) (V c.run_reads.new.rig) in
+    let P : Bool → Type 0 = λ w. SendsAsRun c.args.table.now w n (V c.args.rig.now) (V c.run_commands.new.rig) in
     same_fault P _ c.from_residual-in_err-outcomes.result c.from_residual-in_err-outcomes.ensures.1
     (record {
       chip = chip;
@@ -102,7 +75,7 @@ returns-clause-puts g c =
     let V = g.R.Rig.view in
     let a = (V c.args.rig.now).calls in
     let b = (V c.open.new.rig).calls in
-    let d = (V c.run_reads.new.rig).calls in
+    let d = (V c.run_commands.new.rig).calls in
     let n = length c.args.commands.now in
     let chip = Some c.in_ok-opened.opened.chip.now in
     record {

@@ -7,6 +7,10 @@ use Rattle.stm_session.proofs.Savings.{both_saved, may_still}
 use Rattle.std.proofs.Common.{◌*◌, Some, true, arith}
 use Rattle.stm_wire.specs.Chip.{flash_size}
 use Rattle.stm_session.proofs.SentParts.{part_after, part_fails, part_fails_after}
+use Rattle.std.proofs.Common.{◌++◌, List, refl}
+use Rattle.stm_session.specs.ChangeOrder.{AreBothSaved}
+use Rattle.stm_session.specs.Order.{Step, Adds}
+use Rattle.stm_session.proofs.Orders.{does_then}
 use Rattle.stm_session.proofs.saving.save_both.Goals as goal
 
 pub save_page-requires-clause-may : goal.save_page-requires-clause-may
@@ -76,3 +80,11 @@ returns-clause-puts g c =
     let V = g.R.Rig.view in
     let most = 3 * flash_size c.args.chip.now in
     part_after (Some c.args.chip.now) true most 0 most (V c.args.rig.now).calls (V c.save_companion.new.rig).calls (V c.save_page.new.rig).calls (omega arith) c.in_ok-save_companion.ensures.puts c.in_ok-save_page.ensures.puts
+
+pub returns-clause-order : goal.returns-clause-order
+returns-clause-order g c =
+    let V = g.R.Rig.view in
+    let first = c.in_ok-save_companion.ensures.order in
+    let own : List Step = Adds (Keeps 1 c.args.held.now ∷ []) ∷ [] in
+    let saved : AreBothSaved c.args.chip.now 1 c.args.held.now (first.0 ++ own) = record { first = first.0; is_first = first.1; is = refl } in
+    (first.0 ++ own, saved, does_then first.0 own c.args.journal.now c.save_companion.new.journal c.save_page.new.journal (V c.args.rig.now) (V c.save_companion.new.rig) (V c.save_page.new.rig) first.2 c.in_ok-save_page.ensures.order)

@@ -10,6 +10,11 @@ use Rattle.stm_wire.specs.Chip.{flash_size}
 use Rattle.stm_wire.specs.Intents.{InPage}
 use Rattle.stm_session.proofs.SentChanges.{page_read_few}
 use Rattle.stm_session.proofs.SentParts.{part_after, part_fails, part_fails_after}
+use Rattle.std.proofs.Common.{◌/◌, ◌++◌, ap₂, length, refl, rules}
+use Rattle.stm_wire.specs.Chip.{page_size}
+use Rattle.stm_session.specs.ChangeOrder.{IsCompanionSaved}
+use Rattle.stm_session.specs.Order.{Step, Adds, page_reads, read_steps}
+use Rattle.stm_session.proofs.Orders.{does_as, does_reads, does_then}
 use Rattle.stm_session.proofs.saving.save_companion.Goals as goal
 
 pub returns-in_err-held-clause-honest : goal.returns-in_err-held-clause-honest
@@ -88,3 +93,23 @@ returns-clause-puts g c =
     let few = page_read_few c.args.chip.now 257 size c.page_size-size.ensures.bytes c.page_size-size.ensures.blocks.0 in
     part_after (Some c.args.chip.now) true (12 + 2 * size) 0 (3 * flash_size c.args.chip.now) (V c.args.rig.now).calls (V c.read_range.new.rig).calls (V c.save_page.new.rig).calls
     (omega (arith, few)) (c.in_ok-held.ensures.few 257 here) c.in_ok-save_page.ensures.puts
+
+pub returns-clause-order : goal.returns-clause-order
+returns-clause-order g c =
+    let V = g.R.Rig.view in
+    let chip = c.args.chip.now in
+    let l = c.args.journal.now in
+    let l2 = c.save_page.new.journal in
+    let a = V c.args.rig.now in
+    let b = V c.read_range.new.rig in
+    let d = V c.save_page.new.rig in
+    let start = c.page_start-start.result in
+    let size = c.page_size-size.result in
+    let here : InPage chip 257 start size = record { exists = c.requires.exists; begins = omega (arith, c.page_start-start.ensures.address); ends = omega (arith, c.page_start-start.ensures.address, c.page_size-size.ensures.bytes) } in
+    let reads = read_steps start (size / 256) in
+    let read = does_reads l start (size / 256) a b (c.in_ok-held.ensures.order 257 here c.page_size-size.ensures.blocks.1 l.is_torn) in
+    let whole : reads ≡ page_reads chip 257 = ap₂ (λ (k z : ℕ). read_steps k (z / 256)) c.page_start-start.ensures.address c.page_size-size.ensures.bytes in
+    let own : List Step = Adds (Keeps 257 c.deref.result.now ∷ []) ∷ [] in
+    let many : length c.deref.result.now ≡ page_size chip 257 = search rules in
+    let saved : IsCompanionSaved chip (page_reads chip 257 ++ own) = record { other = c.deref.result.now; size = many; is = refl } in
+    (page_reads chip 257 ++ own, saved, does_as (reads ++ own) (page_reads chip 257 ++ own) l l2 a d (ap (λ (ss : List Step). ss ++ own) whole) (does_then reads own l l l2 a b d read c.in_ok-save_page.ensures.order))

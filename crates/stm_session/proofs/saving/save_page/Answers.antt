@@ -10,6 +10,9 @@ use Rattle.stm_session.proofs.Savings.{keeps_step, saved}
 use Rattle.std.proofs.Common.{◌∷◌, Some, true}
 use Rattle.stm_session.specs.Sending.{is_whole}
 use Rattle.stm_session.proofs.SentParts.{line_part}
+use Rattle.std.proofs.Common.{ap}
+use Rattle.stm_journal.specs.Journals.{Loaded}
+use Rattle.stm_session.proofs.Orders.{does_add}
 use Rattle.stm_session.proofs.saving.save_page.Goals as goal
 
 pub returns-clause-saved : goal.returns-clause-saved
@@ -49,3 +52,9 @@ pub returns-clause-puts : goal.returns-clause-puts
 returns-clause-puts g c =
     let V = g.R.Rig.view in
     line_part (Some c.args.chip.now) true 0 c.args.journal.now (Keeps c.args.n c.args.held.now ∷ []) c.keep_page.result (V c.args.rig.now).calls (V c.keep_page.new.rig).calls c.keep_page.ensures.calls
+
+pub returns-clause-order : goal.returns-clause-order
+returns-clause-order g c =
+    let V = g.R.Rig.view in
+    does_add (tt {0}) (Keeps c.args.n c.args.held.now ∷ []) c.args.journal.now c.keep_page.new.self (V c.args.rig.now) (V c.keep_page.new.rig) c.in_ok-keep_page.ensures.calls
+    (ap (λ (m : Loaded). m.is_torn) c.in_ok-keep_page.ensures.after)

@@ -10,6 +10,10 @@ use Rattle.stm_wire.specs.PartLaws.{nothing_is_part, part_longer}
 use Rattle.stm_session.specs.Sending.{most_of_companion}
 use Rattle.stm_session.proofs.SentChanges.{companion_is}
 use Rattle.stm_session.proofs.SentParts.{part_fails}
+use Rattle.std.proofs.Common.{List}
+use Rattle.stm_session.specs.Order.{Step, Adds}
+use Rattle.stm_session.proofs.ChangeOrders.{saved_both, saved_none, saved_one}
+use Rattle.stm_session.proofs.Orders.{does_nothing}
 use Rattle.stm_session.proofs.saving.save_pages.Goals as goal
 
 pub returns-then-kept-clause-honest : goal.returns-then-kept-clause-honest
@@ -94,3 +98,17 @@ pub returns-clause-puts : goal.returns-clause-puts
 returns-clause-puts g c =
     let V = g.R.Rig.view in
     part_longer (Some c.args.chip.now) true 0 (most_of_companion c.args.chip.now c.args.n) (V c.args.rig.now).calls (V c.save_page.new.rig).calls (omega arith) c.in_ok-save_page.ensures.puts
+
+pub returns-then-kept-clause-order : goal.returns-then-kept-clause-order
+returns-then-kept-clause-order g c =
+    ([], saved_none c.args.kept c.args.chip.now c.args.n c.args.held.now c.if-kept.true, does_nothing c.args.journal.now (g.R.Rig.view c.args.rig.now))
+
+pub returns-then-has_other-clause-order : goal.returns-then-has_other-clause-order
+returns-then-has_other-clause-order g c =
+    let both = c.in_ok-save_both.ensures.order in
+    (both.0, saved_both c.args.kept c.args.chip.now c.args.n c.args.held.now both.0 c.if-kept.false (sym c.has_other.ensures ∙ c.if-has_other.true) both.1, both.2)
+
+pub returns-clause-order : goal.returns-clause-order
+returns-clause-order g c =
+    let own : List Step = Adds (Keeps c.args.n c.args.held.now ∷ []) ∷ [] in
+    (own, saved_one c.args.kept c.args.chip.now c.args.n c.args.held.now own c.if-kept.false (sym c.has_other.ensures ∙ c.if-has_other.false) refl, c.in_ok-save_page.ensures.order)

@@ -5,7 +5,7 @@ use Rattle.stm_journal.specs.KeptPlaces.{kept_count}
 use Rattle.stm_journal.specs.NewestLaws.{KeepsSame-refl, KeepsSame-trans}
 use Rattle.stm_session.specs.TakingBack.{newest_at, return_lines, with_pages}
 use Rattle.stm_session.proofs.Going.{goes_as, goes_nowhere, goes_ok}
-use Rattle.stm_session.proofs.Returns.{count_text, newest_fits, newest_once, no_place, number_exists, number_kept, place_fits, the_kept}
+use Rattle.stm_session.proofs.Returns.{count_newest, count_text, newest_fits, newest_once, no_place, number_exists, number_kept, place_fits, the_kept}
 use Rattle.stm_session.proofs.TakingBack.{chip_still, first, return_failed, returned, the_line}
 use Rattle.std.proofs.Common.{◌+◌, Bool, Some, true}
 use Rattle.stm_wire.specs.Dialogue.{GoesOn}
@@ -15,6 +15,9 @@ use Rattle.stm_session.specs.Sending.{most_of_command}
 use Rattle.stm_session.specs.Undoable.{newest_kept}
 use Rattle.stm_session.proofs.PageSums.{pages_next, pages_within}
 use Rattle.stm_session.proofs.Sending.{same_fault}
+use Rattle.std.proofs.Common.{[], ℕ, ◌++◌, subst}
+use Rattle.stm_session.specs.Order.{Follows, AreReturned, IsReturned}
+use Rattle.stm_session.proofs.Orders.{does_nothing, does_then, returned_next}
 use Rattle.stm_session.proofs.taking_back.restore_lines.Goals as goal
 
 pub loop-i-init : goal.loop-i-init
@@ -25,6 +28,7 @@ loop-i-init g c =
       line = omega arith;
       journal = omega arith;
       puts = nothing_is_part (Some c.args.chip.now) true _ (V c.args.rig.now).calls;
+      order = ([], refl, does_nothing c.args.journal.now (V c.args.rig.now));
       honest = λ flashes steady chip. goes_nowhere c.step_laws.ensures flashes c.args.journal.now (V c.args.rig.now) (tt {0}) _ (g.met.R.Rig.model c.args.rig.now steady.honest) steady refl;
     }
 
@@ -85,6 +89,17 @@ loop-i-preserved g c =
           pages_next c.args.chip.now (newest_kept c.args.journal.now.state.stack) (newest_once c.args.journal.now.state.stack c.depth-newest.ensures.sound.once)
           (newest_fits c.args.chip.now c.args.journal.now.state.stack c.requires.fits) c.keeps_limits.ensures.chip true c.loop-i.i kept.0 c.in-Some-kept.n a.calls b.calls (V c.restore_line.new.rig).calls
           kept.1 kept.2 so_far.puts c.in_ok-restore_line.ensures.puts;
+      order =
+          let lt : c.loop-i.i < kept_count c.args.journal.now.state c.depth-newest.result = omega (arith, c.loop-i-test.true, c.kept_count-count.ensures) in
+          let kept = the_kept c.args.journal.now.state c.loop-i.journal.state c.depth-newest.result c.loop-i.i so_far.same c.depth-newest.ensures.value lt c.args.chip.now c.in-Some-kept.n c.in-Some-kept.field-0-1
+          c.requires.fits (sym c.in-Some-kept.ensures) in
+          let before = so_far.order in
+          let one = c.in_ok-restore_line.ensures.order in
+          let P : ℕ → Type 0 = λ m. IsReturned c.args.chip.now m one.0 in (
+            before.0 ++ one.0,
+            returned_next c.args.chip.now (newest_kept c.args.journal.now.state.stack) c.loop-i.i kept.0 before.0 one.0 kept.1 before.1 (subst P (sym kept.2) one.1),
+            does_then before.0 one.0 c.args.journal.now c.loop-i.journal c.restore_line.new.journal a b (V c.restore_line.new.rig) before.2 one.2,
+          );
       honest = λ flashes steady chip.
           let model_then = λ (h : b.is_honest). g.met.R.Rig.model c.loop-i.rig h in
           let model = g.met.R.Rig.model c.args.rig.now steady.honest in
@@ -135,3 +150,12 @@ returns-clause-puts g c =
     let stack = c.args.journal.now.state.stack in
     pages_within c.args.chip.now (newest_kept stack) (newest_once stack c.depth-newest.ensures.sound.once) (newest_fits c.args.chip.now stack c.requires.fits) c.keeps_limits.ensures.chip true c.loop-i.i
     (V c.args.rig.now).calls (V c.loop-i.rig).calls c.loop-i.invariant.puts
+
+pub returns-clause-order : goal.returns-clause-order
+returns-clause-order g c =
+    let V = g.R.Rig.view in
+    let pages = newest_kept c.args.journal.now.state.stack in
+    let many = count_newest c.args.journal.now.state c.depth-newest.result c.depth-newest.ensures.value in
+    let all = take_all c.loop-i.i pages (omega (arith, c.loop-i-test.false, c.kept_count-count.ensures, many)) in
+    let P : List Kept → Type 0 = λ ks. Follows (AreReturned c.args.chip.now ks) c.args.journal.now c.loop-i.journal (V c.args.rig.now) (V c.loop-i.rig) in
+    subst P all c.loop-i.invariant.order

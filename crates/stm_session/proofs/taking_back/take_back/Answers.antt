@@ -9,6 +9,11 @@ use Rattle.stm_session.proofs.TakingBack.{back_failed, back_then, first_flash, i
 use Rattle.std.proofs.Common.{Some, true}
 use Rattle.stm_session.specs.Sending.{is_whole, most_of_command}
 use Rattle.stm_session.proofs.SentParts.{line_part, part_after, part_fails}
+use Rattle.std.proofs.Common.{refl, subst}
+use Rattle.stm_journal.specs.Journals.{Loaded}
+use Rattle.stm_session.specs.Order.{Adds, Follows, IsTakenBack}
+use Rattle.stm_session.specs.Undoable.{newest_kept}
+use Rattle.stm_session.proofs.Orders.{does_add, does_then}
 use Rattle.stm_session.proofs.taking_back.take_back.Goals as goal
 
 pub returns-in_err-restore_lines-clause-honest : goal.returns-in_err-restore_lines-clause-honest
@@ -86,3 +91,20 @@ returns-clause-puts g c =
     let d = (V c.undone.new.rig).calls in
     part_after (Some c.args.chip.now) true most_of_command 0 most_of_command (V c.args.rig.now).calls b d (omega arith) c.in_ok-restore_lines.ensures.puts
     (line_part (Some c.args.chip.now) true 0 l (Undoes (length l.state.stack) ∷ []) c.undone.result b d c.undone.ensures.calls)
+
+pub returns-clause-order : goal.returns-clause-order
+returns-clause-order g c =
+    let V = g.R.Rig.view in
+    let l = c.args.journal.now in
+    let l2 = c.restore_lines.new.journal in
+    let l3 = c.undone.new.self in
+    let a = V c.args.rig.now in
+    let b = V c.restore_lines.new.rig in
+    let d = V c.undone.new.rig in
+    let k = length l2.state.stack in
+    let pages = newest_kept l.state.stack in
+    let first = c.in_ok-restore_lines.ensures.order in
+    let last = does_add (tt {0}) (Undoes k ∷ []) l2 l3 b d c.in_ok-undone.ensures.calls (ap (λ (m : Loaded). m.is_torn) c.in_ok-undone.ensures.after) in
+    let taken : IsTakenBack c.args.chip.now pages k (first.0 ++ Adds (Undoes k ∷ []) ∷ []) = record { returns = first.0; are_returns = first.1; is = refl } in
+    let P : ℕ → Type 0 = λ m. Follows (IsTakenBack c.args.chip.now pages m) l l3 a d in
+    subst P c.in_ok-restore_lines.ensures.same.depth (first.0 ++ Adds (Undoes k ∷ []) ∷ [], taken, does_then first.0 (Adds (Undoes k ∷ []) ∷ []) l l2 l3 a b d first.2 last)

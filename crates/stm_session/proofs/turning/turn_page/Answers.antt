@@ -15,6 +15,11 @@ use Rattle.stm_wire.specs.Intents.{InPage}
 use Rattle.stm_wire.specs.PartLaws.{nothing_is_part, part_weaker}
 use Rattle.stm_session.specs.Sending.{most_of_companion, most_of_page}
 use Rattle.stm_session.proofs.SentParts.{part_after, part_fails, part_fails_after}
+use Rattle.std.proofs.Common.{◌/◌, inl, inr, not, subst}
+use Rattle.std.specs.Prelude.{bytes_eq}
+use Rattle.stm_session.specs.ChangeOrder.{IsChanged, IsTurnOf}
+use Rattle.stm_session.specs.Order.{Step, page_reads, read_steps}
+use Rattle.stm_session.proofs.Orders.{does_as, does_nothing, does_reads, does_then}
 use Rattle.stm_session.proofs.turning.turn_page.Goals as goal
 
 pub returns-then-not-touches-clause-turned : goal.returns-then-not-touches-clause-turned
@@ -156,3 +161,43 @@ returns-clause-puts g c =
     let more = most_of_companion c.args.chip.now c.args.n + (9 + 2 * length c.deref-3.result.now) in
     let most : first + more ≤ whole = omega (arith, many, c.page_size-size.ensures.bytes, c.page_size-size.ensures.blocks.0) in
     part_after (Some c.args.chip.now) true first more whole (V c.args.rig.now).calls (V c.read_range.new.rig).calls (V c.change_page.new.rig).calls most (c.in_ok-held.ensures.few c.args.n here) c.in_ok-changed.ensures.puts
+
+pub returns-then-not-touches-clause-order : goal.returns-then-not-touches-clause-order
+returns-then-not-touches-clause-order g c =
+    let left : IsTurnOf c.args.kept c.args.chip.now c.args.change.now c.args.n false [] = inl (record { same = c.touches.ensures.same c.if-not-touches.true; unchanged = refl; is = refl }) in
+    ([], left, does_nothing c.args.journal.now (g.R.Rig.view c.args.rig.now))
+
+pub returns-clause-order : goal.returns-clause-order
+returns-clause-order g c =
+    let V = g.R.Rig.view in
+    let chip = c.args.chip.now in
+    let n = c.args.n in
+    let l = c.args.journal.now in
+    let l2 = c.change_page.new.journal in
+    let a = V c.args.rig.now in
+    let b = V c.read_range.new.rig in
+    let d = V c.change_page.new.rig in
+    let start = c.page_start-start.result in
+    let size = c.page_size-size.result in
+    let here : InPage chip n start size = record { exists = c.requires.exists; begins = omega (arith, c.page_start-start.ensures.address); ends = omega (arith, c.page_start-start.ensures.address, c.page_size-size.ensures.bytes) } in
+    let reads = read_steps start (size / 256) in
+    let read = does_reads l start (size / 256) a b (c.in_ok-held.ensures.order n here c.page_size-size.ensures.blocks.1 l.is_torn) in
+    let whole : reads ≡ page_reads chip n = ap₂ (λ (k z : ℕ). read_steps k (z / 256)) c.page_start-start.ensures.address c.page_size-size.ensures.bytes in
+    let held = c.deref-2.result.now in
+    let made = content chip c.args.change.now n in
+    let page_is : c.deref-3.result.now ≡ made held = c.deref-3.ensures.value ∙ c.in_ok-page.ensures.bytes ∙ ap made (c.deref.ensures.value ∙ sym c.deref-2.ensures.value) in
+    let many : length held ≡ page_size chip n = search rules in
+    let later = c.in_ok-changed.ensures.order in
+    let steps = page_reads chip n ++ later.0 in
+    let P : List ℕ → Type 0 = λ p. IsChanged c.args.kept chip n held p later.0 in
+    let turned : IsTurnOf c.args.kept chip c.args.change.now n c.in_ok-changed.changed steps =
+    inr (record {
+      may = c.touches.ensures.may c.if-not-touches.false;
+      held = held;
+      size = many;
+      counts = c.in_ok-changed.ensures.changed ∙ ap (λ (p : List ℕ). not (bytes_eq held p)) page_is;
+      later = later.0;
+      is_changed = subst P page_is later.1;
+      is = refl;
+    }) in
+    (steps, turned, does_as (reads ++ later.0) steps l l2 a d (ap (λ (ss : List Step). ss ++ later.0) whole) (does_then reads later.0 l l l2 a b d read later.2))

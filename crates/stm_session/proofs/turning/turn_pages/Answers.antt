@@ -16,6 +16,10 @@ use Rattle.stm_wire.specs.PartLaws.{nothing_is_part}
 use Rattle.stm_session.specs.Sending.{most_of_command}
 use Rattle.stm_session.proofs.Sending.{same_fault}
 use Rattle.stm_session.proofs.SentChanges.{turned_next, turned_within}
+use Rattle.stm_session.specs.ChangeOrder.{AreAllTurned, AreTurned, none}
+use Rattle.stm_session.specs.Order.{Step}
+use Rattle.stm_session.proofs.ChangeOrders.{all_turned}
+use Rattle.stm_session.proofs.Orders.{does_nothing, does_then}
 use Rattle.stm_session.proofs.turning.turn_pages.Goals as goal
 
 pub loop-n-init : goal.loop-n-init
@@ -30,6 +34,7 @@ loop-n-init g c =
       begun = λ le. refl;
       small = omega arith;
       puts = nothing_is_part (Some c.args.chip.now) true _ (V c.args.rig.now).calls;
+      order = ([], none, does_nothing c.args.journal.now (V c.args.rig.now));
       line = omega arith;
       journal = omega arith;
       honest = λ flashes steady chip.
@@ -90,6 +95,13 @@ loop-n-preserved g c =
       begun = λ le. next_is ∙ begun_next c.args.chip.now n c.loop-n.first kept changed s s2 c.is_kept-kept.ensures turned so_far.begun le;
       small = omega (arith, so_far.small, one);
       puts = turned_next c.args.chip.now n true (V c.args.rig.now).calls (V c.loop-n.rig).calls (V c.turn_page.new.rig).calls (omega (arith, c.loop-n-test.true, c.pages-n-end.ensures)) so_far.puts c.in_ok-changed.ensures.puts;
+      order =
+          let before = so_far.order in
+          let own = c.in_ok-changed.ensures.order in (
+            before.0 ++ own.0,
+            all_turned c.args.chip.now c.args.change.now n c.loop-n.first kept changed c.after_page-first.result before.0 own.0 c.is_kept-kept.ensures next_is before.1 own.1,
+            does_then before.0 own.0 c.args.journal.now c.loop-n.journal c.turn_page.new.journal (V c.args.rig.now) (V c.loop-n.rig) (V c.turn_page.new.rig) before.2 own.2,
+          );
       line = omega (arith, so_far.line, c.in_ok-changed.ensures.cause.line_later);
       journal = omega (arith, so_far.journal, c.in_ok-changed.ensures.cause.journal_later);
       honest = λ flashes steady chip.
@@ -160,3 +172,12 @@ pub returns-clause-puts : goal.returns-clause-puts
 returns-clause-puts g c =
     let V = g.R.Rig.view in
     turned_within c.args.chip.now c.loop-n.n true (V c.args.rig.now).calls (V c.loop-n.rig).calls c.keeps_limits.ensures.chip c.loop-n.invariant.puts
+
+pub returns-clause-order : goal.returns-clause-order
+returns-clause-order g c =
+    let k = c.args.chip.now in
+    let all : c.loop-n.n ≡ page_count k = omega (arith, c.loop-n-test.false, c.loop-n.auto.n-end, c.pages-n-end.ensures) in
+    let done = c.loop-n.invariant.order in
+    let P : ℕ → Type 0 = λ m. AreTurned k c.args.change.now m c.loop-n.first done.0 in
+    let turned : AreAllTurned k c.args.change.now done.0 = (c.loop-n.first, subst P all done.1) in
+    (done.0, turned, done.2)

@@ -1,0 +1,51 @@
+-- The order of what a command that changes the flash puts and appends.
+use Rattle.std.proofs.Common.{◌≡◌, ◌≢◌, ℕ, ◌+◌, ◌/◌, ◌==◌, ◌&&◌, Bool, true, false, if◌then◌else◌, List, [], ◌∷◌, ◌++◌, length, refl, sym, ◌∙◌, ap, ⊎_elim, subst}
+use Rattle.std.specs.Prelude.{bytes_eq}
+use Rattle.std.proofs.lemmas.Bool.{cases_Bool}
+use Rattle.std.proofs.lemmas.Slice.Eq.{bytes_eq-Decides}
+use Rattle.stm_wire.specs.Chip.{ChipData, erased_byte}
+use Rattle.stm_chip.specs.declared.plan.Frame.{Frame}
+use Rattle.stm_chip.specs.Plan.{frames_of}
+use Rattle.stm_session.specs.declared.change.Change.{Change}
+use Rattle.stm_session.specs.ChangeOrder.{AreTurned, more, AreBothSaved, IsChanged, IsChangedUnless, IsRewritten, IsSaved, IsSavedWith, IsTurnOf}
+use Rattle.stm_session.specs.Order.{Step, rewrite_steps}
+use Rattle.stm_session.specs.Undoable.{has_companion}
+use Rattle.stm_session.proofs.Savings.{is_first}
+
+-- which pages are kept
+pub saved_none : (kept : Bool) (chip : ChipData) (n : ℕ) (held : List ℕ) → kept ≡ true → IsSaved kept chip n held []
+saved_none kept chip n held is = let P : Bool → Type 0 = λ b. IsSaved b chip n held [] in subst P (sym is) refl
+
+pub saved_both : (kept : Bool) (chip : ChipData) (n : ℕ) (held : List ℕ) (steps : List Step) → kept ≡ false → (n == 1 && has_companion chip) ≡ true → AreBothSaved chip 1 held steps → IsSaved kept chip n held steps
+saved_both kept chip n held steps is both saved =
+    let P : Bool → Type 0 = λ b. IsSaved b chip n held steps in
+    let Q : Bool → Type 0 = λ b. IsSavedWith b chip n held steps in
+    let R : ℕ → Type 0 = λ m. AreBothSaved chip m held steps in
+    subst P (sym is) (subst Q (sym both) (subst R (sym (is_first n (has_companion chip) both)) saved))
+
+pub saved_one : (kept : Bool) (chip : ChipData) (n : ℕ) (held : List ℕ) (steps : List Step) → kept ≡ false → (n == 1 && has_companion chip) ≡ false → IsSavedWith false chip n held steps → IsSaved kept chip n held steps
+saved_one kept chip n held steps is alone saved =
+    let P : Bool → Type 0 = λ b. IsSaved b chip n held steps in
+    let Q : Bool → Type 0 = λ b. IsSavedWith b chip n held steps in
+    subst P (sym is) (subst Q (sym alone) saved)
+
+-- whether a page is changed
+pub changed_none : (kept : Bool) (chip : ChipData) (n : ℕ) (held page : List ℕ) → held ≡ page → IsChanged kept chip n held page []
+changed_none kept chip n held page same = let P : Bool → Type 0 = λ b. IsChangedUnless b kept chip n held page [] in subst P (sym ((bytes_eq-Decides held page).1 same)) refl
+
+pub changed_some : (kept : Bool) (chip : ChipData) (n : ℕ) (held page : List ℕ) (frames : List Frame) (saved : List Step) → held ≢ page → frames ≡ frames_of (erased_byte chip) page (length page / 256) → IsSaved kept chip n held saved
+    → IsChanged kept chip n held page (saved ++ rewrite_steps chip n page frames)
+changed_some kept chip n held page frames saved other is is_saved =
+    let steps = saved ++ rewrite_steps chip n page frames in
+    let P : Bool → Type 0 = λ b. IsChangedUnless b kept chip n held page steps in
+    let differs : bytes_eq held page ≡ false = ⊎_elim (λ yes. absurd (other ((bytes_eq-Decides held page).0 yes))) (λ none. none) (cases_Bool (bytes_eq held page)) in
+    let rewritten : IsRewritten kept chip n held page steps = record { saved = saved; is_saved = is_saved; is = ap (λ (fs : List Frame). saved ++ rewrite_steps chip n page fs) is } in
+    subst P (sym differs) rewritten
+
+-- one page more
+pub all_turned : (chip : ChipData) (c : Change) (n : ℕ) (was kept changed first : Bool) (before own : List Step) → kept ≡ (n == 257 && was) → first ≡ (if n == 1 then changed else was) → AreTurned chip c n was before
+    → IsTurnOf kept chip c n changed own → AreTurned chip c (n + 1) first (before ++ own)
+all_turned chip c n was kept changed first before own kept_is first_is are turn =
+    let K : Bool → Type 0 = λ k. IsTurnOf k chip c n changed own in
+    let F : Bool → Type 0 = λ f. AreTurned chip c (n + 1) f (before ++ own) in
+    subst F (sym first_is) (more n was changed before own are (subst K kept_is turn))

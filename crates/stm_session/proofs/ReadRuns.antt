@@ -1,0 +1,182 @@
+-- A run that only reads.
+use Rattle.std.proofs.Common.{◌≡◌, ℕ, zero, suc, ◌+◌, ◌≤◌, ◌&&◌, Bool, true, false, if◌then◌else◌, List, [], ◌∷◌, ◌++◌, length, map, take, Result, Ok, Err, IfErr, IfOk, Option, Some, None, nat_le, refl, sym, ap, ap₂, ◌∙◌, subst, arith, append-nil}
+use Rattle.std.specs.List.{list_all, list_any}
+use Rattle.std.proofs.lemmas.Bool.{true≢false}
+use Rattle.std.proofs.lemmas.Bool.Decides.{nat_tests}
+use Rattle.stm_wire.specs.Chip.{ChipData}
+use Rattle.stm_wire.specs.Device.{Device}
+use Rattle.stm_wire.specs.MomentLaws.{weaker}
+use Rattle.stm_wire.specs.Rig.{RigState}
+use Rattle.stm_journal.specs.Journals.{JournalData, bad, good, journal_of}
+use Rattle.stm_journal.specs.States.{StateData, IsSound}
+use Rattle.stm_session.specs.declared.command.Command.{Command}
+use Rattle.stm_session.specs.declared.command.Command.TheVariants as command
+use Rattle.stm_session.specs.declared.outcome.Outcome.{Outcome}
+use Rattle.stm_session.specs.declared.outcome.Outcome.TheVariants as outcome
+use Rattle.stm_session.specs.declared.fault.Fault.{Fault}
+use Rattle.stm_session.specs.declared.fault.Fault.TheVariants as fault
+use Rattle.stm_session.specs.Answers.{OutcomeData, was_written, was_erased, was_verified, was_read, agreeing, answers_of, in_front_of, outcome_data}
+use Rattle.stm_session.specs.Fault.{IsOutsideFault}
+use Rattle.stm_session.specs.Lines.{depth_at, is_named_at, is_torn_at, text_added}
+use Rattle.stm_session.specs.Meaning.{CommandData, reads, changes_of, commands_in, flash_after_all, is_change}
+use Rattle.stm_session.specs.Moments.{IsUnbegun}
+use Rattle.stm_session.specs.Refusal.{chip_with, first_refusal, opening_refusal}
+use Rattle.stm_session.specs.Refusals.{commands_refused, is_in_flash, lies_in_flash, run_refusal}
+use Rattle.stm_session.specs.Running.{AreRead, RunsReads, bytes_of, bytes_read, is_read}
+use Rattle.stm_session.specs.Runs.{AmidRun, RunFails, Runs, answers_from, flashes_with, run_text, standing}
+use Rattle.stm_session.specs.Undoable.{Undoable, is_unfinished_at}
+use Rattle.stm_session.proofs.CommandLists.{entries-none}
+use Rattle.stm_session.proofs.Openings.{alone}
+use Rattle.stm_session.proofs.Undoing.{finished_is_safe}
+
+both : (a b : Bool) → (a && b) ≡ true → (a ≡ true) × (b ≡ true)
+both true b e = (refl, e)
+both false b e = absurd (true≢false (sym e))
+
+none_read : {A : Type 0} → false ≡ true → A
+none_read e = absurd (true≢false (sym e))
+
+-- reads change nothing
+no_changes : (commands : List Command) → list_all is_read commands ≡ true → changes_of (commands_in commands) ≡ []
+no_changes [] all = refl
+no_changes (command.Write image ∷ commands) all = none_read all
+no_changes (command.Erase pages ∷ commands) all = none_read all
+no_changes (command.Verify image ∷ commands) all = none_read all
+no_changes (command.Read start size ∷ commands) all = no_changes commands all
+
+all_stand : (chip : ChipData) (flash : List ℕ) (commands : List Command) → list_all is_read commands ≡ true → agreeing chip flash (commands_in commands) ≡ commands_in commands
+all_stand chip flash [] all = refl
+all_stand chip flash (command.Write image ∷ commands) all = none_read all
+all_stand chip flash (command.Erase pages ∷ commands) all = none_read all
+all_stand chip flash (command.Verify image ∷ commands) all = none_read all
+all_stand chip flash (command.Read start size ∷ commands) all = ap (λ (cs : List CommandData). reads start size ∷ cs) (all_stand chip flash commands all)
+
+-- and answer the flash's bytes
+reads_answer : (chip : ChipData) (below : ℕ) (flash : List ℕ) (commands : List Command) → list_all is_read commands ≡ true
+    → answers_of chip below flash (commands_in commands) ≡ Ok (map (λ c. was_read (bytes_read chip flash c)) commands)
+reads_answer chip below flash [] all = refl
+reads_answer chip below flash (command.Write image ∷ commands) all = none_read all
+reads_answer chip below flash (command.Erase pages ∷ commands) all = none_read all
+reads_answer chip below flash (command.Verify image ∷ commands) all = none_read all
+reads_answer chip below flash (command.Read start size ∷ commands) all =
+    ap (in_front_of (Ok (was_read (bytes_read chip flash (command.Read start size)))))
+    (ap (λ (k : ℕ). answers_of chip k flash (commands_in commands)) (let n : below + 0 ≡ below = omega arith in n) ∙ reads_answer chip below flash commands all)
+
+bytes_told : OutcomeData → List ℕ
+bytes_told (was_written segment pages) = []
+bytes_told (was_erased segment pages) = []
+bytes_told was_verified = []
+bytes_told (was_read bytes) = bytes
+
+told_bytes : (outcomes : List Outcome) → map bytes_told (map outcome_data outcomes) ≡ map bytes_of outcomes
+unfolding bytes_told
+told_bytes [] = refl
+told_bytes (outcome.Written segment pages ∷ outcomes) = ap (λ (xs : List (List ℕ)). [] ∷ xs) (told_bytes outcomes)
+told_bytes (outcome.Erased segment pages ∷ outcomes) = ap (λ (xs : List (List ℕ)). [] ∷ xs) (told_bytes outcomes)
+told_bytes (outcome.Verified ∷ outcomes) = ap (λ (xs : List (List ℕ)). [] ∷ xs) (told_bytes outcomes)
+told_bytes (outcome.Read bytes ∷ outcomes) = ap (λ (xs : List (List ℕ)). bytes.items ∷ xs) (told_bytes outcomes)
+
+told_reads : (chip : ChipData) (flash : List ℕ) (commands : List Command) → map bytes_told (map (λ c. was_read (bytes_read chip flash c)) commands) ≡ map (bytes_read chip flash) commands
+unfolding bytes_told
+told_reads chip flash [] = refl
+told_reads chip flash (c ∷ commands) = ap (λ (xs : List (List ℕ)). bytes_read chip flash c ∷ xs) (told_reads chip flash commands)
+
+are_read : (old : RigState) (commands : List Command) (outcomes : List Outcome) → list_all is_read commands ≡ true → answers_from old (commands_in commands) ≡ Ok (map outcome_data outcomes) → AreRead old.device commands outcomes
+are_read old commands outcomes all said =
+    let chip = old.device.chip in
+    let flash = old.device.flash in
+    let same : map outcome_data outcomes ≡ map (λ c. was_read (bytes_read chip flash c)) commands = inside (answers_from old (commands_in commands)) _ _ said (reads_answer chip (depth_at old.journal) flash commands all) in
+    sym (told_bytes outcomes) ∙ ap (map bytes_told) same ∙ told_reads chip flash commands
+  where
+    inside : (said : Result (List OutcomeData) ℕ) (xs ys : List OutcomeData) → said ≡ Ok xs → said ≡ Ok ys → xs ≡ ys
+    inside said xs ys p q = let h : Ok xs ≡ Ok ys = sym p ∙ q in cc
+
+-- no segment is begun
+reads_unbegun : (commands : List Command) (flashes : List (List ℕ)) (old : RigState) → list_all is_read commands ≡ true → is_unfinished_at old.journal ≡ false → (d : Device) (journal : List ℕ)
+    → AmidRun (standing old (commands_in commands)) flashes old d journal → IsUnbegun old d journal
+reads_unbegun commands flashes old all finished d journal amid =
+    let cs = commands_in commands in
+    let A : List CommandData → Type 0 = λ xs. AmidRun xs flashes old d journal in
+    let a = subst A (all_stand old.device.chip old.device.flash commands all) amid in
+    let none = no_changes commands all in
+    let zero_begun : a.begun ≡ 0 = omega (arith, a.within, ap length none) in
+    let text : run_text old cs ≡ [] =
+    ap (text_added (is_torn_at old.journal)) (entries-none (is_named_at old.journal) old.device.chip (depth_at old.journal) old.device.flash cs (ap length none)) in
+    let same : journal ≡ old.journal = a.lines ∙ ap (λ (bytes : List ℕ). old.journal ++ take a.written bytes) text ∙ ap (λ (bytes : List ℕ). old.journal ++ bytes) (taken a.written) ∙ append-nil old.journal in
+    let over : is_unfinished_at journal ≡ false = ap is_unfinished_at same ∙ finished in
+    let flash : d.flash ≡ old.device.flash =
+    a.finished over ∙ ap (λ (xs : List CommandData). flash_after_all old.device.chip old.device.flash (take a.begun xs)) none ∙ ap (flash_after_all old.device.chip old.device.flash) (no_command a.begun) in
+    record { journal_same = same; make = a.make; flash = flash; safe = finished_is_safe (flashes_with a.begun old cs flashes) d journal a.undoable over }
+  where
+    taken : (n : ℕ) → take {A = ℕ} n [] ≡ []
+    taken zero = refl
+    taken (suc n) = refl
+
+    no_command : (n : ℕ) → take {A = CommandData} n [] ≡ []
+    no_command zero = refl
+    no_command (suc n) = refl
+
+reads_fail : (commands : List Command) (flashes : List (List ℕ)) (old new : RigState) → list_all is_read commands ≡ true → (e : Fault) → RunFails (commands_in commands) flashes old new e → IsOutsideFault e
+reads_fail commands flashes old new all fault.Line is = tt
+reads_fail commands flashes old new all fault.Journal is = tt
+reads_fail commands flashes old new all fault.Memory is = tt
+reads_fail commands flashes old new all fault.Unfinished is = is
+reads_fail commands flashes old new all (fault.UnknownChip id) is = is
+reads_fail commands flashes old new all fault.OutOfFlash is = is
+reads_fail commands flashes old new all fault.NoErase is = is
+reads_fail commands flashes old new all fault.InSession is = is
+reads_fail commands flashes old new all (fault.Differs address) is = other _ _ is.0 (reads_answer old.device.chip (depth_at old.journal) old.device.flash commands all)
+  where
+    other : {A : Type 0} (said : Result (List OutcomeData) ℕ) (xs : List OutcomeData) → said ≡ Err address → said ≡ Ok xs → A
+    other said xs p q = absurd (let h : Err address ≡ Ok xs = sym p ∙ q in cc)
+reads_fail commands flashes old new all fault.Device is = is
+reads_fail commands flashes old new all (fault.BadJournal line) is = is
+reads_fail commands flashes old new all fault.OtherDevice is = is
+reads_fail commands flashes old new all fault.Full is = is
+
+pub reads_only : {T : Type 0} (commands : List Command) (flashes : List (List ℕ)) (old new : RigState) (result : Result T Fault) (outcomes_of : T → List Outcome) → list_all is_read commands ≡ true → is_unfinished_at old.journal ≡ false
+    → Runs (commands_in commands) flashes old new result (λ x. map outcome_data (outcomes_of x)) → RunsReads commands old new result outcomes_of
+reads_only {T} commands flashes old new result outcomes_of all finished runs =
+    record {
+      moments = weaker (AmidRun (standing old (commands_in commands)) flashes old) (IsUnbegun old) old new runs.moments (reads_unbegun commands flashes old all finished);
+      honest = runs.honest;
+      left = reads_unbegun commands flashes old all finished new.device new.journal runs.left;
+      fails = failed result runs.fails;
+      outcomes = told result runs.outcomes;
+      settled = runs.settled;
+    }
+  where
+    failed : (r : Result T Fault) → IfErr r (RunFails (commands_in commands) flashes old new) → IfErr r IsOutsideFault
+    failed (Ok x) is = tt
+    failed (Err e) is = reads_fail commands flashes old new all e is
+
+    told : (r : Result T Fault) → IfOk r (λ x. answers_from old (commands_in commands) ≡ Ok (map outcome_data (outcomes_of x))) → IfOk r (λ x. AreRead old.device commands (outcomes_of x))
+    told (Ok x) said = are_read old commands (outcomes_of x) all said
+    told (Err e) said = tt
+
+-- what is refused of reads
+reads_inside : (chip : ChipData) (commands : List Command) → list_all (is_in_flash chip) commands ≡ true → list_all (lies_in_flash chip) (commands_in commands) ≡ true
+reads_inside chip [] inside = refl
+reads_inside chip (c ∷ commands) inside = let two = both (is_in_flash chip c) (list_all (is_in_flash chip) commands) inside in rw two.0 (reads_inside chip commands two.1)
+
+no_change : (commands : List Command) → list_all is_read commands ≡ true → list_any is_change (commands_in commands) ≡ false
+no_change [] all = refl
+no_change (command.Write image ∷ commands) all = none_read all
+no_change (command.Erase pages ∷ commands) all = none_read all
+no_change (command.Verify image ∷ commands) all = none_read all
+no_change (command.Read start size ∷ commands) all = no_change commands all
+
+pub reads_unrefused : ((bytes : List ℕ) (s : StateData) → journal_of bytes ≡ good s → IsSound s) → (journal : List ℕ) (d : Device) (table : List ChipData) (chip : ChipData) (commands : List Command) → list_all is_read commands ≡ true
+    → opening_refusal (journal_of journal) d table ≡ None → chip_with table d.chip.id ≡ Some chip → list_all (is_in_flash chip) commands ≡ true → run_refusal (journal_of journal) d table (commands_in commands) ≡ None
+reads_unrefused sound journal d table chip commands all opened held inside =
+    ap (λ (o : Option Fault). first_refusal (o ∷ commands_refused (journal_of journal) d (chip_with table d.chip.id) (commands_in commands) ∷ [])) opened
+    ∙ alone (commands_refused (journal_of journal) d (chip_with table d.chip.id) (commands_in commands))
+    ∙ ap (λ (c : Option ChipData). commands_refused (journal_of journal) d c (commands_in commands)) held
+    ∙ at (journal_of journal) refl
+  where
+    at : (j : JournalData) → journal_of journal ≡ j → commands_refused j d (Some chip) (commands_in commands) ≡ None
+    at (bad line) is = refl
+    at (good s) is =
+        let depth = (sound journal s is).depth in
+        let room : nat_le (length s.stack + 0) 65535 ≡ true = grind (arith, nat_tests, depth) in
+        rw (no_change commands all, reads_inside chip commands inside, no_changes commands all, room) refl

@@ -1,0 +1,153 @@
+use Rattle.std.proofs.Common.{◌≡◌, ◌≤◌, ◌∙◌, ◌+◌, ◌*◌, ◌++◌, ◌∷◌, [], List, ℕ, Vec, Global, Bool, Ok, Some, true, is_ok, vec_len, if◌then◌else◌, length, map, take, drop, sym, ap, subst, arith, rules, refl}
+use Rattle.std.proofs.lemmas.List.{map-append, take_all}
+use Rattle.stm_wire.specs.Dialogue.{GoesOn}
+use Rattle.stm_wire.specs.Parts.{IsPart}
+use Rattle.stm_wire.specs.PartLaws.{nothing_is_part}
+use Rattle.stm_session.specs.declared.command.Command.{Command}
+use Rattle.stm_session.specs.declared.outcome.Outcome.{Outcome}
+use Rattle.stm_session.specs.Answers.{OutcomeData, outcome_data}
+use Rattle.stm_session.specs.Meaning.{CommandData, command_data, commands_in}
+use Rattle.stm_session.specs.Refusals.{lies_in_flash}
+use Rattle.stm_session.specs.Running.{AreKindsOf, IsKindOf}
+use Rattle.stm_session.specs.Runs.{Runs}
+use Rattle.stm_session.specs.Sending.{is_whole, most_of_command}
+use Rattle.stm_session.proofs.OutcomeKinds.{kinds_more}
+use Rattle.stm_session.proofs.RunEnds.{run_all, run_refused, run_stopped}
+use Rattle.stm_session.proofs.RunLoop.{IsRunSoFar, depth_next, passes_next, room_next, taken_next, whole_list}
+use Rattle.stm_session.proofs.Runs.{HasRun, made_so_far, run_next, run_nothing}
+use Rattle.stm_session.proofs.Sending.{same_fault}
+use Rattle.stm_session.proofs.SentParts.{commands_next, commands_within}
+use Rattle.stm_session.proofs.running.run_commands.Goals as goal
+
+pub returns-in_err-reserve_exact-clause-honest : goal.returns-in_err-reserve_exact-clause-honest
+returns-in_err-reserve_exact-clause-honest g c flashes steady chip =
+    let a = g.R.Rig.view c.args.rig.now in
+    let l = c.args.journal.now in
+    let model = g.met.R.Rig.model c.args.rig.now steady.honest in
+    let first = run_nothing c.step_laws.ensures flashes l a model steady in
+    run_refused c.step_laws.ensures [] flashes l l a a [] model steady first (commands_in c.args.commands.now) _ c.from_residual.result c.from_residual.ensures.1
+
+pub loop-command-init : goal.loop-command-init
+loop-command-init g c =
+    let a = g.R.Rig.view c.args.rig.now in
+    let l = c.args.journal.now in
+    let none : c.reserve_exact.new.self.items ≡ [] = c.in_ok-reserve_exact.ensures.items ∙ c.new-outcomes.ensures.items in
+    let K : List Outcome → Type 0 = λ os. AreKindsOf (take 0 c.args.commands.now) os in
+    record {
+      count = c.in_ok-reserve_exact.ensures.len ∙ c.new-outcomes.ensures.len;
+      room = omega (arith, c.in_ok-reserve_exact.ensures.ok);
+      kinds = subst K (sym none) tt;
+      finished = c.requires.finished;
+      depth = omega arith;
+      line = omega arith;
+      journal = omega arith;
+      parts = nothing_is_part (Some c.args.chip.now) true 0 a.calls;
+      honest = λ flashes steady chip.
+          let model = g.met.R.Rig.model c.args.rig.now steady.honest in
+          let H : List Outcome → Type 0 = λ os. HasRun [] flashes l a a (map outcome_data os) in
+          subst H (sym none) (run_nothing c.step_laws.ensures flashes l a model steady);
+    }
+
+pub run_command-requires-clause-in_flash : goal.run_command-requires-clause-in_flash
+run_command-requires-clause-in_flash g c =
+    passes_next c.args.commands.now c.loop-command.command-index c.command-item.result c.loop-command-test.true c.command-item.is (lies_in_flash c.args.chip.now) c.requires.in_flash
+
+pub run_command-requires-clause-room : goal.run_command-requires-clause-room
+run_command-requires-clause-room g c change =
+    room_next c.args.commands.now c.loop-command.command-index c.command-item.result c.loop-command-test.true c.command-item.is (length c.loop-command.journal.state.stack) (length c.args.journal.now.state.stack)
+    c.loop-command.invariant.depth c.requires.room change
+
+pub returns-in_err-outcome-clause-puts : goal.returns-in_err-outcome-clause-puts
+returns-in_err-outcome-clause-puts g c =
+    let V = g.R.Rig.view in
+    let a = (V c.args.rig.now).calls in
+    let d = (V c.run_command.new.rig).calls in
+    let i = c.loop-command.command-index in
+    let n = length c.args.commands.now in
+    let P : Bool → Type 0 = λ w. GoesOn (IsPart (Some c.args.chip.now) w (n * most_of_command)) a d in
+    same_fault P _ c.from_residual-in_err-outcome.result c.from_residual-in_err-outcome.ensures.1
+    (commands_within c.args.chip.now (i + 1) n _ a d (omega (arith, c.loop-command-test.true))
+    (commands_next c.args.chip.now i _ a (V c.loop-command.rig).calls d c.loop-command.invariant.parts c.in_err-outcome.ensures.puts))
+
+pub returns-in_err-outcome-clause-honest : goal.returns-in_err-outcome-clause-honest
+returns-in_err-outcome-clause-honest g c flashes steady chip =
+    let V = g.R.Rig.view in
+    let a = V c.args.rig.now in
+    let b = V c.loop-command.rig in
+    let d = V c.run_command.new.rig in
+    let laws = c.step_laws.ensures in
+    let l = c.args.journal.now in
+    let l2 = c.loop-command.journal in
+    let i = c.loop-command.command-index in
+    let cs = c.args.commands.now in
+    let next : Command = c.command-item.result in
+    let xs = commands_in (take i cs) in
+    let said = map outcome_data c.loop-command.outcomes.items in
+    let first = c.loop-command.invariant.honest flashes steady chip in
+    let model = g.met.R.Rig.model c.loop-command.rig first.steady.honest in
+    let still = (made_so_far laws xs flashes l l2 a b said model steady first).chip ∙ chip in
+    let does = c.in_err-outcome.ensures.honest _ first.steady still in
+    let R : List CommandData → Type 0 = λ ys. Runs {T = Vec Outcome Global} ys flashes a d c.from_residual-in_err-outcome.result (λ outcomes. map outcome_data outcomes.items) in
+    subst R (whole_list cs i next c.loop-command-test.true c.command-item.is)
+    (run_stopped laws xs flashes l l2 a b said model steady first (command_data next) (commands_in (drop (i + 1) cs)) c.run_command.new.journal d _ outcome_data c.from_residual-in_err-outcome.result _
+    c.loop-command.invariant.finished (g.met.R.Rig.model c.run_command.new.rig does.honest) does c.from_residual-in_err-outcome.ensures.1)
+
+pub loop-command-preserved : goal.loop-command-preserved
+loop-command-preserved g c =
+    let V = g.R.Rig.view in
+    let a = V c.args.rig.now in
+    let b = V c.loop-command.rig in
+    let d = V c.run_command.new.rig in
+    let laws = c.step_laws.ensures in
+    let l = c.args.journal.now in
+    let l2 = c.loop-command.journal in
+    let l3 = c.run_command.new.journal in
+    let i = c.loop-command.command-index in
+    let cs = c.args.commands.now in
+    let next : Command = c.command-item.result in
+    let lt = c.loop-command-test.true in
+    let so_far = c.loop-command.invariant in
+    let one = c.in_ok-outcome.outcome in
+    let ok : is_ok c.push.result ≡ true = c.push.ensures.succeeds (omega (arith, so_far.count, so_far.room, lt)) in
+    let pushed : c.push.new.self.items ≡ c.loop-command.outcomes.items ++ one ∷ [] =
+    c.push.ensures.items ∙ ap (λ (b : Bool). if b then c.loop-command.outcomes.items ++ one ∷ [] else c.loop-command.outcomes.items) ok in
+    record {
+      count = c.push.ensures.len ∙ ap (λ (b : Bool). if b then vec_len c.loop-command.outcomes + 1 else vec_len c.loop-command.outcomes) ok ∙ ap (λ (n : ℕ). n + 1) so_far.count;
+      room = omega (arith, so_far.room, c.push.ensures.capacity);
+      kinds = kinds_more cs i next c.loop-command.outcomes.items c.push.new.self.items one lt pushed so_far.kinds
+          (subst (λ (x : Command). IsKindOf x one) c.command-item.is c.in_ok-outcome.ensures.kind);
+      finished = c.in_ok-outcome.ensures.finished;
+      depth = depth_next cs i next lt c.command-item.is (length l.state.stack) (length l2.state.stack) (length l3.state.stack) so_far.depth c.in_ok-outcome.ensures.depth;
+      line = omega (arith, so_far.line, c.in_ok-outcome.ensures.cause.line_later);
+      journal = omega (arith, so_far.journal, c.in_ok-outcome.ensures.cause.journal_later);
+      parts = commands_next c.args.chip.now i true a.calls b.calls d.calls so_far.parts c.in_ok-outcome.ensures.puts;
+      honest = λ flashes steady chip.
+          let xs = commands_in (take i cs) in
+          let said = map outcome_data c.loop-command.outcomes.items in
+          let first = so_far.honest flashes steady chip in
+          let model = g.met.R.Rig.model c.loop-command.rig first.steady.honest in
+          let still = (made_so_far laws xs flashes l l2 a b said model steady first).chip ∙ chip in
+          let does = c.in_ok-outcome.ensures.honest _ first.steady still in
+          let told : said ++ outcome_data one ∷ [] ≡ map outcome_data c.push.new.self.items =
+          sym (ap (map outcome_data) pushed ∙ map-append outcome_data c.loop-command.outcomes.items (one ∷ [])) in
+          let H : List CommandData → Type 0 = λ ys. HasRun ys flashes l3 a d (map outcome_data c.push.new.self.items) in
+          let O : List OutcomeData → Type 0 = λ os. HasRun (xs ++ command_data next ∷ []) flashes l3 a d os in
+          subst H (sym (taken_next cs i next lt c.command-item.is))
+          (subst O told (run_next laws xs flashes l l2 a b said model steady first (command_data next) l3 d one outcome_data does));
+    }
+
+pub returns-clause-honest : goal.returns-clause-honest
+returns-clause-honest g c flashes steady chip =
+    let V = g.R.Rig.view in
+    let a = V c.args.rig.now in
+    let b = V c.loop-command.rig in
+    let l = c.args.journal.now in
+    let l2 = c.loop-command.journal in
+    let i = c.loop-command.command-index in
+    let cs = c.args.commands.now in
+    let said = map outcome_data c.loop-command.outcomes.items in
+    let first = c.loop-command.invariant.honest flashes steady chip in
+    let model = g.met.R.Rig.model c.loop-command.rig first.steady.honest in
+    let all : commands_in (take i cs) ≡ commands_in cs = ap commands_in (take_all i cs (omega (arith, c.loop-command-test.false))) in
+    let R : List CommandData → Type 0 = λ ys. Runs {T = Vec Outcome Global} ys flashes a b (Ok c.loop-command.outcomes) (λ outcomes. map outcome_data outcomes.items) in
+    subst R all (run_all c.step_laws.ensures (commands_in (take i cs)) flashes l l2 a b said model steady first c.loop-command.outcomes _ c.loop-command.invariant.finished refl)
