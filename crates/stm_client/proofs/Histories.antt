@@ -58,5 +58,5 @@ module _ (table : List ChipData) (commands : List CommandData) (m m1 m2 m3 m4 m5
   pub all_back : (n : ℕ) → UndoContract table 0 (rig_state m4) (rig_state m5) (Ok n) → m5.device.flash ≡ m.device.flash
   all_back n second =
       let stays = honest4 (honest3 (run_honest table commands m1 m2 result safe undoable contract (honest1 honest) begins)) in
-      (law history (now_of (rig_state m)) starts (((honest1 honest, found), (contract, refl)), (refl, tt)) m4 m5 n (now_of (rig_state m5))
-      ((stays, found_again), (second, refl))).0
+      (law history (now_of (rig_state m)) starts (((honest1 honest, found), contract, refl), (refl, tt)) m4 m5 n (now_of (rig_state m5))
+      ((stays, found_again), second, refl)).0
