@@ -15,6 +15,7 @@ use stm_wire::{MemoryRig, RigCall};
 const USAGE: &str = "usage: nothing, write, rewrite, verify, read or undo, and TABLE ID RAW";
 
 // What is measured: a table, the image, and a device that is written.
+#[derive(Drop)]
 struct Bench {
     table: Table,
     image: Image,
@@ -45,8 +46,14 @@ fn bench_of(rt: &HostRuntime, name: &str, id: &str, raw: &str) -> io::Result<Opt
     let Some(rig) = MemoryRig::new(rt.alloc(), chip, flash, Vec::new(rt.alloc())) else {
         return Ok(None);
     };
-    let size = bytes.len() as u32;
-    Ok(Some(Bench { table, image, rig, base, size }))
+    let size = u32::try_from(bytes.len()).unwrap_or(0);
+    Ok(Some(Bench {
+        table,
+        image,
+        rig,
+        base,
+        size,
+    }))
 }
 
 impl Bench {
