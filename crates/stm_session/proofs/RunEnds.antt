@@ -129,9 +129,11 @@ module _ (laws : StepLaws) (xs : List CommandData) (flashes : List (List ℕ)) (
         let D : Device → Type 0 = λ d. AreDone xs flashes old d new.journal in
         let J : List ℕ → Type 0 = λ j. AreDone xs flashes old mid.device j in
         let S : Device → Type 0 = λ d. IsSettled d in
-        subst (RunFails (xs ++ c ∷ ys) flashes old new) (sym t.is)
-        (answers-differ old.device.chip (depth_at old.journal) old.device.flash xs c ys outcomes t.address first.answers said,
-        subst C stands (subst D (sym t.device_same) (subst J (sym t.journal_same) done)), subst S (sym t.device_same) first.steady.settled)
+        subst (RunFails (xs ++ c ∷ ys) flashes old new) (sym t.is) (
+          answers-differ old.device.chip (depth_at old.journal) old.device.flash xs c ys outcomes t.address first.answers said,
+          subst C stands (subst D (sym t.device_same) (subst J (sym t.journal_same) done)),
+          subst S (sym t.device_same) first.steady.settled,
+        )
 
     pub run_stopped : {T U : Type 0} (l3 : Loaded) (new : RigState) (e : Fault) (outcome_in : T → OutcomeData) (result : Result U Fault) (outcomes_of : U → List OutcomeData) → is_unfinished l2.state ≡ false → IsModel new
         → Does (flashes_after old xs flashes) c l3 mid new (Err e) outcome_in → IsErrAnd result (λ z. z ≡ e) → Runs (xs ++ c ∷ ys) flashes old new result outcomes_of

@@ -36,7 +36,6 @@ returns-clause-puts g c =
     let d = (V c.ask.new.rig).calls in
     session_joins None 0x7F 131072 (is_whole c.ask.result) 537411600 268 a b d (settling_is_session None 0x7F 131072 true 537411600 a b c.settle_safe.ensures.calls) c.ask.ensures.puts
 
-
 pub returns-clause-order : goal.returns-clause-order
 returns-clause-order g c torn =
     let V = g.R.Rig.view in
