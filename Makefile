@@ -8,12 +8,13 @@
 #               the proved program, its manual page and the sample table
 #   make bench  builds what is measured, measures it beside its peers, and prints ratios (needs python3; Debian's binutils
 #               and srecord for the peers of HEX)
+#   make beside lets the real stm32flash drive our simulator (docs/BESIDE.md); skipped with a word where it isn't installed
 #   make clean  removes what was made
 
 PREFIX ?= /usr/local
 DESTDIR ?=
 
-.PHONY: all demo test install bench clean
+.PHONY: all demo test install bench beside clean
 
 all: bin/stmflash
 
@@ -46,6 +47,9 @@ bench: bin/stmflash
 	python3 bench/hex
 	python3 bench/layers
 	python3 bench/read
+
+beside: bin/stmflash
+	sh tools/beside.sh bin/stmflash
 
 clean:
 	rm -rf bin crates/*/out

@@ -51,6 +51,15 @@ def times_of(words, runs, folder=None):
     return times
 
 
+def times_beside(commands, runs):
+    """The processor times of some runs of each command, by turns, so that other work on the machine meets all alike."""
+    times = [[] for _ in commands]
+    for _ in range(runs):
+        for own, words in zip(times, commands):
+            own += times_of(words, 1)
+    return times
+
+
 def peak_of(words):
     """The greatest memory of a run, in bytes: the high-water mark of the program's own memory, read as it ends. So the run is
     traced and stopped there; what wait4 tells is never less than what this script held as it began the program."""

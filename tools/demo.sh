@@ -1,5 +1,5 @@
 #!/usr/bin/env sh
-# The main job, shown: the flash of a simulated chip is read out, byte for byte.
+# The main job, shown on a simulated chip: a write is stopped half way and taken back, then done, verified and taken back.
 # The program is built here with no proof, which is the fastest way, and stays at bin/stmflash-unproved; `make` proves it.
 set -eu
 top=$(cd "$(dirname "$0")/.." && pwd)
@@ -41,20 +41,41 @@ while [ "$i" -lt 2048 ]; do
 done
 head -c 32768 "$demo/text" > "$demo/flash.bin"
 
+cp "$demo/flash.bin" "$demo/before.bin"
+printf 'a new program, which is not there yet' > "$demo/image.bin"
 cp "$top/chips.toml" "$demo/chips.toml"
 cd "$demo"
+
+# Shows a use of the simulated chip, and what it says.
+use() {
+    echo
+    echo "> stmflash $1 --table chips.toml --device sim:0412:flash.bin --journal journal $2"
+    name=$1
+    words=$2
+    # shellcheck disable=SC2086
+    "$program" "$name" --table chips.toml --device sim:0412:flash.bin --journal journal $words 2>&1 || true
+}
+
+# Shows the flash from the place of the image on.
+show() {
+    echo "  the flash from 08000400 on: $(tail -c +1025 flash.bin | head -c 40 | tr '\377\n' '.|')"
+}
+
+use info ""
+show
+use write "-S 0x08000400 --stop 3500 image.bin"
+show
+echo "  where the line was left: $(cut -c 1-40 flash.bin.line)"
+use undo ""
+show
+cmp flash.bin before.bin
+use write "-v -S 0x08000400 image.bin"
+show
+use undo ""
+show
+cmp flash.bin before.bin
 echo
-echo "> stmflash info --table chips.toml --device sim:0412:flash.bin --journal journal"
-"$program" info --table chips.toml --device sim:0412:flash.bin --journal journal
-echo
-echo "> stmflash read --table chips.toml --device sim:0412:flash.bin --journal journal out.bin"
-"$program" read --table chips.toml --device sim:0412:flash.bin --journal journal out.bin
-echo "The simulated chip's flash, and what the bootloader's Read Memory commands brought from it:"
-wc -c flash.bin out.bin | sed "/total/d"
-head -c 48 out.bin
-echo "..."
-cmp flash.bin out.bin
-echo "out.bin equals flash.bin, and flash.bin.line says where the line stands: $(cat flash.bin.line)"
+echo "The flash is what it was before, byte for byte, both times."
 echo
 echo "The program stays at bin/stmflash-unproved, for trying things out: it is built from the same code, and nothing"
 echo "about it was proved. \`make\` proves the code and builds bin/stmflash."

@@ -33,16 +33,13 @@ pub fn decode(values: &[u8; 256], digits: &[u8], out: &mut [u8]) -> bool
     requires twice { length digits.now ≡ 2 * length out.old }
     ensures { MatchBool result (decode_of digits.now ≡ Ok out.new) (HasOther digits.now) }
 {
+    // What is no digit sets one of its upper bits.
+    let mut seen = 0u8;
     for i in 0..out.len() {
         let high = values[usize::from(digits[2 * i])];
-        if high > 15 {
-            return false;
-        }
         let low = values[usize::from(digits[2 * i + 1])];
-        if low > 15 {
-            return false;
-        }
-        out[i] = high * 16 + low;
+        seen = seen | high | low;
+        out[i] = high.wrapping_mul(16).wrapping_add(low);
     }
-    true
+    seen <= 15
 }

@@ -8,9 +8,13 @@ mod bad_lines;
 #[cfg(test)]
 mod client;
 #[cfg(test)]
+mod comparing;
+#[cfg(test)]
 mod devices;
 #[cfg(test)]
 mod faults;
+#[cfg(test)]
+mod full;
 #[cfg(test)]
 mod large;
 #[cfg(test)]

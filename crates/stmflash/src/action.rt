@@ -1,21 +1,35 @@
 // What is done on a device, over any Rig.
 
 use crate::answer::Answer;
+use crate::changing::{erase, erase_all, verify, write, write_and_verify};
+use crate::content::{Content, read_content};
+use crate::failure::Failure;
 use crate::protection::protection;
 use crate::reading::read;
 use std::alloc::Global;
+use std::fs::Files;
 use stm_chip::Table;
 use stm_session::{Fault, go, info, protect, undo};
 use stm_wire::{Protection, Rig};
 use stm_words::{Range, Task, UsageFault};
 
 /// What is done on a device.
-#[derive(Clone, Copy, Debug)]
+#[derive(Drop)]
 pub enum Action {
     /// Tells what it is.
     Info,
     /// Reads its whole flash, or a part of it.
     Read(Option<Range>),
+    /// Writes an image.
+    Write(Content),
+    /// Writes an image, and compares the flash with it.
+    WriteAndVerify(Content),
+    /// Compares the flash with an image.
+    Verify(Content),
+    /// Erases these pages.
+    Erase(Vec<u16>),
+    /// Erases every page.
+    EraseAll,
     /// Takes back so many writes and erases, or, at 0, all.
     Undo(u32),
     /// Lets it run what stands at this address.
@@ -25,32 +39,58 @@ pub enum Action {
 }
 
 impl Action {
-    /// What a task asks for.
-    pub fn of<'a>(task: Task<'a>) -> Result<Action, UsageFault<'a>> {
+    /// What a task asks for. The file of an image is read.
+    pub fn of<'a, R: Files + AllocGlobal>(rt: &R, task: Task<'a>) -> Result<Action, Failure<'a>> {
         match task {
             Task::Info => Ok(Action::Info),
             Task::Read { range, .. } => Ok(Action::Read(range)),
+            Task::Write { image, verifies } => {
+                let content = read_content(rt, &image)?;
+                if verifies {
+                    Ok(Action::WriteAndVerify(content))
+                } else {
+                    Ok(Action::Write(content))
+                }
+            }
+            Task::Verify(image) => Ok(Action::Verify(read_content(rt, &image)?)),
+            Task::Erase { is_all, pages } => Ok(if is_all {
+                Action::EraseAll
+            } else {
+                Action::Erase(pages)
+            }),
             Task::Undo(count) => Ok(Action::Undo(count)),
             Task::Go(address) => Ok(Action::Go(address)),
             Task::Protect(word) => match protection(word) {
                 Some(kind) => Ok(Action::Protect(kind)),
-                None => Err(UsageFault::UnknownWords),
+                None => Err(Failure::Usage(UsageFault::UnknownWords)),
             },
-            _ => Err(UsageFault::UnknownWords),
         }
     }
 
     /// Does it.
-    pub fn run<L: Rig>(self, alloc: Global, rig: &mut L, table: &Table) -> Result<Answer, Fault> {
+    pub fn run<'a, L: Rig>(
+        self,
+        alloc: Global,
+        rig: &mut L,
+        table: &Table,
+    ) -> Result<Answer, Failure<'a>> {
         match self {
-            Action::Info => {
-                let told = info(alloc, rig, table)?;
-                match table.find(told.id) {
-                    Some(chip) => Ok(Answer::Told(told, chip.erased())),
-                    None => Err(Fault::UnknownChip(told.id)),
-                }
+            Action::Info => Ok(tell(alloc, rig, table)?),
+            Action::Read(range) => Ok(read(alloc, rig, table, range)?),
+            Action::Write(content) => {
+                let image = content.on_device(alloc, rig, table)?;
+                Ok(write(alloc, rig, table, image)?)
             }
-            Action::Read(range) => read(alloc, rig, table, range),
+            Action::WriteAndVerify(content) => {
+                let image = content.on_device(alloc, rig, table)?;
+                Ok(write_and_verify(alloc, rig, table, image)?)
+            }
+            Action::Verify(content) => {
+                let image = content.on_device(alloc, rig, table)?;
+                Ok(verify(alloc, rig, table, image)?)
+            }
+            Action::Erase(pages) => Ok(erase(alloc, rig, table, pages)?),
+            Action::EraseAll => Ok(erase_all(alloc, rig, table)?),
             Action::Undo(count) => Ok(Answer::Undone(undo(alloc, rig, table, count)?)),
             Action::Go(address) => {
                 go(alloc, rig, address)?;
@@ -61,5 +101,14 @@ impl Action {
                 Ok(Answer::Nothing)
             }
         }
+    }
+}
+
+/// Asks the device what it is.
+fn tell<L: Rig>(alloc: Global, rig: &mut L, table: &Table) -> Result<Answer, Fault> {
+    let told = info(alloc, rig, table)?;
+    match table.find(told.id) {
+        Some(chip) => Ok(Answer::Told(told, chip.erased())),
+        None => Err(Fault::UnknownChip(told.id)),
     }
 }

@@ -14,6 +14,24 @@ pub enum Answer {
     Told(Info, u8),
     /// Bytes of the flash, for a file.
     Bytes(Vec<u8>),
+    /// The number of a write's segment, and how many pages it changed.
+    Written {
+        segment: u32,
+        pages: u32,
+    },
+    /// The same, and of how many bytes the flash has the image's.
+    WrittenAndVerified {
+        segment: u32,
+        pages: u32,
+        bytes: usize,
+    },
+    /// Of how many bytes the flash has the image's.
+    Verified(usize),
+    /// The number of an erase's segment, and how many pages it changed.
+    Erased {
+        segment: u32,
+        pages: u32,
+    },
     /// How many segments were taken back.
     Undone(u32),
 }
@@ -23,10 +41,33 @@ impl Answer {
     pub fn print<O: Write>(&self, out: &mut O) -> io::Result<()> {
         match self {
             Answer::Told(info, erased) => print_info(info, *erased, out),
+            Answer::Written { segment, pages } => print_written(*segment, *pages, out),
+            Answer::WrittenAndVerified {
+                segment,
+                pages,
+                bytes,
+            } => {
+                print_written(*segment, *pages, out)?;
+                print_verified(*bytes, out)
+            }
+            Answer::Verified(bytes) => print_verified(*bytes, out),
+            Answer::Erased { segment, pages } => {
+                writeln!(out, "segment {segment}: {pages} pages erased")
+            }
             Answer::Undone(count) => writeln!(out, "undone {count}"),
             Answer::Nothing | Answer::Bytes(_) => Ok(()),
         }
     }
+}
+
+/// Prints the line of a write.
+fn print_written<O: Write>(segment: u32, pages: u32, out: &mut O) -> io::Result<()> {
+    writeln!(out, "segment {segment}: {pages} pages written")
+}
+
+/// Prints the line of a verify.
+fn print_verified<O: Write>(bytes: usize, out: &mut O) -> io::Result<()> {
+    writeln!(out, "verified {bytes} bytes")
 }
 
 /// Prints what the device is, a line each.

@@ -4,6 +4,7 @@ use std::alloc::{AllocError, AllocFailed};
 use std::io;
 use std::io::ErrorKind;
 use stm_chip::TableFault;
+use stm_image::{HexFault, RawFault};
 use stm_session::Fault;
 use stm_words::UsageFault;
 use thiserror::Error;
@@ -17,6 +18,12 @@ pub enum Failure<'a> {
     /// The chip table is refused.
     #[error("{0}")]
     Table(TableFault),
+    /// The HEX text of an image is refused.
+    #[error("{0}")]
+    Hex(HexFault),
+    /// The raw bytes of an image are refused.
+    #[error("{0}")]
+    Raw(RawFault),
     /// There was no memory for what the program keeps.
     #[error("out of memory")]
     Memory,
@@ -81,6 +88,18 @@ impl<'a> From<UsageFault<'a>> for Failure<'a> {
 impl From<TableFault> for Failure<'_> {
     fn from(fault: TableFault) -> Self {
         Failure::Table(fault)
+    }
+}
+
+impl From<HexFault> for Failure<'_> {
+    fn from(fault: HexFault) -> Self {
+        Failure::Hex(fault)
+    }
+}
+
+impl From<RawFault> for Failure<'_> {
+    fn from(fault: RawFault) -> Self {
+        Failure::Raw(fault)
     }
 }
 

@@ -1,6 +1,6 @@
 // What the program does with its journal's file: it is read and checked, and nothing is added to it.
 
-use crate::tests::{Place, file_name};
+use crate::place::{Place, file_name};
 use std::fs;
 use std::rt::Runtime;
 use std::test::Fail;

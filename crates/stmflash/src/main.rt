@@ -3,16 +3,24 @@
 
 mod action;
 mod answer;
+mod changing;
+mod content;
+#[cfg(test)]
+mod erase_tests;
 mod failure;
 mod files;
 #[cfg(test)]
 mod full_disk;
+#[cfg(test)]
+mod image_tests;
 mod journal_file;
 #[cfg(test)]
 mod journal_tests;
 mod on_device;
 #[cfg(test)]
 mod option_tests;
+#[cfg(test)]
+mod place;
 mod program;
 mod protection;
 mod reading;
@@ -31,6 +39,8 @@ mod standing;
 mod tests;
 #[cfg(test)]
 mod undo_tests;
+#[cfg(test)]
+mod write_tests;
 
 use program::program;
 use std::io::ErrorKind;

@@ -27,8 +27,13 @@ pub fn use_device<'a, R: Files + Net + AllocGlobal>(
         Task::Read { out, .. } => Some(*out),
         _ => None,
     };
-    let action = Action::of(task)?;
     let table = read_chips(rt, options.table)?;
+    let action = Action::of(rt, task)?;
+    if is_same_file(rt, options.journal, options.table)
+        || is_simulators(rt, options, options.journal)?
+    {
+        return Err(Failure::CannotWrite(options.journal));
+    }
     if let Some(name) = out {
         if is_in_use(rt, options, name)? {
             return Err(Failure::CannotWrite(name));
@@ -59,6 +64,15 @@ fn is_in_use<'a, R: Files + AllocGlobal>(
     if is_same_file(rt, name, options.table) || is_same_file(rt, name, options.journal) {
         return Ok(true);
     }
+    is_simulators(rt, options, name)
+}
+
+/// Whether the name is that of one of a simulator's two files.
+fn is_simulators<'a, R: Files + AllocGlobal>(
+    rt: &R,
+    options: &Options<'a>,
+    name: &str,
+) -> Result<bool, Failure<'a>> {
     match options.device {
         Device::Simulator { file, .. } => Ok(
             is_same_file(rt, name, file)
@@ -121,7 +135,7 @@ fn on_simulator<'a, R: Files + AllocGlobal>(
     let done = match done {
         Ok(answer) => write_out(rt, answer, out),
         Err(_) if memory.has_stopped() => Err(Failure::Stopped),
-        Err(fault) => Err(Failure::Session(fault)),
+        Err(failure) => Err(failure),
     };
     let stored = store_rig(rt, &memory, file);
     let answer = done?;

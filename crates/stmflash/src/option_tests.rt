@@ -1,6 +1,6 @@
 // What the options of a device do, and which words can't be done.
 
-use crate::tests::{Place, Said, call, counting_flash, file_name};
+use crate::place::{Place, Said, call, counting_flash, file_name};
 use std::fs;
 use std::rt::Runtime;
 use std::test::Fail;
@@ -268,7 +268,9 @@ fn tells_its_version(rt: HostRuntime) -> Result<(), Fail> {
     let said = call(&rt, &["--version"])?;
     assert_eq!(rt; said.status, 0);
     assert!(rt; said.out.as_slice() == b"stmflash 0.1.0\n".as_slice() && said.err.is_empty());
-    for name in ["info", "read", "undo", "go", "protect", "sim"] {
+    for name in [
+        "info", "read", "write", "verify", "erase", "undo", "go", "protect", "sim",
+    ] {
         let help = call(&rt, &[name, "--help"])?;
         assert!(rt;
             help.status == 0 && help.out.len() > 300 && help.err.is_empty(),

@@ -2,8 +2,8 @@
 
 use crate::full_disk::FullDisk;
 use crate::journal_file::JournalFile;
+use crate::place::file_name;
 use crate::simulator_rig::SimulatorRig;
-use crate::tests::file_name;
 use std::cell::Cell;
 use std::fs;
 use std::fs::Files;

@@ -1,10 +1,10 @@
 // Both ends of a socket by turns, in one process.
 
 use crate::journal_file::JournalFile;
+use crate::place::{Place, call, file_name};
 use crate::serving::serve_byte;
 use crate::socket_line::SocketLine;
 use crate::socket_rig::SocketRig;
-use crate::tests::{Place, call, file_name};
 use std::fs;
 use std::os::unix::net::UnixListener;
 use std::test::Fail;

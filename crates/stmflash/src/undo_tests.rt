@@ -1,29 +1,9 @@
 // What `undo` takes back, from journals that were left by others.
 
-use crate::tests::{Place, Said, file_name};
-use std::alloc::AllocError;
+use crate::place::{Place, file_name, with_page};
 use std::fs;
 use std::rt::Runtime;
 use std::test::Fail;
-
-/// These texts, with a page of zeros between them, as a journal keeps it.
-pub fn with_page_of_zeros(rt: &HostRuntime, head: &str, tail: &str) -> Result<Vec<u8>, AllocError> {
-    let mut text = Vec::from_slice(rt.alloc(), head.as_bytes())?;
-    let digits = vec![in rt.alloc(); b'0'; 2048]?;
-    text.extend_from_slice(digits.as_slice())?;
-    text.extend_from_slice(tail.as_bytes())?;
-    Ok(text)
-}
-
-/// Whether this one line was all that was said, with status 0.
-pub fn says(said: &Said, line: &str) -> bool {
-    said.status == 0 && said.out.as_slice() == line.as_bytes() && said.err.is_empty()
-}
-
-/// Whether the journal's file holds just these bytes.
-pub fn has_journal(rt: &HostRuntime, place: &Place, journal: &[u8]) -> Result<bool, Fail> {
-    Ok(fs::read(rt, place.journal.as_str())?.as_slice() == journal)
-}
 
 // The device waits for the pages of an erase, and the settling byte names the one that the journal keeps.
 #[test]
@@ -31,16 +11,16 @@ fn takes_back_a_stopped_erase(rt: HostRuntime) -> Result<(), Fail> {
     let place = Place::new(&rt, "undo-erase")?;
     let flash = vec![in rt.alloc(); 0x00; 32768]?;
     let head = "stmjournal 2 0412\nopen 1\npage 5 ";
-    let before = with_page_of_zeros(&rt, head, "\nerase 5\n")?;
-    let after = with_page_of_zeros(&rt, head, "\nerase 5\nerase 5\nprogram 5\nundone 1\n")?;
+    let before = with_page(&rt, head, b'0', "\nerase 5\n")?;
+    let after = with_page(&rt, head, b'0', "\nerase 5\nerase 5\nprogram 5\nundone 1\n")?;
     fs::write(&rt, place.flash.as_str(), flash.as_slice())?;
     fs::write(&rt, place.line.as_str(), "rest 43BC\n")?;
     fs::write(&rt, place.journal.as_str(), before.as_slice())?;
-    assert!(rt; says(&place.call(&rt, "undo", &[])?, "undone 1\n"));
+    assert!(rt; place.call(&rt, "undo", &[])?.is_told("undone 1\n"));
     assert!(rt; place.holds(&rt, flash.as_slice(), "idle\n")?);
-    assert!(rt; has_journal(&rt, &place, after.as_slice())?);
-    assert!(rt; says(&place.call(&rt, "undo", &[])?, "undone 0\n"));
-    assert!(rt; has_journal(&rt, &place, after.as_slice())?);
+    assert!(rt; place.has_journal(&rt, Some(after.as_slice())));
+    assert!(rt; place.call(&rt, "undo", &[])?.is_told("undone 0\n"));
+    assert!(rt; place.has_journal(&rt, Some(after.as_slice())));
     place.remove(&rt);
     Ok(())
 }
@@ -52,13 +32,14 @@ fn gives_a_kept_page_back(rt: HostRuntime) -> Result<(), Fail> {
     let erased = vec![in rt.alloc(); 0xFF; 31744]?;
     let mut flash = vec![in rt.alloc(); 0x00; 1024]?;
     flash.extend_from_slice(erased.as_slice())?;
-    let journal = with_page_of_zeros(
+    let journal = with_page(
         &rt,
         "stmjournal 2 0412\nopen 1\npage 0 ",
+        b'0',
         "\nerase 0\nend 1\n",
     )?;
     fs::write(&rt, place.journal.as_str(), journal.as_slice())?;
-    assert!(rt; says(&place.call(&rt, "undo", &["1"])?, "undone 1\n"));
+    assert!(rt; place.call(&rt, "undo", &["1"])?.is_told("undone 1\n"));
     assert!(rt; place.holds(&rt, flash.as_slice(), "idle\n")?);
     place.remove(&rt);
     Ok(())
@@ -75,9 +56,9 @@ fn takes_back_a_torn_line(rt: HostRuntime) -> Result<(), Fail> {
     let place = Place::new(&rt, "undo-torn")?;
     let erased = vec![in rt.alloc(); 0xFF; 32768]?;
     fs::write(&rt, place.journal.as_str(), TORN)?;
-    assert!(rt; says(&place.call(&rt, "undo", &[])?, "undone 1\n"));
+    assert!(rt; place.call(&rt, "undo", &[])?.is_told("undone 1\n"));
     assert!(rt; place.holds(&rt, erased.as_slice(), "idle\n")?);
-    assert!(rt; has_journal(&rt, &place, MENDED)?);
+    assert!(rt; place.has_journal(&rt, Some(MENDED)));
     place.remove(&rt);
     Ok(())
 }
@@ -93,9 +74,9 @@ const TAKEN: &[u8] =
 fn takes_back_as_many_as_there_are(rt: HostRuntime) -> Result<(), Fail> {
     let place = Place::new(&rt, "undo-count")?;
     fs::write(&rt, place.journal.as_str(), THREE)?;
-    assert!(rt; says(&place.call(&rt, "undo", &["2"])?, "undone 2\n"));
-    assert!(rt; says(&place.call(&rt, "undo", &["5"])?, "undone 1\n"));
-    assert!(rt; has_journal(&rt, &place, TAKEN)?);
+    assert!(rt; place.call(&rt, "undo", &["2"])?.is_told("undone 2\n"));
+    assert!(rt; place.call(&rt, "undo", &["5"])?.is_told("undone 1\n"));
+    assert!(rt; place.has_journal(&rt, Some(TAKEN)));
     place.remove(&rt);
     Ok(())
 }
@@ -105,7 +86,7 @@ fn takes_back_as_many_as_there_are(rt: HostRuntime) -> Result<(), Fail> {
 fn takes_back_nothing(rt: HostRuntime) -> Result<(), Fail> {
     let place = Place::new(&rt, "undo-nothing")?;
     let erased = vec![in rt.alloc(); 0xFF; 32768]?;
-    assert!(rt; says(&place.call(&rt, "undo", &[])?, "undone 0\n"));
+    assert!(rt; place.call(&rt, "undo", &[])?.is_told("undone 0\n"));
     assert!(rt; place.holds(&rt, erased.as_slice(), "fresh\n")?);
     assert!(rt; fs::metadata(&rt, place.journal.as_str()).is_err());
     let said = place.call(&rt, "undo", &["4294967296"])?;
@@ -154,7 +135,7 @@ fn refuses(
     Ok(
         said.is_fault(1, text)
             && stands.as_slice() == line.as_bytes()
-            && has_journal(rt, place, journal)?,
+            && place.has_journal(rt, Some(journal)),
     )
 }
 
@@ -180,15 +161,15 @@ fn stops_in_the_midst_of_taking_back(rt: HostRuntime) -> Result<(), Fail> {
     let place = Place::new(&rt, "undo-stop")?;
     let out = file_name(&rt, "undo-stop-out")?;
     let head = "stmjournal 2 0412\nopen 1\npage 5 ";
-    let before = with_page_of_zeros(&rt, head, "\nerase 5\nend 1\n")?;
-    let stopped = with_page_of_zeros(&rt, head, "\nerase 5\nend 1\nerase 5\n")?;
+    let before = with_page(&rt, head, b'0', "\nerase 5\nend 1\n")?;
+    let stopped = with_page(&rt, head, b'0', "\nerase 5\nend 1\nerase 5\n")?;
     fs::write(&rt, place.journal.as_str(), before.as_slice())?;
     let said = place.call(&rt, "undo", &["--stop", "1108"])?;
     assert!(rt; said.is_fault(3, "stmflash: stopped\n"));
-    assert!(rt; has_journal(&rt, &place, stopped.as_slice())?);
+    assert!(rt; place.has_journal(&rt, Some(stopped.as_slice())));
     let said = place.call(&rt, "read", &[out.as_str()])?;
     assert!(rt; said.is_fault(1, "stmflash: unfinished command, undo first\n"));
-    assert!(rt; says(&place.call(&rt, "undo", &[])?, "undone 1\n"));
+    assert!(rt; place.call(&rt, "undo", &[])?.is_told("undone 1\n"));
     assert!(rt;
         place
             .call(&rt, "read", &["-S", "0x08001400:1024", out.as_str()])?
