@@ -2,8 +2,8 @@
 #   make demo   builds the program the fastest way, without waiting for proofs, runs it on the simulator, and leaves it
 #               at bin/stmflash-unproved
 #   make        proves and builds bin/stmflash
-#   make test   the whole gate: every proof from nothing, the wrong bodies, the tests, the programs; then the demo, and the
-#               program and the simulator over a real socket
+#   make test   the whole gate: every proof from nothing, the wrong bodies, the tests, the programs; then the demo, the
+#               program and the simulator over a real socket, and 60 kills of the program there (python3)
 #   make install PREFIX=/usr/local DESTDIR=
 #               the proved program, its manual page and the sample table
 #   make bench  builds what is measured, measures it beside its peers, and prints ratios (needs python3; Debian's binutils
@@ -34,6 +34,7 @@ test:
 	rt ci
 	sh tools/demo.sh
 	sh tools/socket.sh bin/stmflash-unproved
+	python3 tools/kills bin/stmflash-unproved 60
 
 install: bin/stmflash
 	install -d $(DESTDIR)$(PREFIX)/bin $(DESTDIR)$(PREFIX)/share/man/man1 $(DESTDIR)$(PREFIX)/share/stmflash

@@ -168,7 +168,7 @@ pub all_agree : (set : Pairs) (bytes : List ℕ) (list : List Piece) → Stand 0
 all_agree set bytes list stand firsts agrees = agree_by_set set (pairs_at bytes list) (agreeing set bytes list list stand firsts (λ r h. h) agrees)
 
 module _ (set : Pairs) (bytes : List ℕ) (list : List Piece) (i : ℕ) (p : Piece) (address : ℕ) (stand : Stand 0 (length bytes) list) (lt : i < length list) (is : p ≡ get_or list i p) (firsts : HasFirsts set (pairs_at bytes list))
-  (agrees : (r : Piece) → Contains (take i list) r → AgreesWith set r.first (bytes_at bytes r)) (found : IsFirstDifference set p.first (bytes_at bytes p) address) where
+    (agrees : (r : Piece) → Contains (take i list) r → AgreesWith set r.first (bytes_at bytes r)) (found : IsFirstDifference set p.first (bytes_at bytes p) address) where
   abbrev pub own : List ℕ
   own = bytes_at bytes p
 

@@ -132,7 +132,7 @@ module _ (bytes : List ℕ) (list : List Piece) (n : ℕ) (p : Piece) (stand : S
 
   -- the bytes that are put, and those that stay
   module _ (address : ℕ) (more new : List ℕ) (low : AllWithin (λ (r : Piece). r.last < address) list 0 n) (high : address ≤ p.last) (names : Names (pairs_at bytes list) address (length more)) (some : 0 < length more)
-    (put : IsPutAt more bytes (p.place + (address - p.first)) new) where
+      (put : IsPutAt more bytes (p.place + (address - p.first)) new) where
     kept : (from to : List ℕ) (a b : ℕ) → length from ≡ length bytes → length to ≡ length bytes → ((i : ℕ) → (i < p.place + (address - p.first)) ⊎ (p.place + (address - p.first) + length more ≤ i) → slice_index to i ≡ slice_index from i)
         → (a < address) ⊎ (address + length more ≤ a) → byte_at (pairs_at from list) a ≡ Some b → byte_at (pairs_at to list) a ≡ Some b
     kept from to a b same_from same_to same out e =
@@ -164,19 +164,19 @@ module _ (bytes : List ℕ) (list : List Piece) (n : ℕ) (p : Piece) (stand : S
     pub puts_over : IsPutOver (pairs_at bytes list) address more (pairs_at new list)
     puts_over = record {
       inside = λ i inside.
-      let first = begins address (length more) low high names some in
-      let last = ends address (length more) low high names some in
-      let order = own.order in
-      let fits = own.ends in
-      let long_new = put.same_length in
-      let k = (address - p.first) + i in
-      let at : p.first + k ≡ address + i = omega arith in
-      let place : p.place + k ≡ p.place + (address - p.first) + i = omega arith in
-      let short : k < size_of p = omega arith in
-      let byte : slice_index (bytes_at new p) k ≡ slice_index more i = byte_of_piece new p k short ∙ ap (slice_index new) place ∙ put.over i inside (omega arith) in
-      let long = length-bytes_at new p (omega arith) in
-      let moved = in_place new p k (address + i) (slice_index more i) (omega arith) at byte in
-      byte_held (pairs_at new list) (address + i) (slice_index more i) (rises_apart new 0 (length bytes) 0 list stand apart) (holds_piece new list p (address + i, slice_index more i) there moved);
+          let first = begins address (length more) low high names some in
+          let last = ends address (length more) low high names some in
+          let order = own.order in
+          let fits = own.ends in
+          let long_new = put.same_length in
+          let k = (address - p.first) + i in
+          let at : p.first + k ≡ address + i = omega arith in
+          let place : p.place + k ≡ p.place + (address - p.first) + i = omega arith in
+          let short : k < size_of p = omega arith in
+          let byte : slice_index (bytes_at new p) k ≡ slice_index more i = byte_of_piece new p k short ∙ ap (slice_index new) place ∙ put.over i inside (omega arith) in
+          let long = length-bytes_at new p (omega arith) in
+          let moved = in_place new p k (address + i) (slice_index more i) (omega arith) at byte in
+          byte_held (pairs_at new list) (address + i) (slice_index more i) (rises_apart new 0 (length bytes) 0 list stand apart) (holds_piece new list p (address + i, slice_index more i) there moved);
       outside = λ a out. of_byte a out (byte_at (pairs_at bytes list) a) (byte_at (pairs_at new list) a) refl refl;
     }
       where

@@ -39,9 +39,5 @@ fn data_count(bytes: &[u8]) -> usize
     requires { 5 ≤ length bytes.now }
     ensures { (form : Form) → result ≡ length (pairs_of form bytes.now) }
 {
-    if bytes[3] == 0 {
-        bytes.len() - 5
-    } else {
-        0
-    }
+    if bytes[3] == 0 { bytes.len() - 5 } else { 0 }
 }

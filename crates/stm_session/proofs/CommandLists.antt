@@ -1,18 +1,15 @@
 -- Lists of commands, one after another: what they change, answer and add to a journal.
-use Rattle.std.proofs.Common.{◌≡◌, ℕ, zero, suc, ◌+◌, ◌≤◌, Bool, true, false, if◌then◌else◌, List, [], ◌∷◌, ◌++◌, length, take, reverse, Option, Some, None, Result, Ok, Err, refl, sym, ap, ap₂, ◌∙◌, arith, append_assoc, append-nil}
+use Rattle.std.proofs.Common.{◌≡◌, ℕ, suc, ◌+◌, ◌≤◌, Bool, true, false, if◌then◌else◌, List, [], ◌∷◌, ◌++◌, length, reverse, Option, Some, None, Result, Ok, Err, refl, sym, ap, ap₂, ◌∙◌, arith, append_assoc, append-nil}
 use Rattle.std.specs.Prelude.{is_none}
-use Rattle.std.proofs.lemmas.Bool.{cases_Bool, true≢false}
-use Rattle.std.proofs.lemmas.List.{reverse-append, take-append-le, length-append}
+use Rattle.std.proofs.lemmas.List.{reverse-append, length-append}
 use Rattle.std.proofs.lemmas.List.Elements.{filter-append}
-use Rattle.std.proofs.lemmas.List.Sums.{fold-append, fold_push}
-use Rattle.stm_image.specs.Pairs.{Pairs}
+use Rattle.std.proofs.lemmas.List.Sums.{fold_push}
 use Rattle.stm_wire.specs.Chip.{ChipData}
 use Rattle.stm_journal.specs.declared.entry.Entry.{Entry}
-use Rattle.stm_session.specs.Answers.{OutcomeData, was_verified, agrees, agreeing, answers_of, first_difference, in_front_of, outcome_of, segments_of, verified_or}
+use Rattle.stm_session.specs.Answers.{OutcomeData, agrees, agreeing, answers_of, first_difference, in_front_of, outcome_of, segments_of, verified_or}
 use Rattle.stm_session.specs.Doing.{lines_if}
 use Rattle.stm_session.specs.Lines.{run_entries, segment_entries}
 use Rattle.stm_session.specs.Meaning.{CommandData, writes, erases, verifies, reads, before_if, changes_of, flash_after, flash_after_all, flashes_before, is_change}
-use Rattle.stm_session.proofs.Histories.{length-before}
 use Rattle.stm_session.proofs.Whole.{same-after}
 
 -- the commands that begin a segment

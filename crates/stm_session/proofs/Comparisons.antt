@@ -1,9 +1,9 @@
 -- Comparing an image with the flash, block by block.
-use Rattle.std.proofs.Common.{◌≡◌, ◌↔◌, ℕ, zero, suc, ◌+◌, ◌-◌, ◌*◌, ◌<◌, ◌≤◌, Bool, true, false, IsTrue, List, [], ◌∷◌, length, take, drop, Option, Some, None, is_some, MatchOption, Result, Ok, refl, sym, ◌∙◌, ap, ap₂, subst, arith, if◌then◌else◌}
+use Rattle.std.proofs.Common.{◌≡◌, ℕ, zero, suc, ◌+◌, ◌-◌, ◌*◌, ◌<◌, ◌≤◌, Bool, true, false, IsTrue, List, [], ◌∷◌, length, take, drop, Option, Some, None, is_some, MatchOption, Result, Ok, refl, sym, ◌∙◌, ap, ap₂, arith, if◌then◌else◌}
 use Rattle.std.proofs.lemmas.Bool.{true≢false}
 use Rattle.std.proofs.lemmas.List.{drop-drop, length-take}
-use Rattle.stm_image.specs.Lay.{lay, AgreesWith, IsFirstDifference}
-use Rattle.stm_image.specs.Pairs.{Pairs, HasNone, IsNext, byte_at}
+use Rattle.stm_image.specs.Lay.{AgreesWith, IsFirstDifference}
+use Rattle.stm_image.specs.Pairs.{Pairs, IsNext, byte_at}
 use Rattle.stm_wire.specs.Chip.{ChipData, flash_size, fits_inside}
 use Rattle.stm_wire.specs.Device.{IsSettled}
 use Rattle.stm_wire.specs.Dialogue.{GoesOn}

@@ -1,5 +1,5 @@
 -- A run that only reads.
-use Rattle.std.proofs.Common.{◌≡◌, ℕ, zero, suc, ◌+◌, ◌≤◌, ◌&&◌, Bool, true, false, if◌then◌else◌, List, [], ◌∷◌, ◌++◌, length, map, take, Result, Ok, Err, IfErr, IfOk, Option, Some, None, nat_le, refl, sym, ap, ap₂, ◌∙◌, subst, arith, append-nil}
+use Rattle.std.proofs.Common.{◌≡◌, ℕ, zero, suc, ◌+◌, ◌&&◌, Bool, true, false, List, [], ◌∷◌, ◌++◌, length, map, take, Result, Ok, Err, IfErr, IfOk, Option, Some, None, nat_le, refl, sym, ap, ◌∙◌, subst, arith, append-nil}
 use Rattle.std.specs.List.{list_all, list_any}
 use Rattle.std.proofs.lemmas.Bool.{true≢false}
 use Rattle.std.proofs.lemmas.Bool.Decides.{nat_tests}
@@ -24,7 +24,7 @@ use Rattle.stm_session.specs.Refusal.{chip_with, first_refusal, opening_refusal}
 use Rattle.stm_session.specs.Refusals.{commands_refused, is_in_flash, lies_in_flash, run_refusal}
 use Rattle.stm_session.specs.Running.{AreRead, RunsReads, bytes_of, bytes_read, is_read}
 use Rattle.stm_session.specs.Runs.{AmidRun, RunFails, Runs, answers_from, flashes_with, run_text, standing}
-use Rattle.stm_session.specs.Undoable.{Undoable, is_unfinished_at}
+use Rattle.stm_session.specs.Undoable.{is_unfinished_at}
 use Rattle.stm_session.proofs.CommandLists.{entries-none}
 use Rattle.stm_session.proofs.Openings.{alone}
 use Rattle.stm_session.proofs.Undoing.{finished_is_safe}

@@ -1,5 +1,5 @@
 -- A run, exit by exit.
-use Rattle.std.proofs.Common.{◌≡◌, ◌≢◌, ◌⊎◌, ⊎_elim, inl, inr, ℕ, ◌+◌, nat_le, not, ◌||◌, true, false, List, [], ◌∷◌, length, map, Option, Some, None, Result, Ok, Err, IsErrAnd, IfErr, refl, sym, ap, ◌∙◌, subst}
+use Rattle.std.proofs.Common.{◌≡◌, ◌≢◌, ⊎_elim, inl, inr, ℕ, ◌+◌, nat_le, not, ◌||◌, false, List, [], ◌∷◌, length, Option, Some, None, Result, Ok, Err, IsErrAnd, IfErr, sym, ap, ◌∙◌, subst}
 use Rattle.std.specs.List.{list_all, list_any}
 use Rattle.std.proofs.lemmas.Bool.{cases_Bool}
 use Rattle.stm_wire.specs.Chip.{ChipData}
@@ -10,21 +10,18 @@ use Rattle.stm_wire.specs.Rig.{RigState}
 use Rattle.stm_chip.specs.Document.{IsChipWith}
 use Rattle.stm_journal.specs.Calls.{AreFetches, IsUntouched}
 use Rattle.stm_journal.specs.ForgetLaws.{depth-forgets}
-use Rattle.stm_journal.specs.Journals.{JournalData, good, journal_of}
-use Rattle.stm_journal.specs.States.{StateData, is_unfinished}
-use Rattle.stm_session.specs.declared.command.Command.{Command}
-use Rattle.stm_session.specs.declared.outcome.Outcome.{Outcome}
-use Rattle.stm_session.specs.declared.outcome.Report.{Report}
+use Rattle.stm_journal.specs.Journals.{JournalData, journal_of}
+use Rattle.stm_journal.specs.States.{StateData}
 use Rattle.stm_session.specs.declared.opening.Opened.{Opened}
 use Rattle.stm_session.specs.declared.fault.Fault.{Fault}
 use Rattle.stm_session.specs.declared.fault.Fault.TheVariants as fault
 use Rattle.stm_session.specs.Answers.{OutcomeData}
-use Rattle.stm_session.specs.Fault.{IsLaterRefusal, IsOutsideFault}
+use Rattle.stm_session.specs.Fault.{IsLaterRefusal}
 use Rattle.stm_session.specs.Meaning.{CommandData, changes_of, is_change}
 use Rattle.stm_session.specs.Moments.{IsSafe, IsUnbegun}
 use Rattle.stm_session.specs.Opening.{AreCommandsOf, IsCoherent, Opens}
 use Rattle.stm_session.specs.Promises.{RunContract}
-use Rattle.stm_session.specs.Refusal.{Refuses, RefusesUnsent, chip_with, first_refusal, opening_refusal, refused_unless, unsent_refusal}
+use Rattle.stm_session.specs.Refusal.{RefusesUnsent, chip_with, first_refusal, opening_refusal, refused_unless, unsent_refusal}
 use Rattle.stm_session.specs.Refusals.{can_erase, command_refusals, commands_refused, lies_in_flash, run_refusal}
 use Rattle.stm_session.specs.Runs.{AmidRun, RunFails, Runs, standing}
 use Rattle.stm_session.specs.Steps.{IsSteady}

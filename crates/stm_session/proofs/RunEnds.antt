@@ -1,6 +1,5 @@
 -- How a run ends: with all its commands, or within one.
-use Rattle.std.proofs.Common.{◌≡◌, ◌⊎◌, inl, inr, ℕ, ◌+◌, Bool, true, false, if◌then◌else◌, List, [], ◌∷◌, ◌++◌, length, take, reverse, Result, Ok, Err, IsErrAnd, sym, ap, ◌∙◌, subst, arith, refl, append_assoc, append-nil}
-use Rattle.std.proofs.lemmas.List.{take_all}
+use Rattle.std.proofs.Common.{◌≡◌, ◌⊎◌, inl, inr, ℕ, ◌+◌, Bool, true, false, if◌then◌else◌, List, [], ◌∷◌, ◌++◌, Result, Ok, Err, IsErrAnd, sym, ap, ◌∙◌, subst, refl, append_assoc, append-nil}
 use Rattle.stm_wire.specs.Device.{Device, IsSettled}
 use Rattle.stm_wire.specs.MomentLaws.{joined, weaker}
 use Rattle.stm_wire.specs.Moments.{LeavesOnly}
@@ -10,12 +9,12 @@ use Rattle.stm_journal.specs.Journals.{Loaded}
 use Rattle.stm_journal.specs.States.{is_unfinished}
 use Rattle.stm_session.specs.declared.fault.Fault.{Fault}
 use Rattle.stm_session.specs.declared.fault.Fault.TheVariants as fault
-use Rattle.stm_session.specs.Answers.{OutcomeData, agreeing, agrees}
-use Rattle.stm_session.specs.Doing.{AmidOne, Does, TellsDifference, answer_on, command_lines, flash_left, lines_if}
+use Rattle.stm_session.specs.Answers.{OutcomeData, agreeing}
+use Rattle.stm_session.specs.Doing.{AmidOne, Does, TellsDifference, command_lines, flash_left, lines_if}
 use Rattle.stm_session.specs.Fault.{IsOutsideFault}
 use Rattle.stm_session.specs.Lines.{depth_at, is_named_at, segment_entries}
 use Rattle.stm_session.specs.Meaning.{CommandData, flash_after, is_change}
-use Rattle.stm_session.specs.Runs.{AmidRun, AreDone, RunFails, Runs, answers_from, standing}
+use Rattle.stm_session.specs.Runs.{AmidRun, AreDone, RunFails, Runs, standing}
 use Rattle.stm_session.specs.StepLaws.{StepLaws}
 use Rattle.stm_session.specs.Steps.{IsSteady, Stands}
 use Rattle.stm_session.proofs.CommandLists.{agreeing-append, answers-differ, change-agrees, difference-disagrees}

@@ -1,17 +1,14 @@
 -- How a run starts: what its opening leaves, and the commands seen from there.
-use Rattle.std.proofs.Common.{◌≡◌, ◌⊎◌, ⊎_elim, inl, inr, ℕ, ◌+◌, nat_le, Bool, true, false, not, ◌||◌, List, [], ◌∷◌, ◌++◌, length, take, reverse, Option, Some, None, Result, Ok, Err, IsErrAnd, IfErr, IfOk, OnOk, refl, sym, ap, ap₂, ◌∙◌, subst, arith, append-nil}
-use Rattle.std.specs.List.{list_all, list_any}
-use Rattle.std.proofs.lemmas.Bool.{cases_Bool}
+use Rattle.std.proofs.Common.{◌≡◌, ℕ, false, List, [], ◌∷◌, ◌++◌, take, reverse, Result, Ok, Err, IfErr, IfOk, OnOk, refl, sym, ap, ap₂, ◌∙◌, subst, arith, append-nil}
 use Rattle.stm_wire.specs.Chip.{ChipData}
 use Rattle.stm_wire.specs.Device.{Device, IsSettled}
-use Rattle.stm_wire.specs.MomentLaws.{joined, weaker}
+use Rattle.stm_wire.specs.MomentLaws.{joined}
 use Rattle.stm_wire.specs.Moments.{LeavesOnly}
 use Rattle.stm_wire.specs.Rig.{RigState}
 use Rattle.stm_journal.specs.Journals.{Loaded, IsLoaded}
 use Rattle.stm_session.specs.declared.fault.Fault.{Fault}
 use Rattle.stm_session.specs.declared.fault.Fault.TheVariants as fault
 use Rattle.stm_session.specs.Answers.{OutcomeData, agreeing, answers_of}
-use Rattle.stm_session.specs.Fault.{IsOutsideFault}
 use Rattle.stm_session.specs.Lines.{depth_at, is_named_at, is_torn_at, run_entries, text_added}
 use Rattle.stm_session.specs.Meaning.{CommandData, changes_of, flash_after_all, flashes_before}
 use Rattle.stm_session.specs.Moments.{IsUnbegun}
@@ -19,7 +16,6 @@ use Rattle.stm_session.specs.Runs.{AmidRun, AreDone, RunFails, Runs, answers_fro
 use Rattle.stm_session.specs.Steps.{IsSteady, KeepsFlashes}
 use Rattle.stm_session.specs.Undoable.{Undoable, is_unfinished_at, state_at}
 use Rattle.stm_session.proofs.Keeping.{keeps_same}
-use Rattle.stm_session.proofs.RunEnds.{outside_fails}
 use Rattle.stm_session.proofs.Standing.{makes_then}
 use Rattle.stm_session.proofs.Undoing.{unbegun_is_undoable}
 

@@ -1,36 +1,29 @@
 -- Commands, one after another: what some of them have done, and the next.
-use Rattle.std.proofs.Common.{◌≡◌, ◌≢◌, ◌⊎◌, ⊎_elim, inl, inr, ℕ, zero, suc, ◌+◌, ◌≤◌, Bool, true, false, if◌then◌else◌, List, [], ◌∷◌, ◌++◌, length, take, reverse, Option, Some, None, is_some, Result, Ok, Err, IsErrAnd, refl, sym, ap, ap₂, ◌∙◌, subst, arith, append_assoc, append-nil}
-use Rattle.std.specs.Prelude.{IsSome}
-use Rattle.std.proofs.lemmas.Bool.{cases_Bool}
+use Rattle.std.proofs.Common.{◌≡◌, inl, inr, ℕ, zero, suc, ◌+◌, ◌≤◌, Bool, true, false, List, [], ◌∷◌, ◌++◌, length, take, reverse, Ok, refl, sym, ap, ap₂, ◌∙◌, subst, arith, append-nil}
 use Rattle.std.proofs.lemmas.List.{take_all, take-append-le, length-append, length-reverse}
 use Rattle.stm_wire.specs.Chip.{ChipData}
-use Rattle.stm_wire.specs.Device.{Device, IsSettled}
+use Rattle.stm_wire.specs.Device.{Device}
 use Rattle.stm_wire.specs.MomentLaws.{joined, weaker}
 use Rattle.stm_wire.specs.Moments.{LeavesOnly}
 use Rattle.stm_wire.specs.Rig.{RigState, IsModel}
 use Rattle.stm_journal.specs.declared.entry.Entry.{Entry}
-use Rattle.stm_journal.specs.declared.header.JournalHeader.{JournalHeader}
 use Rattle.stm_journal.specs.Journals.{Loaded}
-use Rattle.stm_journal.specs.States.{is_unfinished}
-use Rattle.stm_session.specs.declared.fault.Fault.{Fault}
-use Rattle.stm_session.specs.declared.fault.Fault.TheVariants as fault
-use Rattle.stm_session.specs.Answers.{OutcomeData, agreeing, agrees, outcome_of, segments_of}
-use Rattle.stm_session.specs.Doing.{AmidOne, Does, TellsDifference, answer_on, command_lines, flash_left, lines_if}
-use Rattle.stm_session.specs.Fault.{IsOutsideFault}
+use Rattle.stm_session.specs.Answers.{OutcomeData, outcome_of}
+use Rattle.stm_session.specs.Doing.{AmidOne, Does, answer_on, command_lines, flash_left, lines_if}
 use Rattle.stm_session.specs.Lines.{depth_at, is_named_at, is_torn_at, run_entries, segment_entries, text_added}
 use Rattle.stm_session.specs.Meaning.{CommandData, before_if, changes_of, flash_after, flash_after_all, flashes_before, is_change}
 use Rattle.stm_session.specs.Moments.{SameMake}
-use Rattle.stm_session.specs.Runs.{AmidRun, AreDone, RunFails, Runs, answers_from, flashes_with, standing}
-use Rattle.stm_session.specs.Segments.{AmidCommand, HasOpened}
+use Rattle.stm_session.specs.Runs.{AmidRun, answers_from}
+use Rattle.stm_session.specs.Segments.{HasOpened}
 use Rattle.stm_session.specs.StepLaws.{StepLaws}
 use Rattle.stm_session.specs.Steps.{AddsLines, IsSteady, Stands, torn_after}
-use Rattle.stm_session.specs.Undoable.{Undoable, is_unfinished_at, state_at}
-use Rattle.stm_session.proofs.CommandLists.{after-changes, after-push, agreeing-append, answers-differ, answers-push, before-append, before-push, change-agrees, changes-append, changes-push, difference-asks, difference-disagrees, entries-append, entries-none, entries-one, named-as-before, named-by-changes, named_after}
+use Rattle.stm_session.specs.Undoable.{Undoable, state_at}
+use Rattle.stm_session.proofs.CommandLists.{after-changes, after-push, answers-push, before-append, before-push, changes-append, entries-append, entries-none, entries-one, named-as-before, named-by-changes, named_after}
 use Rattle.stm_session.proofs.Going.{at_exit}
 use Rattle.stm_session.proofs.GoingBack.{flashes_count}
 use Rattle.stm_session.proofs.Histories.{length-before}
-use Rattle.stm_session.proofs.Keeping.{good_at, unfinished_text}
-use Rattle.stm_session.proofs.Standing.{makes_then, settled_undoable, stands_now}
+use Rattle.stm_session.proofs.Keeping.{good_at}
+use Rattle.stm_session.proofs.Standing.{makes_then, stands_now}
 use Rattle.stm_session.proofs.TakingBack.{lines_later}
 use Rattle.stm_session.proofs.Texts.{adds_none, adds_then, front_part, text_added-append}
 

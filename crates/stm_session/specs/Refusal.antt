@@ -1,8 +1,8 @@
 -- What a session refuses before it does anything to a device, in the order of its steps.
-use Rattle.std.specs.Prelude.{◌≡◌, ◌⊎◌, ℕ, not, ◌&&◌, ◌||◌, ◌==◌, Bool, false, nat_lt, min, if◌then◌else◌, List, [], ◌∷◌, ◌++◌, length, fold, Option, Some, None, option_map, Result, Ok, Err}
-use Rattle.std.specs.List.{list_all, list_any, find, flat_map}
+use Rattle.std.specs.Prelude.{◌≡◌, ◌⊎◌, ℕ, not, ◌&&◌, ◌==◌, Bool, false, nat_lt, min, if◌then◌else◌, List, [], ◌∷◌, ◌++◌, length, fold, Option, Some, None, option_map, Result, Ok, Err}
+use Rattle.std.specs.List.{list_any, find, flat_map}
 use Rattle.std.specs.Option.{option_map_or}
-use Rattle.stm_wire.specs.Chip.{ChipData, page_count, page_size, fits_inside}
+use Rattle.stm_wire.specs.Chip.{ChipData, page_count, page_size}
 use Rattle.stm_wire.specs.Device.{Device}
 use Rattle.stm_wire.specs.Rig.{RigState}
 use Rattle.stm_wire.specs.Moments.{LeavesOnly}
@@ -11,7 +11,7 @@ use Rattle.stm_journal.specs.declared.kept.Kept.{Kept}
 use Rattle.stm_journal.specs.States.{StateData, SegmentData, segment_of, is_unfinished, names_other}
 use Rattle.stm_journal.specs.Journals.{JournalData, good, bad}
 use Rattle.stm_session.specs.declared.fault.Fault.{Fault}
-use Rattle.stm_session.specs.declared.fault.Fault.TheVariants.{Unfinished, UnknownChip, OutOfFlash, InSession, BadJournal, OtherDevice}
+use Rattle.stm_session.specs.declared.fault.Fault.TheVariants.{Unfinished, UnknownChip, InSession, BadJournal, OtherDevice}
 use Rattle.stm_session.specs.Fault.{IsJournalOrMemory, IsOutsideFault}
 use Rattle.stm_session.specs.Undoable.{has_companion}
 

@@ -82,7 +82,7 @@ fn is_in_flash(chip: &Chip, command: &Command) -> bool
 }
 
 /// Whether no command names a place outside the flash.
-pub fn are_in_flash(chip: &Chip, commands: &[Command]) -> bool
+fn are_in_flash(chip: &Chip, commands: &[Command]) -> bool
     ensures { result ≡ list_all (is_in_flash chip.now) commands.now }
 {
     commands.iter().all(|command| is_in_flash(chip, command))

@@ -84,6 +84,12 @@ fn write_at<'x>(rt: &HostRuntime, place: &'x Place, range: &'x str) -> Result<Sa
     place.call_with(rt, "write", words.as_slice(), &[1, 2, 3, 4])
 }
 
+/// Verifies an image whose file is as it was left.
+fn verify_unread(rt: &HostRuntime, place: &Place) -> Result<Said, Fail> {
+    let words = [place.image.as_str()];
+    Ok(place.call(rt, "verify", words.as_slice())?)
+}
+
 #[test]
 fn says_where_an_image_has_no_place(rt: HostRuntime) -> Result<(), Fail> {
     let place = Place::new(&rt, "no-place")?;
@@ -96,8 +102,7 @@ fn says_where_an_image_has_no_place(rt: HostRuntime) -> Result<(), Fail> {
     assert!(rt; fs::metadata(&rt, place.flash.as_str()).is_err());
     fs::remove_file(&rt, place.image.as_str())?;
     let text = format!(in rt.alloc(); "stmflash: cannot read {}\n", place.image)?;
-    let said = place.call(&rt, "verify", &[place.image.as_str()])?;
-    assert!(rt; said.is_fault(1, text.as_str()));
+    assert!(rt; verify_unread(&rt, &place)?.is_fault(1, text.as_str()));
     place.remove(&rt);
     Ok(())
 }

@@ -33,7 +33,11 @@ fn beginnings_tell_their_record(rt: HostRuntime) {
         let Some(beginning) = WHOLE.get(..count) else {
             continue
         };
-        assert_eq!(rt; fault(alloc, beginning), fault_of_beginning(count), "{count}");
+        assert_eq!(rt;
+            fault(alloc, beginning),
+            fault_of_beginning(count),
+            "{count}"
+        );
     }
 }
 

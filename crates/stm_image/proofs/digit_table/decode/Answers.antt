@@ -46,18 +46,18 @@ loop-i-preserved c =
     record {
       long = length-set out i byte ∙ inv.long;
       pairs = λ small.
-      let all = le_or_l (bit_or seen h) l in
-      let one = le_or_l seen h in
-      let two = le_or_r seen h in
-      let three = le_or_r (bit_or seen h) l in
-      let pair : IsPair first second byte = record {
-        high = table_value (hex_digit_value first);
-        low = table_value (hex_digit_value second);
-        first_is = table_small first (hex_digit_value first) refl (omega arith);
-        second_is = table_small second (hex_digit_value second) refl (omega arith);
-        is = joined h l (omega arith) (omega arith) ∙ ap₂ (λ x y. x * 16 + y) high low;
-      } in
-      more_pairs digits out i byte (omega (arith, c.loop-i-test.true, inv.long)) (inv.pairs (omega arith)) pair;
+          let all = le_or_l (bit_or seen h) l in
+          let one = le_or_l seen h in
+          let two = le_or_r seen h in
+          let three = le_or_r (bit_or seen h) l in
+          let pair : IsPair first second byte = record {
+            high = table_value (hex_digit_value first);
+            low = table_value (hex_digit_value second);
+            first_is = table_small first (hex_digit_value first) refl (omega arith);
+            second_is = table_small second (hex_digit_value second) refl (omega arith);
+            is = joined h l (omega arith) (omega arith) ∙ ap₂ (λ x y. x * 16 + y) high low;
+          } in
+          more_pairs digits out i byte (omega (arith, c.loop-i-test.true, inv.long)) (inv.pairs (omega arith)) pair;
       other = λ large. elim (cases_lt 15 seen) [
         | inl before ↦ inv.other before
         | inr none ↦ elim (cases_lt 15 h) [

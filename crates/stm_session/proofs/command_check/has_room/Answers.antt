@@ -1,5 +1,4 @@
-use Rattle.std.proofs.Common.{arith, nat_le, ◌≡◌, ◌+◌, ◌-◌, length, ap, ◌∙◌}
-use Rattle.std.proofs.lemmas.Bool.Decides.{nat_tests}
+use Rattle.std.proofs.Common.{◌∙◌}
 use Rattle.stm_session.proofs.CommandChecks.{counted, room_for}
 use Rattle.stm_session.proofs.command_check.has_room.Goals as goal
 

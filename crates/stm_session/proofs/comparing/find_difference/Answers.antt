@@ -1,13 +1,12 @@
 -- A round of the loop compares a block more.
-use Rattle.std.proofs.Common.{rules, ◌≡◌, ◌≤◌, ◌+◌, ◌-◌, ◌*◌, arith, ap, subst, sym, ◌∙◌, ℕ, List, Bool, Option, Some, true, false, is_some, refl, drop}
-use Rattle.stm_wire.specs.Chip.{flash_size}
+use Rattle.std.proofs.Common.{rules, ◌≡◌, ◌+◌, ◌-◌, ◌*◌, arith, ap, subst, sym, ◌∙◌, ℕ, Bool, Some, true, false, is_some, refl, drop}
 use Rattle.stm_wire.specs.Dialogue.{GoesOn}
 use Rattle.stm_wire.specs.Parts.{IsPart}
 use Rattle.stm_wire.specs.PartLaws.{nothing_is_part, part_longer}
 use Rattle.stm_session.specs.Answers.{first_difference}
-use Rattle.stm_session.specs.Sending.{is_whole, most_of_command}
+use Rattle.stm_session.specs.Sending.{most_of_command}
 use Rattle.stm_session.proofs.Asking.{asks_failed, asks_ok, nothing_asked}
-use Rattle.stm_session.proofs.Comparisons.{block_agrees, block_differs, block_further, block_within, compare_asks, compared_part, compared_reads}
+use Rattle.stm_session.proofs.Comparisons.{block_agrees, block_differs, block_within, compare_asks, compared_part, compared_reads}
 use Rattle.stm_session.proofs.RunOrders.{reads_nothing}
 use Rattle.stm_session.proofs.Sending.{same_fault}
 use Rattle.stm_session.proofs.comparing.find_difference.Goals as goal

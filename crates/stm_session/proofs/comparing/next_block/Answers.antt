@@ -1,4 +1,4 @@
-use Rattle.std.proofs.Common.{ℕ, ◌+◌, ap, subst}
+use Rattle.std.proofs.Common.{ℕ, ◌+◌, subst}
 use Rattle.stm_image.specs.Pairs.{HasNone}
 use Rattle.stm_session.proofs.comparing.next_block.Goals as goal
 

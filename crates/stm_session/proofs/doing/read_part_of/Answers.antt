@@ -1,4 +1,4 @@
-use Rattle.std.proofs.Common.{◌≡◌, ℕ, Ok, refl, sym, ◌∙◌, ap, List}
+use Rattle.std.proofs.Common.{ℕ, Ok, refl, sym, ◌∙◌, ap, List}
 use Rattle.stm_wire.specs.Chip.{ChipData}
 use Rattle.stm_session.specs.Answers.{OutcomeData, outcome_data, was_read}
 use Rattle.stm_session.specs.Meaning.{reads}

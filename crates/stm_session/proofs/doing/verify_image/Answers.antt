@@ -1,4 +1,4 @@
-use Rattle.std.proofs.Common.{◌≡◌, ℕ, Option, Some, None, Ok, Result, refl, sym, subst, ap}
+use Rattle.std.proofs.Common.{◌≡◌, ℕ, Option, Ok, refl, subst}
 use Rattle.stm_session.specs.Answers.{first_difference, outcome_data}
 use Rattle.stm_session.specs.Asking.{Asks}
 use Rattle.stm_session.specs.Meaning.{verifies}

@@ -1,4 +1,4 @@
-use Rattle.std.proofs.Common.{◌≡◌, ◌*◌, [], List, ℕ, ◌∷◌, Bool, None, Some, length, map, true, arith, refl}
+use Rattle.std.proofs.Common.{◌≡◌, ◌*◌, [], List, ◌∷◌, Bool, None, Some, length, map, true, arith, refl}
 use Rattle.stm_wire.specs.PartLaws.{session_joins, session_of_any, session_weaker}
 use Rattle.stm_session.specs.declared.command.Command.{Command}
 use Rattle.stm_session.specs.Answers.{outcome_data, outcomes_in}

@@ -1,4 +1,4 @@
-use Rattle.std.proofs.Common.{◌≡◌, ◌≤◌, ◌∙◌, ◌+◌, ◌*◌, ◌++◌, ◌∷◌, [], List, ℕ, Vec, Global, Bool, Ok, Some, true, is_ok, vec_len, if◌then◌else◌, length, map, take, drop, sym, ap, subst, arith, rules, refl}
+use Rattle.std.proofs.Common.{◌≡◌, ◌∙◌, ◌+◌, ◌*◌, ◌++◌, ◌∷◌, [], List, ℕ, Vec, Global, Bool, Ok, Some, true, is_ok, vec_len, if◌then◌else◌, length, map, take, drop, sym, ap, subst, arith, refl}
 use Rattle.std.proofs.lemmas.List.{map-append, take_all}
 use Rattle.stm_wire.specs.Dialogue.{GoesOn}
 use Rattle.stm_wire.specs.Parts.{IsPart}
@@ -10,10 +10,10 @@ use Rattle.stm_session.specs.Meaning.{CommandData, command_data, commands_in}
 use Rattle.stm_session.specs.Refusals.{lies_in_flash}
 use Rattle.stm_session.specs.Running.{AreKindsOf, IsKindOf}
 use Rattle.stm_session.specs.Runs.{Runs}
-use Rattle.stm_session.specs.Sending.{is_whole, most_of_command}
+use Rattle.stm_session.specs.Sending.{most_of_command}
 use Rattle.stm_session.proofs.OutcomeKinds.{kinds_more}
 use Rattle.stm_session.proofs.RunEnds.{run_all, run_refused, run_stopped}
-use Rattle.stm_session.proofs.RunLoop.{IsRunSoFar, depth_next, passes_next, room_next, taken_next, whole_list}
+use Rattle.stm_session.proofs.RunLoop.{depth_next, passes_next, room_next, taken_next, whole_list}
 use Rattle.stm_session.proofs.Runs.{HasRun, made_so_far, run_next, run_nothing}
 use Rattle.stm_session.proofs.Sending.{same_fault}
 use Rattle.stm_session.proofs.SentParts.{commands_next, commands_within}
