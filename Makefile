@@ -48,6 +48,7 @@ bench: bin/stmflash
 	python3 bench/hex
 	python3 bench/layers
 	python3 bench/read
+	python3 bench/program
 
 beside: bin/stmflash
 	sh tools/beside.sh bin/stmflash
