@@ -53,9 +53,12 @@ install: bin/stmflash
 bench: bin/stmflash
 	cd crates/hex_bench && rt run > /dev/null
 	cd crates/layer_bench && rt run > /dev/null
+	cd crates/session_bench && rt run > /dev/null
 	python3 bench/hex
 	python3 bench/layers
+	python3 bench/sessions
 	python3 bench/read
+	python3 bench/program
 
 beside: bin/stmflash
 	sh tools/beside.sh bin/stmflash

@@ -11,7 +11,7 @@ import subprocess
 import sys
 
 TOP = os.path.join(os.path.dirname(os.path.abspath(__file__)), "..")
-PACKAGES = {"objcopy": "binutils", "srec_cat": "srecord"}
+PACKAGES = {"objcopy": "binutils", "srec_cat": "srecord", "stm32flash": "stm32flash", "strace": "strace"}
 
 # of ptrace(2), on Linux
 TRACE_ME, CONTINUE, SET_OPTIONS, STOP_AT_EXIT = 0, 7, 0x4200, 0x40

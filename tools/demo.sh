@@ -26,6 +26,7 @@ if [ -z "$made" ]; then
     cat "$demo/said"
     exit 1
 fi
+rm -f "$program"
 cp "$made" "$program"
 chmod 755 "$program"
 cat "$top/chips.toml" >&3

@@ -3,3 +3,4 @@ pub mod Keeping
 pub mod Wholes
 pub mod Starts
 pub mod Stops
+pub mod Histories

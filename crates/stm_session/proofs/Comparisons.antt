@@ -7,6 +7,7 @@ use Rattle.stm_image.specs.Pairs.{Pairs, IsNext, byte_at}
 use Rattle.stm_wire.specs.Chip.{ChipData, flash_size, fits_inside}
 use Rattle.stm_wire.specs.Device.{IsSettled}
 use Rattle.stm_wire.specs.Dialogue.{GoesOn}
+use Rattle.stm_wire.specs.Frames.{read_frame}
 use Rattle.stm_wire.specs.Intents.{InPage}
 use Rattle.stm_wire.specs.Parts.{IsPart}
 use Rattle.stm_wire.specs.PartLaws.{part_longer, parts_join}
@@ -16,10 +17,12 @@ use Rattle.stm_session.specs.declared.reading.Block.{Block}
 use Rattle.stm_session.specs.Answers.{first_difference, has_byte}
 use Rattle.stm_session.specs.Asking.{Asks}
 use Rattle.stm_session.specs.Reading.{IsNextBlock}
+use Rattle.stm_session.specs.Order.{IsInOrder, Sends}
+use Rattle.stm_session.specs.RunOrder.{OnlyReads}
 use Rattle.stm_session.specs.Running.{bytes_at}
 use Rattle.stm_session.proofs.Asking.{asks_then, settled_still}
 use Rattle.stm_session.proofs.Differences.{first-difference-is-first, no-difference-agrees}
-use Rattle.stm_session.proofs.Ranges.{end-fits}
+use Rattle.stm_session.proofs.Ranges.{block_read, end-fits}
 use Rattle.stm_session.proofs.Sending.{block_in_page}
 
 -- where all agree, no difference is told
@@ -86,6 +89,7 @@ pub record IsComparedSoFar (chip : ChipData) (image : Pairs) (done : ℕ) (old n
   pub line : old.line_failures ≤ new.line_failures
   pub journal : old.journal_failures ≤ new.journal_failures
   pub parts : GoesOn (IsPart (Some chip) true (13 * done)) old.calls new.calls
+  pub reads : OnlyReads chip old new
   pub honest : old.is_honest → IsSettled old.device → old.device.chip ≡ chip
       → Asks {T = Unit {0}} old new (Ok tt) (λ x. first_difference image chip.base old.device.flash ≡ first_difference image (chip.base + done) (drop done old.device.flash))
 
@@ -113,6 +117,9 @@ module _ (chip : ChipData) (image : Pairs) (done : ℕ) (block : Block) (old mid
       let (page, within) = block_in_page chip block.address (flash_size chip - offset) block.size is.size in
       part_longer (Some chip) whole (13 * done + (12 + block.size)) (13 * (offset + block.size)) old.calls new.calls (omega (arith, low, is.inside, is.size.cut, is.size.is_rest.some))
       (parts_join (Some chip) whole (13 * done) (12 + block.size) old.calls mid.calls new.calls so_far.parts (puts page within))
+
+  pub compared_reads : ((torn : Bool) → GoesOn (IsInOrder torn (Sends (read_frame block.address block.size) ∷ [])) mid.calls new.calls) → OnlyReads chip old new
+  compared_reads reads = block_read chip block.address (flash_size chip - offset) block.size old mid new (omega (arith, low, is.inside)) is.size so_far.reads reads
 
   module _ (law : AgreesBefore) (honest : old.is_honest) (settled : IsSettled old.device) (chip_is : old.device.chip ≡ chip) where
     past : Asks {T = Unit {0}} old mid (Ok tt) (λ x. first_difference image chip.base old.device.flash ≡ first_difference image (chip.base + done) (drop done old.device.flash))

@@ -54,3 +54,4 @@ pub mod RunLoop
 pub mod RunContracts
 pub mod ReadRuns
 pub mod OneCommands
+pub mod RunOrders

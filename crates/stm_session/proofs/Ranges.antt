@@ -17,9 +17,11 @@ use Rattle.stm_session.specs.declared.fault.Fault.{Fault}
 use Rattle.stm_session.specs.Asking.{Asks}
 use Rattle.stm_session.specs.Reading.{IsBlock, IsPageRest}
 use Rattle.stm_session.specs.Order.{IsInOrder, Sends, read_steps}
+use Rattle.stm_session.specs.RunOrder.{OnlyReads}
 use Rattle.stm_session.specs.Running.{bytes_at}
 use Rattle.stm_session.proofs.Asking.{asks_then, settled_still}
 use Rattle.stm_session.proofs.Orders.{blocks_next}
+use Rattle.stm_session.proofs.RunOrders.{reads_more}
 use Rattle.stm_session.proofs.Sending.{block_in_page}
 
 -- bytes within the flash, where there are any
@@ -56,6 +58,7 @@ pub record IsReadSoFar (chip : ChipData) (start size done : ℕ) (bytes : List �
   pub journal : old.journal_failures ≤ new.journal_failures
   pub parts : GoesOn (IsPart (Some chip) true (13 * done)) old.calls new.calls
   pub few : (page : ℕ) → InPage chip page start size → IsReadInPage chip size done old new
+  pub reads : OnlyReads chip old new
   pub order : (page : ℕ) → InPage chip page start size → size % 256 ≡ 0 → (torn : Bool) → AreBlocksRead start done torn old new
   pub honest : old.is_honest → IsSettled old.device → old.device.chip ≡ chip
       → Asks {T = Unit {0}} old new (Ok tt) (λ x. bytes ≡ bytes_at chip old.device.flash start done)
@@ -156,3 +159,10 @@ blocks_all start size done torn old new all read =
     let is : read.blocks ≡ size / 256 = omega (arith, read.is, all) in
     let P : ℕ → Type 0 = λ k. GoesOn (IsInOrder torn (read_steps start k)) old.calls new.calls in
     subst P is read.steps
+
+-- the next block is read, which lies in one page
+pub block_read : (chip : ChipData) (address left size : ℕ) (a b c : RigState) → 1 ≤ left → IsBlock chip address left size → OnlyReads chip a b
+    → ((torn : Bool) → GoesOn (IsInOrder torn (Sends (read_frame address size) ∷ [])) b.calls c.calls) → OnlyReads chip a c
+block_read chip address left size a b c some is before reads =
+    let (page, within) = block_in_page chip address left size is in
+    reads_more chip page address size a b c (omega (arith, some, is.cut, is.is_rest.some)) (omega (arith, is.cut)) within before reads

@@ -14,6 +14,8 @@ use Rattle.stm_session.specs.declared.command.Command.{Command}
 use Rattle.stm_session.specs.declared.outcome.Outcome.{Outcome}
 use Rattle.stm_session.specs.Answers.{outcome_data, segments_of}
 use Rattle.stm_session.specs.Meaning.{CommandData, changes_of, command_data, commands_in, is_change}
+use Rattle.stm_session.specs.Order.{Follows}
+use Rattle.stm_session.specs.RunOrder.{AreDone}
 use Rattle.stm_session.specs.Running.{AreKindsOf}
 use Rattle.stm_session.specs.Sending.{most_of_command}
 use Rattle.stm_session.specs.Steps.{IsSteady}
@@ -30,6 +32,7 @@ pub record IsRunSoFar (chip : ChipData) (commands : List Command) (i : ℕ) (out
   pub line : old.line_failures ≤ new.line_failures
   pub journal : old.journal_failures ≤ new.journal_failures
   pub parts : GoesOn (IsPart (Some chip) true (i * most_of_command)) old.calls new.calls
+  pub order : Follows (AreDone chip (commands_in (take i commands)) l.state l2.state) l l2 old new
   pub honest : (flashes : List (List ℕ)) → IsSteady flashes l old → old.device.chip ≡ chip
       → HasRun (commands_in (take i commands)) flashes l2 old new (map outcome_data outcomes.items)
 

@@ -29,3 +29,4 @@ pub mod Contents
 pub mod ChangeOrder
 pub mod Segments
 pub mod Doing
+pub mod RunOrder

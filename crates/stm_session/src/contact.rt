@@ -9,7 +9,7 @@ ghost use Rattle.stm_session.specs.Fault.{HasSessionCause, IsOfLine};
 ghost use Rattle.stm_session.specs.Asking.{Asks};
 ghost use Rattle.stm_session.specs.Moments.{BeginsNothing, IsSafe};
 ghost use Rattle.stm_session.specs.Opening.{AreCommandsOf, Tells};
-ghost use Rattle.stm_session.specs.Order.{IsInOrder, Sends};
+ghost use Rattle.stm_session.specs.Order.{IsInOrder, Sends, asking_steps};
 ghost use Rattle.stm_session.specs.Sending.{is_whole};
 
 use crate::Fault;
@@ -89,6 +89,8 @@ pub fn ask<R: Rig>(rig: &mut R) -> Result<Told, Fault>
         HasSessionCause old new result }
     ensures puts { let old = R.view rig.old in let new = R.view rig.new in
         GoesOn (IsPart None (is_whole result) 268) old.calls new.calls }
+    ensures order { let old = R.view rig.old in let new = R.view rig.new in
+        (torn : Bool) → OnOk result (GoesOn (IsInOrder torn asking_steps) old.calls new.calls) }
     ensures sent { IfErr result IsOfLine }
     ensures honest { let old = R.view rig.old in let new = R.view rig.new in
         old.is_honest → IsSettled old.device → Asks old new result (Tells old.device) }

@@ -11,6 +11,8 @@ ghost use Rattle.stm_session.specs.Fault.{HasSessionCause};
 ghost use Rattle.stm_session.specs.Meaning.{command_data, erases, is_change, reads, verifies, writes};
 ghost use Rattle.stm_session.specs.Refusals.{image_fits, lies_in_flash};
 ghost use Rattle.stm_session.specs.Running.{IsKindOf};
+ghost use Rattle.stm_session.specs.Order.{Follows};
+ghost use Rattle.stm_session.specs.RunOrder.{IsDoneBy};
 ghost use Rattle.stm_session.specs.Sending.{is_whole, most_of_command};
 ghost use Rattle.stm_session.specs.Steps.{IsSteady};
 
@@ -42,6 +44,9 @@ fn write_image<R: Rig>(
     ensures named { IfErr result (λ fault. fault ≢ Fault.Unfinished) }
     ensures puts { let old = R.view rig.old in let new = R.view rig.new in
         GoesOn (IsPart (Some chip.now) (is_whole result) most_of_command) old.calls new.calls }
+    ensures order { let old = R.view rig.old in let new = R.view rig.new in
+        let Done = IsDoneBy chip.now (writes image.now) journal.old.state in
+        OnOk result (Follows Done journal.old journal.new old new) }
     ensures honest { let old = R.view rig.old in let new = R.view rig.new in
         (flashes : List (List ℕ)) → IsSteady flashes journal.old old → old.device.chip ≡ chip.now
         → Does flashes (writes image.now) journal.new old new result outcome_data }
@@ -67,6 +72,9 @@ fn erase_pages<R: Rig>(
     ensures named { IfErr result (λ fault. fault ≢ Fault.Unfinished) }
     ensures puts { let old = R.view rig.old in let new = R.view rig.new in
         GoesOn (IsPart (Some chip.now) (is_whole result) most_of_command) old.calls new.calls }
+    ensures order { let old = R.view rig.old in let new = R.view rig.new in
+        let Done = IsDoneBy chip.now (erases pages.now.items) journal.old.state in
+        OnOk result (Follows Done journal.old journal.new old new) }
     ensures honest { let old = R.view rig.old in let new = R.view rig.new in
         (flashes : List (List ℕ)) → IsSteady flashes journal.old old → old.device.chip ≡ chip.now
         → Does flashes (erases pages.now.items) journal.new old new result outcome_data }
@@ -84,6 +92,9 @@ fn verify_image<R: Rig>(rig: &mut R, chip: &Chip, image: &Image) -> Result<Outco
     ensures named { IfErr result (λ fault. fault ≢ Fault.Unfinished) }
     ensures puts { let old = R.view rig.old in let new = R.view rig.new in
         GoesOn (IsPart (Some chip.now) (is_whole result) most_of_command) old.calls new.calls }
+    ensures order { let old = R.view rig.old in let new = R.view rig.new in
+        (l : Loaded) → let Done = IsDoneBy chip.now (verifies image.now) l.state in
+        OnOk result (Follows Done l l old new) }
     ensures honest { let old = R.view rig.old in let new = R.view rig.new in
         (flashes : List (List ℕ)) (l : Loaded) → IsSteady flashes l old
         → old.device.chip ≡ chip.now
@@ -111,6 +122,9 @@ fn read_part_of<R: Rig>(
     ensures named { IfErr result (λ fault. fault ≢ Fault.Unfinished) }
     ensures puts { let old = R.view rig.old in let new = R.view rig.new in
         GoesOn (IsPart (Some chip.now) (is_whole result) most_of_command) old.calls new.calls }
+    ensures order { let old = R.view rig.old in let new = R.view rig.new in
+        (l : Loaded) → let Done = IsDoneBy chip.now (reads start length) l.state in
+        OnOk result (Follows Done l l old new) }
     ensures honest { let old = R.view rig.old in let new = R.view rig.new in
         (flashes : List (List ℕ)) (l : Loaded) → IsSteady flashes l old
         → old.device.chip ≡ chip.now
@@ -141,6 +155,9 @@ pub fn run_command<R: Rig>(
     ensures named { IfErr result (λ fault. fault ≢ Fault.Unfinished) }
     ensures puts { let old = R.view rig.old in let new = R.view rig.new in
         GoesOn (IsPart (Some chip.now) (is_whole result) most_of_command) old.calls new.calls }
+    ensures order { let old = R.view rig.old in let new = R.view rig.new in
+        let Done = IsDoneBy chip.now (command_data command.now) journal.old.state in
+        OnOk result (Follows Done journal.old journal.new old new) }
     ensures honest { let old = R.view rig.old in let new = R.view rig.new in
         (flashes : List (List ℕ)) → IsSteady flashes journal.old old → old.device.chip ≡ chip.now
         → let c = command_data command.now in

@@ -1,5 +1,5 @@
 // How a session begins: the journal is loaded, the device is reached, and both must fit the table and each other.
-ghost use Rattle.std.specs.Prelude.{◌≡◌, ◌≢◌, [], IfOk, IfErr, OnOk, Some, None, false, not};
+ghost use Rattle.std.specs.Prelude.{◌≡◌, ◌≢◌, [], IfOk, IfErr, OnOk, Some, None, false, not, Bool};
 ghost use Rattle.stm_wire.specs.Dialogue.{GoesOn};
 ghost use Rattle.stm_wire.specs.Parts.{IsSession};
 ghost use Rattle.stm_journal.specs.Calls.{AreFetches, IsUntouched};
@@ -9,6 +9,7 @@ ghost use Rattle.stm_journal.specs.States.{is_unfinished, names_other};
 ghost use Rattle.stm_session.specs.Fault.{HasSessionCause, IsOfLine, IsLaterRefusal};
 ghost use Rattle.stm_session.specs.Moments.{BeginsNothing, IsSafe};
 ghost use Rattle.stm_session.specs.Refusal.{RefusesUnsent, device_refusals, first_refusal, misfit_refusal, unsent_refusal};
+ghost use Rattle.stm_session.specs.Order.{SettlesFirst, asking_steps};
 ghost use Rattle.stm_session.specs.Sending.{is_whole, most_calls};
 ghost use Rattle.stm_session.specs.Opening.{IsCoherent, LoadsUnless, Opens, Tells};
 
@@ -55,6 +56,9 @@ fn reach<R: Rig>(rig: &mut R) -> Result<Told, Fault>
         HasSessionCause old new result }
     ensures puts { let old = R.view rig.old in let new = R.view rig.new in
         GoesOn (IsSession None 0x7F 131072 (is_whole result) (most_calls 0)) old.calls new.calls }
+    ensures order { let old = R.view rig.old in let new = R.view rig.new in
+        (torn : Bool)
+        → OnOk result (GoesOn (SettlesFirst 0x7F torn asking_steps) old.calls new.calls) }
     ensures sent { IfErr result IsOfLine }
     ensures honest { let old = R.view rig.old in let new = R.view rig.new in
         old.is_honest → IsSafe old.device → BeginsNothing old new result (Tells old.device) }
@@ -102,6 +106,11 @@ pub fn open<'t, R: Rig>(alloc: Global, rig: &mut R, table: &'t Table) -> Result<
         HasSessionCause old new result }
     ensures puts { let old = R.view rig.old in let new = R.view rig.new in
         GoesOn (IsSession None 0x7F 131072 (is_whole result) (most_calls 0)) old.calls new.calls }
+    ensures order { let old = R.view rig.old in let new = R.view rig.new in
+        (torn : Bool)
+        → OnOk result (GoesOn (SettlesFirst 0x7F torn asking_steps) old.calls new.calls) }
+    ensures loaded { let old = R.view rig.old in
+        old.is_honest → IfOk result (λ opened. IsLoaded opened.journal old.journal) }
     ensures coherent { IfOk result (IsCoherent table.now) }
     ensures silent { let old = R.view rig.old in let new = R.view rig.new in
         IfErr result (λ fault. fault ≡ Fault.Unfinished → GoesOn AreFetches old.calls new.calls) }

@@ -10,6 +10,7 @@ ghost use Rattle.stm_session.specs.Fault.{HasSessionCause, IsRefusal};
 ghost use Rattle.stm_session.specs.Asking.{Asks};
 ghost use Rattle.stm_session.specs.Reading.{HoldsAddress, IsBlock, IsNotBehind};
 ghost use Rattle.stm_session.specs.Order.{IsInOrder, Sends, read_steps};
+ghost use Rattle.stm_session.specs.RunOrder.{OnlyReads};
 ghost use Rattle.stm_session.specs.Sending.{is_whole, most_of_command};
 ghost use Rattle.stm_session.specs.Running.{bytes_at};
 
@@ -157,6 +158,7 @@ pub fn read_range<R: Rig>(
         (page : ℕ) → InPage chip.now page start size → size % 256 ≡ 0 → (torn : Bool)
         → let steps = read_steps start (size / 256) in
         OnOk result (GoesOn (IsInOrder torn steps) old.calls new.calls) }
+    ensures reads { OnOk result (OnlyReads chip.now (R.view rig.old) (R.view rig.new)) }
     ensures cause { let old = R.view rig.old in let new = R.view rig.new in
         HasSessionCause old new result }
     ensures sent { IfErr result (λ fault. IsRefusal fault → ⊥) }

@@ -1,5 +1,5 @@
 // A run: everything is checked before the first command is begun, and then the commands are done in their order.
-ghost use Rattle.std.specs.Prelude.{◌≡◌, ◌≢◌, ◌≤◌, ◌+◌, ◌*◌, false, true, ℕ, List, length, [], IfOk, IfErr, Some, map};
+ghost use Rattle.std.specs.Prelude.{◌≡◌, ◌≢◌, ◌≤◌, ◌+◌, ◌*◌, false, true, ℕ, List, length, [], OnOk, IfOk, IfErr, Some, map};
 ghost use Rattle.std.specs.List.{list_all};
 ghost use Rattle.stm_wire.specs.Dialogue.{GoesOn};
 ghost use Rattle.stm_wire.specs.Parts.{IsPart};
@@ -12,6 +12,8 @@ ghost use Rattle.stm_session.specs.Promises.{RunContract};
 ghost use Rattle.stm_session.specs.Refusals.{lies_in_flash};
 ghost use Rattle.stm_session.specs.Running.{AreKindsOf};
 ghost use Rattle.stm_session.specs.Runs.{Runs};
+ghost use Rattle.stm_session.specs.Order.{Follows};
+ghost use Rattle.stm_session.specs.RunOrder.{AreDone, RunsInOrder};
 ghost use Rattle.stm_session.specs.Sending.{SendsAsRun, is_whole, most_of_command};
 ghost use Rattle.stm_session.specs.Steps.{IsSteady};
 
@@ -41,6 +43,9 @@ fn run_commands<R: Rig>(
         GoesOn (IsPart (Some chip.now) (is_whole result) (length commands.now * most_of_command))
         old.calls new.calls }
     ensures kinds { IfOk result (λ outcomes. AreKindsOf commands.now outcomes.items) }
+    ensures order { let old = R.view rig.old in let new = R.view rig.new in
+        let Done = AreDone chip.now (commands_in commands.now) journal.old.state journal.new.state in
+        OnOk result (Follows Done journal.old journal.new old new) }
     ensures nothing { commands.now ≡ [] → IfErr result (λ _. ⊥) }
     ensures cause { HasSessionCause (R.view rig.old) (R.view rig.new) result }
     ensures named { IfErr result (λ fault. fault ≢ Fault.Unfinished) }
@@ -73,6 +78,8 @@ pub fn run<R: Rig>(
     ensures kinds { IfOk result (λ report. AreKindsOf commands.now report.outcomes.items) }
     ensures silent { let old = R.view rig.old in let new = R.view rig.new in
         IfErr result (λ fault. fault ≡ Fault.Unfinished → GoesOn AreFetches old.calls new.calls) }
+    ensures order { let old = R.view rig.old in let new = R.view rig.new in
+        OnOk result (RunsInOrder table.now (commands_in commands.now) old new) }
     ensures promised { let old = R.view rig.old in let new = R.view rig.new in
         RunContract table.now (commands_in commands.now) old new result outcomes_in }
 {

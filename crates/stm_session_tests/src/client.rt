@@ -1,7 +1,11 @@
-// A caller that knows public contracts alone: sessions that only read, one after another, and after a stop and a reset.
+// A caller that knows public contracts alone: sessions that only read, one after another, and after a stop and a reset; a write;
+// and commands that are stopped and taken back.
 use std::test::Fail;
 use stm_chip::{Table, read_table};
-use stm_client::{read, read_again, read_flash, read_new, read_twice, tell};
+use stm_client::{
+    read, read_again, read_flash, read_new, read_twice, take_back_stopped, tell, write_whole,
+};
+use stm_image::read_raw;
 use stm_session::{Command, Outcome, Report};
 use stm_wire::MemoryRig;
 
@@ -86,5 +90,55 @@ fn a_session_follows_one_that_was_stopped(rt: HostRuntime) -> Result<(), Fail> {
         let whole = read_again(rt.alloc(), &mut rig, &table, steps)?;
         assert!(rt; is_part(&rt, &whole, 0, 0, 4096)?, "{steps} steps");
     }
+    Ok(())
+}
+
+/// A simulator of the table's chip, on which nothing was begun.
+fn fresh_device(rt: &HostRuntime, table: &Table) -> Result<MemoryRig, Fail> {
+    let chip = table.find(0x0412).ok_or("no chip")?;
+    let chip = chip.clone()?;
+    let flash = counting(rt, 0, 4096)?;
+    Ok(MemoryRig::new(rt.alloc(), chip, flash, Vec::new(rt.alloc())).ok_or("no rig")?)
+}
+
+#[test]
+fn a_write_leaves_every_other_byte(rt: HostRuntime) -> Result<(), Fail> {
+    let table = table(&rt)?;
+    let mut rig = fresh_device(&rt, &table)?;
+    let image = read_raw(rt.alloc(), &[0xA5, 0x5A], 0x0800_03FF)?;
+    let report = write_whole(rt.alloc(), &mut rig, &table, image)?;
+    let [Outcome::Written { segment, pages }] = report.outcomes.as_slice() else {
+        return Err(Fail::new("one outcome"));
+    };
+    assert_eq!(rt; (*segment, *pages), (1, 2));
+    let mut flash = counting(&rt, 0, 0x03FF)?;
+    flash.extend_from_slice(&[0xA5, 0x5A])?;
+    let rest = counting(&rt, 0x0401, 4096)?;
+    flash.extend_from_slice(&rest)?;
+    assert!(rt; rig.flash() == flash.as_slice());
+    Ok(())
+}
+
+/// How many segments were taken back after a write and an erase that were stopped after so many steps.
+fn taken_back(rt: &HostRuntime, table: &Table, steps: u64) -> Result<u32, Fail> {
+    let mut rig = fresh_device(rt, table)?;
+    let image = read_raw(rt.alloc(), &[0xA5, 0x5A], 0x0800_03FF)?;
+    let pages = vec![in rt.alloc(); 1u16, 3u16]?;
+    let commands = [Command::Write(image), Command::Erase(pages)];
+    let taken = take_back_stopped(rt.alloc(), &mut rig, table, &commands, steps)?;
+    if rig.flash() != counting(rt, 0, 4096)?.as_slice() {
+        return Err(Fail::new("another flash"));
+    }
+    Ok(taken)
+}
+
+#[test]
+fn commands_that_are_stopped_are_taken_back(rt: HostRuntime) -> Result<(), Fail> {
+    let table = table(&rt)?;
+    assert_eq!(rt; taken_back(&rt, &table, 10)?, 0);
+    assert_eq!(rt; taken_back(&rt, &table, 4_000)?, 1);
+    assert_eq!(rt; taken_back(&rt, &table, 8_000)?, 1);
+    assert_eq!(rt; taken_back(&rt, &table, 12_000)?, 2);
+    assert_eq!(rt; taken_back(&rt, &table, 1_000_000)?, 2);
     Ok(())
 }

@@ -40,7 +40,11 @@ pub fn number<'a>(given: &ArgMatches<'a>, id: &str) -> Result<u32, UsageFault<'a
 }
 
 /// The number that was given under this name, which is at least 1 and not over a limit.
-pub fn number_within<'a>(given: &ArgMatches<'a>, id: &str, limit: u32) -> Result<u32, UsageFault<'a>>
+pub fn number_within<'a>(
+    given: &ArgMatches<'a>,
+    id: &str,
+    limit: u32,
+) -> Result<u32, UsageFault<'a>>
     ensures within { IfOk result (λ n. (1 ≤ n) × (n ≤ limit)) }
     ensures number { IfOk result (λ n. option_and_then number_of (first_value (found_of given.now) id.now) ≡ Some n) }
 {

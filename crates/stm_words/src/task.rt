@@ -17,13 +17,22 @@ pub enum Task<'a> {
     /// Tells what the device is.
     Info,
     /// Reads the whole flash or a part of it into a file.
-    Read { range: Option<Range>, out: &'a str },
+    Read {
+        range: Option<Range>,
+        out: &'a str,
+    },
     /// Writes an image, and verifies it where that is asked for.
-    Write { image: ImageFile<'a>, verifies: bool },
+    Write {
+        image: ImageFile<'a>,
+        verifies: bool,
+    },
     /// Compares the flash with an image.
     Verify(ImageFile<'a>),
     /// Erases pages: all, or these.
-    Erase { is_all: bool, pages: Vec<u16> },
+    Erase {
+        is_all: bool,
+        pages: Vec<u16>,
+    },
     /// Takes back so many writes and erases, or, at 0, all.
     Undo(u32),
     /// Lets the device run what stands at this address.
@@ -34,11 +43,7 @@ pub enum Task<'a> {
 
 impl<'a> Task<'a> {
     /// What the subcommand of this name asks of a device. A name that is none of a device's subcommands is refused.
-    pub fn parse(
-        alloc: Global,
-        name: &str,
-        given: &ArgMatches<'a>,
-    ) -> Result<Task<'a>, Unread<'a>>
+    pub fn parse(alloc: Global, name: &str, given: &ArgMatches<'a>) -> Result<Task<'a>, Unread<'a>>
         ensures { IfOk result (IsTask name.now (found_of given.now)) }
     {
         match name {

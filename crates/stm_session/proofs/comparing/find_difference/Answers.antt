@@ -6,7 +6,8 @@ use Rattle.stm_wire.specs.PartLaws.{nothing_is_part, part_longer}
 use Rattle.stm_session.specs.Answers.{first_difference}
 use Rattle.stm_session.specs.Sending.{most_of_command}
 use Rattle.stm_session.proofs.Asking.{asks_failed, asks_ok, nothing_asked}
-use Rattle.stm_session.proofs.Comparisons.{block_agrees, block_differs, block_within, compare_asks, compared_part}
+use Rattle.stm_session.proofs.Comparisons.{block_agrees, block_differs, block_within, compare_asks, compared_part, compared_reads}
+use Rattle.stm_session.proofs.RunOrders.{reads_nothing}
 use Rattle.stm_session.proofs.Sending.{same_fault}
 use Rattle.stm_session.proofs.comparing.find_difference.Goals as goal
 
@@ -18,6 +19,7 @@ loop-block-init g c =
         line = omega arith;
         journal = omega arith;
         parts = nothing_is_part (Some c.args.chip.now) true 0 (V c.args.rig.now).calls;
+        reads = reads_nothing c.args.chip.now (V c.args.rig.now);
         honest = λ h settled chip.
             nothing_asked c.sending_is_harmless.ensures.asking (V c.args.rig.now) (tt {0}) _ h (g.met.R.Rig.model c.args.rig.now h) settled
             (ap (λ (a : ℕ). first_difference c.args.image.now a (V c.args.rig.now).device.flash) (omega arith));
@@ -44,6 +46,7 @@ loop-block-preserved g c =
         journal = omega (arith, so_far.journal, c.in_ok-found.ensures.cause.journal_later);
         parts = subst (λ (n : ℕ). GoesOn (IsPart (Some chip) true (13 * (block.address - n + block.size))) a.calls d.calls) (sym base)
             (compared_part chip image c.loop-block.done block a b d so_far next true c.in_ok-found.ensures.puts);
+        reads = compared_reads chip image c.loop-block.done block a b d so_far next c.in_ok-found.ensures.order;
         honest = λ h settled chip_is.
             compare_asks chip image c.loop-block.done block a b d so_far next c.unnamed_places_agree.ensures.before h settled chip_is _ _ _ c.in_ok-found.ensures.honest
             (λ asks. asks_ok b d c.in_ok-found.found (tt {0}) asks
@@ -98,3 +101,8 @@ returns-then-is_some-clause-puts g c =
     let within = block_within chip c.args.image.now c.loop-block.done block a b d c.loop-block.invariant.0 c.in-Some.ensures in
     part_longer (Some chip) true (13 * (block.address - chip.base + block.size)) most_of_command a.calls d.calls (omega (arith, within, c.keeps_limits.ensures.chip.size))
     (compared_part chip c.args.image.now c.loop-block.done block a b d c.loop-block.invariant.0 c.in-Some.ensures true c.in_ok-found.ensures.puts)
+
+pub returns-then-is_some-clause-reads : goal.returns-then-is_some-clause-reads
+returns-then-is_some-clause-reads g c =
+    let V = g.R.Rig.view in
+    compared_reads c.args.chip.now c.args.image.now c.loop-block.done c.in-Some.block (V c.args.rig.now) (V c.loop-block.rig) (V c.compare_block.new.rig) c.loop-block.invariant.0 c.in-Some.ensures c.in_ok-found.ensures.order

@@ -5,6 +5,10 @@ use Rattle.stm_wire.specs.Parts.{IsPart}
 use Rattle.stm_wire.specs.PartLaws.{part_longer, parts_join}
 use Rattle.stm_session.proofs.Asking.{asks_failed, asks_ok, asks_then, settled_still}
 use Rattle.stm_session.proofs.Sending.{same_fault}
+use Rattle.std.proofs.Common.{◌∷◌, []}
+use Rattle.stm_wire.specs.Frames.{command}
+use Rattle.stm_session.specs.Order.{Sends}
+use Rattle.stm_session.proofs.Orders.{order_then}
 use Rattle.stm_session.proofs.contact.ask.Goals as goal
 
 pub returns-in_err-commands-clause-honest : goal.returns-in_err-commands-clause-honest
@@ -49,3 +53,8 @@ pub returns-clause-puts : goal.returns-clause-puts
 returns-clause-puts g c =
     let V = g.R.Rig.view in
     parts_join None true 261 7 (V c.args.rig.now).calls (V c.ask_commands.new.rig).calls (V c.ask_id.new.rig).calls c.in_ok-commands.ensures.puts c.in_ok-id.ensures.puts
+
+pub returns-clause-order : goal.returns-clause-order
+returns-clause-order g c torn =
+    let V = g.R.Rig.view in
+    order_then torn (Sends (command 0x00) ∷ []) (Sends (command 0x02) ∷ []) (V c.args.rig.now).calls (V c.ask_commands.new.rig).calls (V c.ask_id.new.rig).calls (c.in_ok-commands.ensures.order torn) (c.in_ok-id.ensures.order torn)

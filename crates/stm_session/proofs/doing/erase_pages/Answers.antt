@@ -6,6 +6,8 @@ use Rattle.stm_session.specs.Meaning.{erases}
 use Rattle.stm_session.specs.Answers.{outcome_data, was_erased}
 use Rattle.stm_session.specs.declared.change.Change.TheVariants as change
 use Rattle.stm_session.proofs.OneCommands.{change_broken, change_made}
+use Rattle.std.proofs.Common.{ap}
+use Rattle.stm_session.specs.RunOrder.{IsDoneBy}
 use Rattle.stm_session.proofs.doing.erase_pages.Goals as goal
 
 pub returns-in_err-segment-clause-honest : goal.returns-in_err-segment-clause-honest
@@ -24,3 +26,9 @@ returns-clause-honest g c flashes steady chip =
     subst P c.as_slice.ensures.value
     (change_made flashes (change.Erase c.as_slice.result) c.args.chip.now c.args.journal.now c.change_flash.new.journal (V c.args.rig.now) (V c.change_flash.new.rig) refl chip
     c.in_ok-segment.segment c.in_ok-segment.pages y (λ s p. was_erased s p) steady c.in_ok-segment.ensures.number (c.in_ok-segment.ensures.honest flashes steady chip) refl refl)
+
+pub returns-clause-order : goal.returns-clause-order
+returns-clause-order g c =
+    let done = c.in_ok-segment.ensures.order in
+    let by : IsDoneBy c.args.chip.now (erases c.args.pages.now.items) c.args.journal.now.state done.0 = (change.Erase c.as_slice.result, ap (λ (ns : List ℕ). erases ns) c.as_slice.ensures.value, done.1) in
+    (done.0, by, done.2)

@@ -4,6 +4,7 @@ use Rattle.stm_session.specs.Answers.{OutcomeData, outcome_data, was_read}
 use Rattle.stm_session.specs.Meaning.{reads}
 use Rattle.stm_session.specs.Running.{bytes_at}
 use Rattle.stm_session.proofs.Doings.{asks_does, asks_fails}
+use Rattle.stm_session.proofs.RunOrders.{reads_follow}
 use Rattle.stm_session.proofs.doing.read_part_of.Goals as goal
 
 pub returns-in_err-bytes-clause-honest : goal.returns-in_err-bytes-clause-honest
@@ -20,3 +21,8 @@ returns-clause-honest g c flashes l steady chip =
     let said : List ℕ → OutcomeData = λ bytes. was_read bytes in
     asks_does c.step_laws.ensures flashes (reads c.args.start c.args.length) l a (V c.read_range.new.rig) refl steady outcome_data c.in_ok-bytes.bytes _ asks
     (ap (λ (p : ChipData). Ok (said (bytes_at p a.device.flash c.args.start c.args.length))) chip ∙ ap (λ (bytes : List ℕ). Ok (said bytes)) (sym asks.done))
+
+pub returns-clause-order : goal.returns-clause-order
+returns-clause-order g c l =
+    let V = g.R.Rig.view in
+    reads_follow c.args.chip.now l (V c.args.rig.now) (V c.read_range.new.rig) c.in_ok-bytes.ensures.reads

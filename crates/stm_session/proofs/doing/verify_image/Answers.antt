@@ -4,6 +4,7 @@ use Rattle.stm_session.specs.Asking.{Asks}
 use Rattle.stm_session.specs.Meaning.{verifies}
 use Rattle.stm_session.proofs.Doings.{asks_fails}
 use Rattle.stm_session.proofs.OneCommands.{verify_agrees, verify_differs}
+use Rattle.stm_session.proofs.RunOrders.{reads_follow}
 use Rattle.stm_session.proofs.doing.verify_image.Goals as goal
 
 pub returns-in_err-difference-clause-honest : goal.returns-in_err-difference-clause-honest
@@ -27,3 +28,8 @@ returns-in-None-clause-honest g c flashes l steady chip =
     let b = V c.find_difference.new.rig in
     let P : Option ℕ → Type 0 = λ o. Asks {T = Option ℕ} a b (Ok o) (λ found. found ≡ first_difference c.args.image.now c.args.chip.now.base a.device.flash) in
     verify_agrees c.step_laws.ensures flashes c.args.image.now c.args.chip.now l a b steady chip (subst P c.in-None.is (c.in_ok-difference.ensures.honest steady.honest steady.settled chip))
+
+pub returns-in-None-clause-order : goal.returns-in-None-clause-order
+returns-in-None-clause-order g c l =
+    let V = g.R.Rig.view in
+    reads_follow c.args.chip.now l (V c.args.rig.now) (V c.find_difference.new.rig) c.in_ok-difference.ensures.reads

@@ -6,6 +6,8 @@ use Rattle.stm_wire.specs.PartLaws.{session_weaker, silent_is_session, silent_th
 use Rattle.stm_journal.specs.Calls.{AreFetches}
 use Rattle.stm_session.specs.Sending.{is_whole, most_calls}
 use Rattle.stm_session.proofs.Sending.{fetches_get, fetches_put, same_fault}
+use Rattle.stm_session.specs.Order.{asking_steps}
+use Rattle.stm_session.proofs.Orders.{fetched_then}
 use Rattle.stm_session.proofs.opening.open.Goals as goal
 
 pub returns-in_err-journal-clause-honest : goal.returns-in_err-journal-clause-honest
@@ -71,3 +73,8 @@ returns-clause-puts g c =
     let b = (V c.load_finished.new.rig).calls in
     let d = (V c.reach.new.rig).calls in
     silent_then_session None 0x7F 131072 true (most_calls 0) AreFetches a b d fetches_put fetches_get c.load_finished.ensures.calls c.in_ok-told.ensures.puts
+
+pub returns-clause-order : goal.returns-clause-order
+returns-clause-order g c torn =
+    let V = g.R.Rig.view in
+    fetched_then 0x7F torn asking_steps (V c.args.rig.now).calls (V c.load_finished.new.rig).calls (V c.reach.new.rig).calls c.load_finished.ensures.calls (c.in_ok-told.ensures.order torn)

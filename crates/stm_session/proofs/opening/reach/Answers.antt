@@ -3,6 +3,9 @@ use Rattle.stm_session.proofs.Openings.{tells_first}
 use Rattle.std.proofs.Common.{arith, None, true}
 use Rattle.stm_wire.specs.PartLaws.{session_joins, session_longer, settling_is_session}
 use Rattle.stm_session.specs.Sending.{is_whole, most_calls}
+use Rattle.stm_session.specs.Order.{asking_steps}
+use Rattle.stm_session.proofs.Orders.{settles_then}
+use Rattle.stm_session.proofs.RunOrders.{ok_then}
 use Rattle.stm_session.proofs.opening.reach.Goals as goal
 
 pub returns-in_err-settle_safe-clause-honest : goal.returns-in_err-settle_safe-clause-honest
@@ -32,3 +35,11 @@ returns-clause-puts g c =
     let b = (V c.settle_safe.new.rig).calls in
     let d = (V c.ask.new.rig).calls in
     session_joins None 0x7F 131072 (is_whole c.ask.result) 537411600 268 a b d (settling_is_session None 0x7F 131072 true 537411600 a b c.settle_safe.ensures.calls) c.ask.ensures.puts
+
+pub returns-clause-order : goal.returns-clause-order
+returns-clause-order g c torn =
+    let V = g.R.Rig.view in
+    let a = (V c.args.rig.now).calls in
+    let b = (V c.settle_safe.new.rig).calls in
+    let d = (V c.ask.new.rig).calls in
+    ok_then c.ask.result (λ asks. settles_then 0x7F torn asking_steps a b d c.settle_safe.ensures.calls asks) (c.ask.ensures.order torn)

@@ -10,7 +10,8 @@ use Rattle.stm_wire.specs.Parts.{IsPart}
 use Rattle.stm_wire.specs.PartLaws.{nothing_is_part, part_longer}
 use Rattle.stm_session.specs.Sending.{is_whole, most_of_command}
 use Rattle.stm_session.proofs.Sending.{block_in_page, same_fault}
-use Rattle.stm_session.proofs.Ranges.{block_in_few, block_part, blocks_all, blocks_more}
+use Rattle.stm_session.proofs.Ranges.{block_in_few, block_part, block_read, blocks_all, blocks_more}
+use Rattle.stm_session.proofs.RunOrders.{reads_nothing}
 use Rattle.stm_session.proofs.SentParts.{part_fails_after}
 use Rattle.stm_session.proofs.reading.read_range.Goals as goal
 
@@ -30,6 +31,7 @@ loop-done-init g c =
         journal = omega arith;
         parts = nothing_is_part (Some c.args.chip.now) true 0 (V c.args.rig.now).calls;
         few = λ page within. record { most = 0; within = omega arith; blocks = λ lt. omega arith; parts = nothing_is_part (Some c.args.chip.now) true 0 (V c.args.rig.now).calls };
+        reads = reads_nothing c.args.chip.now (V c.args.rig.now);
         order = λ page within even torn. record { blocks = 0; is = refl; steps = GoesOn-nothing (IsInOrder torn []) (V c.args.rig.now).calls refl };
         honest = λ h settled chip. nothing_asked c.sending_is_harmless.ensures.asking (V c.args.rig.now) (tt {0}) _ h (g.met.R.Rig.model c.args.rig.now h) settled c.in_ok-bytes.ensures.items;
       },
@@ -50,6 +52,8 @@ loop-done-preserved g c =
         few = λ page within.
             block_in_few c.args.chip.now c.args.start c.args.size c.loop-done.done c.block_size-block.result page (V c.args.rig.now) (V c.loop-done.rig) (V c.read_block.new.rig)
             c.loop-done-test.true (so_far.few page within) c.block_size-block.ensures within c.in_ok-read_block.ensures.puts;
+        reads = block_read c.args.chip.now (c.args.start + c.loop-done.done) (c.args.size - c.loop-done.done) c.block_size-block.result (V c.args.rig.now) (V c.loop-done.rig) (V c.read_block.new.rig)
+            (omega (arith, c.loop-done-test.true)) c.block_size-block.ensures so_far.reads c.in_ok-read_block.ensures.order;
         order = λ page within even torn.
             blocks_more c.args.chip.now c.args.start c.args.size c.loop-done.done c.block_size-block.result page torn (V c.args.rig.now) (V c.loop-done.rig) (V c.read_block.new.rig)
             c.loop-done-test.true (so_far.order page within even torn) c.block_size-block.ensures within even (c.in_ok-read_block.ensures.order torn);
@@ -129,3 +133,6 @@ returns-clause-order g c page within even torn =
     let so_far = c.loop-done.invariant.1 in
     let all : c.loop-done.done ≡ c.args.size = omega (arith, so_far.within, c.loop-done-test.false) in
     blocks_all c.args.start c.args.size c.loop-done.done torn (V c.args.rig.now) (V c.loop-done.rig) all (so_far.order page within even torn)
+
+pub returns-clause-reads : goal.returns-clause-reads
+returns-clause-reads g c = c.loop-done.invariant.1.reads

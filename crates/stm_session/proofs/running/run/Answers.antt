@@ -6,6 +6,9 @@ use Rattle.stm_session.specs.Meaning.{commands_in}
 use Rattle.stm_session.specs.Sending.{SendsAsRun, is_whole, most_calls, most_of_command}
 use Rattle.stm_session.proofs.RunContracts.{contract_ran, contract_refused, contract_unopened, runs_err, runs_ok}
 use Rattle.stm_session.proofs.Sending.{same_fault}
+use Rattle.std.proofs.Common.{◌++◌, refl}
+use Rattle.stm_session.specs.Order.{asking_steps}
+use Rattle.stm_session.proofs.Orders.{settled_then}
 use Rattle.stm_session.proofs.running.run.Goals as goal
 
 no_commands : (commands : List Command) → commands_in commands ≡ [] → commands ≡ []
@@ -82,4 +85,23 @@ returns-clause-puts g c =
       chip = chip;
       listed = c.in_ok-opened.ensures.coherent.chip;
       calls = session_joins chip 0x7F 131072 true (most_calls 0) (n * most_of_command) a b d (session_of_any chip 0x7F 131072 true (most_calls 0) a b c.in_ok-opened.ensures.puts) c.in_ok-outcomes.ensures.puts;
+    }
+
+pub returns-clause-order : goal.returns-clause-order
+returns-clause-order g c =
+    let V = g.R.Rig.view in
+    let l = c.in_ok-opened.opened.journal in
+    let a = (V c.args.rig.now).calls in
+    let b = (V c.open.new.rig).calls in
+    let d = (V c.run_commands.new.rig).calls in
+    let done = c.in_ok-outcomes.ensures.order in
+    record {
+      journal = l;
+      loaded = c.in_ok-opened.ensures.loaded;
+      chip = c.in_ok-opened.opened.chip.now;
+      listed = c.in_ok-opened.ensures.coherent.chip;
+      last = c.run_commands.new.journal.state;
+      steps = done.0;
+      are_steps = done.1;
+      calls = settled_then 0x7F l.is_torn asking_steps done.0 a b d refl (c.in_ok-opened.ensures.order l.is_torn) done.2.acts;
     }

@@ -17,6 +17,9 @@ use Rattle.stm_session.proofs.RunLoop.{depth_next, passes_next, room_next, taken
 use Rattle.stm_session.proofs.Runs.{HasRun, made_so_far, run_next, run_nothing}
 use Rattle.stm_session.proofs.Sending.{same_fault}
 use Rattle.stm_session.proofs.SentParts.{commands_next, commands_within}
+use Rattle.stm_session.specs.Order.{Follows}
+use Rattle.stm_session.specs.RunOrder.{AreDone, none as none_done, more}
+use Rattle.stm_session.proofs.Orders.{does_nothing, does_then}
 use Rattle.stm_session.proofs.running.run_commands.Goals as goal
 
 pub returns-in_err-reserve_exact-clause-honest : goal.returns-in_err-reserve_exact-clause-honest
@@ -42,6 +45,7 @@ loop-command-init g c =
       line = omega arith;
       journal = omega arith;
       parts = nothing_is_part (Some c.args.chip.now) true 0 a.calls;
+      order = ([], none_done l.state, does_nothing l a);
       honest = λ flashes steady chip.
           let model = g.met.R.Rig.model c.args.rig.now steady.honest in
           let H : List Outcome → Type 0 = λ os. HasRun [] flashes l a a (map outcome_data os) in
@@ -121,6 +125,13 @@ loop-command-preserved g c =
       line = omega (arith, so_far.line, c.in_ok-outcome.ensures.cause.line_later);
       journal = omega (arith, so_far.journal, c.in_ok-outcome.ensures.cause.journal_later);
       parts = commands_next c.args.chip.now i true a.calls b.calls d.calls so_far.parts c.in_ok-outcome.ensures.puts;
+      order =
+          let before = so_far.order in
+          let own = c.in_ok-outcome.ensures.order in
+          let steps = before.0 ++ own.0 in
+          let O : List CommandData → Type 0 = λ ys. AreDone c.args.chip.now ys l.state l3.state steps in
+          let done = more (commands_in (take i cs)) (command_data next) l.state l2.state l3.state before.0 own.0 before.1 own.1 c.in_ok-outcome.ensures.depth in
+          (steps, subst O (sym (taken_next cs i next lt c.command-item.is)) done, does_then before.0 own.0 l l2 l3 a b d before.2 own.2);
       honest = λ flashes steady chip.
           let xs = commands_in (take i cs) in
           let said = map outcome_data c.loop-command.outcomes.items in
@@ -151,3 +162,14 @@ returns-clause-honest g c flashes steady chip =
     let all : commands_in (take i cs) ≡ commands_in cs = ap commands_in (take_all i cs (omega (arith, c.loop-command-test.false))) in
     let R : List CommandData → Type 0 = λ ys. Runs {T = Vec Outcome Global} ys flashes a b (Ok c.loop-command.outcomes) (λ outcomes. map outcome_data outcomes.items) in
     subst R all (run_all c.step_laws.ensures (commands_in (take i cs)) flashes l l2 a b said model steady first c.loop-command.outcomes _ c.loop-command.invariant.finished refl)
+
+pub returns-clause-order : goal.returns-clause-order
+returns-clause-order g c =
+    let V = g.R.Rig.view in
+    let l = c.args.journal.now in
+    let l2 = c.loop-command.journal in
+    let i = c.loop-command.command-index in
+    let cs = c.args.commands.now in
+    let all : commands_in (take i cs) ≡ commands_in cs = ap commands_in (take_all i cs (omega (arith, c.loop-command-test.false))) in
+    let P : List CommandData → Type 0 = λ ys. Follows (AreDone c.args.chip.now ys l.state l2.state) l l2 (V c.args.rig.now) (V c.loop-command.rig) in
+    subst P all c.loop-command.invariant.order

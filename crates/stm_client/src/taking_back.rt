@@ -1,0 +1,52 @@
+// Sessions that change the flash, on a device that nothing was begun on: written, and stopped and taken back.
+ghost use Rattle.std.specs.Prelude.{◌≡◌, IfOk};
+ghost use Rattle.stm_image.specs.Lay.{lay};
+ghost use Rattle.stm_wire.specs.Memory.{rig_state};
+ghost use Rattle.stm_session.specs.Headline.{IsStart, now_of};
+
+use std::alloc::Global;
+use stm_chip::Table;
+use stm_image::Image;
+use stm_session::{
+    Command, Fault, Report, a_ready_device_can_begin, a_session_can_be_taken_back, run, undo,
+};
+use stm_wire::{MemoryRig, Rig};
+
+/// Writes an image.
+pub fn write_whole<R: Rig>(
+    alloc: Global,
+    rig: &mut R,
+    table: &Table,
+    image: Image,
+) -> Result<Report, Fault>
+    ensures whole { let old = R.view rig.old in let new = R.view rig.new in
+        old.is_honest → IsStart table.now (now_of old)
+        → IfOk result (λ _. new.device.flash ≡ lay image old.device.chip.base old.device.flash) }
+{
+    a_session_can_be_taken_back::<R>();
+    let commands = [Command::Write(image)];
+    let report = run(alloc, rig, table, &commands)?;
+    Ok(report)
+}
+
+/// Does commands, which are stopped after so many steps; resets the device; and takes everything back.
+pub fn take_back_stopped(
+    alloc: Global,
+    rig: &mut MemoryRig,
+    table: &Table,
+    commands: &[Command],
+    steps: u64,
+) -> Result<u32, Fault>
+    ensures back { let old = rig_state rig.old in
+        old.is_honest → IsStart table.now (now_of old)
+        → IfOk result (λ _. rig.new.device.flash ≡ rig.old.device.flash) }
+{
+    a_session_can_be_taken_back::<MemoryRig>();
+    a_ready_device_can_begin();
+    rig.stop_after(steps);
+    let _stopped = run(alloc, rig, table, commands);
+    rig.reset();
+    rig.stop_after(u64::MAX);
+    let taken = undo(alloc, rig, table, 0)?;
+    Ok(taken)
+}

@@ -1,0 +1,45 @@
+-- The order of what a run puts and appends.
+use Rattle.std.proofs.Common.{◌≡◌, ℕ, ◌+◌, ◌≤◌, Bool, List, [], ◌∷◌, ◌++◌, Result, Ok, Err, refl, sym, subst}
+use Rattle.std.specs.Prelude.{OnOk}
+use Rattle.std.specs.List.{AllByRecursion}
+use Rattle.stm_wire.specs.Chip.{ChipData}
+use Rattle.stm_wire.specs.Dialogue.{GoesOn}
+use Rattle.stm_wire.specs.DialogueLaws.{GoesOn-nothing}
+use Rattle.stm_wire.specs.Frames.{read_frame}
+use Rattle.stm_wire.specs.Intents.{InPage}
+use Rattle.stm_wire.specs.Rig.{RigState}
+use Rattle.stm_journal.specs.Journals.{Loaded}
+use Rattle.stm_session.specs.declared.fault.Fault.{Fault}
+use Rattle.stm_session.specs.Order.{Step, Sends, Follows, IsInOrder, torn_behind}
+use Rattle.stm_session.specs.RunOrder.{IsReading, OnlyReads}
+use Rattle.stm_session.proofs.Orders.{order_then}
+
+reads-torn : (chip : ChipData) (torn : Bool) (steps : List Step) → AllByRecursion (IsReading chip) steps → torn_behind torn steps ≡ torn
+reads-torn chip torn [] are = refl
+reads-torn chip torn (step ∷ steps) (is, are) = let P : Step → Type 0 = λ s. torn_behind torn (s ∷ steps) ≡ torn in subst P (sym is.is) (reads-torn chip torn steps are)
+
+reads-append : (chip : ChipData) (xs ys : List Step) → AllByRecursion (IsReading chip) xs → AllByRecursion (IsReading chip) ys → AllByRecursion (IsReading chip) (xs ++ ys)
+reads-append chip [] ys p q = q
+reads-append chip (x ∷ xs) ys (first, rest) q = (first, reads-append chip xs ys rest q)
+
+pub reads_nothing : (chip : ChipData) (a : RigState) → OnlyReads chip a a
+reads_nothing chip a torn = ([], tt, GoesOn-nothing (IsInOrder torn []) a.calls refl)
+
+-- one block more
+pub reads_more : (chip : ChipData) (page address size : ℕ) (a b c : RigState) → 1 ≤ size → size ≤ 256 → InPage chip page address size → OnlyReads chip a b
+    → ((torn : Bool) → GoesOn (IsInOrder torn (Sends (read_frame address size) ∷ [])) b.calls c.calls) → OnlyReads chip a c
+reads_more chip page address size a b c some limit within before reads torn =
+    let p = before torn in
+    let step : Step = Sends (read_frame address size) in
+    let reading : IsReading chip step = record { page = page; address = address; size = size; some = some; limit = limit; within = within; is = refl } in
+    let P : Bool → Type 0 = λ t. GoesOn (IsInOrder t (step ∷ [])) b.calls c.calls in
+    (p.0 ++ step ∷ [], reads-append chip p.0 (step ∷ []) p.1 (reading, tt), order_then torn p.0 (step ∷ []) a.calls b.calls c.calls p.2 (subst P (sym (reads-torn chip torn p.0 p.1)) (reads torn)))
+
+-- the journal in memory is as it was
+pub reads_follow : (chip : ChipData) (l : Loaded) (a b : RigState) → OnlyReads chip a b → Follows (λ steps. AllByRecursion (IsReading chip) steps) l l a b
+reads_follow chip l a b reads = let p = reads l.is_torn in (p.0, p.1, record { acts = p.2; torn = sym (reads-torn chip l.is_torn p.0 p.1) })
+
+-- what follows at Ok from what holds there
+pub ok_then : {T A B : Type 0} (r : Result T Fault) → (A → B) → OnOk r A → OnOk r B
+ok_then (Ok x) then p = then p
+ok_then (Err e) then p = tt
