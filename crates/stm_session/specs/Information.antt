@@ -1,7 +1,7 @@
 -- What a session tells of a device.
 use Rattle.std.specs.Prelude.{◌≡◌, ◌⊎◌, List, None, Some, Result, IfErr, IfOk, OnOk}
 use Rattle.stm_chip.specs.Document.{IsChipWith}
-use Rattle.stm_wire.specs.Chip.{ChipData, page_count, flash_size}
+use Rattle.stm_wire.specs.Chip.{ChipData, erased_byte, page_count, flash_size}
 use Rattle.stm_wire.specs.Device.{Device, IsSettled}
 use Rattle.stm_wire.specs.Rig.{RigState}
 use Rattle.stm_wire.specs.Moments.{LeavesOnly}
@@ -13,7 +13,7 @@ use Rattle.stm_session.specs.Opening.{AreCommandsOf}
 use Rattle.stm_session.specs.Moments.{IsUnbegun}
 use Rattle.stm_session.specs.Refusal.{opening_refusal}
 
--- the number, place and size of this chip of the table
+-- the number, place, size, erase command and erased byte of this chip of the table
 pub record Describes (table : List ChipData) (info : Info) : Type 0 where
   pub chip : ChipData
   pub listed : IsChipWith table info.id chip
@@ -21,6 +21,7 @@ pub record Describes (table : List ChipData) (info : Info) : Type 0 where
   pub pages : info.pages ≡ page_count chip
   pub size : info.size ≡ flash_size chip
   pub kind : info.kind ≡ chip.kind
+  pub erased : info.erased ≡ erased_byte chip
 
 -- what is told is so of the device
 pub record IsInfoOf (d : Device) (info : Info) : Type 0 where

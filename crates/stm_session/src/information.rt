@@ -15,6 +15,8 @@ pub struct Info {
     pub size: u32,
     /// The command that erases pages of it.
     pub kind: EraseKind,
+    /// What an erased place of the flash holds: FF, or 00.
+    pub erased: u8,
     /// The bootloader's version and the codes of its commands.
     pub commands: Commands,
 }

@@ -32,6 +32,7 @@ pub fn info<R: Rig>(alloc: Global, rig: &mut R, table: &Table) -> Result<Info, F
         pages: opened.chip.pages(),
         size: opened.chip.flash_size(),
         kind: opened.chip.kind(),
+        erased: opened.chip.erased(),
         commands: opened.commands,
     })
 }

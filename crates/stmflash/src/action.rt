@@ -9,7 +9,7 @@ use crate::reading::read;
 use std::alloc::Global;
 use std::fs::Files;
 use stm_chip::Table;
-use stm_session::{Fault, go, info, protect, undo};
+use stm_session::{go, info, protect, undo};
 use stm_wire::{Protection, Rig};
 use stm_words::{Range, Task, UsageFault};
 
@@ -75,7 +75,7 @@ impl Action {
         table: &Table,
     ) -> Result<Answer, Failure<'a>> {
         match self {
-            Action::Info => Ok(tell(alloc, rig, table)?),
+            Action::Info => Ok(Answer::Told(info(alloc, rig, table)?)),
             Action::Read(range) => Ok(read(alloc, rig, table, range)?),
             Action::Write(content) => {
                 let image = content.on_device(alloc, rig, table)?;
@@ -101,14 +101,5 @@ impl Action {
                 Ok(Answer::Nothing)
             }
         }
-    }
-}
-
-/// Asks the device what it is.
-fn tell<L: Rig>(alloc: Global, rig: &mut L, table: &Table) -> Result<Answer, Fault> {
-    let told = info(alloc, rig, table)?;
-    match table.find(told.id) {
-        Some(chip) => Ok(Answer::Told(told, chip.erased())),
-        None => Err(Fault::UnknownChip(told.id)),
     }
 }

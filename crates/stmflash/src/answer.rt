@@ -10,8 +10,8 @@ use stm_wire::EraseKind;
 pub enum Answer {
     /// Nothing that is told.
     Nothing,
-    /// What the device is, and what an erased place of it holds.
-    Told(Info, u8),
+    /// What the device is.
+    Told(Info),
     /// Bytes of the flash, for a file.
     Bytes(Vec<u8>),
     /// The number of a write's segment, and how many pages it changed.
@@ -40,7 +40,7 @@ impl Answer {
     /// Prints what is told on standard output.
     pub fn print<O: Write>(&self, out: &mut O) -> io::Result<()> {
         match self {
-            Answer::Told(info, erased) => print_info(info, *erased, out),
+            Answer::Told(info) => print_info(info, out),
             Answer::Written { segment, pages } => print_written(*segment, *pages, out),
             Answer::WrittenAndVerified {
                 segment,
@@ -71,7 +71,7 @@ fn print_verified<O: Write>(bytes: usize, out: &mut O) -> io::Result<()> {
 }
 
 /// Prints what the device is, a line each.
-fn print_info<O: Write>(info: &Info, erased: u8, out: &mut O) -> io::Result<()> {
+fn print_info<O: Write>(info: &Info, out: &mut O) -> io::Result<()> {
     writeln!(out, "id {:04X}", info.id)?;
     writeln!(out, "base {:08X}", info.base)?;
     writeln!(out, "pages {}", info.pages)?;
@@ -81,7 +81,7 @@ fn print_info<O: Write>(info: &Info, erased: u8, out: &mut O) -> io::Result<()> 
         EraseKind::Extended => 0x44,
     };
     writeln!(out, "erase {erase:02X}")?;
-    writeln!(out, "erased {erased:02X}")?;
+    writeln!(out, "erased {:02X}", info.erased)?;
     writeln!(out, "version {:02X}", info.commands.version)?;
     print_codes(
         &info.commands.codes[..usize::from(info.commands.count)],
