@@ -37,7 +37,7 @@ served() {
 use() {
     name=$1
     shift
-    "$program" "$name" --table "$top/chips.toml" --device "$room/board" --journal "$room/journal" --wait 20 "$@"
+    "$program" "$name" --table "$top/chips.toml" --device "$room/board" --journal "$room/journal" --wait 100 "$@"
 }
 
 says() {
@@ -85,7 +85,7 @@ cmp "$room/flash" "$room/before" || fail "a write and an erase aren't taken back
 # a table that gives the chip the other erase command
 sed 's/erase = "page"/erase = "extended"/' "$top/chips.toml" > "$room/table"
 serve 1
-"$program" erase --table "$room/table" --device "$room/board" --journal "$room/journal" --wait 20 5 2> "$room/said" || true
+"$program" erase --table "$room/table" --device "$room/board" --journal "$room/journal" --wait 100 5 2> "$room/said" || true
 grep -qx 'stmflash: no erase command' "$room/said" || fail "a missing erase command isn't told"
 served
 
