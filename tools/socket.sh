@@ -114,4 +114,13 @@ sim=
 wait "$asking" && fail "a device that went away still answers"
 grep -qx 'stmflash: line failed' "$room/said" || fail "a line that broke isn't told"
 rm -f "$room/board"
+
+# memory that is refused, as the checks on memory of an unproved program can refuse it
+head -c 3000000 /dev/zero > "$room/large"
+ASAN_OPTIONS=allocator_may_return_null=1:max_allocation_size_mb=1 "$program" write --table "$top/chips.toml" \
+    --device "sim:0412:$room/other" --journal "$room/none" -f "$room/large" 2> "$room/said" && fail "3,000,000 bytes fit a small flash"
+if grep -q AddressSanitizer "$room/said"; then
+    grep -qx 'stmflash: out of memory' "$room/said" || fail "a want of memory isn't told"
+fi
+[ ! -e "$room/other" ] || fail "a write that was refused left a flash"
 echo "the program and the simulator meet over a socket"
