@@ -1,17 +1,22 @@
-// Sessions that only ask, over a Rig in memory: each call where nothing is refused, and each refusal.
+// Sessions that only ask, over a Rig in memory: each call where nothing is refused, and each
+// refusal.
+use crate::devices::{self, counting, is_all, is_counting};
+use crate::stories::Act::{Fetches, Go, Info, IsGone, Never, Protect, Run};
+use crate::stories::{Act, Ask, Told, first_wrong};
 use std::test::Fail;
 use stm_chip::{Table, read_table};
-use stm_session::{Command, Fault, Outcome, go, info, protect, run};
-use stm_wire::{Chip, EraseKind, MemoryRig, Protection, RigCall};
+use stm_session::{Fault, info};
+use stm_wire::{EraseKind, MemoryRig, Protection};
 
-/// A table of chip 0412.
+/// A table of chip 0412 alone.
 const TABLE: &str =
     "[[chip]]\nid = 0x412\nbase = 0x08000000\npages = [[32, 1024]]\nerase = \"page\"\n";
 
 /// The codes that a device lists whose pages are erased by 43.
 const CODES: [u8; 9] = [0x00, 0x02, 0x11, 0x21, 0x31, 0x43, 0x73, 0x82, 0x92];
 
-/// A journal whose first segment is ended, and whose second was taken back and has a torn line behind it.
+/// A journal whose first segment is ended, and whose second was taken back and has a torn line
+/// behind it.
 const ENDED: &[u8] = b"stmjournal 1 0412\nopen 1\nend 1\nopen 2\nend 2\nundone 2\nopen 2";
 
 /// A journal whose only segment was taken back.
@@ -24,7 +29,8 @@ const UNFINISHED: [&[u8]; 3] = [
     b"stmjournal 1 0412\nopen 1\npage 5 FF0A\nend 1\nerase 5\n",
 ];
 
-/// Journals that keep a page which chip 0412 hasn't, or has in another size, with the least line that does.
+/// Journals that keep a page which chip 0412 hasn't, or has in another size, with the least line
+/// that does.
 const MISFITS: [(&[u8], u64); 4] = [
     (b"stmjournal 1 0412\nopen 1\npage 5 FF0A\nend 1\n", 3),
     (b"stmjournal 1 0412\nopen 1\npage 32 FF\nend 1\n", 3),
@@ -45,90 +51,72 @@ fn table(rt: &HostRuntime) -> Result<Table, Fail> {
     }
 }
 
-/// The bytes of a flash whose byte i is i modulo 251, from one to before another.
-fn counting(rt: &HostRuntime, start: u32, end: u32) -> Result<Vec<u8>, Fail> {
-    let mut bytes = Vec::new(rt.alloc());
-    for i in start..end {
-        bytes.push((i % 251) as u8)?;
-    }
-    Ok(bytes)
-}
-
-/// A fresh device with this id, the pages of chip 0412 and such a flash, and a journal.
+/// A fresh device with this id, a flash whose byte i is i modulo 251, and a journal.
 fn device(rt: &HostRuntime, id: u16, journal: &[u8]) -> Result<MemoryRig, Fail> {
-    let sizes = vec![in rt.alloc(); 1024; 32]?;
-    let chip = Chip::new(id, 0x0800_0000, sizes, EraseKind::Page, 0xFF).ok_or("no chip")?;
-    let journal = Vec::from_slice(rt.alloc(), journal)?;
-    Ok(MemoryRig::new(rt.alloc(), chip, counting(rt, 0, 32768)?, journal).ok_or("no rig")?)
+    let table = devices::table(rt)?;
+    let chip = table.find(id).ok_or("no chip")?;
+    let flash = counting(rt, chip.flash_size())?;
+    devices::rig_of(rt, &table, id, flash, Vec::from_slice(rt.alloc(), journal)?)
 }
 
-/// Whether no byte was sent, and no line awaited.
-fn only_fetched(rig: &MemoryRig) -> bool {
-    rig.calls().iter().all(|call| *call == RigCall::Fetch)
-}
-
-/// Whether the journal and the flash are as they were at first.
-fn is_untouched(rt: &HostRuntime, rig: &MemoryRig, journal: &[u8]) -> Result<bool, Fail> {
-    Ok(rig.journal() == journal && rig.flash() == counting(rt, 0, 32768)?.as_slice())
-}
-
-/// Whether `info` and a run of no commands answer this fault, and leave the journal and the flash as they were.
-fn is_refused(rt: &HostRuntime, id: u16, journal: &[u8], fault: Fault) -> Result<bool, Fail> {
+/// Whether these acts go right with a device of this id and this journal, and the device.
+fn done(
+    rt: &HostRuntime,
+    id: u16,
+    journal: &[u8],
+    acts: &[Act],
+) -> Result<(bool, MemoryRig), Fail> {
     let table = table(rt)?;
     let mut rig = device(rt, id, journal)?;
-    let told = info(rt.alloc(), &mut rig, &table).err();
-    let ran = run(rt.alloc(), &mut rig, &table, &[]).err();
-    Ok(told == Some(fault) && ran == Some(fault) && is_untouched(rt, &rig, journal)?)
+    let wrong = first_wrong(rt, &table, &mut rig, acts)?;
+    Ok((wrong.is_none(), rig))
+}
+
+/// Whether these acts go right, and leave the journal and the flash as they were.
+fn are_right(rt: &HostRuntime, id: u16, journal: &[u8], acts: &[Act]) -> Result<bool, Fail> {
+    let (right, rig) = done(rt, id, journal, acts)?;
+    Ok(right && rig.journal() == journal && is_counting(rig.flash()))
+}
+
+/// Whether `info` tells what the device is.
+fn is_told(rt: &HostRuntime, journal: &[u8]) -> Result<bool, Fail> {
+    let table = table(rt)?;
+    let mut rig = device(rt, 0x0412, journal)?;
+    let told = info(rt.alloc(), &mut rig, &table)?;
+    let codes = &told.commands.codes[..usize::from(told.commands.count)];
+    Ok(
+        (told.id, told.base, told.pages) == (0x0412, 0x0800_0000, 32)
+            && (told.size, told.kind) == (32768, EraseKind::Page)
+            && told.commands.version == 0x22
+            && codes == CODES.as_slice(),
+    )
 }
 
 #[test]
 fn tells_what_a_device_is(rt: HostRuntime) -> Result<(), Fail> {
-    let table = table(&rt)?;
     for journal in [b"".as_slice(), CLOSED, ENDED] {
-        let mut rig = device(&rt, 0x0412, journal)?;
-        let told = info(rt.alloc(), &mut rig, &table)?;
-        assert_eq!(rt; (told.id, told.base, told.pages), (0x0412, 0x0800_0000, 32));
-        assert_eq!(rt; (told.size, told.kind), (32768, EraseKind::Page));
-        assert_eq!(rt; told.commands.version, 0x22);
-        let codes = &told.commands.codes[..usize::from(told.commands.count)];
-        assert!(rt; codes == CODES.as_slice());
-        assert!(rt; is_untouched(&rt, &rig, journal)?);
+        assert!(rt; is_told(&rt, journal)?);
+        assert!(rt; are_right(&rt, 0x0412, journal, &[Info(None)])?);
     }
     Ok(())
 }
 
+/// Parts of the flash, one of no bytes.
+const PARTS: &[Ask] = &[
+    Ask::Read(0x0800_03FE, 1030),
+    Ask::Read(7, 0),
+    Ask::Read(0x0800_7FFF, 1),
+];
+
 #[test]
 fn reads_across_pages_and_up_to_the_end(rt: HostRuntime) -> Result<(), Fail> {
-    let table = table(&rt)?;
-    let commands = [
-        Command::Read {
-            start: 0x0800_03FE,
-            length: 1030,
-        },
-        Command::Read {
-            start: 7,
-            length: 0,
-        },
-        Command::Read {
-            start: 0x0800_7FFF,
-            length: 1,
-        },
-    ];
     for journal in [b"".as_slice(), CLOSED, ENDED] {
-        let mut rig = device(&rt, 0x0412, journal)?;
-        let report = run(rt.alloc(), &mut rig, &table, &commands)?;
-        let [
-            Outcome::Read(first),
-            Outcome::Read(none),
-            Outcome::Read(last),
-        ] = report.outcomes.as_slice()
-        else {
-            return Err(Fail::new("three outcomes"));
-        };
-        assert!(rt; first.as_slice() == counting(&rt, 0x03FE, 0x0804)?.as_slice());
-        assert!(rt; none.is_empty());
-        assert!(rt; last.as_slice() == counting(&rt, 0x7FFF, 0x8000)?.as_slice());
-        assert!(rt; is_untouched(&rt, &rig, journal)?);
+        let told: &[Told] = &[
+            Told::Read(0x03FE, 1030),
+            Told::Read(0, 0),
+            Told::Read(0x7FFF, 1),
+        ];
+        assert!(rt; are_right(&rt, 0x0412, journal, &[Run(PARTS, Ok(told))])?);
     }
     Ok(())
 }
@@ -136,53 +124,54 @@ fn reads_across_pages_and_up_to_the_end(rt: HostRuntime) -> Result<(), Fail> {
 #[test]
 fn leaves_the_bootloader(rt: HostRuntime) -> Result<(), Fail> {
     for journal in [b"".as_slice(), CLOSED] {
-        let mut rig = device(&rt, 0x0412, journal)?;
-        go(rt.alloc(), &mut rig, 0x0800_0000)?;
-        assert!(rt; rig.is_gone());
-        assert!(rt; is_untouched(&rt, &rig, journal)?);
+        assert!(rt; are_right(&rt, 0x0412, journal, &[Go(None), IsGone])?);
     }
     Ok(())
 }
 
+/// Whether the end of the readout protection leaves an erased flash, and the journal.
+fn is_unprotected(rt: &HostRuntime, journal: &[u8]) -> Result<bool, Fail> {
+    let acts = [Protect(Protection::ReadoutUnprotect, None)];
+    let (right, rig) = done(rt, 0x0412, journal, &acts)?;
+    Ok(right && rig.journal() == journal && is_all(rig.flash(), 0xFF))
+}
+
 #[test]
 fn ends_the_readout_protection(rt: HostRuntime) -> Result<(), Fail> {
-    let erased = vec![in rt.alloc(); 0xFF; 32768]?;
     for journal in [b"".as_slice(), CLOSED] {
-        let mut rig = device(&rt, 0x0412, journal)?;
-        protect(rt.alloc(), &mut rig, Protection::ReadoutUnprotect)?;
-        assert!(rt; rig.flash() == erased.as_slice());
-        assert!(rt; rig.journal() == journal);
+        assert!(rt; is_unprotected(&rt, journal)?);
     }
     Ok(())
 }
 
 #[test]
 fn refuses_a_bad_journal_before_it_sends(rt: HostRuntime) -> Result<(), Fail> {
-    let journal = b"stmjournal 1 0412\nopen 1\nend 2\nopen 3\n";
     let bad = Some(Fault::BadJournal(3));
-    let table = table(&rt)?;
-    let mut rig = device(&rt, 0x0412, journal)?;
-    assert_eq!(rt; info(rt.alloc(), &mut rig, &table).err(), bad);
-    assert_eq!(rt; run(rt.alloc(), &mut rig, &table, &[]).err(), bad);
-    assert_eq!(rt; go(rt.alloc(), &mut rig, 0x0800_0000).err(), bad);
-    assert_eq!(rt;
-        protect(rt.alloc(), &mut rig, Protection::WriteUnprotect).err(),
-        bad
-    );
-    assert!(rt; only_fetched(&rig) && is_untouched(&rt, &rig, journal)?);
+    let acts = [
+        Info(bad),
+        Fetches,
+        Run(&[], Err(Fault::BadJournal(3))),
+        Fetches,
+        Go(bad),
+        Fetches,
+        Protect(Protection::WriteUnprotect, bad),
+        Fetches,
+    ];
+    let journal = b"stmjournal 1 0412\nopen 1\nend 2\nopen 3\n";
+    assert!(rt; are_right(&rt, 0x0412, journal, &acts)?);
     Ok(())
 }
 
 #[test]
 fn refuses_an_unfinished_journal_before_it_sends(rt: HostRuntime) -> Result<(), Fail> {
-    let table = table(&rt)?;
     for journal in UNFINISHED {
-        let mut rig = device(&rt, 0x0412, journal)?;
-        let told = info(rt.alloc(), &mut rig, &table).err();
-        assert_eq!(rt; told, Some(Fault::Unfinished));
-        let ran = run(rt.alloc(), &mut rig, &table, &[]).err();
-        assert_eq!(rt; ran, Some(Fault::Unfinished));
-        assert!(rt; only_fetched(&rig) && is_untouched(&rt, &rig, journal)?);
+        let acts = [
+            Info(Some(Fault::Unfinished)),
+            Fetches,
+            Run(&[], Err(Fault::Unfinished)),
+            Fetches,
+        ];
+        assert!(rt; are_right(&rt, 0x0412, journal, &acts)?);
     }
     Ok(())
 }
@@ -190,14 +179,21 @@ fn refuses_an_unfinished_journal_before_it_sends(rt: HostRuntime) -> Result<(), 
 #[test]
 fn refuses_to_leave_with_a_segment_before_it_sends(rt: HostRuntime) -> Result<(), Fail> {
     for journal in [ENDED, UNFINISHED[0], UNFINISHED[2]] {
-        let mut rig = device(&rt, 0x0412, journal)?;
-        let gone = go(rt.alloc(), &mut rig, 0x0800_0000).err();
-        assert_eq!(rt; gone, Some(Fault::InSession));
-        let changed = protect(rt.alloc(), &mut rig, Protection::ReadoutUnprotect).err();
-        assert_eq!(rt; changed, Some(Fault::InSession));
-        assert!(rt; only_fetched(&rig) && is_untouched(&rt, &rig, journal)?);
+        let acts = [
+            Go(Some(Fault::InSession)),
+            Fetches,
+            Protect(Protection::ReadoutUnprotect, Some(Fault::InSession)),
+            Fetches,
+        ];
+        assert!(rt; are_right(&rt, 0x0412, journal, &acts)?);
     }
     Ok(())
+}
+
+/// Whether `info` and a run of no commands answer this fault, and leave the journal and the flash
+/// as they were.
+fn is_refused(rt: &HostRuntime, id: u16, journal: &[u8], fault: Fault) -> Result<bool, Fail> {
+    are_right(rt, id, journal, &[Info(Some(fault)), Run(&[], Err(fault))])
 }
 
 // An ended journal of a device that the table hasn't is refused as another device's.
@@ -234,21 +230,19 @@ fn refuses_a_kept_page_that_the_chip_has_not(rt: HostRuntime) -> Result<(), Fail
     Ok(())
 }
 
+/// Four bytes of the flash, and a place that doesn't all lie in it.
+const OUTSIDE: [&[Ask]; 3] = [
+    &[Ask::Read(0x0800_0000, 4), Ask::Read(0x0800_7FFF, 2)],
+    &[Ask::Read(0x0800_0000, 4), Ask::Read(0x07FF_FFFF, 1)],
+    &[Ask::Read(0x0800_0000, 4), Ask::Read(0x0800_8000, 1)],
+];
+
 // All places are checked before the first byte is read.
 #[test]
 fn refuses_a_place_outside_the_flash(rt: HostRuntime) -> Result<(), Fail> {
-    let table = table(&rt)?;
-    for (start, length) in [(0x0800_7FFF, 2), (0x07FF_FFFF, 1), (0x0800_8000, 1)] {
-        let mut rig = device(&rt, 0x0412, b"")?;
-        let inside = Command::Read {
-            start: 0x0800_0000,
-            length: 4,
-        };
-        let outside = Command::Read { start, length };
-        let ran = run(rt.alloc(), &mut rig, &table, &[inside, outside]).err();
-        assert_eq!(rt; ran, Some(Fault::OutOfFlash));
-        assert!(rt; !rig.calls().contains(&RigCall::Put(0x11)));
-        assert!(rt; is_untouched(&rt, &rig, b"")?);
+    for asks in OUTSIDE {
+        let acts = [Run(asks, Err(Fault::OutOfFlash)), Never(0x11)];
+        assert!(rt; are_right(&rt, 0x0412, b"", &acts)?);
     }
     Ok(())
 }

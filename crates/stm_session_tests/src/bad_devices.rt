@@ -1,4 +1,5 @@
-// Devices that answer every byte alike, or never stop talking: each session call ends, with a named fault, after so many bytes.
+// Devices that answer every byte alike, or never stop talking: each session call ends, with a named
+// fault, after so many bytes.
 ghost use Rattle.std.specs.Prelude.{◌^◌, ◌-◌};
 ghost use Rattle.stm_wire.specs.Unmodelled.{unmodelled};
 
@@ -71,8 +72,9 @@ impl Rig for BadLine {
     }
 }
 
-/// A device that says this, and how many bytes are put before a session with it ends: one that settles with 7F, and an undo
-/// that settles with 05. Get is refused behind 7F, or behind a batch and a byte; 7F connects behind the limit of 131,072 bytes.
+/// A device that says this, and how many bytes are put before a session with it ends: one that
+/// settles with 7F, and an undo that settles with 05. Get is refused behind 7F, or behind a batch
+/// and a byte; 7F connects behind the limit of 131,072 bytes.
 const ENDS: [(Says, u32, u32); 5] = [
     (Says::Refusal, 3, 259),
     (Says::Acknowledgement, 131_074, 131_074),
@@ -98,53 +100,71 @@ fn bad_line(
     })
 }
 
+/// What a write answers, how many bytes it puts, and whether the journal stays empty.
+fn written(rt: &HostRuntime, says: Says) -> Result<(Option<Fault>, u32, bool), Fail> {
+    let table = table(rt)?;
+    let mut line = bad_line(rt, &table, says, Vec::new(rt.alloc()))?;
+    let command = small_write(rt)?;
+    let answer = run(rt.alloc(), &mut line, &table, &command).err();
+    Ok((answer, line.puts, line.memory.journal().is_empty()))
+}
+
 #[test]
 fn a_write_ends(rt: HostRuntime) -> Result<(), Fail> {
-    let table = table(&rt)?;
-    let command = small_write(&rt)?;
     for (says, puts, _undo) in ENDS {
-        let mut line = bad_line(&rt, &table, says, Vec::new(rt.alloc()))?;
-        let answer = run(rt.alloc(), &mut line, &table, &command).err();
-        assert_eq!(rt; (answer, line.puts), (Some(Fault::Device), puts));
-        assert!(rt; line.memory.journal().is_empty());
+        assert_eq!(rt; written(&rt, says)?, (Some(Fault::Device), puts, true));
     }
     Ok(())
 }
 
+/// What `info` answers, and how many bytes are put and awaited.
+fn asked(rt: &HostRuntime, says: Says) -> Result<(Option<Fault>, u32, u32), Fail> {
+    let table = table(rt)?;
+    let mut line = bad_line(rt, &table, says, Vec::new(rt.alloc()))?;
+    let answer = info(rt.alloc(), &mut line, &table).err();
+    Ok((answer, line.puts, line.gets))
+}
+
 #[test]
 fn questions_end(rt: HostRuntime) -> Result<(), Fail> {
-    let table = table(&rt)?;
     for (says, puts, _undo) in ENDS {
-        let mut line = bad_line(&rt, &table, says, Vec::new(rt.alloc()))?;
-        let answer = info(rt.alloc(), &mut line, &table).err();
-        assert_eq!(rt; (answer, line.puts), (Some(Fault::Device), puts));
+        let (answer, put, _gets) = asked(&rt, says)?;
+        assert_eq!(rt; (answer, put), (Some(Fault::Device), puts));
     }
     Ok(())
+}
+
+/// What `go` answers, and how many bytes are put.
+fn left(rt: &HostRuntime, says: Says) -> Result<(Option<Fault>, u32), Fail> {
+    let mut line = bad_line(rt, &table(rt)?, says, Vec::new(rt.alloc()))?;
+    let answer = go(rt.alloc(), &mut line, 0x0800_0000).err();
+    Ok((answer, line.puts))
 }
 
 // The refusal comes to the code of Go, as to that of Get.
 #[test]
 fn leaving_ends(rt: HostRuntime) -> Result<(), Fail> {
-    let table = table(&rt)?;
     for (says, puts, _undo) in ENDS {
-        let mut line = bad_line(&rt, &table, says, Vec::new(rt.alloc()))?;
-        let answer = go(rt.alloc(), &mut line, 0x0800_0000).err();
-        assert_eq!(rt; (answer, line.puts), (Some(Fault::Device), puts));
+        assert_eq!(rt; left(&rt, says)?, (Some(Fault::Device), puts));
     }
     Ok(())
 }
 
+/// What an undo answers, how many bytes it puts, and whether the journal stays as long.
+fn undone(rt: &HostRuntime, says: Says) -> Result<(Option<Fault>, u32, bool), Fail> {
+    let table = table(rt)?;
+    let head = b"stmjournal 2 0A01\nopen 1\npage 5 ";
+    let journal = kept(rt, head, 256, b"\nerase 5\n")?;
+    let size = journal.len();
+    let mut line = bad_line(rt, &table, says, journal)?;
+    let answer = undo(rt.alloc(), &mut line, &table, 0).err();
+    Ok((answer, line.puts, line.memory.journal().len() == size))
+}
+
 #[test]
 fn an_undo_ends(rt: HostRuntime) -> Result<(), Fail> {
-    let table = table(&rt)?;
     for (says, _run, puts) in ENDS {
-        let head = b"stmjournal 2 0A01\nopen 1\npage 5 ";
-        let journal = kept(&rt, head, 256, b"\nerase 5\n")?;
-        let size = journal.len();
-        let mut line = bad_line(&rt, &table, says, journal)?;
-        let answer = undo(rt.alloc(), &mut line, &table, 0).err();
-        assert_eq!(rt; (answer, line.puts), (Some(Fault::Device), puts));
-        assert!(rt; line.memory.journal().len() == size);
+        assert_eq!(rt; undone(&rt, says)?, (Some(Fault::Device), puts, true));
     }
     Ok(())
 }
@@ -152,9 +172,6 @@ fn an_undo_ends(rt: HostRuntime) -> Result<(), Fail> {
 // A draining takes 4,096 bytes; one more ends the session.
 #[test]
 fn a_talking_device_is_left(rt: HostRuntime) -> Result<(), Fail> {
-    let table = table(&rt)?;
-    let mut line = bad_line(&rt, &table, Says::Chatter, Vec::new(rt.alloc()))?;
-    let answer = info(rt.alloc(), &mut line, &table).err();
-    assert_eq!(rt; (answer, line.gets), (Some(Fault::Device), 4097));
+    assert_eq!(rt; asked(&rt, Says::Chatter)?, (Some(Fault::Device), 0, 4097));
     Ok(())
 }

@@ -4,7 +4,8 @@ use stm_chip::read_table;
 use stm_session::{Command, Fault, run};
 use stm_wire::{ListRig, RigCall};
 
-// The refusal of 7F ends settling; that of Get is one, and the session's fault. Before each byte the line is quiet.
+// The refusal of 7F ends settling; that of Get is one, and the session's fault. Before each byte
+// the line is quiet.
 #[test]
 fn a_line_that_refuses_each_byte_is_no_device(rt: HostRuntime) -> Result<(), Fail> {
     let replies = vec![in rt.alloc(); None, Some(0x1F), None, Some(0x1F)]?;

@@ -1,5 +1,5 @@
-// Journals as stops and other hosts may leave them: each beginning of one that two pages stand in, lines without an end, long void
-// lines, and bytes that no line has.
+// Journals as stops and other hosts may leave them: each beginning of one that two pages stand in,
+// lines without an end, long void lines, and bytes that no line has.
 use crate::devices::{add_digits, device, kept, table};
 use std::test::Fail;
 use stm_chip::Table;

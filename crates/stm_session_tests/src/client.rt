@@ -1,26 +1,18 @@
-// A caller that knows public contracts alone: sessions that only read, one after another, and after a stop and a reset; a write;
-// and commands that are stopped and taken back.
+// A caller that knows public contracts alone: sessions that only read, one after another, and after
+// a stop and a reset; a write; and commands that are stopped and taken back.
+use crate::devices::{changed, counting, image, is_counting};
+use crate::stories::{Ask, commands_of};
 use std::test::Fail;
 use stm_chip::{Table, read_table};
 use stm_client::{
     read, read_again, read_flash, read_new, read_twice, take_back_stopped, tell, write_whole,
 };
-use stm_image::read_raw;
 use stm_session::{Command, Outcome, Report};
 use stm_wire::MemoryRig;
 
 /// A table of chip 0412.
 const TABLE: &str =
     "[[chip]]\nid = 0x412\nbase = 0x08000000\npages = [[4, 1024]]\nerase = \"page\"\n";
-
-/// The bytes of a flash whose byte i is i modulo 251, from one to before another.
-fn counting(rt: &HostRuntime, start: u32, end: u32) -> Result<Vec<u8>, Fail> {
-    let mut bytes = Vec::new(rt.alloc());
-    for i in start..end {
-        bytes.push((i % 251) as u8)?;
-    }
-    Ok(bytes)
-}
 
 fn table(rt: &HostRuntime) -> Result<Table, Fail> {
     match read_table(rt.alloc(), TABLE.as_bytes()) {
@@ -33,37 +25,40 @@ fn table(rt: &HostRuntime) -> Result<Table, Fail> {
 fn device(rt: &HostRuntime, table: &Table) -> Result<MemoryRig, Fail> {
     let chip = table.find(0x0412).ok_or("no chip")?;
     let chip = chip.clone()?;
-    let (rig, answer) = read_new(rt.alloc(), chip, counting(rt, 0, 4096)?, table).ok_or("no rig")?;
-    let report = answer?;
-    if !is_part(rt, &report, 0, 0, 4096)? {
+    let flash = counting(rt, 4096)?;
+    let (rig, answer) = read_new(rt.alloc(), chip, flash, table).ok_or("no rig")?;
+    if !is_part(rig.flash(), &answer?, 0, 4096) {
         return Err(Fail::new("another flash"));
     }
     Ok(rig)
 }
 
-/// Whether outcome `i` has the flash's bytes from one to before another.
-fn is_part(
-    rt: &HostRuntime,
-    report: &Report,
-    i: usize,
-    start: u32,
-    end: u32,
-) -> Result<bool, Fail> {
-    match report.outcomes.get(i) {
-        Some(Outcome::Read(bytes)) => Ok(bytes.as_slice() == counting(rt, start, end)?.as_slice()),
-        _ => Ok(false),
+/// Whether the outcome is so many bytes of a flash, from a place on.
+fn is_part(flash: &[u8], report: &Report, start: usize, length: usize) -> bool {
+    match report.outcomes.as_slice() {
+        [Outcome::Read(bytes)] => {
+            let held = flash.get(start..).unwrap_or(&[]);
+            Some(bytes.as_slice()) == held.get(..length)
+        }
+        _ => false,
     }
 }
 
-#[test]
-fn sessions_follow_one_another(rt: HostRuntime) -> Result<(), Fail> {
-    let table = table(&rt)?;
-    let mut rig = device(&rt, &table)?;
-    let told = tell(rt.alloc(), &mut rig, &table)?;
-    assert_eq!(rt;
-        (told.id, told.base, told.size),
-        (0x0412, 0x0800_0000, 4096)
-    );
+fn is_told(rt: &HostRuntime, rig: &mut MemoryRig, table: &Table) -> Result<bool, Fail> {
+    let told = tell(rt.alloc(), rig, table)?;
+    Ok((told.id, told.base, told.size) == (0x0412, 0x0800_0000, 4096))
+}
+
+fn is_read(rt: &HostRuntime, rig: &mut MemoryRig, table: &Table) -> Result<bool, Fail> {
+    let commands = [Command::Read {
+        start: 0x0800_03FE,
+        length: 4,
+    }];
+    let report = read(rt.alloc(), rig, table, &commands)?;
+    Ok(is_part(rig.flash(), &report, 0x03FE, 4))
+}
+
+fn are_read(rt: &HostRuntime, rig: &mut MemoryRig, table: &Table) -> Result<bool, Fail> {
     let first = [Command::Read {
         start: 0x0800_03FE,
         length: 4,
@@ -72,24 +67,57 @@ fn sessions_follow_one_another(rt: HostRuntime) -> Result<(), Fail> {
         start: 0x0800_0FFF,
         length: 1,
     }];
-    let one = read(rt.alloc(), &mut rig, &table, &first)?;
-    assert!(rt; is_part(&rt, &one, 0, 0x03FE, 0x0402)?);
-    let (one, two) = read_twice(rt.alloc(), &mut rig, &table, &first, &second)?;
-    assert!(rt; is_part(&rt, &one, 0, 0x03FE, 0x0402)?);
-    assert!(rt; is_part(&rt, &two, 0, 0x0FFF, 0x1000)?);
-    let whole = read_flash(rt.alloc(), &mut rig, &table)?;
-    assert!(rt; is_part(&rt, &whole, 0, 0, 4096)?);
+    let (one, two) = read_twice(rt.alloc(), rig, table, &first, &second)?;
+    Ok(is_part(rig.flash(), &one, 0x03FE, 4) && is_part(rig.flash(), &two, 0x0FFF, 1))
+}
+
+fn is_read_whole(rt: &HostRuntime, rig: &mut MemoryRig, table: &Table) -> Result<bool, Fail> {
+    let report = read_flash(rt.alloc(), rig, table)?;
+    Ok(is_part(rig.flash(), &report, 0, 4096))
+}
+
+/// Whether four sessions each answer what is due, and the flash is as it was.
+fn follow_one_another(rt: &HostRuntime) -> Result<bool, Fail> {
+    let table = table(rt)?;
+    let mut rig = device(rt, &table)?;
+    let first = is_told(rt, &mut rig, &table)? && is_read(rt, &mut rig, &table)?;
+    let second = are_read(rt, &mut rig, &table)? && is_read_whole(rt, &mut rig, &table)?;
+    Ok(first && second && is_counting(rig.flash()))
+}
+
+#[test]
+fn sessions_follow_one_another(rt: HostRuntime) -> Result<(), Fail> {
+    assert!(rt; follow_one_another(&rt)?);
     Ok(())
+}
+
+/// Whether the flash is read whole behind a session that was stopped after so many steps, and a
+/// reset.
+fn is_read_again(
+    rt: &HostRuntime,
+    rig: &mut MemoryRig,
+    table: &Table,
+    steps: u64,
+) -> Result<bool, Fail> {
+    let report = read_again(rt.alloc(), rig, table, steps)?;
+    Ok(is_part(rig.flash(), &report, 0, 4096) && is_counting(rig.flash()))
+}
+
+/// The first stop of one device behind which the flash isn't read whole.
+fn first_unread(rt: &HostRuntime, stops: &[u64]) -> Result<Option<u64>, Fail> {
+    let table = table(rt)?;
+    let mut rig = device(rt, &table)?;
+    for steps in stops {
+        if !is_read_again(rt, &mut rig, &table, *steps)? {
+            return Ok(Some(*steps));
+        }
+    }
+    Ok(None)
 }
 
 #[test]
 fn a_session_follows_one_that_was_stopped(rt: HostRuntime) -> Result<(), Fail> {
-    let table = table(&rt)?;
-    let mut rig = device(&rt, &table)?;
-    for steps in [0, 1, 4, 9, 30, 700, 100_000] {
-        let whole = read_again(rt.alloc(), &mut rig, &table, steps)?;
-        assert!(rt; is_part(&rt, &whole, 0, 0, 4096)?, "{steps} steps");
-    }
+    assert_eq!(rt; first_unread(&rt, &[0, 1, 4, 9, 30, 700, 100_000])?, None);
     Ok(())
 }
 
@@ -97,48 +125,58 @@ fn a_session_follows_one_that_was_stopped(rt: HostRuntime) -> Result<(), Fail> {
 fn fresh_device(rt: &HostRuntime, table: &Table) -> Result<MemoryRig, Fail> {
     let chip = table.find(0x0412).ok_or("no chip")?;
     let chip = chip.clone()?;
-    let flash = counting(rt, 0, 4096)?;
+    let flash = counting(rt, 4096)?;
     Ok(MemoryRig::new(rt.alloc(), chip, flash, Vec::new(rt.alloc())).ok_or("no rig")?)
+}
+
+/// The flash with A5 5A at the edge of pages 0 and 1.
+fn written(rt: &HostRuntime) -> Result<Vec<u8>, Fail> {
+    let mut flash = Vec::new(rt.alloc());
+    for (place, byte) in counting(rt, 4096)?.iter().enumerate() {
+        let byte = match place {
+            0x03FF => 0xA5,
+            0x0400 => 0x5A,
+            _ => *byte,
+        };
+        flash.push(byte)?;
+    }
+    Ok(flash)
+}
+
+/// What a write of two bytes answers, and whether they alone are others than before.
+fn write_two(rt: &HostRuntime) -> Result<(Option<(u32, u32)>, bool), Fail> {
+    let table = table(rt)?;
+    let mut rig = fresh_device(rt, &table)?;
+    let image = image(rt, &[0xA5, 0x5A], 0x0800_03FF)?;
+    let report = write_whole(rt.alloc(), &mut rig, &table, image)?;
+    let is_right = rig.flash() == written(rt)?.as_slice() && report.outcomes.len() == 1;
+    Ok((changed(report.outcomes.first()), is_right))
 }
 
 #[test]
 fn a_write_leaves_every_other_byte(rt: HostRuntime) -> Result<(), Fail> {
-    let table = table(&rt)?;
-    let mut rig = fresh_device(&rt, &table)?;
-    let image = read_raw(rt.alloc(), &[0xA5, 0x5A], 0x0800_03FF)?;
-    let report = write_whole(rt.alloc(), &mut rig, &table, image)?;
-    let [Outcome::Written { segment, pages }] = report.outcomes.as_slice() else {
-        return Err(Fail::new("one outcome"));
-    };
-    assert_eq!(rt; (*segment, *pages), (1, 2));
-    let mut flash = counting(&rt, 0, 0x03FF)?;
-    flash.extend_from_slice(&[0xA5, 0x5A])?;
-    let rest = counting(&rt, 0x0401, 4096)?;
-    flash.extend_from_slice(&rest)?;
-    assert!(rt; rig.flash() == flash.as_slice());
+    assert_eq!(rt; write_two(&rt)?, (Some((1, 2)), true));
     Ok(())
 }
 
-/// How many segments were taken back after a write and an erase that were stopped after so many steps.
-fn taken_back(rt: &HostRuntime, table: &Table, steps: u64) -> Result<u32, Fail> {
-    let mut rig = fresh_device(rt, table)?;
-    let image = read_raw(rt.alloc(), &[0xA5, 0x5A], 0x0800_03FF)?;
-    let pages = vec![in rt.alloc(); 1u16, 3u16]?;
-    let commands = [Command::Write(image), Command::Erase(pages)];
-    let taken = take_back_stopped(rt.alloc(), &mut rig, table, &commands, steps)?;
-    if rig.flash() != counting(rt, 0, 4096)?.as_slice() {
-        return Err(Fail::new("another flash"));
-    }
-    Ok(taken)
+/// How many segments are taken back after a write and an erase that were stopped after so many
+/// steps, and whether the flash is back.
+fn taken_back(rt: &HostRuntime, steps: u64) -> Result<(u32, bool), Fail> {
+    let table = table(rt)?;
+    let mut rig = fresh_device(rt, &table)?;
+    let commands = commands_of(
+        rt,
+        &[Ask::Write(0x0800_03FF, &[0xA5, 0x5A]), Ask::Erase(&[1, 3])],
+    )?;
+    let taken = take_back_stopped(rt.alloc(), &mut rig, &table, &commands, steps)?;
+    Ok((taken, is_counting(rig.flash())))
 }
 
 #[test]
 fn commands_that_are_stopped_are_taken_back(rt: HostRuntime) -> Result<(), Fail> {
-    let table = table(&rt)?;
-    assert_eq!(rt; taken_back(&rt, &table, 10)?, 0);
-    assert_eq!(rt; taken_back(&rt, &table, 4_000)?, 1);
-    assert_eq!(rt; taken_back(&rt, &table, 8_000)?, 1);
-    assert_eq!(rt; taken_back(&rt, &table, 12_000)?, 2);
-    assert_eq!(rt; taken_back(&rt, &table, 1_000_000)?, 2);
+    let rows = [(10, 0), (4_000, 1), (8_000, 1), (12_000, 2), (1_000_000, 2)];
+    for (steps, taken) in rows {
+        assert_eq!(rt; taken_back(&rt, steps)?, (taken, true), "{steps} steps");
+    }
     Ok(())
 }

@@ -5,7 +5,8 @@ use stm_image::{Image, read_raw};
 use stm_session::{Command, Outcome};
 use stm_wire::{MemoryRig, Rig, RigCall};
 
-/// Chips 0410 and 0412 of the sample table, and three for tests: 0A01 and 0A02, erased by 44, and 0A03, whose erased byte is 00.
+/// Chips 0410 and 0412 of the sample table, and three for tests: 0A01 and 0A02, erased by 44, and
+/// 0A03, whose erased byte is 00.
 const TABLE: &str = r#"
 [[chip]]
 id = 0x410
@@ -90,7 +91,8 @@ pub fn add_digits(text: &mut Vec<u8>, digits: &[u8], size: usize) -> Result<(), 
     Ok(())
 }
 
-/// A journal's text: what stands before a page's digits, the digits of so many bytes 00, and what stands behind.
+/// A journal's text: what stands before a page's digits, the digits of so many bytes 00, and what
+/// stands behind.
 pub fn kept(rt: &HostRuntime, head: &[u8], size: usize, tail: &[u8]) -> Result<Vec<u8>, Fail> {
     let mut text = Vec::from_slice(rt.alloc(), head)?;
     add_digits(&mut text, b"00", size)?;
@@ -98,7 +100,8 @@ pub fn kept(rt: &HostRuntime, head: &[u8], size: usize, tail: &[u8]) -> Result<V
     Ok(text)
 }
 
-/// Whether these are bytes of one value. A plain loop, since the sweeps look at a flash after each stop.
+/// Whether these are bytes of one value. A plain loop, since the sweeps look at a flash after each
+/// stop.
 pub fn is_all(bytes: &[u8], byte: u8) -> bool {
     for found in bytes {
         if *found != byte {
@@ -108,7 +111,29 @@ pub fn is_all(bytes: &[u8], byte: u8) -> bool {
     true
 }
 
-/// Whether the bytes put behind the first `before` calls begin with these: each of them so often, one after another.
+/// So many bytes, of which byte i is i modulo 251.
+pub fn counting(rt: &HostRuntime, size: u32) -> Result<Vec<u8>, Fail> {
+    let mut bytes = Vec::new(rt.alloc());
+    for place in 0..size {
+        bytes.push((place % 251) as u8)?;
+    }
+    Ok(bytes)
+}
+
+/// Whether byte i is i modulo 251.
+pub fn is_counting(bytes: &[u8]) -> bool {
+    let mut due = 0_u8;
+    for byte in bytes {
+        if *byte != due {
+            return false;
+        }
+        due = if due < 250 { due + 1 } else { 0 };
+    }
+    true
+}
+
+/// Whether the bytes put behind the first `before` calls begin with these: each of them so often,
+/// one after another.
 pub fn puts_begin(rig: &MemoryRig, before: usize, runs: &[(u8, u32)]) -> bool {
     let mut due = runs.iter();
     let mut byte = 0x00;

@@ -1,10 +1,16 @@
 // What each fault says to a user.
+use std::fmt::Display;
 use std::test::Fail;
 use stm_chip::{PlanFault, TableFault};
 use stm_image::{HexFault, RawFault};
 use stm_journal::JournalFault;
 use stm_session::Fault;
 use stm_wire::{RigFault, WireFault};
+
+fn says<F: Display + Drop>(rt: &HostRuntime, fault: F, want: &str) -> Result<bool, Fail> {
+    let text = format!(in rt.alloc(); "{fault}")?;
+    Ok(text.as_str() == want)
+}
 
 #[test]
 fn texts_of_images(rt: HostRuntime) -> Result<(), Fail> {
@@ -20,16 +26,14 @@ fn texts_of_images(rt: HostRuntime) -> Result<(), Fail> {
         (HexFault::Memory(7), "out of memory"),
     ];
     for (fault, want) in rows {
-        let text = format!(in rt.alloc(); "{fault}")?;
-        assert_eq!(rt; text.as_str(), want);
+        assert!(rt; says(&rt, fault, want)?, "{want}");
     }
     let rows = [
         (RawFault::PastEnd, "image past the end"),
         (RawFault::Memory, "out of memory"),
     ];
     for (fault, want) in rows {
-        let text = format!(in rt.alloc(); "{fault}")?;
-        assert_eq!(rt; text.as_str(), want);
+        assert!(rt; says(&rt, fault, want)?, "{want}");
     }
     Ok(())
 }
@@ -42,8 +46,7 @@ fn texts_of_lines(rt: HostRuntime) -> Result<(), Fail> {
         (RigFault::Stopped, "stopped"),
     ];
     for (fault, want) in rows {
-        let text = format!(in rt.alloc(); "{fault}")?;
-        assert_eq!(rt; text.as_str(), want);
+        assert!(rt; says(&rt, fault, want)?, "{want}");
     }
     let rows = [
         (WireFault::Line, "line failed"),
@@ -52,8 +55,7 @@ fn texts_of_lines(rt: HostRuntime) -> Result<(), Fail> {
         (WireFault::Garbled, "unexpected answer"),
     ];
     for (fault, want) in rows {
-        let text = format!(in rt.alloc(); "{fault}")?;
-        assert_eq!(rt; text.as_str(), want);
+        assert!(rt; says(&rt, fault, want)?, "{want}");
     }
     Ok(())
 }
@@ -68,16 +70,14 @@ fn texts_of_tables_and_plans(rt: HostRuntime) -> Result<(), Fail> {
         (TableFault::Memory, "out of memory"),
     ];
     for (fault, want) in rows {
-        let text = format!(in rt.alloc(); "{fault}")?;
-        assert_eq!(rt; text.as_str(), want);
+        assert!(rt; says(&rt, fault, want)?, "{want}");
     }
     let rows = [
         (PlanFault::OutOfFlash, "address outside the flash"),
         (PlanFault::Memory, "out of memory"),
     ];
     for (fault, want) in rows {
-        let text = format!(in rt.alloc(); "{fault}")?;
-        assert_eq!(rt; text.as_str(), want);
+        assert!(rt; says(&rt, fault, want)?, "{want}");
     }
     Ok(())
 }
@@ -91,8 +91,7 @@ fn texts_of_journals_and_sessions(rt: HostRuntime) -> Result<(), Fail> {
         (JournalFault::Memory, "out of memory"),
     ];
     for (fault, want) in rows {
-        let text = format!(in rt.alloc(); "{fault}")?;
-        assert_eq!(rt; text.as_str(), want);
+        assert!(rt; says(&rt, fault, want)?, "{want}");
     }
     let rows = [
         (Fault::Line, "line failed"),
@@ -110,8 +109,7 @@ fn texts_of_journals_and_sessions(rt: HostRuntime) -> Result<(), Fail> {
         (Fault::Full, "journal is full"),
     ];
     for (fault, want) in rows {
-        let text = format!(in rt.alloc(); "{fault}")?;
-        assert_eq!(rt; text.as_str(), want);
+        assert!(rt; says(&rt, fault, want)?, "{want}");
     }
     Ok(())
 }

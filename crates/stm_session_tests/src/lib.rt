@@ -40,6 +40,8 @@ mod settled_back;
 #[cfg(test)]
 mod settled_wide;
 #[cfg(test)]
+mod stories;
+#[cfg(test)]
 mod taking_back;
 #[cfg(test)]
 mod two_stops;

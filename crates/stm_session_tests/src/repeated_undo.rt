@@ -1,4 +1,5 @@
-// An undo that was stopped after any step, or failed at any call, is repeated, and gives back the flash.
+// An undo that was stopped after any step, or failed at any call, is repeated, and gives back the
+// flash.
 use crate::devices::{device, is_all, kept, send, table};
 use std::test::Fail;
 use stm_chip::Table;
@@ -13,17 +14,23 @@ enum Failing {
     Append,
 }
 
+/// Connects the device, and writes 01 02 03 04 at its base.
+fn write(rig: &mut MemoryRig) -> Result<(), Fail> {
+    send(rig, &[])?;
+    rig.get(Patience::Long)?;
+    erase_page(rig, EraseKind::Extended, 0)?;
+    let mut page = [0x00; 256];
+    page[..4].copy_from_slice(&[1, 2, 3, 4]);
+    program(rig, 0x0800_0000, &page)?;
+    Ok(())
+}
+
 /// A settled chip 0A01 with a flash of 00, after 01 02 03 04 was written at its base.
 fn after_a_write(rt: &HostRuntime, table: &Table) -> Result<MemoryRig, Fail> {
     let head = b"stmjournal 2 0A01\nopen 1\npage 0 ";
     let journal = kept(rt, head, 256, b"\nerase 0\nprogram 0\nend 1\n")?;
     let mut rig = device(rt, table, 0x0A01, 0x00, journal)?;
-    send(&mut rig, &[])?;
-    rig.get(Patience::Long)?;
-    erase_page(&mut rig, EraseKind::Extended, 0)?;
-    let mut page = [0x00; 256];
-    page[..4].copy_from_slice(&[1, 2, 3, 4]);
-    program(&mut rig, 0x0800_0000, &page)?;
+    write(&mut rig)?;
     Ok(rig)
 }
 
@@ -42,26 +49,41 @@ fn is_stopped_at(rt: &HostRuntime, table: &Table, steps: u64) -> Result<bool, Fa
     Ok(stopped && comes_back(rt, table, &mut rig))
 }
 
-// Settling takes 3 steps, Get 15, Get ID 7, the page 268, `erase 0` 8, its frame 9, `program 0` 10, its frame 268, `undone 1` 9.
+/// Whether the undo ends behind so many steps.
+fn ends_after(rt: &HostRuntime, steps: u64) -> Result<bool, Fail> {
+    let table = table(rt)?;
+    let mut rig = after_a_write(rt, &table)?;
+    rig.stop_after(steps);
+    Ok(comes_back(rt, &table, &mut rig))
+}
+
+// Settling takes 3 steps, Get 15, Get ID 7, the page 268, `erase 0` 8, its frame 9, `program 0` 10,
+// its frame 268, `undone 1` 9.
 #[test]
 fn an_undo_takes_597_steps(rt: HostRuntime) -> Result<(), Fail> {
-    let table = table(&rt)?;
-    let mut rig = after_a_write(&rt, &table)?;
-    rig.stop_after(597);
-    assert!(rt; comes_back(&rt, &table, &mut rig));
+    assert!(rt; ends_after(&rt, 597)?);
     Ok(())
+}
+
+/// The first of the stops before so many steps that isn't taken up.
+fn first_unstopped(rt: &HostRuntime, count: u64) -> Result<Option<u64>, Fail> {
+    let table = table(rt)?;
+    for steps in 0..count {
+        if !is_stopped_at(rt, &table, steps)? {
+            return Ok(Some(steps));
+        }
+    }
+    Ok(None)
 }
 
 #[test]
 fn each_stop_of_an_undo_is_taken_up(rt: HostRuntime) -> Result<(), Fail> {
-    let table = table(&rt)?;
-    for steps in 0u64..597 {
-        assert!(rt; is_stopped_at(&rt, &table, steps)?, "after {steps} steps");
-    }
+    assert_eq!(rt; first_unstopped(&rt, 597)?, None);
     Ok(())
 }
 
-/// What the undo answers whose k-th call of a kind fails; and whether, where it fails, the next one comes to its end.
+/// What the undo answers whose k-th call of a kind fails; and whether, where it fails, the next one
+/// comes to its end.
 fn fails_at(
     rt: &HostRuntime,
     table: &Table,
@@ -80,39 +102,41 @@ fn fails_at(
     }
 }
 
+/// The first call of a kind, of those before the `count`th, that doesn't fail with this fault, or
+/// after which the next undo doesn't come to its end; the `count`th one isn't made.
+fn first_other(
+    rt: &HostRuntime,
+    failing: Failing,
+    count: u64,
+    fault: Fault,
+) -> Result<Option<u64>, Fail> {
+    let table = table(rt)?;
+    for k in 1..count {
+        if fails_at(rt, &table, failing, k)? != (Some(fault), true) {
+            return Ok(Some(k));
+        }
+    }
+    if fails_at(rt, &table, failing, count)? != (None, true) {
+        return Ok(Some(count));
+    }
+    Ok(None)
+}
+
 #[test]
 fn each_put_of_an_undo_may_fail(rt: HostRuntime) -> Result<(), Fail> {
-    let table = table(&rt)?;
-    for k in 1u64..288 {
-        let answer = fails_at(&rt, &table, Failing::Put, k)?;
-        assert_eq!(rt; answer, (Some(Fault::Line), true), "put {k}");
-    }
-    let answer = fails_at(&rt, &table, Failing::Put, 288)?;
-    assert_eq!(rt; answer, (None, true));
+    assert_eq!(rt; first_other(&rt, Failing::Put, 288, Fault::Line)?, None);
     Ok(())
 }
 
 // Quiet gets are counted.
 #[test]
 fn each_get_of_an_undo_may_fail(rt: HostRuntime) -> Result<(), Fail> {
-    let table = table(&rt)?;
-    for k in 1u64..287 {
-        let answer = fails_at(&rt, &table, Failing::Get, k)?;
-        assert_eq!(rt; answer, (Some(Fault::Line), true), "get {k}");
-    }
-    let answer = fails_at(&rt, &table, Failing::Get, 287)?;
-    assert_eq!(rt; answer, (None, true));
+    assert_eq!(rt; first_other(&rt, Failing::Get, 287, Fault::Line)?, None);
     Ok(())
 }
 
 #[test]
 fn each_append_of_an_undo_may_fail(rt: HostRuntime) -> Result<(), Fail> {
-    let table = table(&rt)?;
-    for k in 1u64..4 {
-        let answer = fails_at(&rt, &table, Failing::Append, k)?;
-        assert_eq!(rt; answer, (Some(Fault::Journal), true), "append {k}");
-    }
-    let answer = fails_at(&rt, &table, Failing::Append, 4)?;
-    assert_eq!(rt; answer, (None, true));
+    assert_eq!(rt; first_other(&rt, Failing::Append, 4, Fault::Journal)?, None);
     Ok(())
 }

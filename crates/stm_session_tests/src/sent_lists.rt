@@ -1,5 +1,6 @@
-// A plain checker of what a session may put on a line to chip 0A01, 256 pages of 256 bytes from 08000000 on: a settling run, and then
-// frames of Get, Get ID, reads and writes that stay in a page, and erases of one page; the last piece may be cut short.
+// A plain checker of what a session may put on a line to chip 0A01, 256 pages of 256 bytes from
+// 08000000 on: a settling run, and then frames of Get, Get ID, reads and writes that stay in a
+// page, and erases of one page; the last piece may be cut short.
 
 /// The byte at a place, or 00 past the end.
 fn byte_at(bytes: &[u8], place: usize) -> u8 {
@@ -26,7 +27,8 @@ fn exclusive_or(list: &[u8], from: usize, count: usize) -> u8 {
     value
 }
 
-/// The first two bytes and the address step of a frame with this code, where the address is the list's.
+/// The first two bytes and the address step of a frame with this code, where the address is the
+/// list's.
 fn address_step(list: &[u8], code: u8) -> [u8; 7] {
     let (a, b) = (byte_at(list, 2), byte_at(list, 3));
     let (c, d) = (byte_at(list, 4), byte_at(list, 5));
@@ -115,7 +117,8 @@ fn is_settling_run(list: &[u8], byte: u8) -> bool {
     run.iter().all(|put| *put == byte) && behind.len() <= 3 && agrees(&end, behind)
 }
 
-/// Whether a session that settles with this byte, which isn't FF, may put this list. Get, 00 FF, is its first frame.
+/// Whether a session that settles with this byte, which isn't FF, may put this list. Get, 00 FF, is
+/// its first frame.
 pub fn is_sent_list(list: &[u8], byte: u8) -> bool {
     match list.iter().position(|put| *put == 0xFF) {
         Some(0) => false,
@@ -157,8 +160,9 @@ const SENT: [&[u8]; 9] = [
     &[0x00, 0xFF, 0x44, 0xBB, 0x00],
 ];
 
-/// Lists that none may put: another byte in the settling run, no Get, an erase of everything and one of two pages, a read across
-/// the edge of a page, wrong checks, Go, a protection, a cut frame before another, and a page that isn't there.
+/// Lists that none may put: another byte in the settling run, no Get, an erase of everything and
+/// one of two pages, a read across the edge of a page, wrong checks, Go, a protection, a cut frame
+/// before another, and a page that isn't there.
 const NOT_SENT: [&[u8]; 12] = [
     &[0x7F, 0x05, 0x00, 0xFF],
     &[0x7F, 0xFF],

@@ -1,15 +1,18 @@
-// A write that was stopped, and its undo, which is stopped after each of its steps too, and then repeated.
+// A write that was stopped, and its undo, which is stopped after each of its steps too, and then
+// repeated.
 //
-// The write is that of `every_stop`. It is stopped behind its `open` line (52), its `page` line (840) and its `erase` line (848), in its
-// erase frame (850) and behind it (857), in its write frame (1,000) and behind it (1,135). How many steps each undo takes, from settling
-// on, was counted by the model of tools/soak.
+// The write is that of `every_stop`. It is stopped behind its `open` line (52), its `page` line
+// (840) and its `erase` line (848), in its erase frame (850) and behind it (857), in its write
+// frame (1,000) and behind it (1,135). How many steps each undo takes, from settling on, was
+// counted by the model of tools/soak.
 use crate::devices::{is_all, table};
 use crate::every_stop::{is_counted, stopped_write};
 use std::test::Fail;
 use stm_chip::Table;
 use stm_session::undo;
 
-/// Whether the undo of a write that was stopped is stopped after so many steps, and the next one brings the flash back.
+/// Whether the undo of a write that was stopped is stopped after so many steps, and the next one
+/// brings the flash back.
 fn comes_back(rt: &HostRuntime, table: &Table, write: u64, steps: u64) -> Result<bool, Fail> {
     let (_fault, mut rig) = stopped_write(rt, table, write)?;
     rig.stop_after(steps);

@@ -1,0 +1,243 @@
+// Sessions as tables: what is done with a device, one act after another, and what is due. A test is
+// a table, since its proof then costs little.
+use crate::devices::{device, image, puts, puts_begin, send, table};
+use std::test::Fail;
+use stm_chip::Table;
+use stm_session::{Command, Fault, Outcome, go, info, protect, run, undo};
+use stm_wire::{MemoryRig, Protection, RigCall};
+
+/// Bytes, each part of them so many times, one after another.
+pub type Parts = &'static [(&'static [u8], usize)];
+
+/// A command of a run.
+#[derive(Clone, Copy)]
+pub enum Ask {
+    Write(u32, &'static [u8]),
+    Erase(&'static [u16]),
+    Verify(u32, &'static [u8]),
+    Read(u32, u32),
+}
+
+/// What a command answers: the segment and how many pages it changed; the bytes that the flash
+/// holds from a place on, so many.
+#[derive(Clone, Copy)]
+pub enum Told {
+    Written(u32, u32),
+    Erased(u32, u32),
+    Verified,
+    Read(usize, usize),
+}
+
+/// What is done, with the answer that is due, or what is to be.
+#[derive(Clone, Copy)]
+pub enum Act {
+    Run(&'static [Ask], Result<&'static [Told], Fault>),
+    Undo(u32, Result<u32, Fault>),
+    Info(Option<Fault>),
+    Go(Option<Fault>),
+    Protect(Protection, Option<Fault>),
+    /// These bytes come to a device that is connected, and nobody takes its replies.
+    Send(&'static [u8]),
+    StopAfter(u64),
+    Reset,
+    /// The whole flash, and the whole journal.
+    Flash(Parts),
+    Journal(Parts),
+    /// How many bytes the journal has, and what it ends with.
+    Length(usize),
+    Ends(&'static [u8]),
+    /// The bytes since the last verdict.
+    Rest(&'static [u8]),
+    IsGone,
+    /// What the bytes put in the last session end with, and how they begin.
+    Puts(Parts),
+    Begins(&'static [(u8, u32)]),
+    /// This byte isn't put in it.
+    Never(u8),
+    /// It put and awaited nothing, and added nothing.
+    Fetches,
+}
+
+/// These parts as one list of bytes.
+pub fn made_of(rt: &HostRuntime, parts: Parts) -> Result<Vec<u8>, Fail> {
+    let mut bytes = Vec::new(rt.alloc());
+    for (part, times) in parts {
+        for _i in 0..*times {
+            bytes.extend_from_slice(part)?;
+        }
+    }
+    Ok(bytes)
+}
+
+/// Whether the bytes are these parts.
+pub fn is_made_of(bytes: &[u8], parts: Parts) -> bool {
+    let mut left = bytes;
+    for (part, times) in parts {
+        for _i in 0..*times {
+            if !left.starts_with(part) {
+                return false;
+            }
+            left = left.get(part.len()..).unwrap_or(&[]);
+        }
+    }
+    left.is_empty()
+}
+
+fn command_of(rt: &HostRuntime, ask: Ask) -> Result<Command, Fail> {
+    Ok(match ask {
+        Ask::Write(start, bytes) => Command::Write(image(rt, bytes, start)?),
+        Ask::Erase(pages) => Command::Erase(Vec::from_slice(rt.alloc(), pages)?),
+        Ask::Verify(start, bytes) => Command::Verify(image(rt, bytes, start)?),
+        Ask::Read(start, length) => Command::Read { start, length },
+    })
+}
+
+pub fn commands_of(rt: &HostRuntime, asks: &[Ask]) -> Result<Vec<Command>, Fail> {
+    let mut commands = Vec::new(rt.alloc());
+    for ask in asks {
+        commands.push(command_of(rt, *ask)?)?;
+    }
+    Ok(commands)
+}
+
+fn is_told(outcome: &Outcome, told: Told, flash: &[u8]) -> bool {
+    match (outcome, told) {
+        (Outcome::Written { segment, pages }, Told::Written(k, count)) => {
+            *segment == k && *pages == count
+        }
+        (Outcome::Erased { segment, pages }, Told::Erased(k, count)) => {
+            *segment == k && *pages == count
+        }
+        (Outcome::Verified, Told::Verified) => true,
+        (Outcome::Read(bytes), Told::Read(place, length)) => {
+            let held = flash.get(place..).unwrap_or(&[]);
+            Some(bytes.as_slice()) == held.get(..length)
+        }
+        _ => false,
+    }
+}
+
+fn are_told(outcomes: &[Outcome], told: &[Told], flash: &[u8]) -> bool {
+    for (outcome, due) in outcomes.iter().zip(told.iter()) {
+        if !is_told(outcome, *due, flash) {
+            return false;
+        }
+    }
+    outcomes.len() == told.len()
+}
+
+fn runs(
+    rt: &HostRuntime,
+    table: &Table,
+    rig: &mut MemoryRig,
+    asks: &[Ask],
+    due: Result<&'static [Told], Fault>,
+) -> Result<bool, Fail> {
+    let commands = commands_of(rt, asks)?;
+    let answer = run(rt.alloc(), rig, table, &commands);
+    Ok(match (answer, due) {
+        (Ok(report), Ok(told)) => are_told(&report.outcomes, told, rig.flash()),
+        (Err(fault), Err(due)) => fault == due,
+        _ => false,
+    })
+}
+
+/// Whether the bytes put behind the first `before` calls end with these.
+fn puts_end(rt: &HostRuntime, rig: &MemoryRig, before: usize, parts: Parts) -> Result<bool, Fail> {
+    let bytes = made_of(rt, parts)?;
+    Ok(puts(rt, rig, before)?.ends_with(&bytes))
+}
+
+/// Whether no call behind the first `before` is a put of this byte.
+fn never_puts(rig: &MemoryRig, before: usize, byte: u8) -> bool {
+    for call in rig.calls().iter().skip(before) {
+        if *call == RigCall::Put(byte) {
+            return false;
+        }
+    }
+    true
+}
+
+/// Whether no call behind the first `before` is a put, a get or an append.
+fn fetches(rig: &MemoryRig, before: usize) -> bool {
+    for call in rig.calls().iter().skip(before) {
+        if *call != RigCall::Fetch {
+            return false;
+        }
+    }
+    true
+}
+
+/// Does one of the calls of a session, and tells whether it answers what is due.
+fn is_answered(
+    rt: &HostRuntime,
+    table: &Table,
+    rig: &mut MemoryRig,
+    act: &Act,
+) -> Result<bool, Fail> {
+    Ok(match act {
+        Act::Run(asks, due) => runs(rt, table, rig, asks, *due)?,
+        Act::Undo(count, due) => undo(rt.alloc(), rig, table, *count) == *due,
+        Act::Info(due) => info(rt.alloc(), rig, table).err() == *due,
+        Act::Go(due) => go(rt.alloc(), rig, 0x0800_0000).err() == *due,
+        Act::Protect(which, due) => protect(rt.alloc(), rig, *which).err() == *due,
+        _ => true,
+    })
+}
+
+/// Does what isn't a call of a session, and tells whether what is to be is.
+fn is_so(rt: &HostRuntime, rig: &mut MemoryRig, before: usize, act: &Act) -> Result<bool, Fail> {
+    match act {
+        Act::Send(bytes) => send(rig, bytes)?,
+        Act::StopAfter(steps) => rig.stop_after(*steps),
+        Act::Reset => rig.reset(),
+        _ => {}
+    }
+    Ok(match act {
+        Act::Flash(parts) => is_made_of(rig.flash(), parts),
+        Act::Journal(parts) => is_made_of(rig.journal(), parts),
+        Act::Length(size) => rig.journal().len() == *size,
+        Act::Ends(bytes) => rig.journal().ends_with(bytes),
+        Act::Rest(bytes) => rig.rest() == Some(*bytes),
+        Act::IsGone => rig.is_gone(),
+        Act::Puts(parts) => puts_end(rt, rig, before, parts)?,
+        Act::Begins(runs) => puts_begin(rig, before, runs),
+        Act::Never(byte) => never_puts(rig, before, *byte),
+        Act::Fetches => fetches(rig, before),
+        _ => true,
+    })
+}
+
+/// The first of these acts at which something else is than is due.
+pub fn first_wrong(
+    rt: &HostRuntime,
+    table: &Table,
+    rig: &mut MemoryRig,
+    acts: &[Act],
+) -> Result<Option<usize>, Fail> {
+    let mut before = 0;
+    for (place, act) in acts.iter().enumerate() {
+        let calls = rig.calls().len();
+        if !is_answered(rt, table, rig, act)? || !is_so(rt, rig, before, act)? {
+            return Ok(Some(place));
+        }
+        if calls < rig.calls().len() {
+            before = calls;
+        }
+    }
+    Ok(None)
+}
+
+/// The same of a fresh device with this chip of the table, this byte in each place of its flash,
+/// and a journal.
+pub fn first_wrong_of(
+    rt: &HostRuntime,
+    id: u16,
+    byte: u8,
+    journal: Parts,
+    acts: &[Act],
+) -> Result<Option<usize>, Fail> {
+    let table = table(rt)?;
+    let mut rig = device(rt, &table, id, byte, made_of(rt, journal)?)?;
+    first_wrong(rt, &table, &mut rig, acts)
+}
