@@ -111,6 +111,18 @@ pub fn is_all(bytes: &[u8], byte: u8) -> bool {
     true
 }
 
+/// Whether these are the same bytes. A plain loop, for the same reason.
+pub fn is_same(bytes: &[u8], others: &[u8]) -> bool {
+    let mut place = 0_usize;
+    for byte in bytes {
+        match others.get(place) {
+            Some(other) if *other == *byte => place = place.saturating_add(1),
+            _ => return false,
+        }
+    }
+    bytes.len() == others.len()
+}
+
 /// So many bytes, of which byte i is i modulo 251.
 pub fn counting(rt: &HostRuntime, size: u32) -> Result<Vec<u8>, Fail> {
     let mut bytes = Vec::new(rt.alloc());

@@ -40,9 +40,17 @@ mod settled_back;
 #[cfg(test)]
 mod settled_wide;
 #[cfg(test)]
+mod stop_sweeps;
+#[cfg(test)]
+mod stop_sweeps_wide;
+#[cfg(test)]
+mod stopped_runs;
+#[cfg(test)]
 mod stories;
 #[cfg(test)]
 mod taking_back;
+#[cfg(test)]
+mod three_stops;
 #[cfg(test)]
 mod two_stops;
 #[cfg(test)]

@@ -1,0 +1,155 @@
+// Runs that are stopped after their steps, all near the turns of their parts and some between, and
+// taken back: behind a stack of segments, and on a flash that erases to 00.
+//
+// The parts are those of docs/SESSIONS.md, and how many steps each has was counted by the model of
+// tools/soak: settling a fresh device 5, Get 15, Get ID 7; a read of 256 bytes 268, and a write of
+// N bytes N and 12; a line its bytes, of which a page's digits are two a byte; the frame that
+// erases a page 7, and 9 where the chip's code is 44.
+use crate::stopped_runs::Part::{Add, Line, Open};
+use crate::stopped_runs::{Between, Case, Change, Part, first_failure};
+use std::test::Fail;
+
+/// Behind three segments 4 bytes across the edge of pages 0 and 1: `open 4`, and of each page four
+/// reads, its line, `erase`, the frame, `program`, and four frames of its 256 bytes.
+const OVER_AN_EDGE: Case = Case {
+    id: 0x0412,
+    page: 1024,
+    erased: 0xFF,
+    byte: 0x00,
+    before: &[
+        Change::Write(0, &[0x11]),
+        Change::Erase(&[3]),
+        Change::Write(1023, &[0x22, 0x33]),
+    ],
+    change: Change::Write(1022, &[0xA1, 0xA2, 0xA3, 0xA4]),
+    parts: &[
+        Line(5),
+        Line(15),
+        Line(7),
+        Open(7),
+        Line(268),
+        Line(268),
+        Line(268),
+        Line(268),
+        Add(2056),
+        Add(8),
+        Line(7),
+        Add(10),
+        Line(268),
+        Line(268),
+        Line(268),
+        Line(268),
+        Line(268),
+        Line(268),
+        Line(268),
+        Line(268),
+        Add(2056),
+        Add(8),
+        Line(7),
+        Add(10),
+        Line(268),
+        Line(268),
+        Line(268),
+        Line(268),
+        Add(6),
+    ],
+};
+
+#[test]
+fn a_write_over_an_edge_comes_back_alone(rt: HostRuntime) -> Result<(), Fail> {
+    assert_eq!(rt;
+        first_failure(&rt, &OVER_AN_EDGE, Between::Nothing, 1, 3, 127)?,
+        None
+    );
+    Ok(())
+}
+
+#[test]
+fn a_write_over_an_edge_comes_back_with_all_before_it(rt: HostRuntime) -> Result<(), Fail> {
+    assert_eq!(rt;
+        first_failure(&rt, &OVER_AN_EDGE, Between::Nothing, 0, 1, 131)?,
+        None
+    );
+    Ok(())
+}
+
+/// Chip 0A03 with a flash of AA, whose erased byte is 00.
+fn zeros(change: Change, parts: &'static [Part]) -> Case {
+    Case {
+        id: 0x0A03,
+        page: 256,
+        erased: 0x00,
+        byte: 0xFF,
+        before: &[],
+        change,
+        parts,
+    }
+}
+
+/// A write over the edge of pages 2 and 3, and an erase of pages 0 and 2.
+const ZEROS: [(Change, &[Part]); 2] = [
+    (
+        Change::Write(767, &[0xB1, 0xB2]),
+        &[
+            Line(5),
+            Line(15),
+            Line(7),
+            Open(25),
+            Line(268),
+            Add(520),
+            Add(8),
+            Line(7),
+            Add(10),
+            Line(268),
+            Line(268),
+            Add(520),
+            Add(8),
+            Line(7),
+            Add(10),
+            Line(268),
+            Add(6),
+        ],
+    ),
+    (
+        Change::Erase(&[2, 0]),
+        &[
+            Line(5),
+            Line(15),
+            Line(7),
+            Open(25),
+            Line(268),
+            Add(520),
+            Add(8),
+            Line(7),
+            Line(268),
+            Add(520),
+            Add(8),
+            Line(7),
+            Add(6),
+        ],
+    ),
+];
+
+#[test]
+fn a_flash_that_erases_to_zeros_comes_back(rt: HostRuntime) -> Result<(), Fail> {
+    for (change, parts) in ZEROS {
+        let case = zeros(change, parts);
+        assert_eq!(rt; first_failure(&rt, &case, Between::Nothing, 1, 5, 7)?, None);
+    }
+    Ok(())
+}
+
+// Of the bytes that the device owes at the stop the next session gets none, or not the first ones.
+#[test]
+fn lost_replies_do_no_harm(rt: HostRuntime) -> Result<(), Fail> {
+    for lost in [1, 7, 4096] {
+        for (change, parts) in ZEROS {
+            let case = zeros(change, parts);
+            assert_eq!(rt;
+                first_failure(&rt, &case, Between::Lost(lost), 0, 3, 31)?,
+                None
+            );
+        }
+    }
+    Ok(())
+}

@@ -1,0 +1,147 @@
+// Three stops in a row: of a write, of its undo, and of the next undo; then an undo that ends. A
+// row has the step behind which the write is stopped, that of its undo, and how many steps the next
+// undo takes, as the model of tools/soak counts them.
+use crate::devices::{is_same, table};
+use crate::every_stop::is_counted;
+use crate::stop_sweeps_wide::wide;
+use crate::stopped_runs::{Case, Change, Start, start_of, stopped_run};
+use std::test::Fail;
+use stm_chip::Table;
+use stm_session::undo;
+
+/// What two undos answer behind the one that is stopped after so many steps: the next, stopped too,
+/// and the last; and whether the flash is as it was before the run.
+fn thrice_stopped(
+    rt: &HostRuntime,
+    table: &Table,
+    case: &Case,
+    start: &Start,
+    stops: (u64, u64, u64),
+) -> Result<(Option<u32>, Option<u32>, bool), Fail> {
+    let (write, first, second) = stops;
+    let (fault, mut rig) = stopped_run(rt, table, case, start, write)?;
+    rig.stop_after(first);
+    let taken = undo(rt.alloc(), &mut rig, table, 0).err();
+    rig.stop_after(second);
+    let next = undo(rt.alloc(), &mut rig, table, 0);
+    rig.stop_after(u64::MAX);
+    let last = undo(rt.alloc(), &mut rig, table, 0).ok();
+    let is_back = match start.flashes.last() {
+        Some(flash) => is_same(rig.flash(), flash),
+        None => false,
+    };
+    let stopped = is_counted(fault)
+        && is_counted(taken)
+        && (next.is_ok() || is_counted(next.err()));
+    Ok((next.ok(), last, stopped && is_back))
+}
+
+/// The first stops of a run, its undo and the next one, of each `stride`th of the last, that don't
+/// come back. A row has a stop of the run, one of its undo, and how many steps the next one takes.
+fn first_third(
+    rt: &HostRuntime,
+    case: &Case,
+    rows: &[(u64, u64, u64)],
+    stride: u64,
+) -> Result<Option<(u64, u64, u64)>, Fail> {
+    let table = table(rt)?;
+    let start = start_of(rt, &table, case)?;
+    for (write, first, size) in rows {
+        for second in 0..=*size {
+            if second.checked_rem(stride) == Some(0) || second.saturating_add(1) >= *size {
+                let stops = (*write, *first, second);
+                let due = if second < *size {
+                    (None, Some(1), true)
+                } else {
+                    (Some(1), Some(0), true)
+                };
+                if thrice_stopped(rt, &table, case, &start, stops)? != due {
+                    return Ok(Some(stops));
+                }
+            }
+        }
+    }
+    Ok(None)
+}
+
+/// Chip 0A03 with a flash of AA, of which page 2 is written. The stops of the write are behind its
+/// `open` line (52), its read (320), its `page` line (840), its `erase` line (848), in its erase
+/// frame (850, 852) and behind it (855), in its write frame (866, 1,000), and in its `end` line
+/// (1,138); those of the undo are behind two steps, half of them, and nine tenths.
+const ZEROS: [(u64, u64, u64); 30] = [
+    (52, 2, 35),
+    (52, 17, 35),
+    (52, 30, 36),
+    (320, 2, 35),
+    (320, 17, 35),
+    (320, 30, 36),
+    (840, 2, 303),
+    (840, 151, 444),
+    (840, 271, 324),
+    (848, 2, 687),
+    (848, 343, 727),
+    (848, 617, 746),
+    (850, 2, 685),
+    (850, 342, 726),
+    (850, 615, 746),
+    (852, 2, 980),
+    (852, 489, 1167),
+    (852, 881, 936),
+    (855, 2, 980),
+    (855, 489, 1167),
+    (855, 881, 936),
+    (866, 2, 979),
+    (866, 489, 1166),
+    (866, 880, 936),
+    (1000, 2, 915),
+    (1000, 457, 1134),
+    (1000, 822, 939),
+    (1138, 2, 982),
+    (1138, 490, 1168),
+    (1138, 882, 934),
+];
+
+#[test]
+fn three_stops_of_a_flash_that_erases_to_zeros(rt: HostRuntime) -> Result<(), Fail> {
+    let case = Case {
+        id: 0x0A03,
+        page: 256,
+        erased: 0x00,
+        byte: 0xAA,
+        before: &[],
+        change: Change::Write(513, &[0xB1, 0xB2]),
+        parts: &[],
+    };
+    assert_eq!(rt; first_third(&rt, &case, &ZEROS, 29)?, None);
+    Ok(())
+}
+
+/// Chip 0A02 with a flash of 00, of which page 1 is written: behind four bytes of its erase frame,
+/// before the check, and behind it.
+const PAGE_1: [(u64, u64, u64); 6] = [
+    (1641, 150, 1153),
+    (1641, 1453, 954),
+    (1645, 150, 1323),
+    (1645, 1239, 954),
+    (1646, 150, 1322),
+    (1646, 1241, 954),
+];
+
+/// The same of page 256: the frame lacks its last bytes, and in the write frame.
+const PAGE_256: [(u64, u64, u64); 6] = [
+    (855, 150, 1396),
+    (855, 1696, 686),
+    (858, 150, 761),
+    (858, 677, 686),
+    (1000, 150, 991),
+    (1000, 907, 686),
+];
+
+#[test]
+fn three_stops_of_a_chip_of_512_pages(rt: HostRuntime) -> Result<(), Fail> {
+    for (place, rows) in [(257, &PAGE_1), (65_537, &PAGE_256)] {
+        let case = wide(Change::Write(place, &[0x01, 0x02, 0x03]), &[]);
+        assert_eq!(rt; first_third(&rt, &case, rows, 127)?, None, "place {place}");
+    }
+    Ok(())
+}
