@@ -11,6 +11,7 @@ pub mod OutcomeKinds
 pub mod Sending
 pub mod Unbegun
 pub mod Undoing
+mod Unrefused
 pub mod Histories
 pub mod Whole
 pub mod Differences
