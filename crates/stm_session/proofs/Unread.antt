@@ -25,10 +25,6 @@ use Rattle.stm_session.specs.Undoable.{IsJournalOf, Undoable, state_at, risked_p
 use Rattle.stm_session.specs.Undoes.{AmidUndo, IsElsewhere, IsFlashSettled, byte_at_journal, risked_at, taken_count}
 use Rattle.stm_session.proofs.Openings.{unsent_outside}
 
-pub take_none : (n : ℕ) → take {A = ℕ} n [] ≡ []
-take_none zero = refl
-take_none (suc n) = refl
-
 pub same_flash : (old : RigState) (flash : List ℕ) → flash ≡ old.device.flash → IsFlashSettled old flash
 same_flash old flash same =
     let Out : List ℕ → Type 0 = λ bytes. SameOutside old.device.chip (risked_at old.journal) old.device.flash bytes in
