@@ -1,5 +1,5 @@
 -- A command: its segment begins, its pages are turned, its segment ends.
-use Rattle.std.proofs.Common.{◌≡◌, inl, inr, ℕ, ◌+◌, Bool, true, List, ◌∷◌, ◌++◌, length, take, Result, Ok, Err, IsErrAnd, sym, ap, ◌∙◌, subst}
+use Rattle.std.proofs.Common.{◌≡◌, inl, inr, ℕ, ◌+◌, true, List, ◌∷◌, ◌++◌, length, take, Result, Ok, Err, IsErrAnd, sym, ap, ◌∙◌, subst}
 use Rattle.std.proofs.lemmas.Bool.{true≢false}
 use Rattle.stm_wire.specs.Device.{Device}
 use Rattle.stm_wire.specs.MomentLaws.{joined, weaker}
@@ -11,7 +11,7 @@ use Rattle.stm_session.specs.Fault.{IsOutsideFault}
 use Rattle.stm_session.specs.Lines.{is_torn_at, text_added}
 use Rattle.stm_session.specs.Moments.{SameMake}
 use Rattle.stm_session.specs.Segments.{AmidCommand, Changes, Closes, IsClosing}
-use Rattle.stm_session.specs.Steps.{AddsLines, Goes, Stands, torn_after}
+use Rattle.stm_session.specs.Steps.{Goes, Stands, torn_after}
 use Rattle.stm_session.specs.Undoable.{is_unfinished_at}
 use Rattle.stm_session.proofs.Going.{at_exit, stands_more}
 use Rattle.stm_session.proofs.Standing.{makes_then}

@@ -1,32 +1,22 @@
 -- The headline follows from the contracts of run, info and undo.
-use Rattle.std.proofs.Common.{◌≡◌, ◌≤◌, ◌+◌, ◌==◌, ◌||◌, nat_lt, ℕ, suc, Bool, true, false, not, List, [], ◌∷◌, ◌++◌, length, take, drop, reverse, Option, Some, None, Result, Ok, Err, refl, sym, ◌∙◌, ap, subst, arith, ⊎_elim, length-append, if◌then◌else◌, length-take, length-drop}
-use Rattle.std.proofs.lemmas.List.{length-reverse}
+use Rattle.std.proofs.Common.{◌≡◌, ◌≤◌, ℕ, false, List, [], ◌∷◌, length, drop, Result, Ok, Err, sym, ◌∙◌, ap, subst, arith, ⊎_elim, length-drop}
 use Rattle.std.proofs.lemmas.Bool.{cases_Bool}
 use Rattle.stm_wire.specs.Chip.{ChipData}
-use Rattle.stm_wire.specs.Device.{Device, IsDevice, IsReady, LosesOwed, reset}
-use Rattle.stm_wire.specs.Intents.{settling_byte}
+use Rattle.stm_wire.specs.Device.{Device}
 use Rattle.stm_wire.specs.Rig.{RigState}
-use Rattle.stm_wire.specs.Stopped.{LossStaysHarmless}
 use Rattle.stm_chip.specs.Document.{IsChipWith}
-use Rattle.stm_journal.specs.States.{SegmentData, intent_of}
-use Rattle.stm_journal.specs.Journals.{good, journal_of}
-use Rattle.stm_journal.specs.Flashes.{flashes_before_segments, with_kept_pages}
 use Rattle.stm_journal.specs.Calls.{IsUntouched}
 use Rattle.stm_session.specs.declared.information.Info.{Info}
 use Rattle.stm_session.specs.declared.fault.Fault.{Fault}
 use Rattle.stm_session.specs.declared.fault.Fault.TheVariants as faults
-use Rattle.stm_session.specs.Moments.{IsSafe, IsUnbegun, SameMake}
-use Rattle.stm_session.specs.Refusal.{unsent_refusal, refused_unless}
-use Rattle.stm_session.specs.Undoable.{Undoable, is_unfinished_at, state_at, risked_pages}
+use Rattle.stm_session.specs.Moments.{IsUnbegun}
+use Rattle.stm_session.specs.Undoable.{Undoable, is_unfinished_at}
 use Rattle.stm_session.specs.declared.outcome.Report.{Report}
-use Rattle.stm_session.specs.Meaning.{CommandData, flash_after, flash_after_all, flashes_before, changes_of, is_change, before_if}
+use Rattle.stm_session.specs.Meaning.{CommandData}
 use Rattle.stm_session.specs.Answers.{outcomes_in}
-use Rattle.stm_session.specs.Lines.{depth_at}
-use Rattle.stm_session.specs.Refusals.{run_refusal}
-use Rattle.stm_session.specs.Runs.{AmidRun, standing}
 use Rattle.stm_session.specs.Undoes.{taken_count, flash_taken_back, AmidUndo, Undoes}
 use Rattle.stm_session.specs.Promises.{RunContract, InfoContract, UndoContract}
-use Rattle.stm_session.specs.Headline.{World, now_of, Event, ran, run_stopped, informed, info_stopped, undid, undo_stopped, was_reset, Stops, Leads, standing_in, grown, starts_of_run, starts_after, RunHolds, UndoHolds, RunLeaves, UndoLeaves, LeavesAlone, Holds, Happening, AllLead, AllHold, IsStart, Headline}
+use Rattle.stm_session.specs.Headline.{World, now_of, Event, ran, run_stopped, informed, info_stopped, undid, undo_stopped, was_reset, Stops, Leads, grown, starts_after, UndoHolds, UndoLeaves, LeavesAlone, Holds, Happening, AllLead, AllHold, IsStart, Headline}
 use Rattle.stm_session.proofs.RunHistories.{Laws, depth-is, run-holds, run-leaves, run-left, run-starts, taken-within, unbegun-keeps, untouched-keeps, waits}
 
 module _ (laws : Laws) {R : Type 0} (view : R → RigState) (table : List ChipData) where

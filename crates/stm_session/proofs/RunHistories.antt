@@ -1,5 +1,5 @@
 -- What a run leaves, wherever it is stopped, follows from its contract.
-use Rattle.std.proofs.Common.{◌≡◌, ◌≤◌, ◌+◌, ◌==◌, ◌||◌, nat_lt, ℕ, suc, Bool, true, false, not, List, [], ◌∷◌, ◌++◌, length, take, drop, reverse, Option, Some, None, Result, Ok, Err, refl, sym, ◌∙◌, ap, subst, arith, ⊎_elim, length-append, if◌then◌else◌, length-take, length-drop}
+use Rattle.std.proofs.Common.{◌≡◌, ◌≤◌, ◌+◌, ◌==◌, ◌||◌, nat_lt, ℕ, suc, Bool, true, false, not, List, [], ◌∷◌, ◌++◌, length, take, drop, reverse, Option, Some, None, Result, Ok, refl, sym, ◌∙◌, ap, subst, arith, ⊎_elim, length-append, if◌then◌else◌, length-take, length-drop}
 use Rattle.std.proofs.lemmas.List.{length-reverse}
 use Rattle.std.proofs.lemmas.Bool.{cases_Bool}
 use Rattle.stm_wire.specs.Chip.{ChipData}
@@ -12,7 +12,6 @@ use Rattle.stm_journal.specs.States.{SegmentData, intent_of}
 use Rattle.stm_journal.specs.Journals.{good, journal_of}
 use Rattle.stm_journal.specs.Flashes.{flashes_before_segments, with_kept_pages}
 use Rattle.stm_journal.specs.Calls.{IsUntouched}
-use Rattle.stm_session.specs.declared.information.Info.{Info}
 use Rattle.stm_session.specs.declared.fault.Fault.{Fault}
 use Rattle.stm_session.specs.declared.fault.Fault.TheVariants as faults
 use Rattle.stm_session.specs.Moments.{IsSafe, IsUnbegun, SameMake}
@@ -24,9 +23,9 @@ use Rattle.stm_session.specs.Answers.{outcomes_in}
 use Rattle.stm_session.specs.Lines.{depth_at}
 use Rattle.stm_session.specs.Refusals.{run_refusal}
 use Rattle.stm_session.specs.Runs.{AmidRun, standing}
-use Rattle.stm_session.specs.Undoes.{taken_count, flash_taken_back, AmidUndo, Undoes}
-use Rattle.stm_session.specs.Promises.{RunContract, InfoContract, UndoContract}
-use Rattle.stm_session.specs.Headline.{World, now_of, Event, ran, run_stopped, informed, info_stopped, undid, undo_stopped, was_reset, Stops, Leads, standing_in, grown, starts_of_run, starts_after, RunHolds, UndoHolds, RunLeaves, UndoLeaves, LeavesAlone, Holds, Happening, AllLead, AllHold, IsStart, Headline}
+use Rattle.stm_session.specs.Undoes.{taken_count}
+use Rattle.stm_session.specs.Promises.{RunContract}
+use Rattle.stm_session.specs.Headline.{World, now_of, Stops, standing_in, grown, starts_of_run, RunHolds, RunLeaves}
 
 length-flashes : (chip : ChipData) (stack : List SegmentData) (flash : List ℕ) → length (flashes_before_segments chip stack flash) ≡ length stack
 length-flashes chip [] flash = refl

@@ -1,5 +1,5 @@
 -- How a run starts: what its opening leaves, and the commands seen from there.
-use Rattle.std.proofs.Common.{◌≡◌, ℕ, false, List, [], ◌∷◌, ◌++◌, take, reverse, Result, Ok, Err, IfErr, IfOk, OnOk, refl, sym, ap, ap₂, ◌∙◌, subst, arith, append-nil}
+use Rattle.std.proofs.Common.{◌≡◌, ℕ, false, List, ◌++◌, take, reverse, Result, Ok, Err, IfErr, IfOk, OnOk, sym, ap, ap₂, ◌∙◌, subst, arith, append-nil}
 use Rattle.stm_wire.specs.Chip.{ChipData}
 use Rattle.stm_wire.specs.Device.{Device, IsSettled}
 use Rattle.stm_wire.specs.MomentLaws.{joined}

@@ -1,14 +1,11 @@
 -- An undo of which the journal was read: one without a segment, and one whose chip isn't in the table.
-use Rattle.std.proofs.Common.{◌≡◌, ⊎_elim, inl, inr, ℕ, zero, suc, ◌≤◌, Bool, true, false, not, ◌==◌, ◌||◌, nat_lt, if◌then◌else◌, List, [], ◌∷◌, ◌++◌, length, take, drop, Option, Some, None, option_map, Result, Ok, Err, IsErrAnd, refl, sym, ◌∙◌, ap, ap₂, subst, arith, append-nil}
+use Rattle.std.proofs.Common.{◌≡◌, ⊎_elim, inl, ℕ, zero, suc, ◌≤◌, Bool, true, false, not, ◌==◌, ◌||◌, nat_lt, if◌then◌else◌, List, [], ◌∷◌, length, Option, Some, None, option_map, Result, Ok, Err, IsErrAnd, refl, sym, ◌∙◌, ap, subst, arith, append-nil}
 use Rattle.std.proofs.lemmas.Bool.{cases_eq, eq-eqb, ne_eqb, true≢false}
 use Rattle.std.proofs.lemmas.Bool.Decides.{nat_tests}
-use Rattle.stm_chip.specs.Document.{IsChipWith}
 use Rattle.stm_wire.specs.Chip.{ChipData}
 use Rattle.stm_wire.specs.Device.{Device}
 use Rattle.stm_wire.specs.Dialogue.{GoesOn}
-use Rattle.stm_wire.specs.Harmless.{Harmless, SameOutside}
-use Rattle.stm_wire.specs.Moments.{LeavesOnly}
-use Rattle.stm_wire.specs.MomentLaws.{joined, weaker}
+use Rattle.stm_wire.specs.MomentLaws.{weaker}
 use Rattle.stm_wire.specs.Rig.{RigState, IsModel}
 use Rattle.stm_journal.specs.declared.header.JournalHeader.{JournalHeader}
 use Rattle.stm_journal.specs.Calls.{AreFetches, IsUntouched, Loads}
@@ -16,26 +13,18 @@ use Rattle.stm_journal.specs.InMemory.{forget_state}
 use Rattle.stm_journal.specs.Journals.{JournalData, Loaded, IsLoaded, journal_of, good}
 use Rattle.stm_journal.specs.States.{StateData, SegmentData, is_unfinished, names_other}
 use Rattle.stm_session.specs.declared.fault.Fault.{Fault}
-use Rattle.stm_session.specs.Fault.{IsOutsideFault}
-use Rattle.stm_session.specs.GoingBack.{AmidBack, GoesBack}
-use Rattle.stm_session.specs.Lines.{is_torn_at, text_added}
-use Rattle.stm_session.specs.Meeting.{Meets}
-use Rattle.stm_session.specs.Moments.{SameMake}
 use Rattle.stm_session.specs.Promises.{UndoContract}
-use Rattle.stm_session.specs.Refusal.{Refuses, chip_with, table_refusal}
-use Rattle.stm_session.specs.Refusals.{undo_misfit, undo_refusal, undo_refusal_of}
+use Rattle.stm_session.specs.Refusal.{chip_with, table_refusal}
+use Rattle.stm_session.specs.Refusals.{undo_refusal, undo_refusal_of}
 use Rattle.stm_session.specs.StepLaws.{StepLaws}
-use Rattle.stm_session.specs.Steps.{Stands, Goes}
 use Rattle.stm_session.specs.Undoable.{Undoable, good_state, state_at}
-use Rattle.stm_session.specs.Undoes.{AmidUndo, IsElsewhere, IsFlashSettled, Undoes, byte_at_journal, flash_taken_back, risked_at, taken_count, undo_text}
+use Rattle.stm_session.specs.Undoes.{AmidUndo, Undoes, taken_count}
 use Rattle.stm_session.proofs.Fitting.{fits-unrefused}
 use Rattle.stm_session.proofs.Forgetting.{misfit-forgets}
-use Rattle.stm_session.proofs.Going.{at_exit}
 use Rattle.stm_session.proofs.GoingBack.{flashes_count}
 use Rattle.stm_session.proofs.Keeping.{depth_text, good_at, text_is}
 use Rattle.stm_session.proofs.Openings.{has_chip}
-use Rattle.stm_session.proofs.Standing.{makes_then, settled_undoable}
-use Rattle.stm_session.proofs.Unread.{same_flash, untouched_amid, untouched_stray, none_some}
+use Rattle.stm_session.proofs.Unread.{same_flash, untouched_amid, none_some}
 
 -- the journal was read
 module _ (table : List ChipData) (l : Loaded) (old a : RigState) (loads : Loads old a (Ok l)) where
