@@ -12,7 +12,8 @@ use stm_session::{Command, Fault, Outcome, info, run};
 use stm_wire::Rig;
 use stm_words::Range;
 
-/// Reads the whole flash, or a part of it; the device is asked what it is, where its flash's place has to be known.
+/// Reads the whole flash, or a part of it; the device is asked where its flash lies, where that has
+/// to be known.
 pub fn read<L: Rig>(
     alloc: Global,
     rig: &mut L,
