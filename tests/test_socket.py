@@ -109,7 +109,8 @@ class Socket(Place):
         self.assertHolds(ZEROS, b"idle\n")
 
     def test_a_line_that_ends_is_told(self):
-        """A device that hangs up: at once, after a byte, and after it has answered."""
+        """A device that hangs up, or sends nothing more and still takes what is sent: at once, after a byte, and after it has
+        answered."""
         listener = socket.socket(socket.AF_UNIX, socket.SOCK_STREAM)
         self.addCleanup(listener.close)
         listener.settimeout(PATIENCE)
@@ -117,18 +118,20 @@ class Socket(Place):
         listener.listen()
         files = ("--table", "table", "--device", "board", "--journal", "journal")
         for turns in range(3):
-            with self.subTest(turns=turns):
-                host = self.start("erase", *files, "--wait", WAIT, "5")
-                device, _ = listener.accept()
-                device.settimeout(PATIENCE)
-                if turns > 0:
-                    self.assertEqual(device.recv(1), b"\x7f")
-                if turns > 1:
-                    device.sendall(b"\x79")
-                device.close()
-                out, err = host.communicate(timeout=PATIENCE)
-                self.assertEqual((host.returncode, out, err), (1, b"", b"stmflash: line failed\n"))
-                self.assertFile("journal", None)
+            for end in (socket.SHUT_RDWR, socket.SHUT_WR):
+                with self.subTest(turns=turns, end=end):
+                    host = self.start("erase", *files, "--wait", WAIT, "5")
+                    device, _ = listener.accept()
+                    with device:
+                        device.settimeout(PATIENCE)
+                        if turns > 0:
+                            self.assertEqual(device.recv(1), b"\x7f")
+                        if turns > 1:
+                            device.sendall(b"\x79")
+                        device.shutdown(end)
+                        out, err = host.communicate(timeout=PATIENCE)
+                    self.assertEqual((host.returncode, out, err), (1, b"", b"stmflash: line failed\n"))
+                    self.assertFile("journal", None)
 
     def assertUnserved(self, chip, text):
         files = ("--table", "table", "--id", chip, "--flash", "flash", "--socket", "table")
