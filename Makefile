@@ -2,8 +2,9 @@
 #   make demo   builds the program the fastest way, without waiting for proofs, runs it on the simulator, and leaves it
 #               at bin/stmflash-unproved
 #   make        proves and builds bin/stmflash
-#   make test   the whole gate: every proof from nothing, the wrong bodies, the tests, the programs; then the demo, the
-#               program and the simulator over a real socket, 60 kills of the program there, and 300 random sessions (python3)
+#   make test   the whole gate: every proof from nothing, the wrong bodies, the tests, the programs; then each allocation of
+#               small sessions refused in turn, the demo, the program and the simulator over a real socket, 60 kills of the
+#               program there, and 300 random sessions (python3)
 #   make install PREFIX=/usr/local DESTDIR=
 #               the proved program, its manual page and the sample table
 #   make bench  builds what is measured, measures it beside its peers, and prints ratios (needs python3; Debian's binutils
@@ -35,6 +36,7 @@ demo:
 
 test:
 	rt ci
+	python3 tools/allocations crates/refused_memory/out/refused_memory
 	sh tools/demo.sh
 	sh tools/socket.sh bin/stmflash-unproved
 	python3 tools/kills bin/stmflash-unproved 60
