@@ -40,13 +40,14 @@ tests:
 	@test -x bin/stmflash-unproved || sh tools/demo.sh
 	python3 tests/run bin/stmflash-unproved
 
-# `rt ci` leaves the program that it proved and built at crates/stmflash/out/stmflash.
+# `rt ci` leaves the program that it proved at crates/stmflash/out/, as each of two compilers built it: stmflash by LLVM,
+# stmflash.by-rattle by Rattle's own.
 test:
 	rt ci
 	python3 tools/allocations crates/refused_memory/out/refused_memory
 	python3 tools/large-journals crates/stmflash/out/stmflash
 	sh tools/demo.sh
-	python3 tests/run crates/stmflash/out/stmflash bin/stmflash-unproved
+	python3 tests/run crates/stmflash/out/stmflash crates/stmflash/out/stmflash.by-rattle bin/stmflash-unproved
 	sh tools/socket.sh bin/stmflash-unproved
 	python3 tools/kills bin/stmflash-unproved 60
 	python3 tools/soak bin/stmflash-unproved --sessions 300 --jobs $(JOBS)
