@@ -4,9 +4,9 @@
 #   make        proves and builds bin/stmflash
 #   make tests  the tests of the program alone (tests/), on the one that `make demo` leaves (needs python3)
 #   make test   the whole gate: every proof from nothing, the wrong bodies, the tests of the libraries, the programs; then each
-#               allocation of small sessions refused in turn, journals of 1 GB (1.2 GB free in TMPDIR), the demo, the tests of
-#               the program, on the proved one and on the demo's, the program and the simulator over a real socket, 60 kills of
-#               the program there, and 300 random sessions (python3)
+#               allocation of small sessions and of the program refused in turn, journals of 1 GB (1.2 GB free in TMPDIR),
+#               the demo, the tests of the program, on the proved one and on the demo's, the program and the simulator over a
+#               real socket, 60 kills of the program there, and 300 random sessions (python3)
 #   make install PREFIX=/usr/local DESTDIR=
 #               the proved program, its manual page and the sample table
 #   make bench  builds what is measured, measures it beside its peers, and prints ratios (needs python3; Debian's binutils
@@ -45,6 +45,7 @@ tests:
 test:
 	rt ci
 	python3 tools/allocations crates/refused_memory/out/refused_memory
+	python3 tools/refused-program crates/stmflash/out/stmflash
 	python3 tools/large-journals crates/stmflash/out/stmflash
 	sh tools/demo.sh
 	python3 tests/run crates/stmflash/out/stmflash crates/stmflash/out/stmflash.by-rattle bin/stmflash-unproved
