@@ -8,7 +8,7 @@ mod starting;
 mod stopping;
 mod taking_back;
 
-pub use reading::{read, read_flash, read_twice, tell};
+pub use reading::{a_safe_device_can_begin, read, read_flash, read_twice, tell};
 pub use starting::read_new;
 pub use stopping::{a_stopped_session_can_go_on, read_again};
 pub use taking_back::{take_back_stopped, write_whole};

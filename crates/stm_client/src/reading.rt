@@ -1,22 +1,40 @@
 // Sessions that only read: each leaves a Rig on which another can begin.
 ghost use Rattle.std.specs.Prelude.{◌≡◌, ℕ, List, [], ◌∷◌, None, map, IfErr, IfOk, true};
 ghost use Rattle.std.specs.List.{list_all};
+ghost use Rattle.stm_wire.specs.Chip.{ChipData};
+ghost use Rattle.stm_chip.specs.Document.{IsChipWith};
+ghost use Rattle.stm_journal.specs.Flashes.{flashes_before_segments};
 ghost use Rattle.stm_journal.specs.Journals.{journal_of};
 ghost use Rattle.stm_session.specs.Fault.{IsOutsideFault};
 ghost use Rattle.stm_session.specs.Information.{Describes, IsInfoOf};
+ghost use Rattle.stm_session.specs.Moments.{IsSafe};
 ghost use Rattle.stm_session.specs.Refusal.{opening_refusal};
 ghost use Rattle.stm_session.specs.Meaning.{commands_in};
 ghost use Rattle.stm_session.specs.Refusals.{run_refusal};
 ghost use Rattle.stm_session.specs.Running.{AreRead, bytes_of, is_read};
+ghost use Rattle.stm_session.specs.Undoable.{state_at};
 ghost use Rattle.stm_client.specs.Keeping.{CanBegin, Keeps};
 
 use std::alloc::Global;
 use stm_chip::Table;
 use stm_session::{
     Command, Fault, Info, Report, a_chip_is_looked_up_by_its_id, a_run_of_reads_begins_no_segment,
-    asking_keeps_what_can_be_taken_back, info, reads_in_the_flash_are_not_refused, run,
+    an_unrefused_journal_can_be_taken_back, asking_keeps_what_can_be_taken_back, info,
+    reads_in_the_flash_are_not_refused, run,
 };
 use stm_wire::{Rig, harmless_is_kept};
+
+/// On a safe device whose chip the table holds a session can begin, where an opening is refused nothing: the flashes that can be
+/// had back are those that the journal keeps.
+pub fn a_safe_device_can_begin<R: Rig>()
+    ensures { (table : List ChipData) (rig : R) → let now = R.view rig in
+        now.is_honest → IsSafe now.device → IsChipWith table now.device.chip.id now.device.chip
+        → opening_refusal (journal_of now.journal) now.device table ≡ None
+        → let kept = (state_at now.journal).stack in
+        CanBegin table (flashes_before_segments now.device.chip kept now.device.flash) now }
+{
+    an_unrefused_journal_can_be_taken_back();
+}
 
 /// Tells what the device is.
 pub fn tell<R: Rig>(alloc: Global, rig: &mut R, table: &Table) -> Result<Info, Fault>

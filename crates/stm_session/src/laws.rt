@@ -4,19 +4,20 @@ ghost use Rattle.std.specs.List.{list_all};
 ghost use Rattle.stm_wire.specs.Chip.{ChipData};
 ghost use Rattle.stm_wire.specs.Device.{Device, IsDevice, IsReady, reset};
 ghost use Rattle.stm_chip.specs.Document.{IsChipWith, IsNewId};
+ghost use Rattle.stm_journal.specs.Flashes.{flashes_before_segments};
 ghost use Rattle.stm_journal.specs.Journals.{journal_of};
 ghost use Rattle.stm_journal.specs.States.{StateData};
 ghost use Rattle.stm_session.specs.declared.command.Command.{Command};
 ghost use Rattle.stm_session.specs.declared.fault.Fault.{Fault};
 ghost use Rattle.stm_session.specs.declared.outcome.Report.{Report};
 ghost use Rattle.stm_session.specs.Answers.{outcomes_in};
-ghost use Rattle.stm_session.specs.Meaning.{commands_in};
+ghost use Rattle.stm_session.specs.Meaning.{CommandData, commands_in};
 ghost use Rattle.stm_session.specs.Moments.{IsSafe, SameMake};
 ghost use Rattle.stm_session.specs.Refusal.{chip_with, misfit_refusal, opening_refusal};
 ghost use Rattle.stm_session.specs.Refusals.{is_in_flash, run_refusal};
 ghost use Rattle.stm_session.specs.Running.{RunsReads, is_read};
 ghost use Rattle.stm_session.specs.Runs.{Runs};
-ghost use Rattle.stm_session.specs.Undoable.{IsJournalOf, Undoable, is_unfinished_at};
+ghost use Rattle.stm_session.specs.Undoable.{IsJournalOf, Undoable, is_unfinished_at, state_at};
 
 use stm_journal::a_journal_is_sound;
 use stm_wire::{Rig, harmless_is_kept, stopped_is_harmless};
@@ -45,6 +46,19 @@ pub fn asking_keeps_what_can_be_taken_back()
     ensures undoable { (flashes : List (List ℕ)) (old d : Device) (journal : List ℕ)
         → Undoable flashes old journal → is_unfinished_at journal ≡ false
         → SameMake old d → d.flash ≡ old.flash → IsSafe d → Undoable flashes d journal }
+{}
+
+/// On a safe device whose chip the table holds, a journal that isn't refused, when a session is opened or for a run's commands,
+/// can be taken back to the flashes that it keeps.
+pub fn an_unrefused_journal_can_be_taken_back()
+    ensures opened { (table : List ChipData) (d : Device) (journal : List ℕ)
+        → IsSafe d → IsChipWith table d.chip.id d.chip
+        → opening_refusal (journal_of journal) d table ≡ None
+        → Undoable (flashes_before_segments d.chip (state_at journal).stack d.flash) d journal }
+    ensures run { (table : List ChipData) (commands : List CommandData) (d : Device)
+        (journal : List ℕ) → IsSafe d → IsChipWith table d.chip.id d.chip
+        → run_refusal (journal_of journal) d table commands ≡ None
+        → Undoable (flashes_before_segments d.chip (state_at journal).stack d.flash) d journal }
 {}
 
 /// What a refusal looks up in a table is the chip that the table holds under an id, or none where none has that id.

@@ -11,14 +11,15 @@ use crate::{Rig, WireFault};
 /// The byte that a device fresh from reset waits for (AN3155, section 2).
 pub const CONNECT: u8 = 0x7F;
 
-/// How many bytes a batch has at most. Their replies, and what a completed command sends, are fewer bytes than one
-/// draining takes.
+/// How many bytes a batch has at most. Their replies, and what a completed command sends, are fewer
+/// bytes than one draining takes.
 const BATCH: u32 = 256;
 
 /// How many bytes are kept back. They end an exchange that the last byte of a batch has completed.
 const KEPT_BACK: u32 = 2;
 
-/// Sends the byte so many times with no get between, then takes what is owed, and answers whether NACK was among it.
+/// Sends the byte so many times with no get between, then takes what is owed, and answers whether
+/// NACK was among it.
 fn send_batch<R: Rig>(rig: &mut R, byte: u8, count: u32) -> Result<bool, WireFault>
     requires { count ≤ 256 }
     ensures speaks { Speaks (replicate count byte) (count + 4097) result
@@ -38,12 +39,13 @@ fn send_batch<R: Rig>(rig: &mut R, byte: u8, count: u32) -> Result<bool, WireFau
     drain(rig)
 }
 
-/// Sends batches of the byte, unless it is the one that connects, until NACK is among the replies or all bytes of the
-/// limit were sent but those that are kept back; answers how many are left.
+/// Sends batches of the byte, unless it is the one that connects, until NACK is among the replies
+/// or all bytes of the limit were sent but those that are kept back; answers how many are left.
 pub fn send_batches<R: Rig>(rig: &mut R, byte: u8, limit: u32) -> Result<u32, WireFault>
     ensures speaks { SpeaksBatches byte limit result (R.view rig.old) (R.view rig.new) }
     ensures batches { IfOk result
-        (λ left. GoesOn (IsBatched byte limit left) (R.view rig.old).calls (R.view rig.new).calls) }
+        (λ left. GoesOn (IsBatched byte limit left)
+        (R.view rig.old).calls (R.view rig.new).calls) }
     ensures fails { IfErr result
         (FailsAs Never Floods (R.view rig.old).calls (R.view rig.new).calls) }
     ensures honest { (R.view rig.old).is_honest → (pages : List ℕ) (start : Device)

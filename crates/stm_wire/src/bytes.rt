@@ -9,7 +9,8 @@ pub fn part(bytes: &[u8], at: usize, size: usize) -> &[u8]
     &rest[..size.min(rest.len())]
 }
 
-/// Copies the bytes from a place on into a buffer, as many as are there and fit, and answers how many.
+/// Copies the bytes from a place on into a buffer, as many as are there and fit, and answers how
+/// many.
 pub fn copy_from(bytes: &[u8], at: u64, buf: &mut [u8]) -> usize
     ensures count { result ≡ min (length buf.old) (length bytes.now - at) }
     ensures copied { buf.new ≡ take result (drop at bytes.now) ++ drop result buf.old }

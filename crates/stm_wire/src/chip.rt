@@ -1,7 +1,9 @@
 // A chip: its number, where its flash begins, and the sizes of the flash's pages.
 ghost use Rattle.std.specs.Prelude.{◌≡◌, ◌+◌, ◌^◌, ◌<◌, ◌≤◌, ◌↔◌, IsTrue, sum, All};
 ghost use Rattle.std.specs.Option.{SomeIff};
-ghost use Rattle.stm_wire.specs.Chip.{ChipData, chip_of, erased_byte, IsChip, IsErasedByte, IsPageSize, page_count, page_size, page_offset, page_limit, flash_size};
+ghost use Rattle.stm_wire.specs.Chip.{ChipData, chip_of, erased_byte, IsChip};
+ghost use Rattle.stm_wire.specs.Chip.{IsErasedByte, IsPageSize, page_count};
+ghost use Rattle.stm_wire.specs.Chip.{page_size, page_offset, page_limit, flash_size};
 
 use std::alloc::AllocError;
 use std::marker::Model;
@@ -64,9 +66,8 @@ fn size_of(sizes: &[u32]) -> u32
     sizes.iter().sum()
 }
 
-/// One of the chips whose bootloader and flash this workspace knows: at most 256 pages, or 512 where they are
-/// erased by 44, each a multiple of 256 bytes,
-/// 2 MiB at most in all.
+/// One of the chips whose bootloader and flash this workspace knows: at most 256 pages, or 512
+/// where they are erased by 44, each a multiple of 256 bytes, 2 MiB at most in all.
 #[derive(Debug, Drop)]
 pub struct Chip {
     id: u16,
@@ -83,16 +84,18 @@ impl Model for Chip {
 
     ghost view = { λ c. chip_of c.id c.base c.sizes.items c.kind c.erased };
 
-    ghost invariant = { λ c. IsChip (chip_of c.id c.base c.sizes.items c.kind c.erased) × (c.total ≡ sum c.sizes.items) };
+    ghost invariant = { λ c. IsChip (chip_of c.id c.base c.sizes.items c.kind c.erased)
+        × (c.total ≡ sum c.sizes.items) };
 }
 
 impl Chip {
     /// A chip of these values, or None where one of its limits is broken.
     ///
-    /// `base` is the address of the flash's first byte, `sizes` has the bytes of each page from there on, and `erased`
-    /// is what an erased place holds: FF, or 00.
+    /// `base` is the address of the flash's first byte, `sizes` has the bytes of each page from
+    /// there on, and `erased` is what an erased place holds: FF, or 00.
     pub fn new(id: u16, base: u32, sizes: Vec<u32>, kind: EraseKind, erased: u8) -> Option<Chip>
-        ensures { let chip = chip_of id base sizes.items kind erased in SomeIff result (IsChip chip) chip }
+        ensures { let chip = chip_of id base sizes.items kind erased in
+            SomeIff result (IsChip chip) chip }
     {
         if sizes.is_empty() || sizes.len() > page_limit(kind) {
             return None;
@@ -185,7 +188,8 @@ impl Chip {
         u64::from(self.base) + u64::from(self.total)
     }
 
-    /// A law, which does nothing: each chip keeps the limits, so it has no more pages than its kind allows.
+    /// A law, which does nothing: each chip keeps the limits, so it has no more pages than its kind
+    /// allows.
     pub fn keeps_limits(&self)
         ensures chip { IsChip self.now }
         ensures pages { page_count self.now ≤ page_limit self.now.kind }

@@ -2,8 +2,11 @@
 ghost use Rattle.std.specs.Prelude.{◌≡◌, ◌≤◌, ◌-◌, ◌==◌, ◌++◌, ◌∷◌, [], if◌then◌else◌, length};
 ghost use Rattle.std.proofs.Common.{refl};
 ghost use Rattle.stm_wire.specs.Exchange.{complement};
-ghost use Rattle.stm_wire.specs.Rig.{HasCause, Rises, Records, entry_of_get, PutsHonestly, GetsHonestly, AppendsHonestly, FetchesHonestly, FetchesWithin};
-ghost use Rattle.stm_wire.specs.BadLines.{FlipData, flip_data, flip_state, given_for, flips_after, counts_line_of, counts_journal_of, PutsOn, GetsOn, AppendsOn, FetchesOn};
+ghost use Rattle.stm_wire.specs.Rig.{HasCause, Rises, Records, entry_of_get, PutsHonestly};
+ghost use Rattle.stm_wire.specs.Rig.{GetsHonestly, AppendsHonestly, FetchesHonestly, FetchesWithin};
+ghost use Rattle.stm_wire.specs.BadLines.{FlipData, flip_data, flip_state, given_for};
+ghost use Rattle.stm_wire.specs.BadLines.{flips_after, counts_line_of, counts_journal_of};
+ghost use Rattle.stm_wire.specs.BadLines.{PutsOn, GetsOn, AppendsOn, FetchesOn};
 
 use crate::{MemoryRig, Patience, Rig, RigCall, RigFault};
 use std::alloc::Global;
@@ -20,9 +23,9 @@ fn give(flips: &mut u64, answer: Option<u8>) -> Option<u8>
     Some(if is_due { !byte } else { byte })
 }
 
-/// A line that follows no model: it hands all calls on to a Rig in memory, and complements one of the bytes that come. It
-/// keeps a record of all calls, with the bytes that it gave; a call for whose entry there is no memory fails, does nothing
-/// and isn't handed on.
+/// A line that follows no model: it hands all calls on to a Rig in memory, and complements one of
+/// the bytes that come. It keeps a record of all calls, with the bytes that it gave; a call for
+/// whose entry there is no memory fails, does nothing and isn't handed on.
 #[derive(Drop)]
 pub struct FlipRig {
     inner: MemoryRig,
@@ -35,11 +38,13 @@ pub struct FlipRig {
 impl Model for FlipRig {
     ghost Value = { FlipData };
 
-    ghost view = { λ r. flip_data r.inner r.flips r.line_failures r.journal_failures r.calls.items };
+    ghost view = { λ r.
+        flip_data r.inner r.flips r.line_failures r.journal_failures r.calls.items };
 }
 
 impl FlipRig {
-    /// A line to this Rig, on which the `j`th byte to come is complemented, counted from 1; 0: none.
+    /// A line to this Rig, on which the `j`th byte to come is complemented, counted from 1; 0:
+    /// none.
     pub fn new(alloc: Global, inner: MemoryRig, j: u64) -> FlipRig
         ensures { result ≡ flip_data inner j 0 0 [] }
     {

@@ -14,15 +14,23 @@ use byteorder::{BigEndian, ByteOrder};
 /// The code of the command.
 const GET_ID: u8 = 0x02;
 
-/// Asks for the product id. A device that tells another number of bytes than two is answered as `Garbled`.
+/// Asks for the product id. A device that tells another number of bytes than two is answered as
+/// `Garbled`.
 ///
-/// On an honest Rig whose device is settled the answer is its chip's id, the device is as it was, and no fault but
-/// `Line` is answered.
+/// On an honest Rig whose device is settled the answer is its chip's id, the device is as it was,
+/// and no fault but `Line` is answered.
 pub fn get_id<R: Rig>(rig: &mut R) -> Result<u16, WireFault>
-    ensures held { IfOk result (λ id. Holds (command 0x02) (get_id_turns (id / 256) (id % 256)) (R.view rig.old) (R.view rig.new)) }
-    ensures broken { IfErr result (λ fault. (high : ℕ) × (low : ℕ) × BreaksOff fault (command 0x02) (get_id_turns high low) (R.view rig.old) (R.view rig.new)) }
+    ensures held { IfOk result
+        (λ id. Holds (command 0x02) (get_id_turns (id / 256) (id % 256))
+        (R.view rig.old) (R.view rig.new)) }
+    ensures broken { IfErr result
+        (λ fault. (high : ℕ) × (low : ℕ)
+        × BreaksOff fault (command 0x02) (get_id_turns high low)
+        (R.view rig.old) (R.view rig.new)) }
     ensures honest { (R.view rig.old).is_honest → IsSettled (R.view rig.old).device
-        → Does result (λ id. (id ≡ (R.view rig.old).device.chip.id) × ((R.view rig.new).device ≡ (R.view rig.old).device)) }
+        → Does result
+        (λ id. (id ≡ (R.view rig.old).device.chip.id)
+        × ((R.view rig.new).device ≡ (R.view rig.old).device)) }
 {
     send_step(rig, &[GET_ID, !GET_ID])?;
     receive_id(rig)
@@ -30,10 +38,21 @@ pub fn get_id<R: Rig>(rig: &mut R) -> Result<u16, WireFault>
 
 /// Takes the number of bytes less one, the id, high byte first, and the last acknowledgement.
 fn receive_id<R: Rig>(rig: &mut R) -> Result<u16, WireFault>
-    ensures held { IfOk result (λ id. Holds [] (Expects 1 ∷ Learns (id / 256) ∷ Learns (id % 256) ∷ Expects ack ∷ []) (R.view rig.old) (R.view rig.new)) }
-    ensures broken { IfErr result (λ fault. (high : ℕ) × (low : ℕ) × BreaksOff fault [] (Expects 1 ∷ Learns high ∷ Learns low ∷ Expects ack ∷ []) (R.view rig.old) (R.view rig.new)) }
-    ensures bytes { (R.view rig.old).is_honest → IfOk result (λ id. (R.view rig.old).device ≡ owing (1 ∷ id / 256 ∷ id % 256 ∷ ack ∷ []) (R.view rig.new).device) }
-    ensures line { (R.view rig.old).is_honest → (high low : ℕ) → (R.view rig.old).device.owed ≡ 1 ∷ high ∷ low ∷ ack ∷ [] → IsOkOrLine result }
+    ensures held { IfOk result
+        (λ id. Holds []
+        (Expects 1 ∷ Learns (id / 256) ∷ Learns (id % 256) ∷ Expects ack ∷ [])
+        (R.view rig.old) (R.view rig.new)) }
+    ensures broken { IfErr result
+        (λ fault. (high : ℕ) × (low : ℕ)
+        × BreaksOff fault [] (Expects 1 ∷ Learns high ∷ Learns low ∷ Expects ack ∷ [])
+        (R.view rig.old) (R.view rig.new)) }
+    ensures bytes { (R.view rig.old).is_honest
+        → IfOk result
+        (λ id. (R.view rig.old).device
+        ≡ owing (1 ∷ id / 256 ∷ id % 256 ∷ ack ∷ []) (R.view rig.new).device) }
+    ensures line { (R.view rig.old).is_honest → (high low : ℕ)
+        → (R.view rig.old).device.owed ≡ 1 ∷ high ∷ low ∷ ack ∷ []
+        → IsOkOrLine result }
 {
     expect_byte(rig, 1)?;
     let high = receive(rig)?;

@@ -13,11 +13,15 @@ const GO: u8 = 0x21;
 
 /// Lets the device run what stands at an address.
 ///
-/// On an honest Rig whose device is settled, lists the code and has the address inside its flash, the device is gone
-/// from the bootloader, and no fault but `Line` is answered. Nothing is promised of the flash afterwards.
+/// On an honest Rig whose device is settled, lists the code and has the address inside its flash,
+/// the device is gone from the bootloader, and no fault but `Line` is answered. Nothing is promised
+/// of the flash afterwards.
 pub fn go<R: Rig>(rig: &mut R, address: u32) -> Result<(), WireFault>
-    ensures held { OnOk result (Holds (go_frame address) (go_turns address) (R.view rig.old) (R.view rig.new)) }
-    ensures broken { IfErr result (λ fault. BreaksOff fault (go_frame address) (go_turns address) (R.view rig.old) (R.view rig.new)) }
+    ensures held { OnOk result
+        (Holds (go_frame address) (go_turns address) (R.view rig.old) (R.view rig.new)) }
+    ensures broken { IfErr result
+        (λ fault. BreaksOff fault (go_frame address) (go_turns address)
+        (R.view rig.old) (R.view rig.new)) }
     ensures honest { (R.view rig.old).is_honest → CanGo address (R.view rig.old).device
         → Does result (λ _. (R.view rig.new).device.phase ≡ Gone) }
 {

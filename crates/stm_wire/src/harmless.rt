@@ -1,18 +1,21 @@
 //! Laws of stopped hosts: each is the contract of a function that does nothing.
-ghost use Rattle.stm_wire.specs.Stopped.{AskingChangesNothing, FreshIsHarmless, SendingIsHarmless, StoppedIsHarmless};
-ghost use Rattle.stm_wire.specs.Stopped.{FedStaysHarmless, LossStaysHarmless, MorePagesStayHarmless, ResetStaysHarmless};
+ghost use Rattle.stm_wire.specs.Stopped.{AskingChangesNothing, FreshIsHarmless};
+ghost use Rattle.stm_wire.specs.Stopped.{SendingIsHarmless, StoppedIsHarmless};
+ghost use Rattle.stm_wire.specs.Stopped.{FedStaysHarmless, LossStaysHarmless};
+ghost use Rattle.stm_wire.specs.Stopped.{MorePagesStayHarmless, ResetStaysHarmless};
 ghost use Rattle.stm_wire.specs.Stopped.{PageIsInside, SameOutsideNoneIsSame};
 
-/// Whatever beginning of a frame a stopped host has left, the settling byte of its intent changes nothing outside the
-/// intent's page, however often it is sent and whenever the device is reset meanwhile.
+/// Whatever beginning of a frame a stopped host has left, the settling byte of its intent changes
+/// nothing outside the intent's page, however often it is sent and whenever the device is reset
+/// meanwhile.
 pub fn stopped_is_harmless()
     ensures stopped { StoppedIsHarmless }
     ensures fresh { FreshIsHarmless }
 {}
 
-/// A host that sends a settled device a frame, under the intent that it wrote down before, may be stopped at any byte:
-/// the device is harmless for that intent's settling byte. Where the frame only asks, the flash is the same, and no
-/// byte is harmful.
+/// A host that sends a settled device a frame, under the intent that it wrote down before, may be
+/// stopped at any byte: the device is harmless for that intent's settling byte. Where the frame
+/// only asks, the flash is the same, and no byte is harmful.
 pub fn sending_is_harmless()
     ensures sending { SendingIsHarmless }
     ensures asking { AskingChangesNothing }
@@ -26,8 +29,8 @@ pub fn harmless_is_kept()
     ensures more_pages { MorePagesStayHarmless }
 {}
 
-/// The pages of a chip are its flash: what lies in one lies in the flash, and two flashes that agree outside no page
-/// are equal.
+/// The pages of a chip are its flash: what lies in one lies in the flash, and two flashes that
+/// agree outside no page are equal.
 pub fn pages_are_the_flash()
     ensures inside { PageIsInside }
     ensures same { SameOutsideNoneIsSame }

@@ -2,7 +2,8 @@
 ghost use Rattle.std.specs.Prelude.{◌≡◌};
 ghost use Rattle.stm_wire.specs.Intents.{settling_byte};
 
-/// What a host was about to do with a page, as it writes it down before the first byte of the command.
+/// What a host was about to do with a page, as it writes it down before the first byte of the
+/// command.
 #[derive(Clone, Copy, Debug, PartialEq, Eq)]
 pub enum Intent {
     /// To erase this page.
@@ -11,7 +12,8 @@ pub enum Intent {
     Program(u16),
 }
 
-/// The byte that ends an exchange which was stopped under this intent, and changes nothing outside the intent's page.
+/// The byte that ends an exchange which was stopped under this intent, and changes nothing outside
+/// the intent's page.
 pub fn settling_byte(intent: Option<Intent>) -> u8
     ensures { result ≡ settling_byte intent }
 {

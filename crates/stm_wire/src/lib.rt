@@ -1,4 +1,5 @@
-//! The line to the bootloader of an STM32: its chip, its frames, and what a device makes of them (ST AN3155).
+//! The line to the bootloader of an STM32: its chip, its frames, and what a device makes of them
+//! (ST AN3155).
 #![tactic(auto)]
 
 mod batch;

@@ -1,8 +1,11 @@
 // A bad line for tests: it answers what it was told to, whatever is sent.
 ghost use Rattle.std.specs.Prelude.{◌≡◌, ◌+◌, ◌++◌, ◌∷◌, [], drop, length};
 ghost use Rattle.std.proofs.Common.{refl};
-ghost use Rattle.stm_wire.specs.Rig.{HasCause, Records, entry_of_get, PutsHonestly, GetsHonestly, AppendsHonestly, FetchesHonestly, FetchesWithin};
-ghost use Rattle.stm_wire.specs.BadLines.{ListData, list_data, list_state, next_reply, ListsLineCall, ListsJournalCall, GetsFromList, FetchesNothing};
+ghost use Rattle.stm_wire.specs.Rig.{HasCause, Records, entry_of_get, PutsHonestly, GetsHonestly};
+ghost use Rattle.stm_wire.specs.Rig.{AppendsHonestly, FetchesHonestly, FetchesWithin};
+ghost use Rattle.stm_wire.specs.BadLines.{ListData, list_data, list_state, next_reply};
+ghost use Rattle.stm_wire.specs.BadLines.{ListsLineCall, ListsJournalCall};
+ghost use Rattle.stm_wire.specs.BadLines.{GetsFromList, FetchesNothing};
 
 use crate::{Patience, Rig, RigCall, RigFault};
 use std::alloc::Global;
@@ -19,9 +22,10 @@ fn reply_at(replies: &[Option<u8>], place: usize) -> Option<u8>
     }
 }
 
-/// A line that follows no model: its gets are answered from a list, in order, and are quiet past its end. What is sent to
-/// it, and what is added to its journal, changes nothing, and its journal has no bytes. It keeps a record of all calls; a
-/// call for whose entry there is no memory fails and does nothing.
+/// A line that follows no model: its gets are answered from a list, in order, and are quiet past
+/// its end. What is sent to it, and what is added to its journal, changes nothing, and its journal
+/// has no bytes. It keeps a record of all calls; a call for whose entry there is no memory fails
+/// and does nothing.
 #[derive(Drop)]
 pub struct ListRig {
     replies: Vec<Option<u8>>,
@@ -34,7 +38,8 @@ pub struct ListRig {
 impl Model for ListRig {
     ghost Value = { ListData };
 
-    ghost view = { λ r. list_data (drop r.next r.replies.items) r.line_failures r.journal_failures r.calls.items };
+    ghost view = { λ r.
+        list_data (drop r.next r.replies.items) r.line_failures r.journal_failures r.calls.items };
 }
 
 impl ListRig {

@@ -1,10 +1,12 @@
 // A Rig in memory: a simulator, a journal, and a record of all calls.
-ghost use Rattle.std.specs.Prelude.{◌≡◌, ◌↔◌, ℕ, ◌-◌, ◌^◌, ◌≤◌, [], List, length, IsSome, IfSome, IsTrue, MatchOption};
+ghost use Rattle.std.specs.Prelude.{◌≡◌, ◌↔◌, ℕ, ◌-◌, ◌^◌, ◌≤◌, [], List};
+ghost use Rattle.std.specs.Prelude.{length, IsSome, IfSome, IsTrue, MatchOption};
 ghost use Rattle.std.specs.Option.{option_map};
 ghost use Rattle.stm_wire.specs.Chip.{flash_size};
 ghost use Rattle.stm_wire.specs.Device.{Connected, Gone, reset};
 ghost use Rattle.stm_wire.specs.Simulator.{device_of};
-ghost use Rattle.stm_wire.specs.Memory.{MemoryData, IsMemory, rig_state, memory_of, fresh_memory, begins};
+ghost use Rattle.stm_wire.specs.Memory.{MemoryData, IsMemory, rig_state};
+ghost use Rattle.stm_wire.specs.Memory.{memory_of, fresh_memory, begins};
 
 mod call;
 mod fault;
@@ -16,11 +18,13 @@ use crate::{Chip, PastStep, Plan, RigCall, Stop};
 use std::alloc::Global;
 use std::marker::Model;
 
-/// A simulator and a journal in memory, which follow the model. It keeps a record of all calls, and what each of them did,
-/// so that it can tell what a stop at any moment may have left. Stops and failures can be planned.
+/// A simulator and a journal in memory, which follow the model. It keeps a record of all calls, and
+/// what each of them did, so that it can tell what a stop at any moment may have left. Stops and
+/// failures can be planned.
 ///
-/// A step is one byte put, one byte got, or one journal byte appended; a quiet get is none. A call that finds no memory
-/// fails; where there is no memory for its entry in the record either, it isn't there.
+/// A step is one byte put, one byte got, or one journal byte appended; a quiet get is none. A call
+/// that finds no memory fails; where there is no memory for its entry in the record either, it
+/// isn't there.
 #[derive(Drop)]
 pub struct MemoryRig {
     alloc: Global,
@@ -40,16 +44,21 @@ pub struct MemoryRig {
 impl Model for MemoryRig {
     ghost Value = { MemoryData };
 
-    ghost view = { λ m. memory_of m.simulator m.journal.items m.line_failures m.journal_failures m.calls.items m.plan (option_map (λ v. v.items) m.first) m.begun m.start m.past.items };
+    ghost view = { λ m. memory_of m.simulator m.journal.items m.line_failures m.journal_failures
+        m.calls.items m.plan (option_map (λ v. v.items) m.first) m.begun m.start m.past.items };
 
-    ghost invariant = { λ m. IsMemory (memory_of m.simulator m.journal.items m.line_failures m.journal_failures m.calls.items m.plan (option_map (λ v. v.items) m.first) m.begun m.start m.past.items) };
+    ghost invariant = { λ m.
+        IsMemory (memory_of m.simulator m.journal.items m.line_failures m.journal_failures
+        m.calls.items m.plan (option_map (λ v. v.items) m.first) m.begun m.start m.past.items) };
 }
 
 impl MemoryRig {
-    /// A fresh device with this flash, owing nothing, and this journal; None where the flash has not the chip's length.
+    /// A fresh device with this flash, owing nothing, and this journal; None where the flash has
+    /// not the chip's length.
     pub fn new(alloc: Global, chip: Chip, flash: Vec<u8>, journal: Vec<u8>) -> Option<MemoryRig>
         ensures fits { IsSome result ↔ (length flash.items ≡ flash_size chip) }
-        ensures starts { IfSome result (λ rig. rig ≡ fresh_memory chip flash.items journal.items) }
+        ensures starts { IfSome result
+            (λ rig. rig ≡ fresh_memory chip flash.items journal.items) }
         ensures honest { IfSome result (λ rig. (rig_state rig).is_honest) }
     {
         if flash.len() != chip.flash_size() as usize {
@@ -93,7 +102,9 @@ impl MemoryRig {
 
     /// The bytes that came since the last verdict; None where the device is not connected.
     pub fn rest(&self) -> Option<&[u8]>
-        ensures { MatchOption result ((rest : List ℕ) → self.now.device.phase ≡ Connected rest → ⊥) (λ rest. self.now.device.phase ≡ Connected rest.now) }
+        ensures { MatchOption result
+            ((rest : List ℕ) → self.now.device.phase ≡ Connected rest → ⊥)
+            (λ rest. self.now.device.phase ≡ Connected rest.now) }
     {
         self.simulator.rest()
     }
@@ -138,34 +149,41 @@ impl MemoryRig {
         self.past.clear();
     }
 
-    /// Stops after so many steps from now: the next one isn't done, and it and all later calls answer `Stopped`.
-    /// An earlier stop is lifted.
+    /// Stops after so many steps from now: the next one isn't done, and it and all later calls
+    /// answer `Stopped`. An earlier stop is lifted.
     pub fn stop_after(&mut self, steps: u64)
-        ensures plan { self.new ≡ record self.old { plan = record self.old.plan { stop = Stop.After steps } } }
+        ensures plan { self.new
+            ≡ record self.old { plan = record self.old.plan { stop = Stop.After steps } } }
         ensures honest { (rig_state self.old).is_honest → (rig_state self.new).is_honest }
     {
         self.plan.stop = Stop::After(steps);
     }
 
-    /// Makes the `k`th put from now fail once, with its byte not fed; 0: none. A stopped put isn't counted.
+    /// Makes the `k`th put from now fail once, with its byte not fed; 0: none. A stopped put isn't
+    /// counted.
     pub fn fail_put(&mut self, k: u64)
-        ensures plan { self.new ≡ record self.old { plan = record self.old.plan { put_fails = k } } }
+        ensures plan { self.new
+            ≡ record self.old { plan = record self.old.plan { put_fails = k } } }
         ensures honest { (rig_state self.old).is_honest → (rig_state self.new).is_honest }
     {
         self.plan.put_fails = k;
     }
 
-    /// Makes the `k`th get from now fail once, quiet ones counted, with no byte lost; 0: none. A stopped get isn't counted.
+    /// Makes the `k`th get from now fail once, quiet ones counted, with no byte lost; 0: none. A
+    /// stopped get isn't counted.
     pub fn fail_get(&mut self, k: u64)
-        ensures plan { self.new ≡ record self.old { plan = record self.old.plan { get_fails = k } } }
+        ensures plan { self.new
+            ≡ record self.old { plan = record self.old.plan { get_fails = k } } }
         ensures honest { (rig_state self.old).is_honest → (rig_state self.new).is_honest }
     {
         self.plan.get_fails = k;
     }
 
-    /// Makes the `k`th append from now fail once, with nothing added; 0: none. A stopped append isn't counted.
+    /// Makes the `k`th append from now fail once, with nothing added; 0: none. A stopped append
+    /// isn't counted.
     pub fn fail_append(&mut self, k: u64)
-        ensures plan { self.new ≡ record self.old { plan = record self.old.plan { append_fails = k } } }
+        ensures plan { self.new
+            ≡ record self.old { plan = record self.old.plan { append_fails = k } } }
         ensures honest { (rig_state self.old).is_honest → (rig_state self.new).is_honest }
     {
         self.plan.append_fails = k;

@@ -1,4 +1,5 @@
-// What a call of a Rig in memory did: public, since the definitions of its moments go over these steps.
+// What a call of a Rig in memory did: public, since the definitions of its moments go over these
+// steps.
 
 /// What a call of a Rig in memory did to its device or its journal.
 #[derive(Clone, Copy, Debug, PartialEq, Eq)]

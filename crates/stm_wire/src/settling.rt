@@ -1,5 +1,6 @@
 // Settling: ending whatever exchange a stopped host began, without harm.
-ghost use Rattle.std.specs.Prelude.{◌≡◌, ◌≤◌, ◌+◌, ◌*◌, ℕ, suc, List, length, OnOk, IfOk, IfErr, MatchBool, Some, None, [], ◌∷◌};
+ghost use Rattle.std.specs.Prelude.{◌≡◌, ◌≤◌, ◌+◌, ◌*◌, ℕ, suc, List, length, OnOk};
+ghost use Rattle.std.specs.Prelude.{IfOk, IfErr, MatchBool, Some, None, [], ◌∷◌};
 ghost use Rattle.stm_wire.specs.Command.{with_rest};
 ghost use Rattle.stm_wire.specs.declared.rig.RigCall.TheVariants.{Put, Get};
 ghost use Rattle.stm_wire.specs.Device.{Device, Fresh, Connected};
@@ -9,8 +10,10 @@ ghost use Rattle.stm_wire.specs.Reply.{ack, nack};
 ghost use Rattle.stm_wire.specs.SentList.{settling_run};
 ghost use Rattle.stm_wire.specs.Settling.{IsSettling, IsGoing, LeadsTo, SendsOnce, Settles};
 ghost use Rattle.stm_wire.specs.Settling.{PutsPart, SettlesWithin, HasLineCause, Speaks};
-ghost use Rattle.stm_wire.specs.SettlingCalls.{AreUnrefused, IsRefused, reconnecting, EndsSingly, EndsSettled, EndsQuiet, EndsGarbled, FailsAs};
-ghost use Rattle.stm_wire.specs.SettlingCalls.{Never, Floods, IsAnswer, IsAnswerTo, IsUnanswered, IsNoAck, IsUnconfirmed, IsGarbled};
+ghost use Rattle.stm_wire.specs.SettlingCalls.{AreUnrefused, IsRefused, reconnecting, EndsSingly};
+ghost use Rattle.stm_wire.specs.SettlingCalls.{EndsSettled, EndsQuiet, EndsGarbled, FailsAs};
+ghost use Rattle.stm_wire.specs.SettlingCalls.{Never, Floods, IsAnswer, IsAnswerTo};
+ghost use Rattle.stm_wire.specs.SettlingCalls.{IsUnanswered, IsNoAck, IsUnconfirmed, IsGarbled};
 
 use crate::batch::{CONNECT, send_batches};
 use crate::dialogue::{ACK, NACK};
@@ -47,7 +50,8 @@ fn expect_quiet<R: Rig>(rig: &mut R) -> Result<(), WireFault>
     ensures fails { IfErr result
         (FailsAs Never IsAnswer (R.view rig.old).calls (R.view rig.new).calls) }
     ensures honest { (R.view rig.old).is_honest → (byte : ℕ) (pages : List ℕ) (start : Device)
-        → IsSettling byte pages start (R.view rig.old).device → (R.view rig.old).device.owed ≡ []
+        → IsSettling byte pages start (R.view rig.old).device
+        → (R.view rig.old).device.owed ≡ []
         → LeadsTo byte pages start result (R.view rig.old) (R.view rig.new)
         (R.view rig.old).device }
 {
@@ -104,7 +108,8 @@ fn confirm<R: Rig>(rig: &mut R, byte: u8) -> Result<(), WireFault>
         (FailsAs Never (IsUnconfirmed byte) (R.view rig.old).calls (R.view rig.new).calls) }
     ensures honest { (R.view rig.old).is_honest → (pages : List ℕ) (start : Device)
         → IsSettling byte pages start (R.view rig.old).device
-        → (R.view rig.old).device.phase ≡ Connected (byte ∷ []) → (R.view rig.old).device.owed ≡ []
+        → (R.view rig.old).device.phase ≡ Connected (byte ∷ [])
+        → (R.view rig.old).device.owed ≡ []
         → LeadsTo byte pages start result (R.view rig.old) (R.view rig.new)
         (with_rest [] (R.view rig.old).device) }
 {
@@ -117,7 +122,8 @@ fn confirm<R: Rig>(rig: &mut R, byte: u8) -> Result<(), WireFault>
 
 /// Connects a device that has ignored the byte, and ends what the byte then begins.
 fn reconnect<R: Rig>(rig: &mut R, byte: u8) -> Result<(), WireFault>
-    ensures speaks { Speaks (0x7F ∷ byte ∷ byte ∷ []) 7 result (R.view rig.old) (R.view rig.new) }
+    ensures speaks { Speaks (0x7F ∷ byte ∷ byte ∷ []) 7 result
+        (R.view rig.old) (R.view rig.new) }
     ensures settled { OnOk result
         (Adds (reconnecting byte) (R.view rig.old).calls (R.view rig.new).calls) }
     ensures fails { IfErr result (FailsAs IsUnanswered (IsGarbled byte)
@@ -154,25 +160,31 @@ fn send_bytes<R: Rig>(rig: &mut R, byte: u8, limit: u32) -> Result<(), WireFault
     reconnect(rig, byte)
 }
 
-/// Brings a device to the end of whatever exchange a stopped host began, by sending it this byte until it refuses.
+/// Brings a device to the end of whatever exchange a stopped host began, by sending it this byte
+/// until it refuses.
 ///
-/// It first takes what is still owed, 4,096 bytes at most. Then, for every byte but 7F, it sends the byte in batches: 256
-/// with no get between, or as many as the limit leaves above two, and takes what is owed. It goes on so until NACK is
-/// among what it took, or two bytes of the limit are left. Then it sends the byte one at a time, as often as the limit
-/// leaves, and is done where the first byte of a reply is NACK. A device that has refused none of them is fresh from reset
-/// or gone: it is sent 7F, and where it answers ACK, the byte twice, of which the second has to be refused.
+/// It first takes what is still owed, 4,096 bytes at most. Then, for every byte but 7F, it sends
+/// the byte in batches: 256 with no get between, or as many as the limit leaves above two, and
+/// takes what is owed. It goes on so until NACK is among what it took, or two bytes of the limit
+/// are left. Then it sends the byte one at a time, as often as the limit leaves, and is done where
+/// the first byte of a reply is NACK. A device that has refused none of them is fresh from reset or
+/// gone: it is sent 7F, and where it answers ACK, the byte twice, of which the second has to be
+/// refused.
 ///
-/// On any line that keeps a record, what it puts is a beginning of the byte `limit` times, 7F, and the byte twice. It
-/// answers Ok at the first refusal of a single byte: after each of those before it one reply was asked for next, which was
-/// no NACK. Where it fails otherwise than by the line, the record ends as the fault says.
+/// On any line that keeps a record, what it puts is a beginning of the byte `limit` times, 7F, and
+/// the byte twice. It answers Ok at the first refusal of a single byte: after each of those before
+/// it one reply was asked for next, which was no NACK. Where it fails otherwise than by the line,
+/// the record ends as the fault says.
 ///
-/// On a line that follows the model, from a device that is harmless for the byte and some pages and owes at most 4,096
-/// bytes, with a limit of 131,047 or more, each moment leaves such a device, with the same chip, version and codes, the same
-/// flash outside these pages and the same journal; it answers Ok, and the device is then settled, or `Line`.
+/// On a line that follows the model, from a device that is harmless for the byte and some pages and
+/// owes at most 4,096 bytes, with a limit of 131,047 or more, each moment leaves such a device,
+/// with the same chip, version and codes, the same flash outside these pages and the same journal;
+/// it answers Ok, and the device is then settled, or `Line`.
 ///
 /// # Errors
-/// `Line` where a call of the Rig failed, `Quiet` where 7F stayed without an answer, `Garbled` where more bytes were owed,
-/// or another byte came than step by step is due. It never answers `Nack`.
+/// `Line` where a call of the Rig failed, `Quiet` where 7F stayed without an answer, `Garbled`
+/// where more bytes were owed, or another byte came than step by step is due. It never answers
+/// `Nack`.
 pub fn settle<R: Rig>(rig: &mut R, byte: u8, limit: u32) -> Result<(), WireFault>
     ensures cause { HasLineCause result (R.view rig.old) (R.view rig.new) }
     ensures calls { GoesOn (SettlesWithin byte limit)
@@ -182,7 +194,8 @@ pub fn settle<R: Rig>(rig: &mut R, byte: u8, limit: u32) -> Result<(), WireFault
     ensures fails { IfErr result (FailsAs (EndsQuiet byte limit) (EndsGarbled byte limit)
         (R.view rig.old).calls (R.view rig.new).calls) }
     ensures honest { (R.view rig.old).is_honest → 131047 ≤ limit → (pages : List ℕ)
-        → Harmless (R.view rig.old).device byte pages → length (R.view rig.old).device.owed ≤ 4096
+        → Harmless (R.view rig.old).device byte pages
+        → length (R.view rig.old).device.owed ≤ 4096
         → Settles byte pages (R.view rig.old).device result (R.view rig.old) (R.view rig.new) }
 {
     drain(rig)?;

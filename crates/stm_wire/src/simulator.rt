@@ -1,5 +1,6 @@
 // The simulator: one device of the model, in memory.
-ghost use Rattle.std.specs.Prelude.{if◌then◌else◌, ◌≡◌, ◌+◌, ◌<◌, ◌≤◌, ◌∷◌, [], List, ℕ, length, OnOk, OnErr, MatchOption, IsTrue, ◌↔◌, vec_len};
+ghost use Rattle.std.specs.Prelude.{if◌then◌else◌, ◌≡◌, ◌+◌, ◌<◌, ◌≤◌, ◌∷◌, [], List, ℕ};
+ghost use Rattle.std.specs.Prelude.{length, OnOk, OnErr, MatchOption, IsTrue, ◌↔◌, vec_len};
 ghost use Rattle.std.specs.Vec.{vec_capacity};
 ghost use Rattle.std.specs.VecDeque.{deque_len, deque_capacity};
 ghost use Rattle.stm_wire.specs.Chip.{flash_size};
@@ -8,7 +9,8 @@ ghost use Rattle.stm_wire.specs.Rig.{GetsFirst};
 ghost use Rattle.stm_wire.specs.Reply.{ack, step_reply};
 ghost use Rattle.stm_wire.specs.Exchange.{verdict};
 ghost use Rattle.stm_wire.specs.Rest.{IsCurrent};
-ghost use Rattle.stm_wire.specs.Simulator.{simulated_device, after_verdict, after_loose, device_of, simulator_codes, simulator_version};
+ghost use Rattle.stm_wire.specs.Simulator.{simulated_device, after_verdict, after_loose};
+ghost use Rattle.stm_wire.specs.Simulator.{device_of, simulator_codes, simulator_version};
 
 mod effect;
 mod reply;
@@ -71,9 +73,12 @@ fn finish_done(
     requires room { deque_len owed.old + REPLY_ROOM ≤ deque_capacity owed.old }
     requires size { length flash.old.items ≡ flash_size chip.now }
     requires connected { stage.old ≡ Stage.Connected }
-    requires done { verdict chip.now (simulator_codes chip.now.kind) rest.old.bytes.items ≡ Some Verdict.Done }
-    ensures device { device_of chip.now flash.new.items owed.new.items rest.new.bytes.items stage.new
-        ≡ after_verdict (device_of chip.now flash.old.items owed.old.items [] Stage.Connected) rest.old.bytes.items (Some Verdict.Done) }
+    requires done { verdict chip.now (simulator_codes chip.now.kind) rest.old.bytes.items
+        ≡ Some Verdict.Done }
+    ensures device { device_of chip.now flash.new.items owed.new.items
+        rest.new.bytes.items stage.new
+        ≡ after_verdict (device_of chip.now flash.old.items owed.old.items [] Stage.Connected)
+        rest.old.bytes.items (Some Verdict.Done) }
     ensures current { IsCurrent chip.now (simulator_codes chip.now.kind) rest.new }
 {
     let codes = codes_of(chip.kind());
@@ -97,8 +102,10 @@ fn finish_loose(
     requires room { deque_len owed.old + 2 ≤ deque_capacity owed.old }
     requires some { 1 ≤ length rest.old.bytes.items }
     requires connected { stage.old ≡ Stage.Connected }
-    ensures device { device_of chip.now flash.new.items owed.new.items rest.new.bytes.items stage.new
-        ≡ after_loose (device_of chip.now flash.old.items owed.old.items [] Stage.Connected) rest.old.bytes.items }
+    ensures device { device_of chip.now flash.new.items owed.new.items
+        rest.new.bytes.items stage.new
+        ≡ after_loose (device_of chip.now flash.old.items owed.old.items [] Stage.Connected)
+        rest.old.bytes.items }
     ensures current { IsCurrent chip.now (simulator_codes chip.now.kind) rest.new }
 {
     let code = rest.bytes()[0];
@@ -130,8 +137,10 @@ fn feed_connected(
     requires current { IsCurrent chip.now (simulator_codes chip.now.kind) rest.old }
     requires size { length flash.old.items ≡ flash_size chip.now }
     requires connected { stage.old ≡ Stage.Connected }
-    ensures device { device_of chip.now flash.new.items owed.new.items rest.new.bytes.items stage.new
-        ≡ simulated_device byte (device_of chip.now flash.old.items owed.old.items rest.old.bytes.items stage.old) }
+    ensures device { device_of chip.now flash.new.items owed.new.items
+        rest.new.bytes.items stage.new
+        ≡ simulated_device byte
+        (device_of chip.now flash.old.items owed.old.items rest.old.bytes.items stage.old) }
     ensures current { IsCurrent chip.now (simulator_codes chip.now.kind) rest.new }
 {
     let codes = codes_of(chip.kind());
@@ -164,8 +173,10 @@ fn feed(
     requires rest_room { vec_len rest.old.bytes < vec_capacity rest.old.bytes }
     requires current { IsCurrent chip.now (simulator_codes chip.now.kind) rest.old }
     requires size { length flash.old.items ≡ flash_size chip.now }
-    ensures device { device_of chip.now flash.new.items owed.new.items rest.new.bytes.items stage.new
-        ≡ simulated_device byte (device_of chip.now flash.old.items owed.old.items rest.old.bytes.items stage.old) }
+    ensures device { device_of chip.now flash.new.items owed.new.items
+        rest.new.bytes.items stage.new
+        ≡ simulated_device byte
+        (device_of chip.now flash.old.items owed.old.items rest.old.bytes.items stage.old) }
     ensures current { IsCurrent chip.now (simulator_codes chip.now.kind) rest.new }
 {
     match *stage {
@@ -196,7 +207,8 @@ impl Model for Simulator {
 
     ghost view = { λ s. device_of s.chip s.flash.items s.owed.items s.rest.bytes.items s.stage };
 
-    ghost invariant = { λ s. IsDevice (device_of s.chip s.flash.items s.owed.items s.rest.bytes.items s.stage)
+    ghost invariant = { λ s.
+        IsDevice (device_of s.chip s.flash.items s.owed.items s.rest.bytes.items s.stage)
         × IsCurrent s.chip (simulator_codes s.chip.kind) s.rest };
 }
 
@@ -216,7 +228,8 @@ impl Simulator {
         }
     }
 
-    /// Feeds a byte. At `Err`, where memory for it or its reply is refused, the device is as it was.
+    /// Feeds a byte. At `Err`, where memory for it or its reply is refused, the device is as it
+    /// was.
     pub fn feed(&mut self, byte: u8) -> Result<(), AllocError>
         ensures fed { OnOk result (self.new ≡ simulated_device byte self.old) }
         ensures same { OnErr result (self.new ≡ self.old) }
@@ -265,7 +278,9 @@ impl Simulator {
 
     /// The bytes since the last verdict, where it is connected.
     pub fn rest(&self) -> Option<&[u8]>
-        ensures { MatchOption result ((rest : List ℕ) → self.now.phase ≡ Connected rest → ⊥) (λ rest. self.now.phase ≡ Connected rest.now) }
+        ensures { MatchOption result
+            ((rest : List ℕ) → self.now.phase ≡ Connected rest → ⊥)
+            (λ rest. self.now.phase ≡ Connected rest.now) }
     {
         match self.stage {
             Stage::Connected => Some(self.rest.bytes()),

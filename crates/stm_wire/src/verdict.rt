@@ -1,6 +1,9 @@
 // What a device makes of the bytes that came since its last verdict.
 ghost use Rattle.std.specs.Prelude.{◌==◌, ◌&&◌, fold, bit_xor, ◌≡◌, ◌+◌, ◌^◌, ◌<◌};
-ghost use Rattle.stm_wire.specs.Exchange.{done_if, at_end, xor, verdict, command_verdict, after_address, read_verdict, write_verdict, all_verdict, erase_verdict, extended_verdict, pages_verdict, pairs_of, all_exist, complement, pair_of, is_listed};
+ghost use Rattle.stm_wire.specs.Exchange.{done_if, at_end, xor, verdict, command_verdict};
+ghost use Rattle.stm_wire.specs.Exchange.{after_address, read_verdict, write_verdict, all_verdict};
+ghost use Rattle.stm_wire.specs.Exchange.{erase_verdict, extended_verdict, pages_verdict};
+ghost use Rattle.stm_wire.specs.Exchange.{pairs_of, all_exist, complement, pair_of, is_listed};
 ghost use Rattle.stm_wire.specs.Chip.{fits_inside, is_inside};
 
 use crate::Chip;
@@ -174,9 +177,12 @@ fn command_verdict(chip: &Chip, code: u8, bytes: &[u8]) -> Option<Verdict>
 }
 
 fn address_verdict(chip: &Chip, code: u8, bytes: &[u8]) -> Option<Verdict>
-    ensures read { code ≡ 0x11 → result ≡ after_address chip.now (read_verdict chip.now) bytes.now }
-    ensures go { code ≡ 0x21 → result ≡ after_address chip.now (λ address rest. at_end Verdict.Done rest) bytes.now }
-    ensures write { code ≡ 0x31 → result ≡ after_address chip.now (write_verdict chip.now) bytes.now }
+    ensures read { code ≡ 0x11
+        → result ≡ after_address chip.now (read_verdict chip.now) bytes.now }
+    ensures go { code ≡ 0x21 → result
+        ≡ after_address chip.now (λ address rest. at_end Verdict.Done rest) bytes.now }
+    ensures write { code ≡ 0x31
+        → result ≡ after_address chip.now (write_verdict chip.now) bytes.now }
 {
     match bytes {
         [a, b, c, d, check, rest @ ..] => {

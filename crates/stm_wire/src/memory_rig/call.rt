@@ -2,7 +2,8 @@
 ghost use Rattle.std.specs.Prelude.{length};
 ghost use Rattle.stm_wire.specs.Rig.{HasCause, FetchesWithin};
 ghost use Rattle.stm_wire.specs.Honest.{StaysWithin};
-ghost use Rattle.stm_wire.specs.Memory.{PutsInMemory, GetsInMemory, AppendsInMemory, FetchesInMemory};
+ghost use Rattle.stm_wire.specs.Memory.{PutsInMemory, GetsInMemory};
+ghost use Rattle.stm_wire.specs.Memory.{AppendsInMemory, FetchesInMemory};
 
 use crate::bytes::{copy_from, part};
 use crate::memory_rig::MemoryRig;

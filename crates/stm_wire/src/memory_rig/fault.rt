@@ -1,7 +1,9 @@
 // The stops, failures and counts of a Rig in memory.
 ghost use Rattle.std.specs.Prelude.{◌≡◌, ℕ, ◌≤◌, ◌==◌};
 ghost use Rattle.stm_wire.specs.Rig.{Rises};
-ghost use Rattle.stm_wire.specs.Memory.{runs_into_stop, steps_left, steps_of_get, stopped, takes_steps, counts_put, counts_get, counts_append, counts_line, counts_journal, Fails};
+ghost use Rattle.stm_wire.specs.Memory.{runs_into_stop, steps_left, steps_of_get, stopped};
+ghost use Rattle.stm_wire.specs.Memory.{takes_steps, counts_put, counts_get};
+ghost use Rattle.stm_wire.specs.Memory.{counts_append, counts_line, counts_journal, Fails};
 
 use crate::memory_rig::MemoryRig;
 use crate::stop::{after_steps, runs_into_stop, steps_left};

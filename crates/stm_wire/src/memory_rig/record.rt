@@ -1,5 +1,7 @@
-// What a call of a Rig in memory does, where it isn't stopped and doesn't fail, with its entry in the record.
-ghost use Rattle.std.specs.Prelude.{◌≡◌, ◌⊎◌, ℕ, ◌+◌, ◌-◌, ◌^◌, ◌<◌, ◌≤◌, ◌++◌, ◌∷◌, [], Some, length, OnOk, OnErr, IfOk, vec_len};
+// What a call of a Rig in memory does, where it isn't stopped and doesn't fail, with its entry in
+// the record.
+ghost use Rattle.std.specs.Prelude.{◌≡◌, ◌⊎◌, ℕ, ◌+◌, ◌-◌, ◌^◌, ◌<◌, ◌≤◌, ◌++◌, ◌∷◌};
+ghost use Rattle.std.specs.Prelude.{[], Some, length, OnOk, OnErr, IfOk, vec_len};
 ghost use Rattle.std.specs.Vec.{vec_capacity};
 ghost use Rattle.std.specs.Option.{option_map};
 ghost use Rattle.stm_wire.specs.Simulator.{simulated_device};
@@ -24,7 +26,9 @@ fn reserve_entry(calls: &mut Vec<RigCall>, past: &mut Vec<PastStep>) -> Result<(
 
 /// Keeps the flash as it was at first.
 fn keep_first(alloc: Global, first: &mut Option<Vec<u8>>, flash: &[u8]) -> Result<(), AllocError>
-    ensures ok { OnOk result (option_map (λ v. v.items) first.new ≡ Some (first_flash (option_map (λ v. v.items) first.old) flash.now)) }
+    ensures ok { OnOk result
+        (option_map (λ v. v.items) first.new
+        ≡ Some (first_flash (option_map (λ v. v.items) first.old) flash.now)) }
     ensures err { OnErr result (first.new ≡ first.old) }
 {
     if first.is_none() {
@@ -36,8 +40,10 @@ fn keep_first(alloc: Global, first: &mut Option<Vec<u8>>, flash: &[u8]) -> Resul
 /// Enters a call that did nothing in the record: left out is none for which there is room.
 fn enter_failed(calls: &mut Vec<RigCall>, past: &mut Vec<PastStep>, call: RigCall)
     ensures { let steps = past.old.items ++ PastStep.Nothing ∷ [] in
-        let entered = (calls.new.items ≡ calls.old.items ++ call ∷ []) × (past.new.items ≡ steps) in
-        let left_out = (calls.new.items ≡ calls.old.items) × (past.new.items ≡ past.old.items) in
+        let entered = (calls.new.items ≡ calls.old.items ++ call ∷ [])
+        × (past.new.items ≡ steps) in
+        let left_out = (calls.new.items ≡ calls.old.items)
+        × (past.new.items ≡ past.old.items) in
         entered ⊎ (left_out × ((vec_capacity calls.old ≤ vec_len calls.old)
         ⊎ (vec_capacity past.old ≤ vec_len past.old))) }
 {
@@ -57,7 +63,9 @@ impl MemoryRig {
 
     /// Feeds a byte to the device, or changes nothing.
     pub(super) fn try_put(&mut self, byte: u8) -> Result<(), AllocError>
-        ensures ok { OnOk result (self.new ≡ with_call (RigCall.Put byte) (PastStep.Fed byte) (simulated_device byte self.old.device) self.old) }
+        ensures ok { OnOk result (self.new
+            ≡ with_call (RigCall.Put byte) (PastStep.Fed byte)
+            (simulated_device byte self.old.device) self.old) }
         ensures err { OnErr result (self.new ≡ self.old) }
     {
         reserve_entry(&mut self.calls, &mut self.past)?;
@@ -103,7 +111,8 @@ impl MemoryRig {
 
     /// Adds the entry of a fetch, or changes nothing.
     pub(super) fn try_fetch(&mut self) -> Result<(), AllocError>
-        ensures ok { OnOk result (self.new ≡ with_call RigCall.Fetch PastStep.Nothing self.old.device self.old) }
+        ensures ok { OnOk result
+            (self.new ≡ with_call RigCall.Fetch PastStep.Nothing self.old.device self.old) }
         ensures err { OnErr result (self.new ≡ self.old) }
     {
         reserve_entry(&mut self.calls, &mut self.past)?;

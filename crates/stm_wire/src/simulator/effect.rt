@@ -2,14 +2,15 @@
 ghost use Rattle.std.specs.Prelude.{◌≡◌, ◌+◌, ◌<◌, ◌≤◌, length, take, drop, replicate, IsTrue};
 ghost use Rattle.stm_wire.specs.Chip.{erased_page, flash_size, page_count, with_bytes, with_page};
 ghost use Rattle.stm_wire.specs.Exchange.{pairs_of};
-ghost use Rattle.stm_wire.specs.Effect.{change_of, write_change, erase_change, extended_change, erased_pages};
+ghost use Rattle.stm_wire.specs.Effect.{change_of, write_change, erase_change};
+ghost use Rattle.stm_wire.specs.Effect.{extended_change, erased_pages};
 ghost use Rattle.stm_wire.specs.Simulator.{stored_byte, stored_bytes, changed_flash, Fits};
 
 use crate::Chip;
 use crate::bytes::part;
 
-/// What a place holds that held `old` once `sent` is written over it: a write can only turn bits from what an erase has
-/// made of them.
+/// What a place holds that held `old` once `sent` is written over it: a write can only turn bits
+/// from what an erase has made of them.
 fn stored_byte(erased: u8, old: u8, sent: u8) -> u8
     ensures { result ≡ stored_byte erased old sent }
 {

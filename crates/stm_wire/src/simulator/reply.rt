@@ -63,7 +63,8 @@ pub fn reply_to_done(
     bytes: &[u8],
 )
     requires { deque_len owed.old + REPLY_ROOM ≤ deque_capacity owed.old }
-    ensures { owed.new.items ≡ owed.old.items ++ ack ∷ answer chip.now version codes.now flash.now bytes.now }
+    ensures { owed.new.items
+        ≡ owed.old.items ++ ack ∷ answer chip.now version codes.now flash.now bytes.now }
 {
     owed.push_back_reserved(0x79);
     match bytes {

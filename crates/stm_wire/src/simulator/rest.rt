@@ -1,16 +1,20 @@
-// The bytes since the last verdict, and what is kept beside them so that each byte costs a fixed number of steps.
-ghost use Rattle.std.specs.Prelude.{◌≡◌, ℕ, ◌+◌, ◌-◌, ◌*◌, ◌<◌, ◌≤◌, List, [], ◌∷◌, ◌++◌, ◌==◌, ◌&&◌, length, take, MatchOption, OnOk, vec_len};
+// The bytes since the last verdict, and what is kept beside them so that each byte costs a fixed
+// number of steps.
+ghost use Rattle.std.specs.Prelude.{◌≡◌, ℕ, ◌+◌, ◌-◌, ◌*◌, ◌<◌, ◌≤◌, List, [], ◌∷◌, ◌++◌};
+ghost use Rattle.std.specs.Prelude.{◌==◌, ◌&&◌, length, take, MatchOption, OnOk, vec_len};
 ghost use Rattle.std.specs.Vec.{vec_capacity};
 ghost use Rattle.stm_wire.specs.Chip.{ChipData};
-ghost use Rattle.stm_wire.specs.Exchange.{IsOpen, all_exist, done_if, pair_of, pairs_of, verdict, xor};
+ghost use Rattle.stm_wire.specs.Exchange.{IsOpen, all_exist, done_if};
+ghost use Rattle.stm_wire.specs.Exchange.{pair_of, pairs_of, verdict, xor};
 ghost use Rattle.stm_wire.specs.Rest.{IsAwaiting, IsCurrent, named_pages};
 
 use crate::Chip;
 use crate::verdict::{Verdict, done_if, fits_inside, verdict_of};
 use std::alloc::{AllocError, Global};
 
-/// The exclusive-or of a whole frame whose check is right. A code and its complement give FF; the bytes of an address and
-/// their check give 0, and so do a count, the data or pages behind it, and theirs.
+/// The exclusive-or of a whole frame whose check is right. A code and its complement give FF; the
+/// bytes of an address and their check give 0, and so do a count, the data or pages behind it, and
+/// theirs.
 const RIGHT_CHECK: u8 = 0xFF;
 
 /// The bytes since the last verdict.
@@ -27,7 +31,8 @@ pub struct Rest {
 
 /// How many bytes at least are awaited behind a code and its complement.
 fn awaited_after_pair(code: u8) -> usize
-    ensures { (chip : ChipData) (codes : List ℕ) (check : ℕ) → verdict chip codes (code ∷ check ∷ []) ≡ None
+    ensures { (chip : ChipData) (codes : List ℕ) (check : ℕ)
+        → verdict chip codes (code ∷ check ∷ []) ≡ None
         → IsAwaiting chip codes (code ∷ check ∷ []) result }
 {
     match code {
@@ -39,10 +44,11 @@ fn awaited_after_pair(code: u8) -> usize
     }
 }
 
-/// How many bytes stand behind a count of two bytes: the numbers of that many pages and one more, in two bytes each, and
-/// their check. The counts from FFF0 on count nothing.
+/// How many bytes stand behind a count of two bytes: the numbers of that many pages and one more,
+/// in two bytes each, and their check. The counts from FFF0 on count nothing.
 fn size_after_count(high: u8, low: u8) -> Option<usize>
-    ensures { MatchOption result (0xFFF0 ≤ pair_of high low) (λ size. (pair_of high low < 0xFFF0) × (size ≡ 2 * (pair_of high low + 1) + 1)) }
+    ensures { MatchOption result (0xFFF0 ≤ pair_of high low)
+        (λ size. (pair_of high low < 0xFFF0) × (size ≡ 2 * (pair_of high low + 1) + 1)) }
 {
     let count = usize::from(high) * 256 + usize::from(low);
     if count >= 0xFFF0 {
@@ -54,7 +60,8 @@ fn size_after_count(high: u8, low: u8) -> Option<usize>
 
 /// How many bytes at least are awaited behind an open list.
 fn awaited_after(bytes: &[u8]) -> usize
-    ensures { (chip : ChipData) (codes : List ℕ) → verdict chip codes bytes.now ≡ None → IsAwaiting chip codes bytes.now result }
+    ensures { (chip : ChipData) (codes : List ℕ) → verdict chip codes bytes.now ≡ None
+        → IsAwaiting chip codes bytes.now result }
 {
     match bytes {
         [code, _] => awaited_after_pair(*code),
@@ -68,10 +75,11 @@ fn awaited_after(bytes: &[u8]) -> usize
     }
 }
 
-/// Whether the page is there whose number a byte completes behind numbers of two bytes each. The first byte of a number
-/// completes none.
+/// Whether the page is there whose number a byte completes behind numbers of two bytes each. The
+/// first byte of a number completes none.
 fn completes_existing_page(chip: &Chip, numbers: &[u8], byte: u8) -> bool
-    ensures { all_exist chip.now (pairs_of (numbers.now ++ byte ∷ [])) ≡ (all_exist chip.now (pairs_of numbers.now) && result) }
+    ensures { all_exist chip.now (pairs_of (numbers.now ++ byte ∷ []))
+        ≡ (all_exist chip.now (pairs_of numbers.now) && result) }
 {
     if numbers.len() % 2 == 0 {
         true
@@ -83,7 +91,8 @@ fn completes_existing_page(chip: &Chip, numbers: &[u8], byte: u8) -> bool
 
 /// Whether the page is there that a byte names behind these bytes, if it names one.
 fn names_existing_page(chip: &Chip, bytes: &[u8], byte: u8) -> bool
-    ensures { all_exist chip.now (named_pages (bytes.now ++ byte ∷ [])) ≡ (all_exist chip.now (named_pages bytes.now) && result) }
+    ensures { all_exist chip.now (named_pages (bytes.now ++ byte ∷ []))
+        ≡ (all_exist chip.now (named_pages bytes.now) && result) }
 {
     match bytes {
         [0x43, _, _, ..] => u16::from(byte) < chip.pages(),
@@ -92,15 +101,17 @@ fn names_existing_page(chip: &Chip, bytes: &[u8], byte: u8) -> bool
     }
 }
 
-/// The verdict on a whole frame with data or pages: done where its check is right and it can be done.
+/// The verdict on a whole frame with data or pages: done where its check is right and it can be
+/// done.
 fn whole_verdict(check: u8, can_be_done: bool) -> Verdict
     ensures { result ≡ done_if (check == 0xFF && can_be_done) }
 {
     done_if(check == RIGHT_CHECK && can_be_done)
 }
 
-/// The verdict where no more bytes are known to be awaited. Data and pages that came whole are not looked at again: what
-/// was kept of them decides. Of every other list the plain program looks at a fixed number of bytes.
+/// The verdict where no more bytes are known to be awaited. Data and pages that came whole are not
+/// looked at again: what was kept of them decides. Of every other list the plain program looks at a
+/// fixed number of bytes.
 fn verdict_at_end(
     chip: &Chip,
     codes: &[u8],
@@ -110,7 +121,8 @@ fn verdict_at_end(
 ) -> Option<Verdict>
     requires no_verdict { IsOpen chip.now codes.now (take (length bytes.now - 1) bytes.now) }
     requires check { check ≡ xor bytes.now }
-    requires pages_exist { pages_exist ≡ all_exist chip.now (named_pages (take (length bytes.now - 1) bytes.now)) }
+    requires pages_exist { pages_exist
+        ≡ all_exist chip.now (named_pages (take (length bytes.now - 1) bytes.now)) }
     ensures { result ≡ verdict chip.now codes.now bytes.now }
 {
     match bytes {
