@@ -2,8 +2,11 @@
 #   make demo   builds the program the fastest way, without waiting for proofs, runs it on the simulator, and leaves it
 #               at bin/stmflash-unproved
 #   make        proves and builds bin/stmflash
-#   make test   the whole gate: every proof from nothing, the wrong bodies, the tests, the programs; then the demo, the
-#               program and the simulator over a real socket, 60 kills of the program there, and 300 random sessions (python3)
+#   make tests  the tests of the program alone (tests/), on the one that `make demo` leaves (needs python3)
+#   make test   the whole gate: every proof from nothing, the wrong bodies, the tests of the libraries, the programs; then each
+#               allocation of small sessions refused in turn, journals of 1 GB (1.2 GB free in TMPDIR), the demo, the tests of
+#               the program, on the proved one and on the demo's, the program and the simulator over a real socket, 60 kills of
+#               the program there, and 300 random sessions (python3)
 #   make install PREFIX=/usr/local DESTDIR=
 #               the proved program, its manual page and the sample table
 #   make bench  builds what is measured, measures it beside its peers, and prints ratios (needs python3; Debian's binutils
@@ -17,7 +20,7 @@ PREFIX ?= /usr/local
 DESTDIR ?=
 JOBS ?= $(shell nproc)
 
-.PHONY: all demo test soak install bench beside clean
+.PHONY: all demo tests test soak install bench beside clean
 
 all: bin/stmflash
 
@@ -33,9 +36,18 @@ FORCE:
 demo:
 	@sh tools/demo.sh
 
+tests:
+	@test -x bin/stmflash-unproved || sh tools/demo.sh
+	python3 tests/run bin/stmflash-unproved
+
+# `rt ci` leaves the program that it proved at crates/stmflash/out/, as each of two compilers built it: stmflash by LLVM,
+# stmflash.by-rattle by Rattle's own.
 test:
 	rt ci
+	python3 tools/allocations crates/refused_memory/out/refused_memory
+	python3 tools/large-journals crates/stmflash/out/stmflash
 	sh tools/demo.sh
+	python3 tests/run crates/stmflash/out/stmflash crates/stmflash/out/stmflash.by-rattle bin/stmflash-unproved
 	sh tools/socket.sh bin/stmflash-unproved
 	python3 tools/kills bin/stmflash-unproved 60
 	python3 tools/soak bin/stmflash-unproved --sessions 300 --jobs $(JOBS)

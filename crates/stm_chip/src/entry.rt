@@ -11,7 +11,8 @@ use stm_wire::{Chip, EraseKind};
 
 /// The kind that a word of a table names.
 fn kind_of(word: &str) -> Option<EraseKind>
-    ensures { MatchOption result ((kind : Kind) → word_of kind ≢ word.now) (λ kind. word.now ≡ word_of kind) }
+    ensures { MatchOption result ((kind : Kind) → word_of kind ≢ word.now)
+        (λ kind. word.now ≡ word_of kind) }
 {
     match word {
         "page" => Some(EraseKind::Page),
@@ -23,7 +24,8 @@ fn kind_of(word: &str) -> Option<EraseKind>
 /// Adds the sizes of a run's pages, or answers false where no chip has such a run after these pages.
 fn add_run(sizes: &mut Vec<u32>, run: (i64, i64)) -> Result<bool, AllocError>
     ensures { IfOk result (λ added. MatchBool added
-        (IsRun run × (sizes.new.items ≡ sizes.old.items ++ pages_of run)) (¬ CanAdd sizes.old.items run)) }
+        (IsRun run × (sizes.new.items ≡ sizes.old.items ++ pages_of run))
+        (¬ CanAdd sizes.old.items run)) }
 {
     let (count, size) = run;
     let (Ok(count), Ok(size)) = (u16::try_from(count), u32::try_from(size)) else {
@@ -53,7 +55,8 @@ fn page_sizes(alloc: Global, runs: &[(i64, i64)]) -> Result<Option<Vec<u32>>, Al
 
 /// The chip of these keys, or None where a limit is broken.
 pub(crate) fn chip_of(alloc: Global, keys: &EntryKeys<'_>) -> Result<Option<Chip>, AllocError>
-    ensures { let values = keys_with keys.now.id keys.now.base keys.now.runs.items keys.now.erase.now keys.now.erased in
+    ensures { let values = keys_with keys.now.id keys.now.base keys.now.runs.items
+        keys.now.erase.now keys.now.erased in
         IfOk result (λ chip. MatchOption chip (BreaksLimit values) (IsChipOf values)) }
 {
     let Some(sizes) = page_sizes(alloc, &keys.runs)? else {

@@ -31,7 +31,8 @@ fn whole(entry: &Value, key: &str) -> Option<i64>
 
 /// The text at a key.
 fn text<'a>(entry: &'a Value, key: &str) -> Option<&'a str>
-    ensures { option_map (λ s. s.now) result ≡ option_and_then as_str (get key.now (view entry.now)) }
+    ensures { option_map (λ s. s.now) result
+        ≡ option_and_then as_str (get key.now (view entry.now)) }
 {
     match entry.get(key) {
         Some(value) => value.as_str(),
@@ -75,7 +76,8 @@ fn read_runs(alloc: Global, array: &Vec<Value>) -> Result<Option<Vec<(i64, i64)>
 
 /// The array at a key.
 fn array<'a>(entry: &'a Value, key: &str) -> Option<&'a Vec<Value>>
-    ensures { option_map (λ items. array_view items.now) result ≡ option_and_then as_array (get key.now (view entry.now)) }
+    ensures { option_map (λ items. array_view items.now) result
+        ≡ option_and_then as_array (get key.now (view entry.now)) }
 {
     match entry.get(key) {
         Some(value) => value.as_array(),
@@ -85,7 +87,9 @@ fn array<'a>(entry: &'a Value, key: &str) -> Option<&'a Vec<Value>>
 
 /// The runs at the key `pages`.
 fn read_pages(alloc: Global, entry: &Value) -> Result<Option<Vec<(i64, i64)>>, AllocError>
-    ensures { IfOk result (λ runs. option_map vec_items runs ≡ option_and_then runs_of (option_and_then as_array (get (codes "pages") (view entry.now)))) }
+    ensures { IfOk result (λ runs. option_map vec_items runs
+        ≡ option_and_then runs_of (option_and_then as_array
+        (get (codes "pages") (view entry.now)))) }
 {
     match array(entry, "pages") {
         Some(items) => read_runs(alloc, items),
@@ -108,7 +112,8 @@ pub(crate) fn read_keys<'a>(
     alloc: Global,
     entry: &'a Value,
 ) -> Result<Option<EntryKeys<'a>>, AllocError>
-    ensures { let values = option_map (λ k. keys_with k.id k.base k.runs.items k.erase.now k.erased) in
+    ensures { let values = option_map
+        (λ k. keys_with k.id k.base k.runs.items k.erase.now k.erased) in
         IfOk result (λ keys. values keys ≡ keys_of (view entry.now)) }
 {
     let runs = read_pages(alloc, entry)?;

@@ -59,7 +59,8 @@ fn frame_of(offset: u32, block: &[u8], erased: u8) -> Option<Frame>
 fn frames_of(alloc: Global, page: &[u8], erased: u8) -> Result<Vec<Frame>, AllocError>
     requires blocks { length page.now % 256 ≡ 0 }
     requires size { length page.now ≤ 2 ^ 32 }
-    ensures { IfOk result (λ frames. frames.items ≡ frames_of erased page.now (length page.now / 256)) }
+    ensures { IfOk result (λ frames. frames.items
+        ≡ frames_of erased page.now (length page.now / 256)) }
 {
     let mut frames = Vec::new(alloc);
     for n in 0..page.len() / BLOCK {

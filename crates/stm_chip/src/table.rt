@@ -30,7 +30,8 @@ impl Model for Table {
 impl Table {
     /// The chip with this id, or None.
     pub fn find(&self, id: u16) -> Option<&Chip>
-        ensures { MatchOption result (IsNewId self.now id) (λ chip. IsChipWith self.now id chip.now) }
+        ensures { MatchOption result (IsNewId self.now id)
+            (λ chip. IsChipWith self.now id chip.now) }
     {
         first_with(&self.chips, id)
     }
@@ -38,14 +39,16 @@ impl Table {
 
 /// The first of these chips with this id.
 fn first_with(chips: &[Chip], id: u16) -> Option<&Chip>
-    ensures { MatchOption result (IsNewId chips.now id) (λ chip. (chip.now.id ≡ id) × Contains chips.now chip.now) }
+    ensures { MatchOption result (IsNewId chips.now id)
+        (λ chip. (chip.now.id ≡ id) × Contains chips.now chip.now) }
 {
     chips.iter().find(|chip| chip.id() == id)
 }
 
 /// The tree of a text.
 fn read_document(alloc: Global, text: &[u8]) -> Result<toml::Table, TableFault>
-    ensures { MatchResult result (λ document. IsDocument text.now (table_view document)) (IsFaultOf text.now) }
+    ensures { MatchResult result (λ document. IsDocument text.now (table_view document))
+        (IsFaultOf text.now) }
 {
     match toml::table_from_slice(alloc, text) {
         Ok(document) => Ok(document),
@@ -74,7 +77,8 @@ fn are_tables(items: &[Value]) -> bool
 
 /// The tables at the key `chip`, or None where something else stands there.
 fn entries(document: &toml::Table) -> Option<&Vec<Value>>
-    ensures { MatchOption result ((entries : List Data) → ¬ HasEntries (table_view document.now) entries)
+    ensures { MatchOption result
+        ((entries : List Data) → ¬ HasEntries (table_view document.now) entries)
         (λ items. HasEntries (table_view document.now) (data_of items.now)) }
 {
     match chip_array(document) {
@@ -85,7 +89,8 @@ fn entries(document: &toml::Table) -> Option<&Vec<Value>>
 
 /// The chip of entry `n`, which stands after those of `chips`.
 fn read_entry(alloc: Global, n: u64, entry: &Value, chips: &[Chip]) -> Result<Chip, TableFault>
-    ensures { MatchResult result (IsNextChip chips.now (view entry.now)) (IsFlaw n chips.now (view entry.now)) }
+    ensures { MatchResult result (IsNextChip chips.now (view entry.now))
+        (IsFlaw n chips.now (view entry.now)) }
 {
     let Some(keys) = read_keys(alloc, entry)? else {
         return Err(TableFault::Missing(n));
@@ -101,7 +106,8 @@ fn read_entry(alloc: Global, n: u64, entry: &Value, chips: &[Chip]) -> Result<Ch
 
 /// The chips of these entries.
 fn read_entries(alloc: Global, entries: &Vec<Value>) -> Result<Vec<Chip>, TableFault>
-    ensures { MatchResult result (λ chips. Reads (data_of entries.now) chips.items) (HasFlaw (data_of entries.now)) }
+    ensures { MatchResult result (λ chips. Reads (data_of entries.now) chips.items)
+        (HasFlaw (data_of entries.now)) }
 {
     let mut chips = Vec::new(alloc);
     for entry in entries {

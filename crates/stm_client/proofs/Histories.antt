@@ -13,6 +13,7 @@ use Rattle.stm_session.specs.Moments.{IsSafe}
 use Rattle.stm_session.specs.Promises.{RunContract, UndoContract}
 use Rattle.stm_session.specs.Refusals.{run_refusal}
 use Rattle.stm_session.specs.Undoable.{Undoable}
+use Rattle.stm_client.proofs.Resets.{IsReset}
 
 -- the same device and the same journal
 same_world : (m n : MemoryData) → m.device ≡ n.device → m.journal ≡ n.journal → now_of (rig_state m) ≡ now_of (rig_state n)
@@ -35,19 +36,17 @@ module _ (table : List ChipData) (commands : List CommandData) (m1 m2 : MemoryDa
   pub run_honest : (rig_state m2).is_honest
   run_honest = honest_by (run_refusal (journal_of m1.journal) m1.device table commands) refl
 
-module _ (table : List ChipData) (commands : List CommandData) (m m1 m2 m3 m4 m5 : MemoryData) (result : Result Report Fault)
+module _ (table : List ChipData) (commands : List CommandData) (m m1 m2 m4 m5 : MemoryData) (result : Result Report Fault)
     (law : AllIsTakenBack rig_state table)
     (safe : (d : Device) → IsDevice d → IsReady d → IsSafe d) (undoable : (d : Device) → IsDevice d → IsReady d → Undoable [] d [])
     (contract : RunContract table commands (rig_state m1) (rig_state m2) result outcomes_in)
-    (device1 : m1.device ≡ m.device) (journal1 : m1.journal ≡ m.journal) (honest1 : (rig_state m).is_honest → (rig_state m1).is_honest)
-    (device3 : m3.device ≡ reset m2.device) (journal3 : m3.journal ≡ m2.journal) (honest3 : (rig_state m2).is_honest → (rig_state m3).is_honest)
-    (device4 : m4.device ≡ m3.device) (journal4 : m4.journal ≡ m3.journal) (honest4 : (rig_state m3).is_honest → (rig_state m4).is_honest)
+    (is_reset : IsReset m m1 m2 m4)
     (honest : (rig_state m).is_honest) (starts : IsStart table (now_of (rig_state m))) where
   found : now_of (rig_state m1) ≡ now_of (rig_state m)
-  found = same_world m1 m device1 journal1
+  found = same_world m1 m is_reset.planned_device is_reset.planned_journal
 
   found_again : now_of (rig_state m4) ≡ after_reset m2
-  found_again = ap₂ (λ (d : Device) (j : List ℕ). record { device = d; journal = j }) (device4 ∙ device3) (journal4 ∙ journal3)
+  found_again = ap₂ (λ (d : Device) (j : List ℕ). record { device = d; journal = j }) is_reset.device is_reset.journal
 
   begins : IsStart table (now_of (rig_state m1))
   begins = subst (IsStart table) (sym found) starts
@@ -57,6 +56,6 @@ module _ (table : List ChipData) (commands : List CommandData) (m m1 m2 m3 m4 m5
 
   pub all_back : (n : ℕ) → UndoContract table 0 (rig_state m4) (rig_state m5) (Ok n) → m5.device.flash ≡ m.device.flash
   all_back n second =
-      let stays = honest4 (honest3 (run_honest table commands m1 m2 result safe undoable contract (honest1 honest) begins)) in
-      (law history (now_of (rig_state m)) starts (((honest1 honest, found), contract, refl), (refl, tt)) m4 m5 n (now_of (rig_state m5))
+      let stays = is_reset.honest (run_honest table commands m1 m2 result safe undoable contract (is_reset.planned_honest honest) begins) in
+      (law history (now_of (rig_state m)) starts (((is_reset.planned_honest honest, found), contract, refl), (refl, tt)) m4 m5 n (now_of (rig_state m5))
       ((stays, found_again), second, refl)).0

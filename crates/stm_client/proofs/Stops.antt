@@ -5,6 +5,7 @@ use Rattle.stm_wire.specs.Device.{Device, reset}
 use Rattle.stm_wire.specs.Memory.{MemoryData, rig_state}
 use Rattle.stm_session.specs.declared.fault.Fault.{Fault}
 use Rattle.stm_client.specs.Keeping.{CanBegin, IsKept, Keeps}
+use Rattle.stm_client.proofs.Resets.{IsReset}
 use Rattle.stm_client.proofs.Keeping.{ResetKeeps, kept_begins, kept_further, reset_kept}
 
 -- the same device and the same journal
@@ -17,24 +18,20 @@ same_kept flashes a d d2 journal journal2 device_same journal_same kept =
 self_kept : (table : List ChipData) (flashes : List (List ℕ)) (m : MemoryData) → CanBegin table flashes (rig_state m) → IsKept flashes (rig_state m) m.device m.journal
 self_kept table flashes m can = record { undoable = can.undoable; journal_same = refl; flash = refl; make = record { chip = refl; version = refl; codes = refl } }
 
--- a stop is planned, a session runs, the device is reset, and the stop is lifted
-module _ {T : Type 0} {Done : T → Type 0} {result : Result T Fault} (table : List ChipData) (flashes : List (List ℕ)) (law : ResetKeeps) (m m1 m2 m3 m4 : MemoryData)
-    (device1 : m1.device ≡ m.device) (journal1 : m1.journal ≡ m.journal) (honest1 : (rig_state m).is_honest → (rig_state m1).is_honest)
+-- a session is stopped so
+module _ {T : Type 0} {Done : T → Type 0} {result : Result T Fault} (table : List ChipData) (flashes : List (List ℕ)) (law : ResetKeeps) (m m1 m2 m4 : MemoryData) (is_reset : IsReset m m1 m2 m4)
     (keeps : CanBegin table flashes (rig_state m1) → Keeps flashes (rig_state m1) (rig_state m2) result Done)
-    (device3 : m3.device ≡ reset m2.device) (journal3 : m3.journal ≡ m2.journal) (honest3 : (rig_state m2).is_honest → (rig_state m3).is_honest)
-    (device4 : m4.device ≡ m3.device) (journal4 : m4.journal ≡ m3.journal) (honest4 : (rig_state m3).is_honest → (rig_state m4).is_honest)
     (can : CanBegin table flashes (rig_state m)) where
   planned : IsKept flashes (rig_state m) m1.device m1.journal
-  planned = same_kept flashes m m.device m1.device m.journal m1.journal device1 journal1 (self_kept table flashes m can)
+  planned = same_kept flashes m m.device m1.device m.journal m1.journal is_reset.planned_device is_reset.planned_journal (self_kept table flashes m can)
 
   session : Keeps flashes (rig_state m1) (rig_state m2) result Done
-  session = keeps (kept_begins table flashes (rig_state m) (rig_state m1) can.tabled (honest1 can.honest) planned)
+  session = keeps (kept_begins table flashes (rig_state m) (rig_state m1) can.tabled (is_reset.planned_honest can.honest) planned)
 
   pub kept_again : IsKept flashes (rig_state m) m4.device m4.journal
   kept_again =
-      same_kept flashes m m3.device m4.device m3.journal m4.journal device4 journal4
-      (same_kept flashes m (reset m2.device) m3.device m2.journal m3.journal device3 journal3
-      (reset_kept law flashes (rig_state m) m2.device m2.journal (kept_further flashes (rig_state m) (rig_state m1) planned m2.device m2.journal session.left)))
+      same_kept flashes m (reset m2.device) m4.device m2.journal m4.journal is_reset.device is_reset.journal
+      (reset_kept law flashes (rig_state m) m2.device m2.journal (kept_further flashes (rig_state m) (rig_state m1) planned m2.device m2.journal session.left))
 
   pub can_again : CanBegin table flashes (rig_state m4)
-  can_again = kept_begins table flashes (rig_state m) (rig_state m4) can.tabled (honest4 (honest3 session.honest)) kept_again
+  can_again = kept_begins table flashes (rig_state m) (rig_state m4) can.tabled (is_reset.honest session.honest) kept_again

@@ -6,6 +6,7 @@ pub mod Digits
 pub mod Every
 pub mod Examples
 pub mod Laid
+pub mod LaidRuns
 pub mod Lying
 pub mod Overlaps
 pub mod Placing

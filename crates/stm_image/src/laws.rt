@@ -11,7 +11,8 @@ pub fn canonical_text_means_the_image()
     ensures means { (set : Pairs) → IsImage set → Means (canon set) set }
     ensures nothing_else { (set other : Pairs) →
         IsImage set → Means (canon set) other → other ≡ set }
-    ensures faultless { (set : Pairs) (fault : HexFault) → IsImage set → ¬ Stands (canon set) fault }
+    ensures faultless { (set : Pairs) (fault : HexFault) → IsImage set
+        → ¬ Stands (canon set) fault }
 {}
 
 /// Every text has a verdict: it means a set, or a fault stands in it.
@@ -38,13 +39,15 @@ pub fn laying_by_parts()
     ensures back { (set : Pairs) (address count : ℕ) (bytes : List ℕ) →
         drop count (lay set address bytes) ≡ lay set (address + count) (drop count bytes) }
     ensures joined { (set : Pairs) (address : ℕ) (front back : List ℕ) →
-        lay set address (front ++ back) ≡ lay set address front ++ lay set (address + length front) back }
+        lay set address (front ++ back)
+        ≡ lay set address front ++ lay set (address + length front) back }
 {}
 
 /// A set laid over bytes has its own byte at each place that it names, and leaves the others as they were.
 pub fn laying_keeps_places()
     ensures each { (set : Pairs) (address : ℕ) (bytes : List ℕ) (i : ℕ) → i < length bytes →
-        slice_index (lay set address bytes) i ≡ laid_byte (byte_at set (address + i)) (slice_index bytes i) }
+        slice_index (lay set address bytes) i
+        ≡ laid_byte (byte_at set (address + i)) (slice_index bytes i) }
     ensures past { (set : Pairs) (address : ℕ) (bytes : List ℕ) →
         HasNone set address → lay set address bytes ≡ bytes }
     ensures before { (set : Pairs) (address : ℕ) (bytes : List ℕ) (next : ℕ × ℕ) →

@@ -16,28 +16,6 @@ use Rattle.stm_journal.specs.Summary.{summary_of, void_by, said_by, long_page, l
 use Rattle.stm_journal.proofs.Long.{number_of-long}
 use Rattle.stm_journal.proofs.Upper.{hex_bytes_of-even, hex_bytes_of-odd, hex_bytes_of-lower}
 
--- the last byte
-abbrev last_of : List ℕ → ℕ
-last_of xs = get_or xs (length xs - 1) 0
-
-last-more : (x y : ℕ) (xs : List ℕ) → last_of (x ∷ y ∷ xs) ≡ last_of (y ∷ xs)
-last-more x y xs = let e : length (x ∷ y ∷ xs) - 1 ≡ suc (length (y ∷ xs) - 1) = omega arith in rw e refl
-
-void-more : (x y : ℕ) (xs : List ℕ) → is_void (x ∷ y ∷ xs) ≡ is_void (y ∷ xs)
-void-more x y xs = let e : length (x ∷ y ∷ xs) - 1 ≡ suc (length (y ∷ xs) - 1) = omega arith in rw e refl
-
-void-one : (x : ℕ) → is_void (x ∷ []) ≡ (x == 33)
-void-one x = at (33 == x) (x == 33) (grind (arith, nat_tests))
-  where
-    at : (a b : Bool) → a ≡ b → (a && true) ≡ b
-    at true b e = e
-    at false b e = e
-
-pub void_by-line : (line : List ℕ) → is_void line ≡ void_by (summary_of line)
-void_by-line [] = refl
-void_by-line (x ∷ []) = void-one x
-void_by-line (x ∷ y ∷ xs) = void-more x y xs ∙ void_by-line (y ∷ xs) ∙ sym (ap (λ (b : ℕ). b == 33) (last-more x y xs))
-
 -- the first space of a beginning
 abbrev space_in : List ℕ → ℕ
 space_in xs = position_or_len (λ b. b == 32) xs

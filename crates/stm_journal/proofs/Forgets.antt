@@ -14,7 +14,8 @@ use Rattle.stm_journal.specs.InMemory.{forget_entry, forget_kept, forget_segment
 use Rattle.stm_journal.specs.Summary.{summary_of}
 use Rattle.stm_journal.specs.Forget.{forget_journal, after_summary}
 use Rattle.stm_journal.specs.ForgetLaws.{allows-forgets}
-use Rattle.stm_journal.proofs.Decides.{void_by-line, said_by-line}
+use Rattle.stm_journal.proofs.Decides.{said_by-line}
+use Rattle.stm_journal.proofs.Voids.{void_by-line}
 
 with_stack : (s : StateData) → List SegmentData → StateData
 with_stack s stack = record { header = s.header; stack = stack }

@@ -17,6 +17,7 @@ mod Stopping
 pub mod AfterCalls
 mod Long
 mod Upper
+mod Voids
 mod Decides
 mod GoesOn
 mod Forgets

@@ -9,9 +9,11 @@ use stm_wire::Rig;
 /// Adds the bytes in one append.
 pub(crate) fn append<R: Rig>(rig: &mut R, bytes: &[u8]) -> Result<(), JournalFault>
     ensures cause { HasJournalCause (R.view rig.old) (R.view rig.new) result }
-    ensures calls { GoesOn (AppendsOnce (length bytes.now) result) (R.view rig.old).calls (R.view rig.new).calls }
+    ensures calls { let old = R.view rig.old in let new = R.view rig.new in
+        GoesOn (AppendsOnce (length bytes.now) result) old.calls new.calls }
     ensures answers { IfErr result (λ e. e ≡ JournalFault.File) }
-    ensures honest { (R.view rig.old).is_honest → AddsBytes bytes.now (R.view rig.old) (R.view rig.new) result }
+    ensures honest { let old = R.view rig.old in let new = R.view rig.new in
+        old.is_honest → AddsBytes bytes.now old new result }
 {
     match rig.append(bytes) {
         Ok(()) => Ok(()),

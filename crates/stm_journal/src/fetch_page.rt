@@ -24,8 +24,9 @@ fn fill<R: Rig>(rig: &mut R, at: u64, buf: &mut [u8]) -> Result<bool, JournalFau
     ensures answers { IfErr result (λ e. e ≡ JournalFault.File) }
     ensures cause { HasJournalCause (R.view rig.old) (R.view rig.new) result }
     ensures calls { GoesOn AreFetches (R.view rig.old).calls (R.view rig.new).calls }
-    ensures honest { (R.view rig.old).is_honest → at + length buf.old ≤ length (R.view rig.old).journal
-        → FillsFrom at buf.old buf.new (R.view rig.old) (R.view rig.new) result }
+    ensures honest { let old = R.view rig.old in let new = R.view rig.new in
+        old.is_honest → at + length buf.old ≤ length old.journal
+        → FillsFrom at buf.old buf.new old new result }
 {
     let mut done = 0usize;
     while done < buf.len() {
@@ -40,7 +41,8 @@ fn fill<R: Rig>(rig: &mut R, at: u64, buf: &mut [u8]) -> Result<bool, JournalFau
 
 /// The bytes of upper-case digits, two a byte, where they are such and so many.
 fn decode_upper(digits: &[u8], out: &mut [u8]) -> bool
-    ensures { (bytes : List ℕ) → list_all is_upper_digit digits.now ≡ true → decode_sized digits.now (length out.old) ≡ Ok bytes
+    ensures { (bytes : List ℕ) → list_all is_upper_digit digits.now ≡ true
+        → decode_sized digits.now (length out.old) ≡ Ok bytes
         → (result ≡ true) × (out.new ≡ bytes) }
 {
     are_all_upper(digits) && hex::decode_to_slice(digits, out).is_ok()
@@ -52,8 +54,9 @@ fn fetch_piece<R: Rig>(rig: &mut R, at: u64, line: u64, out: &mut [u8]) -> Resul
     ensures answers { IfErr result (IsFetchAnswer line) }
     ensures cause { HasJournalCause (R.view rig.old) (R.view rig.new) result }
     ensures calls { GoesOn AreFetches (R.view rig.old).calls (R.view rig.new).calls }
-    ensures honest { (R.view rig.old).is_honest → (bytes : List ℕ) → length bytes ≡ length out.old → SaysAt at bytes (R.view rig.old).journal
-        → FetchesBytes bytes out.new (R.view rig.old) (R.view rig.new) result }
+    ensures honest { let old = R.view rig.old in let new = R.view rig.new in
+        old.is_honest → (bytes : List ℕ) → length bytes ≡ length out.old
+        → SaysAt at bytes old.journal → FetchesBytes bytes out.new old new result }
 {
     let mut digits = [0u8; 2 * PIECE];
     let size = 2 * out.len();

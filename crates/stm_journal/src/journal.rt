@@ -33,7 +33,12 @@ impl Model for Journal {
 
     ghost Value = { Loaded };
 
-    ghost view = { λ j. record { state = j.state; lines = j.lines; size = j.size; is_torn = j.is_torn } };
+    ghost view = { λ j. record {
+      state = j.state;
+      lines = j.lines;
+      size = j.size;
+      is_torn = j.is_torn;
+    } };
 }
 
 impl Journal {

@@ -42,9 +42,11 @@ impl Loader {
 
     /// Takes bytes of a line.
     fn take_part(&mut self, part: &[u8]) -> Result<(), JournalFault>
-        ensures size { OnOk result (capped self.new.journal.size ≡ capped (self.old.journal.size + length part.now)) }
+        ensures size { OnOk result
+            (capped self.new.journal.size ≡ capped (self.old.journal.size + length part.now)) }
         ensures answers { IfErr result IsLoadFault }
-        ensures takes { (bytes : List ℕ) → IsRead self.old.journal self.old.tail bytes → HasNoLF part.now → length bytes + length part.now < 2 ^ 63
+        ensures takes { (bytes : List ℕ) → IsRead self.old.journal self.old.tail bytes
+            → HasNoLF part.now → length bytes + length part.now < 2 ^ 63
             → TakesBytes part.now bytes self.new.journal self.new.tail result }
     {
         self.tail.extend(part)?;
@@ -54,9 +56,11 @@ impl Loader {
 
     /// Takes the LF that ends a line.
     fn take_line(&mut self) -> Result<(), JournalFault>
-        ensures size { OnOk result (capped self.new.journal.size ≡ capped (self.old.journal.size + 1)) }
+        ensures size { OnOk result
+            (capped self.new.journal.size ≡ capped (self.old.journal.size + 1)) }
         ensures answers { IfErr result IsLoadFault }
-        ensures takes { (bytes : List ℕ) → IsRead self.old.journal self.old.tail bytes → length bytes < 2 ^ 63
+        ensures takes { (bytes : List ℕ) → IsRead self.old.journal self.old.tail bytes
+            → length bytes < 2 ^ 63
             → TakesBytes (10 ∷ []) bytes self.new.journal self.new.tail result }
     {
         self.journal.pass_line(&self.tail)?;
@@ -66,9 +70,12 @@ impl Loader {
 
     /// Takes the rest of a line, and the LF that ends it.
     fn take_ended(&mut self, part: &[u8]) -> Result<(), JournalFault>
-        ensures size { OnOk result (capped self.new.journal.size ≡ capped (self.old.journal.size + (length part.now + 1))) }
+        ensures size { OnOk result
+            (capped self.new.journal.size
+            ≡ capped (self.old.journal.size + (length part.now + 1))) }
         ensures answers { IfErr result IsLoadFault }
-        ensures takes { (bytes : List ℕ) → IsRead self.old.journal self.old.tail bytes → HasNoLF part.now → length bytes + length part.now < 2 ^ 63
+        ensures takes { (bytes : List ℕ) → IsRead self.old.journal self.old.tail bytes
+            → HasNoLF part.now → length bytes + length part.now < 2 ^ 63
             → TakesBytes (part.now ++ 10 ∷ []) bytes self.new.journal self.new.tail result }
     {
         self.take_part(part)?;
@@ -77,9 +84,11 @@ impl Loader {
 
     /// Takes the next bytes.
     fn take(&mut self, more: &[u8]) -> Result<(), JournalFault>
-        ensures size { OnOk result (capped self.new.journal.size ≡ capped (self.old.journal.size + length more.now)) }
+        ensures size { OnOk result
+            (capped self.new.journal.size ≡ capped (self.old.journal.size + length more.now)) }
         ensures answers { IfErr result IsLoadFault }
-        ensures takes { (bytes : List ℕ) → IsRead self.old.journal self.old.tail bytes → length bytes + length more.now < 2 ^ 63
+        ensures takes { (bytes : List ℕ) → IsRead self.old.journal self.old.tail bytes
+            → length bytes + length more.now < 2 ^ 63
             → TakesBytes more.now bytes self.new.journal self.new.tail result }
     {
         let mut done = 0usize;
@@ -107,7 +116,8 @@ pub(crate) fn fetch<R: Rig>(rig: &mut R, at: u64, buf: &mut [u8]) -> Result<usiz
     ensures cause { HasJournalCause (R.view rig.old) (R.view rig.new) result }
     ensures calls { GoesOn AreFetches (R.view rig.old).calls (R.view rig.new).calls }
     ensures answers { IfErr result (λ e. e ≡ JournalFault.File) }
-    ensures honest { (R.view rig.old).is_honest → Fetches at buf.old buf.new (R.view rig.old) (R.view rig.new) result }
+    ensures honest { let old = R.view rig.old in let new = R.view rig.new in
+        old.is_honest → Fetches at buf.old buf.new old new result }
 {
     match rig.fetch(at, buf) {
         Ok(n) => Ok(n),
@@ -146,7 +156,8 @@ impl Journal {
         ensures answers { IfErr result IsLoadAnswer }
         ensures cause { HasJournalCause (R.view rig.old) (R.view rig.new) result }
         ensures calls { GoesOn AreFetches (R.view rig.old).calls (R.view rig.new).calls }
-        ensures honest { (R.view rig.old).is_honest → Loads (R.view rig.old) (R.view rig.new) result }
+        ensures honest { let old = R.view rig.old in let new = R.view rig.new in
+            old.is_honest → Loads old new result }
     {
         let mut buf = [0u8; BUFFER];
         load_by(alloc, rig, &mut buf)

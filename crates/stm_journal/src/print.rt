@@ -26,7 +26,8 @@ fn print_hex(out: &mut Vec<u8>, alloc: Global, bytes: &[u8]) -> Result<(), Alloc
 
 /// Adds an id as four digits.
 fn print_id(out: &mut Vec<u8>, alloc: Global, id: u16) -> Result<(), AllocError>
-    ensures { OnOk result (out.new.items ≡ out.old.items ++ encode_upper (id / 256 ∷ id % 256 ∷ [])) }
+    ensures { OnOk result (out.new.items
+        ≡ out.old.items ++ encode_upper (id / 256 ∷ id % 256 ∷ [])) }
 {
     print_hex(out, alloc, &[(id / 256) as u8, (id % 256) as u8])
 }

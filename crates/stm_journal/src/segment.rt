@@ -100,7 +100,8 @@ impl Segment {
     }
 
     pub(crate) fn keep(&mut self, kept: Kept) -> Result<(), AllocError>
-        ensures ok { OnOk result (self.new ≡ record self.old { pages = self.old.pages ++ kept ∷ [] }) }
+        ensures ok { OnOk result (self.new
+            ≡ record self.old { pages = self.old.pages ++ kept ∷ [] }) }
         ensures err { OnErr result (self.new ≡ self.old) }
     {
         let count = self.pages.len();

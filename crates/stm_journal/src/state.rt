@@ -25,7 +25,8 @@ impl Model for State {
 
     ghost view = { λ s. record { header = s.header; stack = stack_of s.newest s.below.items } };
 
-    ghost invariant = { λ s. IsStacked s.newest s.below.items × IsSound (record { header = s.header; stack = stack_of s.newest s.below.items }) };
+    ghost invariant = { λ s. IsStacked s.newest s.below.items
+        × IsSound (record { header = s.header; stack = stack_of s.newest s.below.items }) };
 }
 
 /// How many pages these segments keep, and so many more.
@@ -159,7 +160,8 @@ impl State {
         requires finished { is_unfinished self.old ≡ false }
         requires room { length self.old.stack < 65535 }
         requires named { IsSome header }
-        ensures ok { OnOk result (self.new ≡ record { header = header; stack = fresh_segment ∷ self.old.stack }) }
+        ensures ok { OnOk result (self.new
+            ≡ record { header = header; stack = fresh_segment ∷ self.old.stack }) }
         ensures err { OnErr result (self.new ≡ self.old) }
     {
         if let Some(mut newest) = self.newest.take() {
@@ -176,7 +178,8 @@ impl State {
 
     fn keep(&mut self, kept: Kept) -> Result<(), AllocError>
         requires { IsTrue (newest_has (may_keep kept.page) self.old.stack) }
-        ensures ok { OnOk result (self.new ≡ record self.old { stack = on_newest (keeping kept) self.old.stack }) }
+        ensures ok { OnOk result (self.new
+            ≡ record self.old { stack = on_newest (keeping kept) self.old.stack }) }
         ensures err { OnErr result (self.new ≡ self.old) }
     {
         match &mut self.newest {
@@ -186,8 +189,10 @@ impl State {
     }
 
     fn intend(&mut self, intent: Intent)
-        requires { IsTrue (newest_has (λ segment. keeps segment (intent_page intent)) self.old.stack) }
-        ensures { self.new ≡ record self.old { stack = on_newest (intending intent) self.old.stack } }
+        requires { IsTrue (newest_has
+            (λ segment. keeps segment (intent_page intent)) self.old.stack) }
+        ensures { self.new
+            ≡ record self.old { stack = on_newest (intending intent) self.old.stack } }
     {
         if let Some(newest) = &mut self.newest {
             newest.intend(intent);

@@ -22,7 +22,12 @@ impl Model for LineSummary {
 
     ghost Value = { Summary };
 
-    ghost view = { λ s. record { prefix = s.prefix.items; size = s.size; is_upper = s.is_upper; last = s.last } };
+    ghost view = { λ s. record {
+      prefix = s.prefix.items;
+      size = s.size;
+      is_upper = s.is_upper;
+      last = s.last;
+    } };
 
     ghost invariant = { λ s. length s.prefix.items ≤ 17 };
 }

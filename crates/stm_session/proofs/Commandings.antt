@@ -1,5 +1,5 @@
 -- A command: its segment begins, its pages are turned, its segment ends.
-use Rattle.std.proofs.Common.{◌≡◌, inl, inr, ℕ, ◌+◌, Bool, true, List, ◌∷◌, ◌++◌, length, take, Result, Ok, Err, IsErrAnd, sym, ap, ◌∙◌, subst}
+use Rattle.std.proofs.Common.{◌≡◌, inl, inr, ℕ, ◌+◌, true, List, ◌∷◌, ◌++◌, length, take, Result, Ok, Err, IsErrAnd, sym, ap, ◌∙◌, subst}
 use Rattle.std.proofs.lemmas.Bool.{true≢false}
 use Rattle.stm_wire.specs.Device.{Device}
 use Rattle.stm_wire.specs.MomentLaws.{joined, weaker}
@@ -11,11 +11,11 @@ use Rattle.stm_session.specs.Fault.{IsOutsideFault}
 use Rattle.stm_session.specs.Lines.{is_torn_at, text_added}
 use Rattle.stm_session.specs.Moments.{SameMake}
 use Rattle.stm_session.specs.Segments.{AmidCommand, Changes, Closes, IsClosing}
-use Rattle.stm_session.specs.Steps.{AddsLines, Goes, Stands, torn_after}
+use Rattle.stm_session.specs.Steps.{Goes, Stands, torn_after}
 use Rattle.stm_session.specs.Undoable.{is_unfinished_at}
 use Rattle.stm_session.proofs.Going.{at_exit, stands_more}
 use Rattle.stm_session.proofs.Standing.{makes_then}
-use Rattle.stm_session.proofs.Texts.{adds_then, behind_part, front_part, text_added-append}
+use Rattle.stm_session.proofs.Texts.{adds_then, front_part, lines_later, text_added-append}
 
 -- a beginning of some lines is one of those and more
 amid_more : (xs ys : List Entry) (flashes : List (List ℕ)) (after : List ℕ) (a : RigState) (d : Device) (journal : List ℕ) → AmidCommand xs flashes after a d journal → AmidCommand (xs ++ ys) flashes after a d journal
@@ -30,16 +30,6 @@ amid_more xs ys flashes after a d journal (inr h) =
       written = part.0;
       lines = h.lines ∙ ap (λ bytes. a.journal ++ bytes) (part.1 ∙ ap (λ bytes. take part.0 bytes) (sym (text_added-append torn xs ys)));
     })
-
--- a later beginning, seen from the start
-lines_later : (xs ys : List Entry) (a b journal : List ℕ) (n : ℕ) → AddsLines xs a b → journal ≡ b ++ take n (text_added (is_torn_at b) ys)
-    → journal ≡ a ++ take (length (text_added (is_torn_at a) xs) + n) (text_added (is_torn_at a) (xs ++ ys))
-lines_later xs ys a b journal n adds line =
-    let torn = is_torn_at a in
-    line ∙ ap (λ (j : List ℕ). j ++ take n (text_added (is_torn_at b) ys)) adds.added
-    ∙ ap (λ (t : Bool). (a ++ text_added torn xs) ++ take n (text_added t ys)) adds.torn
-    ∙ behind_part n a (text_added torn xs) (text_added (torn_after torn xs) ys)
-    ∙ ap (λ bytes. a ++ take (length (text_added torn xs) + n) bytes) (sym (text_added-append torn xs ys))
 
 -- the segment has begun, and pages are turned
 module _ {T : Type 0} {Done1 : T → Type 0} (flashes : List (List ℕ)) (xs ys : List Entry) (after : List ℕ) (l2 : Loaded) (a b c : RigState) (x : T) (first : Changes flashes xs after l2 a b (Ok x) Done1)

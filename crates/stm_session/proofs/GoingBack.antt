@@ -30,8 +30,7 @@ use Rattle.stm_session.specs.Undoes.{flash_taken_back}
 use Rattle.stm_session.proofs.Going.{at_exit}
 use Rattle.stm_session.proofs.Keeping.{depth_text}
 use Rattle.stm_session.proofs.Standing.{makes_then, stands_now}
-use Rattle.stm_session.proofs.TakingBack.{lines_later}
-use Rattle.stm_session.proofs.Texts.{adds_none, adds_then, front_part, text_added-append}
+use Rattle.stm_session.proofs.Texts.{adds_none, adds_then, front_part, lines_later, text_added-append}
 
 -- the pages of segments that a chip has, whichever are off
 PagesFit : ChipData → List (List Kept) → Type 0

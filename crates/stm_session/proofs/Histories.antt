@@ -1,326 +1,162 @@
 -- The headline follows from the contracts of run, info and undo.
-use Rattle.std.proofs.Common.{◌≡◌, ◌≤◌, ◌+◌, ◌==◌, ◌||◌, nat_lt, ℕ, suc, Bool, true, false, not, List, [], ◌∷◌, ◌++◌, length, take, drop, reverse, Option, Some, None, Result, Ok, Err, refl, sym, ◌∙◌, ap, subst, arith, ⊎_elim, length-append, if◌then◌else◌, length-take, length-drop}
-use Rattle.std.proofs.lemmas.List.{length-reverse}
+use Rattle.std.proofs.Common.{◌≡◌, ◌≤◌, ℕ, false, List, [], ◌∷◌, length, drop, Result, Ok, Err, sym, ◌∙◌, ap, subst, arith, ⊎_elim, length-drop}
 use Rattle.std.proofs.lemmas.Bool.{cases_Bool}
 use Rattle.stm_wire.specs.Chip.{ChipData}
-use Rattle.stm_wire.specs.Device.{Device, IsDevice, IsReady, LosesOwed, reset}
-use Rattle.stm_wire.specs.Intents.{settling_byte}
+use Rattle.stm_wire.specs.Device.{Device}
 use Rattle.stm_wire.specs.Rig.{RigState}
-use Rattle.stm_wire.specs.Stopped.{LossStaysHarmless}
 use Rattle.stm_chip.specs.Document.{IsChipWith}
-use Rattle.stm_journal.specs.States.{SegmentData, intent_of}
-use Rattle.stm_journal.specs.Journals.{good, journal_of}
-use Rattle.stm_journal.specs.Flashes.{flashes_before_segments, with_kept_pages}
 use Rattle.stm_journal.specs.Calls.{IsUntouched}
 use Rattle.stm_session.specs.declared.information.Info.{Info}
 use Rattle.stm_session.specs.declared.fault.Fault.{Fault}
 use Rattle.stm_session.specs.declared.fault.Fault.TheVariants as faults
-use Rattle.stm_session.specs.Moments.{IsSafe, IsUnbegun, SameMake}
-use Rattle.stm_session.specs.Refusal.{unsent_refusal, refused_unless}
-use Rattle.stm_session.specs.Undoable.{Undoable, is_unfinished_at, state_at, risked_pages}
+use Rattle.stm_session.specs.Moments.{IsUnbegun}
+use Rattle.stm_session.specs.Undoable.{Undoable, is_unfinished_at}
 use Rattle.stm_session.specs.declared.outcome.Report.{Report}
-use Rattle.stm_session.specs.Meaning.{CommandData, flash_after, flash_after_all, flashes_before, changes_of, is_change, before_if}
+use Rattle.stm_session.specs.Meaning.{CommandData}
 use Rattle.stm_session.specs.Answers.{outcomes_in}
-use Rattle.stm_session.specs.Lines.{depth_at}
-use Rattle.stm_session.specs.Refusals.{run_refusal}
-use Rattle.stm_session.specs.Runs.{AmidRun, standing}
 use Rattle.stm_session.specs.Undoes.{taken_count, flash_taken_back, AmidUndo, Undoes}
 use Rattle.stm_session.specs.Promises.{RunContract, InfoContract, UndoContract}
-use Rattle.stm_session.specs.Headline.{World, now_of, Event, ran, run_stopped, informed, info_stopped, undid, undo_stopped, was_reset, Stops, Leads, standing_in, grown, starts_of_run, starts_after, RunHolds, UndoHolds, RunLeaves, UndoLeaves, LeavesAlone, Holds, Happening, AllLead, AllHold, IsStart, Headline}
+use Rattle.stm_session.specs.Headline.{World, now_of, Event, ran, run_stopped, informed, info_stopped, undid, undo_stopped, was_reset, Stops, Leads, grown, starts_after, UndoHolds, UndoLeaves, LeavesAlone, Holds, Happening, AllLead, AllHold, IsStart, Headline}
+use Rattle.stm_session.proofs.RunHistories.{Laws, depth-is, run-holds, run-leaves, run-left, run-starts, taken-within, unbegun-keeps, untouched-keeps, waits}
 
-length-flashes : (chip : ChipData) (stack : List SegmentData) (flash : List ℕ) → length (flashes_before_segments chip stack flash) ≡ length stack
-length-flashes chip [] flash = refl
-length-flashes chip (segment ∷ below) flash = ap suc (length-flashes chip below (with_kept_pages chip segment flash))
+module _ (laws : Laws) {R : Type 0} (view : R → RigState) (table : List ChipData) where
+  abbrev pub IsTabled : World → Type 0
+  IsTabled w = IsChipWith table w.device.chip.id w.device.chip
 
-length-before_if : (b : Bool) (flash : List ℕ) (c : CommandData) (flashes : List (List ℕ)) (commands : List CommandData) → length flashes ≡ length commands
-    → length (before_if b flash flashes) ≡ length (if b then c ∷ commands else commands)
-length-before_if true flash c flashes commands e = ap suc e
-length-before_if false flash c flashes commands e = e
+  pub undo-undone : (flashes : List (List ℕ)) (taken : ℕ) (old : RigState) (t : World) → taken ≤ length flashes → Undoable flashes old.device old.journal → (amid : AmidUndo taken flashes old t.device t.journal) → grown t (now_of old) ≡ amid.undone
+  undo-undone flashes taken old t within u amid =
+      omega (arith, within, amid.within, depth-is flashes old.device old.journal u, depth-is (drop amid.undone flashes) t.device t.journal amid.undoable, length-drop amid.undone flashes)
 
-pub length-before : (chip : ChipData) (flash : List ℕ) (commands : List CommandData) → length (flashes_before chip flash commands) ≡ length (changes_of commands)
-length-before chip flash [] = refl
-length-before chip flash (c ∷ commands) = length-before_if (is_change c) flash c (flashes_before chip (flash_after chip flash c) commands) (changes_of commands) (length-before chip (flash_after chip flash c) commands)
+  undo-leaves : (flashes : List (List ℕ)) (taken : ℕ) (old : RigState) (t : World) → taken ≤ length flashes → Undoable flashes old.device old.journal → AmidUndo taken flashes old t.device t.journal → UndoLeaves (now_of old) t flashes
+  undo-leaves flashes taken old t within u amid e =
+      amid.finished e ∙ ap (λ (n : ℕ). flash_taken_back n old.device.flash flashes) (sym (undo-undone flashes taken old t within u amid))
 
-pub depth-is : (flashes : List (List ℕ)) (d : Device) (journal : List ℕ) → Undoable flashes d journal → depth_at journal ≡ length flashes
-depth-is flashes d journal u = sym (length-flashes d.chip (state_at journal).stack d.flash) ∙ ap length u.keeps
+  undo-starts : (flashes : List (List ℕ)) (taken : ℕ) (old : RigState) (t : World) → taken ≤ length flashes → Undoable flashes old.device old.journal → AmidUndo taken flashes old t.device t.journal
+      → Undoable (drop (grown t (now_of old)) flashes) t.device t.journal
+  undo-starts flashes taken old t within u amid =
+      let U : ℕ → Type 0 = λ n. Undoable (drop n flashes) t.device t.journal in
+      subst U (sym (undo-undone flashes taken old t within u amid)) amid.undoable
 
-length-added : (n : ℕ) (hs fs : List (List ℕ)) → n ≤ length hs → length (reverse (take n hs) ++ fs) ≡ n + length fs
-length-added n hs fs le = length-append (reverse (take n hs)) fs ∙ ap (λ k. k + length fs) (length-reverse (take n hs)) ∙ omega (arith, le, length-take n hs)
-
-pub taken-within : (count below : ℕ) → taken_count count below ≤ below
-taken-within count below = chosen (count == 0) (nat_lt below count) refl
-  where
-    not-above : nat_lt below count ≡ false → count ≤ below
-    not-above e = grind (arith, e)
-
-    chosen : (a b : Bool) → nat_lt below count ≡ b → (if a || b then below else count) ≤ below
-    chosen true b e = omega arith
-    chosen false true e = omega arith
-    chosen false false e = not-above e
-
--- what the layers below promise
-pub record Laws : Type 0 where
-  pub loses : LossStaysHarmless
-  pub resets : (flashes : List (List ℕ)) (d : Device) (journal : List ℕ) → Undoable flashes d journal → Undoable flashes (reset d) journal
-  pub safe : (flashes : List (List ℕ)) (d : Device) (journal : List ℕ) → Undoable flashes d journal → is_unfinished_at journal ≡ false → IsSafe d
-  pub unbegun : (flashes : List (List ℕ)) (old d : Device) (journal : List ℕ) → Undoable flashes old journal → is_unfinished_at journal ≡ false
-      → SameMake old d → d.flash ≡ old.flash → IsSafe d → Undoable flashes d journal
-  pub begins : (d : Device) → IsDevice d → IsReady d → Undoable [] d []
-
-module _ (laws : Laws) where
-  lost-keeps : (flashes : List (List ℕ)) (d e : Device) (journal : List ℕ) → Undoable flashes d journal → LosesOwed d e → Undoable flashes e journal
-  lost-keeps flashes d e journal u (n, lost) =
-      let less : Device = record d { owed = drop n d.owed } in
-      let U : Device → Type 0 = λ x. Undoable flashes x journal in
-      subst U (sym lost) (record {
-        good_journal = u.good_journal;
-        own = u.own;
-        fits = u.fits;
-        keeps = u.keeps;
-        harmless = laws.loses d less (settling_byte (intent_of (state_at journal))) (risked_pages (state_at journal)) u.harmless (n, refl);
-        owed = omega (arith, u.owed, length-drop n d.owed);
-      })
-
-  untouched-keeps : (flashes : List (List ℕ)) (old : RigState) (d : Device) (journal : List ℕ) → Undoable flashes old.device old.journal → IsUntouched old d journal → Undoable flashes d journal
-  untouched-keeps flashes old d journal u left =
-      let U : List ℕ → Type 0 = λ j. Undoable flashes d j in
-      subst U (sym left.0) (lost-keeps flashes old.device d old.journal u left.1)
-
-  unbegun-keeps : (flashes : List (List ℕ)) (old : RigState) (d : Device) (journal : List ℕ) → is_unfinished_at old.journal ≡ false → Undoable flashes old.device old.journal → IsUnbegun old d journal → Undoable flashes d journal
-  unbegun-keeps flashes old d journal over u b =
-      let U : List ℕ → Type 0 = λ j. Undoable flashes d j in
-      subst U (sym b.journal_same) (laws.unbegun flashes old.device d old.journal u over b.make b.flash b.safe)
-
-  waits : (old : RigState) → journal_of old.journal ≡ good (state_at old.journal) → is_unfinished_at old.journal ≡ true → unsent_refusal (journal_of old.journal) ≡ Some faults.Unfinished
-  waits old is_good e = ap unsent_refusal is_good ∙ ap (λ (b : Bool). refused_unless (not b) faults.Unfinished) e
-
-  -- what a run leaves at any moment
-  pub record RunLeft (commands : List CommandData) (flashes : List (List ℕ)) (s t : World) : Type 0 where
-    pub begun : ℕ
-    pub within : begun ≤ length (changes_of (standing_in s commands))
-    pub same_chip : t.device.chip ≡ s.device.chip
-    pub undoable : Undoable (reverse (take begun (flashes_before s.device.chip s.device.flash (standing_in s commands))) ++ flashes) t.device t.journal
-    pub finished : is_unfinished_at t.journal ≡ false → t.device.flash ≡ flash_after_all s.device.chip s.device.flash (take begun (changes_of (standing_in s commands)))
-
-  run-unbegun : (commands : List CommandData) (flashes : List (List ℕ)) (s t : World) → t.device.chip ≡ s.device.chip → Undoable flashes t.device t.journal → (is_unfinished_at t.journal ≡ false → t.device.flash ≡ s.device.flash) → RunLeft commands flashes s t
-  run-unbegun commands flashes s t chip u flash = record { begun = 0; within = omega arith; same_chip = chip; undoable = u; finished = flash }
-
-  amid-left : (commands : List CommandData) (flashes : List (List ℕ)) (old : RigState) (t : World) → AmidRun (standing old commands) flashes old t.device t.journal → RunLeft commands flashes (now_of old) t
-  amid-left commands flashes old t amid = record { begun = amid.begun; within = amid.within; same_chip = amid.make.chip; undoable = amid.undoable; finished = amid.finished }
-
-  untouched-left : (commands : List CommandData) (flashes : List (List ℕ)) (old : RigState) (t : World) → Undoable flashes old.device old.journal → IsUntouched old t.device t.journal → RunLeft commands flashes (now_of old) t
-  untouched-left commands flashes old t u same =
-      run-unbegun commands flashes (now_of old) t (ap (λ (d : Device). d.chip) same.1.1) (untouched-keeps flashes old t.device t.journal u same) (λ e. ap (λ (d : Device). d.flash) same.1.1)
-
-  unbegun-left : (commands : List CommandData) (flashes : List (List ℕ)) (old : RigState) (t : World) → is_unfinished_at old.journal ≡ false → Undoable flashes old.device old.journal → IsUnbegun old t.device t.journal → RunLeft commands flashes (now_of old) t
-  unbegun-left commands flashes old t over u b = run-unbegun commands flashes (now_of old) t b.make.chip (unbegun-keeps flashes old t.device t.journal over u b) (λ e. b.flash)
-
-  module _ {R : Type 0} (view : R → RigState) (table : List ChipData) where
-    abbrev pub IsTabled : World → Type 0
-    IsTabled w = IsChipWith table w.device.chip.id w.device.chip
-
-    module _ (commands : List CommandData) (flashes : List (List ℕ)) (old new : RigState) (result : Result Report Fault) (honest : old.is_honest)
-        (u : Undoable flashes old.device old.journal) (tabled : IsChipWith table old.device.chip.id old.device.chip) (contract : RunContract table commands old new result outcomes_in) where
-      -- what a stop leaves, and what the return leaves
-      run-checked : is_unfinished_at old.journal ≡ false → (o : Option Fault) → run_refusal (journal_of old.journal) old.device table commands ≡ o
-          → ((t : World) → Stops old new t → RunLeft commands flashes (now_of old) t) × RunLeft commands flashes (now_of old) (now_of new)
-      run-checked over None is =
-          let runs = contract.runs honest flashes u tabled is in
-          (λ t left. amid-left commands flashes old t (runs.moments.each t.device t.journal left), amid-left commands flashes old (now_of new) runs.left)
-      run-checked over (Some r) is =
-          let refused = contract.refused honest (laws.safe flashes old.device old.journal u over) r is in
-          (λ t left. unbegun-left commands flashes old t over u (refused.moments.each t.device t.journal left), unbegun-left commands flashes old (now_of new) over u refused.left)
-
-      pub run-left : ((t : World) → Stops old new t → RunLeft commands flashes (now_of old) t) × RunLeft commands flashes (now_of old) (now_of new)
-      run-left =
-          ⊎_elim
-          (λ still_open.
-          let unsent = contract.unsent honest faults.Unfinished (waits old u.good_journal still_open) in
-          (λ t left. untouched-left commands flashes old t u (unsent.moments.each t.device t.journal left), untouched-left commands flashes old (now_of new) u unsent.left))
-          (λ over. run-checked over (run_refusal (journal_of old.journal) old.device table commands) refl)
-          (cases_Bool (is_unfinished_at old.journal))
-
-    run-succeeds : (commands : List CommandData) (flashes : List (List ℕ)) (old new : RigState) (report : Report) → old.is_honest → Undoable flashes old.device old.journal → IsChipWith table old.device.chip.id old.device.chip
-        → RunContract table commands old new (Ok report) outcomes_in → is_unfinished_at old.journal ≡ false
-        → (o : Option Fault) → run_refusal (journal_of old.journal) old.device table commands ≡ o → RunHolds commands (now_of old) (now_of new)
-    run-succeeds commands flashes old new report honest u tabled contract over None is =
-        let done = (contract.runs honest flashes u tabled is).done in
-        record {
-          flash = done.flash;
-          finished = done.finished;
-          segments = depth-is (reverse (flashes_before old.device.chip old.device.flash commands) ++ flashes) new.device new.journal done.undoable
-              ∙ omega (
-                arith,
-                depth-is flashes old.device old.journal u,
-                length-append (reverse (flashes_before old.device.chip old.device.flash commands)) flashes,
-                length-reverse (flashes_before old.device.chip old.device.flash commands),
-                length-before old.device.chip old.device.flash commands,
-              );
-        }
-    run-succeeds commands flashes old new report honest u tabled contract over (Some r) is =
-        absurd (contract.refused honest (laws.safe flashes old.device old.journal u over) r is).answers
-
-    pub run-holds : (commands : List CommandData) (flashes : List (List ℕ)) (old new : RigState) (report : Report) → old.is_honest → Undoable flashes old.device old.journal → IsChipWith table old.device.chip.id old.device.chip
-        → RunContract table commands old new (Ok report) outcomes_in → RunHolds commands (now_of old) (now_of new)
-    run-holds commands flashes old new report honest u tabled contract =
-        ⊎_elim
-        (λ still_open. absurd (contract.unsent honest faults.Unfinished (waits old u.good_journal still_open)).answers)
-        (λ over. run-succeeds commands flashes old new report honest u tabled contract over (run_refusal (journal_of old.journal) old.device table commands) refl)
-        (cases_Bool (is_unfinished_at old.journal))
-
-    pub run-begun : (commands : List CommandData) (flashes : List (List ℕ)) (s t : World) → Undoable flashes s.device s.journal → (left : RunLeft commands flashes s t) → grown s t ≡ left.begun
-    run-begun commands flashes s t u left =
-        let hs = flashes_before s.device.chip s.device.flash (standing_in s commands) in
-        omega (
+  undo-holds : (count n : ℕ) (flashes : List (List ℕ)) (old new : RigState) → Undoable flashes old.device old.journal
+      → Undoes (taken_count count (length flashes)) flashes old new (Ok n) → UndoHolds count n (now_of old) (now_of new) flashes
+  undo-holds count n flashes old new u undoes =
+      record {
+        answer = undoes.answer ∙ ap (λ k. taken_count count k) (sym (depth-is flashes old.device old.journal u));
+        segments = omega (
           arith,
-          depth-is flashes s.device s.journal u,
-          depth-is (reverse (take left.begun hs) ++ flashes) t.device t.journal left.undoable,
-          length-added left.begun hs flashes (omega (arith, left.within, length-before s.device.chip s.device.flash (standing_in s commands))),
-        )
+          undoes.answer,
+          taken-within count (length flashes),
+          depth-is flashes old.device old.journal u,
+          depth-is (drop (taken_count count (length flashes)) flashes) new.device new.journal undoes.done.undoable,
+          length-drop (taken_count count (length flashes)) flashes,
+        );
+        finished = undoes.done.finished;
+        flash = undoes.done.flash ∙ ap (λ k. flash_taken_back k old.device.flash flashes) (sym undoes.answer);
+      }
 
-    run-leaves : (commands : List CommandData) (flashes : List (List ℕ)) (s t : World) → Undoable flashes s.device s.journal → RunLeft commands flashes s t → RunLeaves commands s t
-    run-leaves commands flashes s t u left e =
-        left.finished e ∙ ap (λ (n : ℕ). flash_after_all s.device.chip s.device.flash (take n (changes_of (standing_in s commands)))) (sym (run-begun commands flashes s t u left))
+  -- what one event gives
+  abbrev pub Gives : Event R → List (List ℕ) → World → World → Type 0
+  Gives event starts t s = Undoable starts s.device s.journal → IsTabled s → Undoable (starts_after event s t starts) t.device t.journal × (t.device.chip ≡ s.device.chip) × Holds event s t starts
 
-    run-starts : (commands : List CommandData) (flashes : List (List ℕ)) (s t : World) → Undoable flashes s.device s.journal → RunLeft commands flashes s t → Undoable (starts_of_run commands s t flashes) t.device t.journal
-    run-starts commands flashes s t u left =
-        let U : ℕ → Type 0 = λ n. Undoable (reverse (take n (flashes_before s.device.chip s.device.flash (standing_in s commands))) ++ flashes) t.device t.journal in
-        subst U (sym (run-begun commands flashes s t u left)) left.undoable
+  ran-gives : (commands : List CommandData) (starts : List (List ℕ)) (a b : R) (result : Result Report Fault) → (view a).is_honest → RunContract table commands (view a) (view b) result outcomes_in
+      → Gives (ran commands a b result) starts (now_of (view b)) (now_of (view a))
+  ran-gives commands starts a b (Ok report) honest contract u tabled =
+      let l = (run-left laws table commands starts (view a) (view b) (Ok report) honest u tabled contract).1 in
+      (run-starts laws table commands starts (now_of (view a)) (now_of (view b)) u l, l.same_chip, run-holds laws table commands starts (view a) (view b) report honest u tabled contract)
+  ran-gives commands starts a b (Err e) honest contract u tabled =
+      let l = (run-left laws table commands starts (view a) (view b) (Err e) honest u tabled contract).1 in
+      (run-starts laws table commands starts (now_of (view a)) (now_of (view b)) u l, l.same_chip, run-leaves laws table commands starts (now_of (view a)) (now_of (view b)) u l)
 
-    pub undo-undone : (flashes : List (List ℕ)) (taken : ℕ) (old : RigState) (t : World) → taken ≤ length flashes → Undoable flashes old.device old.journal → (amid : AmidUndo taken flashes old t.device t.journal) → grown t (now_of old) ≡ amid.undone
-    undo-undone flashes taken old t within u amid =
-        omega (arith, within, amid.within, depth-is flashes old.device old.journal u, depth-is (drop amid.undone flashes) t.device t.journal amid.undoable, length-drop amid.undone flashes)
+  stopped-gives : (commands : List CommandData) (starts : List (List ℕ)) (a b : R) (result : Result Report Fault) (t : World) → (view a).is_honest → RunContract table commands (view a) (view b) result outcomes_in → Stops (view a) (view b) t
+      → Gives (run_stopped commands a b result) starts t (now_of (view a))
+  stopped-gives commands starts a b result t honest contract left u tabled =
+      let l = (run-left laws table commands starts (view a) (view b) result honest u tabled contract).0 t left in
+      (run-starts laws table commands starts (now_of (view a)) t u l, l.same_chip, run-leaves laws table commands starts (now_of (view a)) t u l)
 
-    undo-leaves : (flashes : List (List ℕ)) (taken : ℕ) (old : RigState) (t : World) → taken ≤ length flashes → Undoable flashes old.device old.journal → AmidUndo taken flashes old t.device t.journal → UndoLeaves (now_of old) t flashes
-    undo-leaves flashes taken old t within u amid e =
-        amid.finished e ∙ ap (λ (n : ℕ). flash_taken_back n old.device.flash flashes) (sym (undo-undone flashes taken old t within u amid))
+  -- info changes nothing
+  record InfoLeft (flashes : List (List ℕ)) (s t : World) : Type 0 where
+    undoable : Undoable flashes t.device t.journal
+    same_chip : t.device.chip ≡ s.device.chip
+    alone : LeavesAlone s t
 
-    undo-starts : (flashes : List (List ℕ)) (taken : ℕ) (old : RigState) (t : World) → taken ≤ length flashes → Undoable flashes old.device old.journal → AmidUndo taken flashes old t.device t.journal
-        → Undoable (drop (grown t (now_of old)) flashes) t.device t.journal
-    undo-starts flashes taken old t within u amid =
-        let U : ℕ → Type 0 = λ n. Undoable (drop n flashes) t.device t.journal in
-        subst U (sym (undo-undone flashes taken old t within u amid)) amid.undoable
+  info-untouched : (flashes : List (List ℕ)) (old : RigState) (t : World) → Undoable flashes old.device old.journal → IsUntouched old t.device t.journal → InfoLeft flashes (now_of old) t
+  info-untouched flashes old t u same =
+      record { undoable = untouched-keeps laws flashes old t.device t.journal u same; same_chip = ap (λ (d : Device). d.chip) same.1.1; alone = (ap (λ (d : Device). d.flash) same.1.1, same.0) }
 
-    undo-holds : (count n : ℕ) (flashes : List (List ℕ)) (old new : RigState) → Undoable flashes old.device old.journal
-        → Undoes (taken_count count (length flashes)) flashes old new (Ok n) → UndoHolds count n (now_of old) (now_of new) flashes
-    undo-holds count n flashes old new u undoes =
-        record {
-          answer = undoes.answer ∙ ap (λ k. taken_count count k) (sym (depth-is flashes old.device old.journal u));
-          segments = omega (
-            arith,
-            undoes.answer,
-            taken-within count (length flashes),
-            depth-is flashes old.device old.journal u,
-            depth-is (drop (taken_count count (length flashes)) flashes) new.device new.journal undoes.done.undoable,
-            length-drop (taken_count count (length flashes)) flashes,
-          );
-          finished = undoes.done.finished;
-          flash = undoes.done.flash ∙ ap (λ k. flash_taken_back k old.device.flash flashes) (sym undoes.answer);
-        }
+  info-unbegun : (flashes : List (List ℕ)) (old : RigState) (t : World) → is_unfinished_at old.journal ≡ false → Undoable flashes old.device old.journal → IsUnbegun old t.device t.journal → InfoLeft flashes (now_of old) t
+  info-unbegun flashes old t over u b =
+      record { undoable = unbegun-keeps laws flashes old t.device t.journal over u b; same_chip = b.make.chip; alone = (b.flash, b.journal_same) }
 
-    -- what one event gives
-    abbrev pub Gives : Event R → List (List ℕ) → World → World → Type 0
-    Gives event starts t s = Undoable starts s.device s.journal → IsTabled s → Undoable (starts_after event s t starts) t.device t.journal × (t.device.chip ≡ s.device.chip) × Holds event s t starts
+  info-left : (flashes : List (List ℕ)) (old new : RigState) (result : Result Info Fault) → old.is_honest → Undoable flashes old.device old.journal → InfoContract table old new result
+      → ((t : World) → Stops old new t → InfoLeft flashes (now_of old) t) × InfoLeft flashes (now_of old) (now_of new)
+  info-left flashes old new result honest u contract =
+      ⊎_elim
+      (λ still_open.
+      let unsent = contract.unsent honest faults.Unfinished (waits laws old u.good_journal still_open) in
+      (λ t left. info-untouched flashes old t u (unsent.moments.each t.device t.journal left), info-untouched flashes old (now_of new) u unsent.left))
+      (λ over.
+      let informs = contract.informs honest (laws.safe flashes old.device old.journal u over) in
+      (λ t left. info-unbegun flashes old t over u (informs.moments.each t.device t.journal left), info-unbegun flashes old (now_of new) over u informs.left))
+      (cases_Bool (is_unfinished_at old.journal))
 
-    ran-gives : (commands : List CommandData) (starts : List (List ℕ)) (a b : R) (result : Result Report Fault) → (view a).is_honest → RunContract table commands (view a) (view b) result outcomes_in
-        → Gives (ran commands a b result) starts (now_of (view b)) (now_of (view a))
-    ran-gives commands starts a b (Ok report) honest contract u tabled =
-        let l = (run-left commands starts (view a) (view b) (Ok report) honest u tabled contract).1 in
-        (run-starts commands starts (now_of (view a)) (now_of (view b)) u l, l.same_chip, run-holds commands starts (view a) (view b) report honest u tabled contract)
-    ran-gives commands starts a b (Err e) honest contract u tabled =
-        let l = (run-left commands starts (view a) (view b) (Err e) honest u tabled contract).1 in
-        (run-starts commands starts (now_of (view a)) (now_of (view b)) u l, l.same_chip, run-leaves commands starts (now_of (view a)) (now_of (view b)) u l)
+  undid-gives : (count : ℕ) (starts : List (List ℕ)) (a b : R) (result : Result ℕ Fault) → (view a).is_honest → UndoContract table count (view a) (view b) result
+      → Gives (undid count a b result) starts (now_of (view b)) (now_of (view a))
+  undid-gives count starts a b (Ok n) honest contract u tabled =
+      let undoes = contract.undoes honest starts u tabled in
+      (undo-starts starts (taken_count count (length starts)) (view a) (now_of (view b)) (taken-within count (length starts)) u undoes.left, undoes.left.make.chip, undo-holds count n starts (view a) (view b) u undoes)
+  undid-gives count starts a b (Err e) honest contract u tabled =
+      let undoes = contract.undoes honest starts u tabled in (
+        undo-starts starts (taken_count count (length starts)) (view a) (now_of (view b)) (taken-within count (length starts)) u undoes.left,
+        undoes.left.make.chip,
+        (undoes.fails, undo-leaves starts (taken_count count (length starts)) (view a) (now_of (view b)) (taken-within count (length starts)) u undoes.left),
+      )
 
-    stopped-gives : (commands : List CommandData) (starts : List (List ℕ)) (a b : R) (result : Result Report Fault) (t : World) → (view a).is_honest → RunContract table commands (view a) (view b) result outcomes_in → Stops (view a) (view b) t
-        → Gives (run_stopped commands a b result) starts t (now_of (view a))
-    stopped-gives commands starts a b result t honest contract left u tabled =
-        let l = (run-left commands starts (view a) (view b) result honest u tabled contract).0 t left in
-        (run-starts commands starts (now_of (view a)) t u l, l.same_chip, run-leaves commands starts (now_of (view a)) t u l)
+  undo-stopped-gives : (count : ℕ) (starts : List (List ℕ)) (a b : R) (result : Result ℕ Fault) (t : World) → (view a).is_honest → UndoContract table count (view a) (view b) result → Stops (view a) (view b) t
+      → Gives (undo_stopped count a b result) starts t (now_of (view a))
+  undo-stopped-gives count starts a b result t honest contract left u tabled =
+      let amid = (contract.undoes honest starts u tabled).moments.each t.device t.journal left in (
+        undo-starts starts (taken_count count (length starts)) (view a) t (taken-within count (length starts)) u amid,
+        amid.make.chip,
+        undo-leaves starts (taken_count count (length starts)) (view a) t (taken-within count (length starts)) u amid,
+      )
 
-    -- info changes nothing
-    record InfoLeft (flashes : List (List ℕ)) (s t : World) : Type 0 where
-      undoable : Undoable flashes t.device t.journal
-      same_chip : t.device.chip ≡ s.device.chip
-      alone : LeavesAlone s t
+  pub gives : (event : Event R) (starts : List (List ℕ)) (s t : World) → Leads view table event s t → Gives event starts t s
+  gives (ran commands old new result) starts s t (begins, contract, returns) =
+      let A : World → Type 0 = λ x. Gives (ran commands old new result) starts t x in
+      let B : World → Type 0 = λ y. Gives (ran commands old new result) starts y (now_of (view old)) in
+      subst A begins.1 (subst B returns (ran-gives commands starts old new result begins.0 contract))
+  gives (run_stopped commands old new result) starts s t (begins, contract, left) =
+      let A : World → Type 0 = λ x. Gives (run_stopped commands old new result) starts t x in
+      subst A begins.1 (stopped-gives commands starts old new result t begins.0 contract left)
+  gives (informed old new result) starts s t (begins, contract, returns) =
+      let A : World → Type 0 = λ x. Gives (informed old new result) starts t x in
+      let B : World → Type 0 = λ y. Gives (informed old new result) starts y (now_of (view old)) in
+      subst A begins.1 (subst B returns (λ u tabled. let l = (info-left starts (view old) (view new) result begins.0 u contract).1 in (l.undoable, l.same_chip, l.alone)))
+  gives (info_stopped old new result) starts s t (begins, contract, left) =
+      let A : World → Type 0 = λ x. Gives (info_stopped old new result) starts t x in
+      subst A begins.1 (λ u tabled. let l = (info-left starts (view old) (view new) result begins.0 u contract).0 t left in (l.undoable, l.same_chip, l.alone))
+  gives (undid count old new result) starts s t (begins, contract, returns) =
+      let A : World → Type 0 = λ x. Gives (undid count old new result) starts t x in
+      let B : World → Type 0 = λ y. Gives (undid count old new result) starts y (now_of (view old)) in
+      subst A begins.1 (subst B returns (undid-gives count starts old new result begins.0 contract))
+  gives (undo_stopped count old new result) starts s t (begins, contract, left) =
+      let A : World → Type 0 = λ x. Gives (undo_stopped count old new result) starts t x in
+      subst A begins.1 (undo-stopped-gives count starts old new result t begins.0 contract left)
+  gives was_reset starts s t e = λ u tabled.
+      let U : World → Type 0 = λ x. Undoable starts x.device x.journal in
+      (subst U (sym e) (laws.resets starts s.device s.journal u), ap (λ (x : World). x.device.chip) e, (ap (λ (x : World). x.device.flash) e, ap (λ (x : World). x.journal) e))
 
-    info-untouched : (flashes : List (List ℕ)) (old : RigState) (t : World) → Undoable flashes old.device old.journal → IsUntouched old t.device t.journal → InfoLeft flashes (now_of old) t
-    info-untouched flashes old t u same =
-        record { undoable = untouched-keeps flashes old t.device t.journal u same; same_chip = ap (λ (d : Device). d.chip) same.1.1; alone = (ap (λ (d : Device). d.flash) same.1.1, same.0) }
+  pub still-tabled : (s t : World) → t.device.chip ≡ s.device.chip → IsTabled s → IsTabled t
+  still-tabled s t e tabled = let C : ChipData → Type 0 = λ c. IsChipWith table c.id c in subst C (sym e) tabled
 
-    info-unbegun : (flashes : List (List ℕ)) (old : RigState) (t : World) → is_unfinished_at old.journal ≡ false → Undoable flashes old.device old.journal → IsUnbegun old t.device t.journal → InfoLeft flashes (now_of old) t
-    info-unbegun flashes old t over u b =
-        record { undoable = unbegun-keeps flashes old t.device t.journal over u b; same_chip = b.make.chip; alone = (b.flash, b.journal_same) }
+  goes-on : (history : List (Happening R)) (s : World) (starts : List (List ℕ)) → Undoable starts s.device s.journal → IsTabled s → AllLead view table history s → AllHold history s starts
+  goes-on [] s starts u tabled all = u
+  goes-on (x ∷ history) s starts u tabled (first, rest) =
+      let g = gives x.event starts s x.after first u tabled in
+      (u, g.2, goes-on history x.after (starts_after x.event s x.after starts) g.0 (still-tabled s x.after g.1 tabled) rest)
 
-    info-left : (flashes : List (List ℕ)) (old new : RigState) (result : Result Info Fault) → old.is_honest → Undoable flashes old.device old.journal → InfoContract table old new result
-        → ((t : World) → Stops old new t → InfoLeft flashes (now_of old) t) × InfoLeft flashes (now_of old) (now_of new)
-    info-left flashes old new result honest u contract =
-        ⊎_elim
-        (λ still_open.
-        let unsent = contract.unsent honest faults.Unfinished (waits old u.good_journal still_open) in
-        (λ t left. info-untouched flashes old t u (unsent.moments.each t.device t.journal left), info-untouched flashes old (now_of new) u unsent.left))
-        (λ over.
-        let informs = contract.informs honest (laws.safe flashes old.device old.journal u over) in
-        (λ t left. info-unbegun flashes old t over u (informs.moments.each t.device t.journal left), info-unbegun flashes old (now_of new) over u informs.left))
-        (cases_Bool (is_unfinished_at old.journal))
+  pub start-undoable : (start : World) → IsStart table start → Undoable [] start.device start.journal
+  start-undoable start is = let U : List ℕ → Type 0 = λ j. Undoable [] start.device j in subst U (sym is.journal) (laws.begins start.device is.device is.ready)
 
-    undid-gives : (count : ℕ) (starts : List (List ℕ)) (a b : R) (result : Result ℕ Fault) → (view a).is_honest → UndoContract table count (view a) (view b) result
-        → Gives (undid count a b result) starts (now_of (view b)) (now_of (view a))
-    undid-gives count starts a b (Ok n) honest contract u tabled =
-        let undoes = contract.undoes honest starts u tabled in
-        (undo-starts starts (taken_count count (length starts)) (view a) (now_of (view b)) (taken-within count (length starts)) u undoes.left, undoes.left.make.chip, undo-holds count n starts (view a) (view b) u undoes)
-    undid-gives count starts a b (Err e) honest contract u tabled =
-        let undoes = contract.undoes honest starts u tabled in (
-          undo-starts starts (taken_count count (length starts)) (view a) (now_of (view b)) (taken-within count (length starts)) u undoes.left,
-          undoes.left.make.chip,
-          (undoes.fails, undo-leaves starts (taken_count count (length starts)) (view a) (now_of (view b)) (taken-within count (length starts)) u undoes.left),
-        )
-
-    undo-stopped-gives : (count : ℕ) (starts : List (List ℕ)) (a b : R) (result : Result ℕ Fault) (t : World) → (view a).is_honest → UndoContract table count (view a) (view b) result → Stops (view a) (view b) t
-        → Gives (undo_stopped count a b result) starts t (now_of (view a))
-    undo-stopped-gives count starts a b result t honest contract left u tabled =
-        let amid = (contract.undoes honest starts u tabled).moments.each t.device t.journal left in (
-          undo-starts starts (taken_count count (length starts)) (view a) t (taken-within count (length starts)) u amid,
-          amid.make.chip,
-          undo-leaves starts (taken_count count (length starts)) (view a) t (taken-within count (length starts)) u amid,
-        )
-
-    pub gives : (event : Event R) (starts : List (List ℕ)) (s t : World) → Leads view table event s t → Gives event starts t s
-    gives (ran commands old new result) starts s t (begins, contract, returns) =
-        let A : World → Type 0 = λ x. Gives (ran commands old new result) starts t x in
-        let B : World → Type 0 = λ y. Gives (ran commands old new result) starts y (now_of (view old)) in
-        subst A begins.1 (subst B returns (ran-gives commands starts old new result begins.0 contract))
-    gives (run_stopped commands old new result) starts s t (begins, contract, left) =
-        let A : World → Type 0 = λ x. Gives (run_stopped commands old new result) starts t x in
-        subst A begins.1 (stopped-gives commands starts old new result t begins.0 contract left)
-    gives (informed old new result) starts s t (begins, contract, returns) =
-        let A : World → Type 0 = λ x. Gives (informed old new result) starts t x in
-        let B : World → Type 0 = λ y. Gives (informed old new result) starts y (now_of (view old)) in
-        subst A begins.1 (subst B returns (λ u tabled. let l = (info-left starts (view old) (view new) result begins.0 u contract).1 in (l.undoable, l.same_chip, l.alone)))
-    gives (info_stopped old new result) starts s t (begins, contract, left) =
-        let A : World → Type 0 = λ x. Gives (info_stopped old new result) starts t x in
-        subst A begins.1 (λ u tabled. let l = (info-left starts (view old) (view new) result begins.0 u contract).0 t left in (l.undoable, l.same_chip, l.alone))
-    gives (undid count old new result) starts s t (begins, contract, returns) =
-        let A : World → Type 0 = λ x. Gives (undid count old new result) starts t x in
-        let B : World → Type 0 = λ y. Gives (undid count old new result) starts y (now_of (view old)) in
-        subst A begins.1 (subst B returns (undid-gives count starts old new result begins.0 contract))
-    gives (undo_stopped count old new result) starts s t (begins, contract, left) =
-        let A : World → Type 0 = λ x. Gives (undo_stopped count old new result) starts t x in
-        subst A begins.1 (undo-stopped-gives count starts old new result t begins.0 contract left)
-    gives was_reset starts s t e = λ u tabled.
-        let U : World → Type 0 = λ x. Undoable starts x.device x.journal in
-        (subst U (sym e) (laws.resets starts s.device s.journal u), ap (λ (x : World). x.device.chip) e, (ap (λ (x : World). x.device.flash) e, ap (λ (x : World). x.journal) e))
-
-    pub still-tabled : (s t : World) → t.device.chip ≡ s.device.chip → IsTabled s → IsTabled t
-    still-tabled s t e tabled = let C : ChipData → Type 0 = λ c. IsChipWith table c.id c in subst C (sym e) tabled
-
-    goes-on : (history : List (Happening R)) (s : World) (starts : List (List ℕ)) → Undoable starts s.device s.journal → IsTabled s → AllLead view table history s → AllHold history s starts
-    goes-on [] s starts u tabled all = u
-    goes-on (x ∷ history) s starts u tabled (first, rest) =
-        let g = gives x.event starts s x.after first u tabled in
-        (u, g.2, goes-on history x.after (starts_after x.event s x.after starts) g.0 (still-tabled s x.after g.1 tabled) rest)
-
-    pub start-undoable : (start : World) → IsStart table start → Undoable [] start.device start.journal
-    start-undoable start is = let U : List ℕ → Type 0 = λ j. Undoable [] start.device j in subst U (sym is.journal) (laws.begins start.device is.device is.ready)
-
-    pub headline : Headline view table
-    headline history start is all = goes-on history start [] (start-undoable start is) is.tabled all
+  pub headline : Headline view table
+  headline history start is all = goes-on history start [] (start-undoable start is) is.tabled all

@@ -1,5 +1,5 @@
 -- Info, exit by exit.
-use Rattle.std.proofs.Common.{◌≡◌, ◌≢◌, List, [], Option, Some, Result, Ok, Err, IsErrAnd, refl, sym, subst}
+use Rattle.std.proofs.Common.{◌≡◌, ◌≢◌, List, [], Some, Result, Ok, Err, IsErrAnd, refl, sym, subst}
 use Rattle.stm_wire.specs.Chip.{ChipData}
 use Rattle.stm_wire.specs.Dialogue.{GoesOn}
 use Rattle.stm_wire.specs.Rig.{RigState}

@@ -12,6 +12,7 @@ pub mod Sending
 pub mod Unbegun
 pub mod Undoing
 mod Unrefused
+pub mod RunHistories
 pub mod Histories
 pub mod Whole
 pub mod Differences
@@ -34,6 +35,7 @@ pub mod GoingBack
 pub mod Straying
 pub mod Misfitting
 pub mod Unread
+pub mod UndoStarts
 pub mod Undone
 pub mod SentUndo
 pub mod Savings

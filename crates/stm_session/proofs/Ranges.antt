@@ -1,5 +1,5 @@
 -- Parts of a flash: that they lie inside it, and how a part grows by the block after it.
-use Rattle.std.proofs.Common.{◌≡◌, ℕ, zero, suc, Bool, ◌+◌, ◌-◌, ◌%◌, ◌/◌, ◌<◌, ◌≤◌, ◌||◌, ◌==◌, ◌⊎◌, inl, inr, IsTrue, List, [], ◌∷◌, ◌++◌, take, drop, Option, subst, Result, Ok, Some, true, ◌*◌, sym, ◌∙◌, ap, ap₂, arith}
+use Rattle.std.proofs.Common.{◌≡◌, ℕ, zero, suc, Bool, ◌+◌, ◌-◌, ◌%◌, ◌/◌, ◌<◌, ◌≤◌, ◌||◌, ◌==◌, ◌⊎◌, inl, inr, IsTrue, List, [], ◌∷◌, ◌++◌, take, drop, subst, Result, Ok, Some, true, ◌*◌, sym, ◌∙◌, ap, ap₂, arith}
 use Rattle.std.proofs.lemmas.Bool.{cases_order}
 use Rattle.std.proofs.lemmas.Bool.Decides.{nat_tests}
 use Rattle.std.proofs.lemmas.List.{drop-drop}

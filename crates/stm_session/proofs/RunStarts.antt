@@ -1,5 +1,5 @@
 -- How a run starts: what its opening leaves, and the commands seen from there.
-use Rattle.std.proofs.Common.{◌≡◌, ℕ, false, List, [], ◌∷◌, ◌++◌, take, reverse, Result, Ok, Err, IfErr, IfOk, OnOk, refl, sym, ap, ap₂, ◌∙◌, subst, arith, append-nil}
+use Rattle.std.proofs.Common.{◌≡◌, ℕ, false, List, ◌++◌, take, reverse, Result, Ok, Err, IfErr, IfOk, OnOk, sym, ap, ap₂, ◌∙◌, subst, arith, append-nil}
 use Rattle.stm_wire.specs.Chip.{ChipData}
 use Rattle.stm_wire.specs.Device.{Device, IsSettled}
 use Rattle.stm_wire.specs.MomentLaws.{joined}
@@ -19,23 +19,18 @@ use Rattle.stm_session.proofs.Keeping.{keeps_same}
 use Rattle.stm_session.proofs.Standing.{makes_then}
 use Rattle.stm_session.proofs.Undoing.{unbegun_is_undoable}
 
-take_none : {X : Type 0} (xs : List X) → take 0 xs ≡ []
-take_none [] = refl
-take_none (x ∷ xs) = refl
-
 -- where no segment was begun, none of a run's was
 pub unbegun_amid : (commands : List CommandData) (flashes : List (List ℕ)) (old : RigState) → Undoable flashes old.device old.journal → is_unfinished_at old.journal ≡ false → (d : Device) (journal : List ℕ) → IsUnbegun old d journal
     → AmidRun commands flashes old d journal
 unbegun_amid commands flashes old u finished d journal left =
     let J : List ℕ → Type 0 = λ j. Undoable flashes d j in
     let here = subst J (sym left.journal_same) (unbegun_is_undoable flashes old.device d old.journal u finished left.make left.flash left.safe) in
-    let U : List (List ℕ) → Type 0 = λ f. Undoable (reverse f ++ flashes) d journal in
     record {
       begun = 0;
       within = omega arith;
       make = left.make;
-      undoable = subst U (sym (take_none (flashes_before old.device.chip old.device.flash commands))) here;
-      finished = λ f. left.flash ∙ ap (λ (cs : List CommandData). flash_after_all old.device.chip old.device.flash cs) (sym (take_none (changes_of commands)));
+      undoable = here;
+      finished = λ f. left.flash;
       written = 0;
       lines = left.journal_same ∙ sym (append-nil old.journal);
     }

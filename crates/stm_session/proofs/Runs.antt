@@ -21,11 +21,10 @@ use Rattle.stm_session.specs.Undoable.{Undoable, state_at}
 use Rattle.stm_session.proofs.CommandLists.{after-changes, after-push, answers-push, before-append, before-push, changes-append, entries-append, entries-none, entries-one, named-as-before, named-by-changes, named_after}
 use Rattle.stm_session.proofs.Going.{at_exit}
 use Rattle.stm_session.proofs.GoingBack.{flashes_count}
-use Rattle.stm_session.proofs.Histories.{length-before}
+use Rattle.stm_session.proofs.RunHistories.{length-before}
 use Rattle.stm_session.proofs.Keeping.{good_at}
 use Rattle.stm_session.proofs.Standing.{makes_then, stands_now}
-use Rattle.stm_session.proofs.TakingBack.{lines_later}
-use Rattle.stm_session.proofs.Texts.{adds_none, adds_then, front_part, text_added-append}
+use Rattle.stm_session.proofs.Texts.{adds_none, adds_then, front_part, lines_later, text_added-append}
 
 -- the lines of some commands, on a Rig as it is
 abbrev pub lines_of : RigState → List CommandData → List Entry
@@ -44,10 +43,6 @@ pub record HasRun (xs : List CommandData) (flashes : List (List ℕ)) (l2 : Load
   pub flash : mid.device.flash ≡ flash_with old xs
   pub lines : AddsLines (lines_of old xs) old.journal mid.journal
   pub answers : answers_from old xs ≡ Ok outcomes
-
-take_none : {X : Type 0} (xs : List X) → take 0 xs ≡ []
-take_none [] = refl
-take_none (x ∷ xs) = refl
 
 -- a journal has as many segments as flashes can be had back
 steady_depth : (flashes : List (List ℕ)) (l : Loaded) (rig : RigState) → IsSteady flashes l rig → depth_at rig.journal ≡ length flashes

@@ -29,7 +29,7 @@ use Rattle.stm_session.specs.Fault.{IsOutsideFault, fault_of_journal}
 use Rattle.stm_session.specs.Lines.{is_torn_at, program_entries, return_entries, rewrite_entries, text_added}
 use Rattle.stm_session.specs.Order.{Follows, AreReturned}
 use Rattle.stm_session.specs.StepLaws.{StepLaws}
-use Rattle.stm_session.specs.Steps.{AddsLines, AreIntents, KeepsFlashes, IsSteady, Stands, Goes, torn_after}
+use Rattle.stm_session.specs.Steps.{AddsLines, AreIntents, KeepsFlashes, IsSteady, Stands, Goes}
 use Rattle.stm_session.specs.TakingBack.{AmidTakingBack, TakesBack, newest_at, return_lines, with_pages}
 use Rattle.stm_session.specs.Undoable.{newest_kept, state_at}
 use Rattle.stm_session.proofs.Going.{at_exit, goes_as, goes_failed, goes_ok, goes_then, stands_later, stands_more}
@@ -37,7 +37,7 @@ use Rattle.stm_session.proofs.Keeping.{depth_text, good_at, keeps_undone, unfini
 use Rattle.stm_session.proofs.PageSums.{kept_size}
 use Rattle.stm_session.proofs.Returns.{entry_newest, kept_in_text, lines_all, lines_by, lines_next, newest_fits, newest_once, page_until, pages_next}
 use Rattle.stm_session.proofs.Standing.{journal_outside, loses_nothing, makes_then, same_make, settled_undoable}
-use Rattle.stm_session.proofs.Texts.{adds_then, behind_part, intents_then, text_added-append}
+use Rattle.stm_session.proofs.Texts.{adds_then, intents_then, lines_later}
 
 -- the lines by which pages are put back are intents
 intents_return : (chip : ChipData) (flash : List ℕ) (kept : Kept) → AreIntents (return_entries chip flash kept)
@@ -130,16 +130,6 @@ module _ (laws : StepLaws) (chip : ChipData) (l l2 : Loaded) (a b : RigState) (n
 pub first_flash : (chip : ChipData) (stack : List SegmentData) (f flash : List ℕ) (flashes : List (List ℕ)) → flashes_before_segments chip stack f ≡ flash ∷ flashes → with_pages chip (newest_kept stack) f ≡ flash
 first_flash chip [] f flash flashes e = absurd (let h : [] ≡ flash ∷ flashes = e in cc)
 first_flash chip (segment ∷ below) f flash flashes e = ap (λ (fs : List (List ℕ)). get_or fs 0 []) e
-
--- a beginning of later lines, seen from the start
-pub lines_later : (xs ys : List Entry) (a b journal : List ℕ) (written : ℕ) → AddsLines xs a b → journal ≡ b ++ take written (text_added (is_torn_at b) ys)
-    → journal ≡ a ++ take (length (text_added (is_torn_at a) xs) + written) (text_added (is_torn_at a) (xs ++ ys))
-lines_later xs ys a b journal written adds later =
-    let torn = is_torn_at a in
-    later ∙ ap (λ (j : List ℕ). j ++ take written (text_added (is_torn_at b) ys)) adds.added
-    ∙ ap (λ (t : Bool). (a ++ text_added torn xs) ++ take written (text_added t ys)) adds.torn
-    ∙ behind_part written a (text_added torn xs) (text_added (torn_after torn xs) ys)
-    ∙ ap (λ bytes. a ++ take (length (text_added torn xs) + written) bytes) (sym (text_added-append torn xs ys))
 
 -- the line that says so, where the flash is the one before the newest segment
 module _ (laws : StepLaws) (flash : List ℕ) (flashes : List (List ℕ)) (l l2 : Loaded) (k : ℕ) (old new : RigState) (model : IsModel old) (steady : IsSteady (flash ∷ flashes) l old)

@@ -49,6 +49,16 @@ whole_part xs = sym (take-length xs)
 pub adds_none : (journal : List ℕ) → AddsLines [] journal journal
 adds_none journal = record { added = sym (append-nil journal); torn = refl; same = λ intents. KeepsSame-refl (state_at journal) }
 
+-- a beginning of later lines, seen from the start
+pub lines_later : (xs ys : List Entry) (a b journal : List ℕ) (written : ℕ) → AddsLines xs a b → journal ≡ b ++ take written (text_added (is_torn_at b) ys)
+    → journal ≡ a ++ take (length (text_added (is_torn_at a) xs) + written) (text_added (is_torn_at a) (xs ++ ys))
+lines_later xs ys a b journal written adds later =
+    let torn = is_torn_at a in
+    later ∙ ap (λ (j : List ℕ). j ++ take written (text_added (is_torn_at b) ys)) adds.added
+    ∙ ap (λ (t : Bool). (a ++ text_added torn xs) ++ take written (text_added t ys)) adds.torn
+    ∙ behind_part written a (text_added torn xs) (text_added (torn_after torn xs) ys)
+    ∙ ap (λ bytes. a ++ take (length (text_added torn xs) + written) bytes) (sym (text_added-append torn xs ys))
+
 -- lines that are intents, one after another
 pub intents_then : (xs ys : List Entry) → AreIntents xs → AreIntents ys → AreIntents (xs ++ ys)
 intents_then [] ys first next = next

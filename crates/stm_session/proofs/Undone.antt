@@ -1,20 +1,16 @@
--- An undo, exit by exit.
-use Rattle.std.proofs.Common.{◌≡◌, ⊎_elim, inl, inr, ℕ, zero, suc, ◌≤◌, Bool, true, false, not, ◌==◌, ◌||◌, nat_lt, if◌then◌else◌, List, [], ◌∷◌, ◌++◌, length, take, drop, Option, Some, None, option_map, Result, Ok, Err, IsErrAnd, refl, sym, ◌∙◌, ap, ap₂, subst, arith, append-nil}
-use Rattle.std.proofs.lemmas.Bool.{cases_eq, eq-eqb, ne_eqb, true≢false}
-use Rattle.std.proofs.lemmas.Bool.Decides.{nat_tests}
+-- An undo whose chip is in the table, exit by exit.
+use Rattle.std.proofs.Common.{◌≡◌, ⊎_elim, inl, inr, ℕ, zero, suc, ◌≤◌, List, [], ◌++◌, length, take, drop, Option, Some, None, option_map, Result, Ok, Err, IsErrAnd, refl, sym, ◌∙◌, ap, ap₂, subst, arith, append-nil}
+use Rattle.std.proofs.Math.Seq.{take-nil}
 use Rattle.stm_chip.specs.Document.{IsChipWith}
 use Rattle.stm_wire.specs.Chip.{ChipData}
 use Rattle.stm_wire.specs.Device.{Device}
-use Rattle.stm_wire.specs.Dialogue.{GoesOn}
 use Rattle.stm_wire.specs.Harmless.{Harmless, SameOutside}
 use Rattle.stm_wire.specs.Moments.{LeavesOnly}
-use Rattle.stm_wire.specs.MomentLaws.{joined, weaker}
+use Rattle.stm_wire.specs.MomentLaws.{joined}
 use Rattle.stm_wire.specs.Rig.{RigState, IsModel}
 use Rattle.stm_journal.specs.declared.header.JournalHeader.{JournalHeader}
-use Rattle.stm_journal.specs.Calls.{AreFetches, IsUntouched, Loads}
-use Rattle.stm_journal.specs.InMemory.{forget_state}
-use Rattle.stm_journal.specs.Journals.{JournalData, Loaded, IsLoaded, journal_of, good}
-use Rattle.stm_journal.specs.States.{StateData, SegmentData, is_unfinished, names_other}
+use Rattle.stm_journal.specs.Calls.{IsUntouched, Loads}
+use Rattle.stm_journal.specs.Journals.{Loaded, journal_of}
 use Rattle.stm_session.specs.declared.fault.Fault.{Fault}
 use Rattle.stm_session.specs.Fault.{IsOutsideFault}
 use Rattle.stm_session.specs.GoingBack.{AmidBack, GoesBack}
@@ -23,331 +19,181 @@ use Rattle.stm_session.specs.Meeting.{Meets}
 use Rattle.stm_session.specs.Moments.{SameMake}
 use Rattle.stm_session.specs.Promises.{UndoContract}
 use Rattle.stm_session.specs.Refusal.{Refuses, chip_with, table_refusal}
-use Rattle.stm_session.specs.Refusals.{undo_misfit, undo_refusal, undo_refusal_of}
+use Rattle.stm_session.specs.Refusals.{undo_misfit, undo_refusal}
 use Rattle.stm_session.specs.StepLaws.{StepLaws}
 use Rattle.stm_session.specs.Steps.{Stands, Goes}
-use Rattle.stm_session.specs.Undoable.{Undoable, good_state, state_at}
+use Rattle.stm_session.specs.Undoable.{Undoable, state_at}
 use Rattle.stm_session.specs.Undoes.{AmidUndo, IsElsewhere, IsFlashSettled, Undoes, byte_at_journal, flash_taken_back, risked_at, taken_count, undo_text}
-use Rattle.stm_session.proofs.Fitting.{fits-unrefused}
-use Rattle.stm_session.proofs.Forgetting.{misfit-forgets}
 use Rattle.stm_session.proofs.Going.{at_exit}
-use Rattle.stm_session.proofs.GoingBack.{flashes_count}
-use Rattle.stm_session.proofs.Keeping.{depth_text, good_at, text_is}
-use Rattle.stm_session.proofs.Openings.{has_chip}
+use Rattle.stm_session.proofs.Keeping.{good_at}
 use Rattle.stm_session.proofs.Standing.{makes_then, settled_undoable}
-use Rattle.stm_session.proofs.Unread.{take_none, same_flash, untouched_amid, untouched_stray, none_some}
+use Rattle.stm_session.proofs.Unread.{same_flash, untouched_amid, untouched_stray, none_some}
+use Rattle.stm_session.proofs.UndoStarts.{depth_of, header_text, not_empty, own_id, refusal_some}
 
--- the journal was read
-module _ (table : List ChipData) (l : Loaded) (old a : RigState) (loads : Loads old a (Ok l)) where
-  depth_is : length l.state.stack ≡ length (state_at old.journal).stack
-  depth_is = depth_text l old.journal loads.loaded
+-- the journal was read, and has a segment and a header
+module _ (table : List ChipData) (l : Loaded) (old a : RigState) (loads : Loads old a (Ok l)) (some : 1 ≤ length l.state.stack) (id : ℕ) (named : option_map (λ h. h.id) l.state.header ≡ Some id) where
+  -- the table has its chip
+  module _ (laws : StepLaws) (chip : ChipData) (listed_chip : IsChipWith table id chip) (accepted_chip : table_refusal l.state id (chip_with table id) ≡ None) where
+    unrefused : undo_refusal (journal_of old.journal) table ≡ None
+    unrefused = refusal_some table l old a loads some id named ∙ accepted_chip
 
-  text_good : journal_of old.journal ≡ good (state_at old.journal)
-  text_good = good_at l old.journal loads.loaded
+    pub own_chip : (flashes : List (List ℕ)) → Undoable flashes old.device old.journal → IsChipWith table old.device.chip.id old.device.chip → a.device.chip ≡ chip
+    own_chip flashes u listed =
+        ap (λ (d : Device). d.chip) loads.same_device ∙ listed_chip.only old.device.chip listed.held (sym (own_id table l old a loads id old.device.chip.id named u.own))
 
-  -- what is said of the old Rig is so of the one that was read
-  pub undoable_then : (flashes : List (List ℕ)) → Undoable flashes old.device old.journal → Undoable flashes a.device a.journal
-  undoable_then flashes u =
-      let D : Device → Type 0 = λ d. Undoable flashes d old.journal in
-      let J : List ℕ → Type 0 = λ j. Undoable flashes a.device j in
-      subst J (sym loads.journal) (subst D (sym loads.same_device) u)
-
-  pub loaded_then : IsLoaded l a.journal
-  loaded_then = let J : List ℕ → Type 0 = λ j. IsLoaded l j in subst J (sym loads.journal) loads.loaded
-
-  pub flashes_depth : (flashes : List (List ℕ)) → Undoable flashes old.device old.journal → length flashes ≡ length l.state.stack
-  flashes_depth flashes u =
-      let x = flashes_count old.device.chip (state_at old.journal).stack old.device.flash in
-      let y = ap (λ (xs : List (List ℕ)). length xs) u.keeps in
-      omega (arith, x, y, depth_is)
-
-  depth_of : (s : StateData) → journal_of old.journal ≡ good s → length s.stack ≡ length l.state.stack
-  depth_of s g = let h : good s ≡ good (state_at old.journal) = sym g ∙ text_good in ap (λ (j : JournalData). length (good_state j).stack) h ∙ sym depth_is
-
-  not_empty : 1 ≤ length l.state.stack → old.journal ≡ [] → ⊥
-  not_empty some empty =
-      let z : length (state_at old.journal).stack ≡ 0 = ap (λ (j : List ℕ). length (state_at j).stack) empty in
-      absurd (omega (arith, some, z, depth_is))
-
-  unrefused_by : (b : Bool) → (length (state_at old.journal).stack == 0) ≡ b → undo_refusal (journal_of old.journal) table ≡ (if b then None else undo_refusal_of (state_at old.journal) table (state_at old.journal).header)
-  unrefused_by b is = ap (λ (j : JournalData). undo_refusal j table) text_good ∙ ap (λ (c : Bool). if c then None else undo_refusal_of (state_at old.journal) table (state_at old.journal).header) is
-
-  refusal_empty : length l.state.stack ≡ 0 → undo_refusal (journal_of old.journal) table ≡ None
-  refusal_empty none = unrefused_by true (eq-eqb (length (state_at old.journal).stack) 0 (sym depth_is ∙ none))
-
-  table_text : (id : ℕ) (o : Option ChipData) → table_refusal l.state id o ≡ table_refusal (state_at old.journal) id o
-  table_text id o = ap (λ (s : StateData). table_refusal s id o) loads.loaded.state ∙ forgets o ∙ ap (λ (s : StateData). table_refusal s id o) (text_is l old.journal loads.loaded)
-    where
-      forgets : (o : Option ChipData) → table_refusal (forget_state loads.loaded.text) id o ≡ table_refusal loads.loaded.text id o
-      forgets None = refl
-      forgets (Some chip) = misfit-forgets chip loads.loaded.text
-
-  header_text : l.state.header ≡ (state_at old.journal).header
-  header_text = ap (λ (s : StateData). s.header) loads.loaded.state ∙ ap (λ (s : StateData). s.header) (text_is l old.journal loads.loaded)
-
-  by_id : (s : StateData) (o : Option JournalHeader) (id : ℕ) → option_map (λ h. h.id) o ≡ Some id → undo_refusal_of s table o ≡ table_refusal s id (chip_with table id)
-  by_id s None id e = absurd (let h : None ≡ Some id = e in cc)
-  by_id s (Some header) id e =
-      let h : Some header.id ≡ Some id = e in
-      let same : header.id ≡ id = cc in
-      ap (λ (n : ℕ). table_refusal s n (chip_with table n)) same
-
-  refusal_some : 1 ≤ length l.state.stack → (id : ℕ) → option_map (λ h. h.id) l.state.header ≡ Some id → undo_refusal (journal_of old.journal) table ≡ table_refusal l.state id (chip_with table id)
-  refusal_some some id named =
-      unrefused_by false (ne_eqb (length (state_at old.journal).stack) 0 (λ e. absurd (omega (arith, some, e, depth_is))))
-      ∙ by_id (state_at old.journal) (state_at old.journal).header id (ap (λ (o : Option JournalHeader). option_map (λ h. h.id) o) (sym header_text) ∙ named)
-      ∙ sym (table_text id (chip_with table id))
-
-  own_id : (id own : ℕ) → option_map (λ h. h.id) l.state.header ≡ Some id → names_other own (state_at old.journal) ≡ false → id ≡ own
-  own_id id own named is = at (state_at old.journal).header (ap (λ (o : Option JournalHeader). option_map (λ h. h.id) o) (sym header_text) ∙ named) is
-    where
-      at : (o : Option JournalHeader) → option_map (λ h. h.id) o ≡ Some id → names_other own (record { header = o; stack = (state_at old.journal).stack }) ≡ false → id ≡ own
-      at None e f = absurd (let h : None ≡ Some id = e in cc)
-      at (Some header) e f =
-          let h : Some header.id ≡ Some id = e in
-          let same : header.id ≡ id = cc in
-          sym same ∙ ⊎_elim (λ equal. equal) (λ other. absurd (true≢false (sym (ap (λ (b : Bool). not b) (ne_eqb header.id own other)) ∙ f))) (cases_eq header.id own)
-
-  -- it has no segment
-  pub contract_none : (laws : StepLaws) (count : ℕ) → IsModel a → length l.state.stack ≡ 0 → GoesOn AreFetches old.calls a.calls → UndoContract table count old a (Ok 0)
-  contract_none laws count model none calls =
-      let left : IsUntouched old a.device a.journal = (loads.journal, (0, loads.same_device)) in
-      record {
-        refused = λ h refusal r. none_some (undo_refusal (journal_of old.journal) table) refusal (refusal_empty none) r;
-        refused_calls = λ h refusal r. calls;
-        nothing = λ h s g z. record { moments = loads.moments; honest = loads.honest; left = left; answer = refl; fails = tt };
-        nothing_calls = λ h s g z. calls;
-        elsewhere = λ h accepted some header chip named listed harmless owed refusal misfit.
-            absurd (omega (arith, some, depth_is, none));
-        undoes = λ h flashes u listed.
-            let depth = flashes_depth flashes u in
-            let zero_is : length flashes ≡ 0 = omega (arith, depth, none) in
-            let taken : taken_count count (length flashes) ≡ 0 = ap (λ (n : ℕ). taken_count count n) zero_is ∙ none_taken count in
-            let U : ℕ → Type 0 = λ n. Undoes n flashes old a (Ok 0) in
-            let amid = untouched_amid laws 0 flashes old u a.device a.journal left in
-            subst U (sym taken)
-            (record {
-              moments = weaker (IsUntouched old) (AmidUndo 0 flashes old) old a loads.moments (untouched_amid laws 0 flashes old u);
-              honest = loads.honest;
-              left = amid;
-              answer = refl;
-              done = record {
-                finished = finished_empty (state_at a.journal) (ap (λ (j : List ℕ). length (state_at j).stack) loads.journal ∙ sym depth_is ∙ none);
-                make = amid.make;
-                flash = ap (λ (d : Device). d.flash) loads.same_device;
-                undoable = undoable_then flashes u;
-                settled = old.device.flash;
-                is_settled = same_flash old old.device.flash refl;
-                lines = loads.journal ∙ sym (append-nil old.journal);
-              };
-              settled = λ one. absurd (omega (arith, one));
-              fails = tt;
-            });
-        spared = λ h empty. tt;
-      }
-    where
-      none_taken : (count : ℕ) → taken_count count 0 ≡ 0
-      none_taken zero = refl
-      none_taken (suc n) =
-          let less : nat_lt 0 (suc n) ≡ true = grind (arith, nat_tests) in
-          let other : (suc n == 0) ≡ false = ne_eqb (suc n) 0 (λ e. absurd (omega (arith, e))) in
-          ap (λ (b : Bool). if (b || nat_lt 0 (suc n)) then 0 else suc n) other ∙ ap (λ (b : Bool). if b then 0 else suc n) less
-
-      finished_empty : (s : StateData) → length s.stack ≡ 0 → is_unfinished s ≡ false
-      finished_empty s none = at s.stack none
-        where
-          at : (stack : List SegmentData) → length stack ≡ 0 → is_unfinished (record { header = s.header; stack = stack }) ≡ false
-          at [] none = refl
-          at (segment ∷ below) none = absurd (omega (arith, none))
-
-  -- it has one, and a header
-  module _ (some : 1 ≤ length l.state.stack) (id : ℕ) (named : option_map (λ h. h.id) l.state.header ≡ Some id) where
-    pub contract_unfound : (count : ℕ) (e : Fault) (result : Result ℕ Fault) → GoesOn AreFetches old.calls a.calls → table_refusal l.state id (chip_with table id) ≡ Some e → IsErrAnd result (λ x. x ≡ e)
-        → UndoContract table count old a result
-    contract_unfound count e (Ok x) calls says is = absurd is
-    contract_unfound count e (Err x) calls says is =
-        let left : IsUntouched old a.device a.journal = (loads.journal, (0, loads.same_device)) in
-        let said : undo_refusal (journal_of old.journal) table ≡ Some e = refusal_some some id named ∙ says in
+    stands_amid : (taken : ℕ) (flashes : List (List ℕ)) (d : Device) (journal : List ℕ) → Stands [] flashes a d journal → AmidUndo taken flashes old d journal
+    stands_amid taken flashes d journal s =
+        let M : Device → Type 0 = λ x. SameMake x d in
         record {
-          refused = λ h refusal r.
-              let both : Some e ≡ Some refusal = sym said ∙ r in
-              let same : e ≡ refusal = cc in
-              record { moments = loads.moments; honest = loads.honest; left = left; answers = inl (is ∙ same) };
-          refused_calls = λ h refusal r. calls;
-          nothing = λ h s g z. let d = depth_of s g in absurd (omega (arith, d, z, some));
-          nothing_calls = λ h s g z. calls;
-          elsewhere = λ h accepted least header2 chip named2 listed harmless owed refusal misfit. none_some (undo_refusal (journal_of old.journal) table) e accepted said;
-          undoes = λ h flashes u listed.
-              let own : id ≡ old.device.chip.id = own_id id old.device.chip.id named u.own in
-              let fits = fits-unrefused old.device.chip (state_at old.journal) u.fits in
-              let none = table_text id (chip_with table id) ∙ ap (λ (n : ℕ). table_refusal (state_at old.journal) n (chip_with table n)) own
-              ∙ ap (λ (o : Option ChipData). table_refusal (state_at old.journal) old.device.chip.id o) (has_chip table old.device.chip.id old.device.chip listed) ∙ fits in
-              none_some (table_refusal l.state id (chip_with table id)) e none says;
-          spared = λ h empty. absurd (not_empty some empty);
+          undone = 0;
+          within = omega arith;
+          make = subst M loads.same_device s.make;
+          undoable = s.undoable;
+          finished = λ f. (s.finished f).1 ∙ ap (λ (x : Device). x.flash) loads.same_device;
+          settled = old.device.flash;
+          is_settled = same_flash old old.device.flash refl;
+          written = 0;
+          lines = s.lines ∙ ap₂ (λ (j t : List ℕ). j ++ t) loads.journal (take-nil s.written);
         }
 
-    -- the table has its chip
-    module _ (laws : StepLaws) (chip : ChipData) (listed_chip : IsChipWith table id chip) (accepted_chip : table_refusal l.state id (chip_with table id) ≡ None) where
-      unrefused : undo_refusal (journal_of old.journal) table ≡ None
-      unrefused = refusal_some some id named ∙ accepted_chip
+    flash_at : (n : ℕ) (x y : List ℕ) (flashes : List (List ℕ)) → (n ≡ 0 → x ≡ y) → flash_taken_back n x flashes ≡ flash_taken_back n y flashes
+    flash_at zero x y flashes h = h refl
+    flash_at (suc n) x y flashes h = refl
 
-      pub own_chip : (flashes : List (List ℕ)) → Undoable flashes old.device old.journal → IsChipWith table old.device.chip.id old.device.chip → a.device.chip ≡ chip
-      own_chip flashes u listed =
-          ap (λ (d : Device). d.chip) loads.same_device ∙ listed_chip.only old.device.chip listed.held (sym (own_id id old.device.chip.id named u.own))
+    module _ (taken : ℕ) (flashes : List (List ℕ)) (u : Undoable flashes old.device old.journal) (b : RigState) where
+      first_moments : LeavesOnly (Stands [] flashes a) a b → LeavesOnly (AmidUndo taken flashes old) old b
+      first_moments moments =
+          joined (IsUntouched old) (Stands [] flashes a) (AmidUndo taken flashes old) old a b loads.moments moments
+          (untouched_amid laws taken flashes old u) (stands_amid taken flashes)
 
-      stands_amid : (taken : ℕ) (flashes : List (List ℕ)) (d : Device) (journal : List ℕ) → Stands [] flashes a d journal → AmidUndo taken flashes old d journal
-      stands_amid taken flashes d journal s =
-          let M : Device → Type 0 = λ x. SameMake x d in
-          record {
-            undone = 0;
-            within = omega arith;
-            make = subst M loads.same_device s.make;
-            undoable = s.undoable;
-            finished = λ f. (s.finished f).1 ∙ ap (λ (x : Device). x.flash) loads.same_device;
-            settled = old.device.flash;
-            is_settled = same_flash old old.device.flash refl;
-            written = 0;
-            lines = s.lines ∙ ap₂ (λ (j t : List ℕ). j ++ t) loads.journal (take_none s.written);
-          }
+      pub undoes_unmet : {T : Type 0} {Done : T → Type 0} (l2 : Loaded) (e : Fault) (x : Fault) → IsModel b → Goes flashes [] l2 a b (Err e) Done → x ≡ e → Undoes taken flashes old b (Err x)
+      undoes_unmet l2 e x model goes is =
+          let moments = first_moments goes.moments in
+          record { moments = moments; honest = goes.honest; left = at_exit (AmidUndo taken flashes old) old b model moments; answer = tt; done = tt; settled = tt; fails = subst IsOutsideFault (sym is) goes.fails }
 
-      flash_at : (n : ℕ) (x y : List ℕ) (flashes : List (List ℕ)) → (n ≡ 0 → x ≡ y) → flash_taken_back n x flashes ≡ flash_taken_back n y flashes
-      flash_at zero x y flashes h = h refl
-      flash_at (suc n) x y flashes h = refl
+      module _ (model_b : IsModel b) (goes : Goes {T = Unit {0}} flashes [] l a b (Ok tt) (λ x. Unit {0})) (settled : IsFlashSettled old b.device.flash) (c : RigState) (l2 : Loaded) where
+        at_b : Stands [] flashes a b.device b.journal
+        at_b = at_exit (Stands [] flashes a) a b model_b goes.moments
 
-      module _ (taken : ℕ) (flashes : List (List ℕ)) (u : Undoable flashes old.device old.journal) (b : RigState) where
-        first_moments : LeavesOnly (Stands [] flashes a) a b → LeavesOnly (AmidUndo taken flashes old) old b
-        first_moments moments =
-            joined (IsUntouched old) (Stands [] flashes a) (AmidUndo taken flashes old) old a b loads.moments moments
-            (untouched_amid laws taken flashes old u) (stands_amid taken flashes)
+        journal_b : b.journal ≡ old.journal
+        journal_b = goes.lines.added ∙ append-nil a.journal ∙ loads.journal
 
-        pub undoes_unmet : {T : Type 0} {Done : T → Type 0} (l2 : Loaded) (e : Fault) (x : Fault) → IsModel b → Goes flashes [] l2 a b (Err e) Done → x ≡ e → Undoes taken flashes old b (Err x)
-        undoes_unmet l2 e x model goes is =
-            let moments = first_moments goes.moments in
-            record { moments = moments; honest = goes.honest; left = at_exit (AmidUndo taken flashes old) old b model moments; answer = tt; done = tt; settled = tt; fails = subst IsOutsideFault (sym is) goes.fails }
+        chip_as : b.device.chip ≡ old.device.chip
+        chip_as = at_b.make.chip ∙ ap (λ (d : Device). d.chip) loads.same_device
 
-        module _ (model_b : IsModel b) (goes : Goes {T = Unit {0}} flashes [] l a b (Ok tt) (λ x. Unit {0})) (settled : IsFlashSettled old b.device.flash) (c : RigState) (l2 : Loaded) where
-          at_b : Stands [] flashes a b.device b.journal
-          at_b = at_exit (Stands [] flashes a) a b model_b goes.moments
+        text_b : undo_text b taken b.device.flash ≡ undo_text old taken b.device.flash
+        text_b = ap₂ (λ (j : List ℕ) (p : ChipData). text_added (is_torn_at j) (Rattle.stm_session.specs.Lines.undo_entries p taken (state_at j).stack b.device.flash)) journal_b chip_as
 
-          journal_b : b.journal ≡ old.journal
-          journal_b = goes.lines.added ∙ append-nil a.journal ∙ loads.journal
+        back_amid : (d : Device) (journal : List ℕ) → AmidBack taken flashes b d journal → AmidUndo taken flashes old d journal
+        back_amid d journal amid =
+            let M : Device → Type 0 = λ x. SameMake x b.device in
+            record {
+              undone = amid.undone;
+              within = amid.within;
+              make = makes_then old.device b.device d (subst M loads.same_device at_b.make) amid.make;
+              undoable = amid.undoable;
+              finished = λ f.
+                  let p = amid.finished f in
+                  p.1 ∙ flash_at amid.undone b.device.flash old.device.flash flashes (λ z.
+                  (at_b.finished (p.0 z)).1 ∙ ap (λ (x : Device). x.flash) loads.same_device);
+              settled = b.device.flash;
+              is_settled = settled;
+              written = amid.written;
+              lines = amid.lines ∙ ap₂ (λ (j bytes : List ℕ). j ++ take amid.written bytes) journal_b text_b;
+            }
 
-          chip_as : b.device.chip ≡ old.device.chip
-          chip_as = at_b.make.chip ∙ ap (λ (d : Device). d.chip) loads.same_device
+        back_moments : LeavesOnly (AmidBack taken flashes b) b c → LeavesOnly (AmidUndo taken flashes old) old c
+        back_moments moments =
+            joined (AmidUndo taken flashes old) (AmidBack taken flashes b) (AmidUndo taken flashes old) old b c (first_moments goes.moments) moments (λ d journal m. m) back_amid
 
-          text_b : undo_text b taken b.device.flash ≡ undo_text old taken b.device.flash
-          text_b = ap₂ (λ (j : List ℕ) (p : ChipData). text_added (is_torn_at j) (Rattle.stm_session.specs.Lines.undo_entries p taken (state_at j).stack b.device.flash)) journal_b chip_as
+        pub undoes_stopped : {T : Type 0} (e x : Fault) → IsModel c → GoesBack {T = T} taken flashes l2 b c (Err e) → x ≡ e → Undoes taken flashes old c (Err x)
+        undoes_stopped e x model back is =
+            let moments = back_moments back.moments in
+            record { moments = moments; honest = back.honest; left = at_exit (AmidUndo taken flashes old) old c model moments; answer = tt; done = tt; settled = tt; fails = subst IsOutsideFault (sym is) back.fails }
 
-          back_amid : (d : Device) (journal : List ℕ) → AmidBack taken flashes b d journal → AmidUndo taken flashes old d journal
-          back_amid d journal amid =
-              let M : Device → Type 0 = λ x. SameMake x b.device in
-              record {
-                undone = amid.undone;
-                within = amid.within;
-                make = makes_then old.device b.device d (subst M loads.same_device at_b.make) amid.make;
-                undoable = amid.undoable;
-                finished = λ f.
-                    let p = amid.finished f in
-                    p.1 ∙ flash_at amid.undone b.device.flash old.device.flash flashes (λ z.
-                    (at_b.finished (p.0 z)).1 ∙ ap (λ (x : Device). x.flash) loads.same_device);
+        pub undoes_all : (n : ℕ) → n ≡ taken → 1 ≤ taken → IsModel c → GoesBack {T = Unit {0}} taken flashes l2 b c (Ok tt) → Undoes taken flashes old c (Ok n)
+        undoes_all n is one model back =
+            let moments = back_moments back.moments in
+            let left = at_exit (AmidUndo taken flashes old) old c model moments in
+            record {
+              moments = moments;
+              honest = back.honest;
+              left = left;
+              answer = is;
+              done = record {
+                finished = back.finished one;
+                make = left.make;
+                flash = back.restored ∙ flash_at taken b.device.flash old.device.flash flashes (λ z. absurd (omega (arith, z, one)));
+                undoable = settled_undoable laws (drop taken flashes) c.device c.journal (state_at c.journal) model.device back.steady.settled (good_at l2 c.journal back.steady.loaded) back.steady.keeps;
                 settled = b.device.flash;
                 is_settled = settled;
-                written = amid.written;
-                lines = amid.lines ∙ ap₂ (λ (j bytes : List ℕ). j ++ take amid.written bytes) journal_b text_b;
-              }
+                lines = back.lines.added ∙ ap₂ (λ (j bytes : List ℕ). j ++ bytes) journal_b text_b;
+              };
+              settled = λ h. back.steady.settled;
+              fails = tt;
+            }
 
-          back_moments : LeavesOnly (AmidBack taken flashes b) b c → LeavesOnly (AmidUndo taken flashes old) old c
-          back_moments moments =
-              joined (AmidUndo taken flashes old) (AmidBack taken flashes b) (AmidUndo taken flashes old) old b c (first_moments goes.moments) moments (λ d journal m. m) back_amid
+    -- the rest of the contract
+    pub elsewhere_back : (d : Device) (journal : List ℕ) → IsElsewhere a d journal → IsElsewhere old d journal
+    elsewhere_back d journal e =
+        let M : Device → Type 0 = λ x. SameMake x d in
+        let F : Device → Type 0 = λ x. SameOutside x.chip (risked_at a.journal) x.flash d.flash in
+        let G : List ℕ → Type 0 = λ j. SameOutside old.device.chip (risked_at j) old.device.flash d.flash in
+        let H : List ℕ → Type 0 = λ j. Harmless d (byte_at_journal j) (risked_at j) in
+        record {
+          journal_same = e.journal_same ∙ loads.journal;
+          make = subst M loads.same_device e.make;
+          flash = subst G loads.journal (subst F loads.same_device e.flash);
+          harmless = subst H loads.journal e.harmless;
+          owed = e.owed;
+        }
 
-          pub undoes_stopped : {T : Type 0} (e x : Fault) → IsModel c → GoesBack {T = T} taken flashes l2 b c (Err e) → x ≡ e → Undoes taken flashes old c (Err x)
-          undoes_stopped e x model back is =
-              let moments = back_moments back.moments in
-              record { moments = moments; honest = back.honest; left = at_exit (AmidUndo taken flashes old) old c model moments; answer = tt; done = tt; settled = tt; fails = subst IsOutsideFault (sym is) back.fails }
+    pub harmless_then : Harmless old.device (byte_at_journal old.journal) (risked_at old.journal) → Harmless a.device (byte_at_journal a.journal) (risked_at a.journal)
+    harmless_then h =
+        let D : Device → Type 0 = λ d. Harmless d (byte_at_journal old.journal) (risked_at old.journal) in
+        let J : List ℕ → Type 0 = λ j. Harmless a.device (byte_at_journal j) (risked_at j) in
+        subst J (sym loads.journal) (subst D (sym loads.same_device) h)
 
-          pub undoes_all : (n : ℕ) → n ≡ taken → 1 ≤ taken → IsModel c → GoesBack {T = Unit {0}} taken flashes l2 b c (Ok tt) → Undoes taken flashes old c (Ok n)
-          undoes_all n is one model back =
-              let moments = back_moments back.moments in
-              let left = at_exit (AmidUndo taken flashes old) old c model moments in
-              record {
-                moments = moments;
-                honest = back.honest;
-                left = left;
-                answer = is;
-                done = record {
-                  finished = back.finished one;
-                  make = left.make;
-                  flash = back.restored ∙ flash_at taken b.device.flash old.device.flash flashes (λ z. absurd (omega (arith, z, one)));
-                  undoable = settled_undoable laws (drop taken flashes) c.device c.journal (state_at c.journal) model.device back.steady.settled (good_at l2 c.journal back.steady.loaded) back.steady.keeps;
-                  settled = b.device.flash;
-                  is_settled = settled;
-                  lines = back.lines.added ∙ ap₂ (λ (j bytes : List ℕ). j ++ bytes) journal_b text_b;
-                };
-                settled = λ h. back.steady.settled;
-                fails = tt;
-              }
+    pub owed_then : length old.device.owed ≤ 4096 → length a.device.owed ≤ 4096
+    owed_then le = let e = ap (λ (d : Device). length d.owed) loads.same_device in omega (arith, e, le)
 
-      -- the rest of the contract
-      pub elsewhere_back : (d : Device) (journal : List ℕ) → IsElsewhere a d journal → IsElsewhere old d journal
-      elsewhere_back d journal e =
-          let M : Device → Type 0 = λ x. SameMake x d in
-          let F : Device → Type 0 = λ x. SameOutside x.chip (risked_at a.journal) x.flash d.flash in
-          let G : List ℕ → Type 0 = λ j. SameOutside old.device.chip (risked_at j) old.device.flash d.flash in
-          let H : List ℕ → Type 0 = λ j. Harmless d (byte_at_journal j) (risked_at j) in
+    misfit_then : (header2 : JournalHeader) (chip2 : ChipData) (refusal : Fault) → (state_at old.journal).header ≡ Some header2 → IsChipWith table header2.id chip2 → undo_misfit chip2 header2.id old.device ≡ Some refusal
+        → undo_misfit chip chip.id a.device ≡ Some refusal
+    misfit_then header2 chip2 refusal named2 listed2 misfit =
+        let both : Some header2.id ≡ Some id = sym (ap (λ (o : Option JournalHeader). option_map (λ h. h.id) o) (header_text table l old a loads ∙ named2)) ∙ named in
+        let own : header2.id ≡ id = cc in
+        let chips : chip2 ≡ chip = listed_chip.only chip2 listed2.held (listed2.id_is ∙ own) in
+        ap (λ (d : Device). undo_misfit chip chip.id d) loads.same_device ∙ ap (λ (n : ℕ). undo_misfit chip n old.device) (listed_chip.id_is ∙ sym own) ∙ ap (λ (p : ChipData). undo_misfit p header2.id old.device) (sym chips) ∙ misfit
+
+    module _ (count : ℕ) (new : RigState) where
+      -- what doesn't come to this
+      pub contract_after : (result : Result ℕ Fault)
+          → ((refusal : Fault) → Harmless old.device (byte_at_journal old.journal) (risked_at old.journal) → length old.device.owed ≤ 4096 → undo_misfit chip chip.id a.device ≡ Some refusal → Refuses (IsElsewhere old) refusal old new result)
+          → ((flashes : List (List ℕ)) → Undoable flashes old.device old.journal → IsChipWith table old.device.chip.id old.device.chip → Undoes (taken_count count (length flashes)) flashes old new result)
+          → UndoContract table count old new result
+      contract_after result elsewhere undoes =
           record {
-            journal_same = e.journal_same ∙ loads.journal;
-            make = subst M loads.same_device e.make;
-            flash = subst G loads.journal (subst F loads.same_device e.flash);
-            harmless = subst H loads.journal e.harmless;
-            owed = e.owed;
+            refused = λ h refusal r. none_some (undo_refusal (journal_of old.journal) table) refusal unrefused r;
+            refused_calls = λ h refusal r. none_some (undo_refusal (journal_of old.journal) table) refusal unrefused r;
+            nothing = λ h s g z. let d = depth_of table l old a loads s g in absurd (omega (arith, d, z, some));
+            nothing_calls = λ h s g z. let d = depth_of table l old a loads s g in absurd (omega (arith, d, z, some));
+            elsewhere = λ h accepted least header2 chip2 named2 listed2 harmless owed refusal misfit.
+                elsewhere refusal harmless owed (misfit_then header2 chip2 refusal named2 listed2 misfit);
+            undoes = λ h flashes u listed. undoes flashes u listed;
+            spared = λ h empty. absurd (not_empty table l old a loads some empty);
           }
 
-      pub harmless_then : Harmless old.device (byte_at_journal old.journal) (risked_at old.journal) → Harmless a.device (byte_at_journal a.journal) (risked_at a.journal)
-      harmless_then h =
-          let D : Device → Type 0 = λ d. Harmless d (byte_at_journal old.journal) (risked_at old.journal) in
-          let J : List ℕ → Type 0 = λ j. Harmless a.device (byte_at_journal j) (risked_at j) in
-          subst J (sym loads.journal) (subst D (sym loads.same_device) h)
-
-      pub owed_then : length old.device.owed ≤ 4096 → length a.device.owed ≤ 4096
-      owed_then le = let e = ap (λ (d : Device). length d.owed) loads.same_device in omega (arith, e, le)
-
-      misfit_then : (header2 : JournalHeader) (chip2 : ChipData) (refusal : Fault) → (state_at old.journal).header ≡ Some header2 → IsChipWith table header2.id chip2 → undo_misfit chip2 header2.id old.device ≡ Some refusal
-          → undo_misfit chip chip.id a.device ≡ Some refusal
-      misfit_then header2 chip2 refusal named2 listed2 misfit =
-          let both : Some header2.id ≡ Some id = sym (ap (λ (o : Option JournalHeader). option_map (λ h. h.id) o) (header_text ∙ named2)) ∙ named in
-          let own : header2.id ≡ id = cc in
-          let chips : chip2 ≡ chip = listed_chip.only chip2 listed2.held (listed2.id_is ∙ own) in
-          ap (λ (d : Device). undo_misfit chip chip.id d) loads.same_device ∙ ap (λ (n : ℕ). undo_misfit chip n old.device) (listed_chip.id_is ∙ sym own) ∙ ap (λ (p : ChipData). undo_misfit p header2.id old.device) (sym chips) ∙ misfit
-
-      module _ (count : ℕ) (new : RigState) where
-        -- what doesn't come to this
-        pub contract_after : (result : Result ℕ Fault)
-            → ((refusal : Fault) → Harmless old.device (byte_at_journal old.journal) (risked_at old.journal) → length old.device.owed ≤ 4096 → undo_misfit chip chip.id a.device ≡ Some refusal → Refuses (IsElsewhere old) refusal old new result)
-            → ((flashes : List (List ℕ)) → Undoable flashes old.device old.journal → IsChipWith table old.device.chip.id old.device.chip → Undoes (taken_count count (length flashes)) flashes old new result)
-            → UndoContract table count old new result
-        contract_after result elsewhere undoes =
-            record {
-              refused = λ h refusal r. none_some (undo_refusal (journal_of old.journal) table) refusal unrefused r;
-              refused_calls = λ h refusal r. none_some (undo_refusal (journal_of old.journal) table) refusal unrefused r;
-              nothing = λ h s g z. let d = depth_of s g in absurd (omega (arith, d, z, some));
-              nothing_calls = λ h s g z. let d = depth_of s g in absurd (omega (arith, d, z, some));
-              elsewhere = λ h accepted least header2 chip2 named2 listed2 harmless owed refusal misfit.
-                  elsewhere refusal harmless owed (misfit_then header2 chip2 refusal named2 listed2 misfit);
-              undoes = λ h flashes u listed. undoes flashes u listed;
-              spared = λ h empty. absurd (not_empty some empty);
-            }
-
-        pub refuses_elsewhere : (refusal e x : Fault) → x ≡ e → Harmless old.device (byte_at_journal old.journal) (risked_at old.journal) → length old.device.owed ≤ 4096 → undo_misfit chip chip.id a.device ≡ Some refusal → Meets {T = Unit {0}} chip a new (Err e) → Refuses {T = ℕ} (IsElsewhere old) refusal old new (Err x)
-        refuses_elsewhere refusal e x is harmless owed misfit meets =
-            record {
-              moments = joined (IsUntouched old) (IsElsewhere a) (IsElsewhere old) old a new loads.moments meets.moments (untouched_stray laws old harmless owed) elsewhere_back;
-              honest = meets.honest;
-              left = elsewhere_back new.device new.journal meets.left;
-              answers = ⊎_elim
-                  (λ outside. inr (subst IsOutsideFault (sym is) outside))
-                  (λ says. inl (let both : Some e ≡ Some refusal = sym says ∙ misfit in let same : e ≡ refusal = cc in is ∙ same))
-                  meets.refused;
-            }
+      pub refuses_elsewhere : (refusal e x : Fault) → x ≡ e → Harmless old.device (byte_at_journal old.journal) (risked_at old.journal) → length old.device.owed ≤ 4096 → undo_misfit chip chip.id a.device ≡ Some refusal → Meets {T = Unit {0}} chip a new (Err e) → Refuses {T = ℕ} (IsElsewhere old) refusal old new (Err x)
+      refuses_elsewhere refusal e x is harmless owed misfit meets =
+          record {
+            moments = joined (IsUntouched old) (IsElsewhere a) (IsElsewhere old) old a new loads.moments meets.moments (untouched_stray laws old harmless owed) elsewhere_back;
+            honest = meets.honest;
+            left = elsewhere_back new.device new.journal meets.left;
+            answers = ⊎_elim
+                (λ outside. inr (subst IsOutsideFault (sym is) outside))
+                (λ says. inl (let both : Some e ≡ Some refusal = sym says ∙ misfit in let same : e ≡ refusal = cc in is ∙ same))
+                meets.refused;
+          }
 
 -- each promise is one of an honest Rig
 pub contract_when : (table : List ChipData) (count : ℕ) (old new : RigState) (result : Result ℕ Fault) → (old.is_honest → UndoContract table count old new result) → UndoContract table count old new result

@@ -1,5 +1,5 @@
 -- An undo whose journal could not be read, and what a loss of owed bytes leaves.
-use Rattle.std.proofs.Common.{◌≡◌, ◌⊎◌, inl, inr, ℕ, zero, suc, ◌≤◌, not, List, [], length, take, Option, Some, None, Result, Ok, Err, IsErrAnd, refl, sym, ◌∙◌, ap, ap₂, subst, arith, append-nil}
+use Rattle.std.proofs.Common.{◌≡◌, ◌⊎◌, inl, inr, ℕ, ◌≤◌, not, List, [], length, Option, Some, None, Result, Ok, Err, IsErrAnd, refl, sym, ◌∙◌, ap, ap₂, subst, arith, append-nil}
 use Rattle.std.proofs.lemmas.List.{length-drop}
 use Rattle.stm_wire.specs.Chip.{ChipData}
 use Rattle.stm_wire.specs.Device.{Device, LosesOwed}
@@ -24,10 +24,6 @@ use Rattle.stm_session.specs.StepLaws.{StepLaws}
 use Rattle.stm_session.specs.Undoable.{IsJournalOf, Undoable, state_at, risked_pages}
 use Rattle.stm_session.specs.Undoes.{AmidUndo, IsElsewhere, IsFlashSettled, byte_at_journal, risked_at, taken_count}
 use Rattle.stm_session.proofs.Openings.{unsent_outside}
-
-pub take_none : (n : ℕ) → take {A = ℕ} n [] ≡ []
-take_none zero = refl
-take_none (suc n) = refl
 
 pub same_flash : (old : RigState) (flash : List ℕ) → flash ≡ old.device.flash → IsFlashSettled old flash
 same_flash old flash same =

@@ -9,7 +9,8 @@ use Rattle.stm_session.specs.Meaning.{CommandData, writes, erases, verifies, rea
 use Rattle.stm_session.specs.Lines.{depth_at}
 use Rattle.stm_session.specs.Undoes.{taken_count, flash_taken_back, AmidUndo}
 use Rattle.stm_session.specs.Headline.{World, now_of, Event, ran, run_stopped, informed, info_stopped, undid, undo_stopped, was_reset, Leads, standing_in, grown, starts_of_run, starts_after, Happening, AllLead, end_of, AllIsTakenBack, WritesWhole}
-use Rattle.stm_session.proofs.Histories.{Laws, RunLeft, depth-is, length-before, taken-within, run-left, run-begun, undo-undone, gives, still-tabled, start-undoable, IsTabled}
+use Rattle.stm_session.proofs.RunHistories.{Laws, RunLeft, depth-is, length-before, taken-within, run-left, run-begun}
+use Rattle.stm_session.proofs.Histories.{undo-undone, gives, still-tabled, start-undoable, IsTabled}
 
 -- the flash at the start of the oldest segment, and with none the flash itself
 abbrev pub oldest : List (List ℕ) → List ℕ → List ℕ
@@ -94,7 +95,7 @@ module _ (laws : Laws) {R : Type 0} (view : R → RigState) (table : List ChipDa
   run-oldest commands starts s t u left =
       let hs = flashes_before s.device.chip s.device.flash (standing_in s commands) in
       let O : ℕ → Type 0 = λ n. oldest (reverse (take n hs) ++ starts) t.device.flash ≡ oldest starts s.device.flash in
-      subst O (sym (run-begun laws view table commands starts s t u left))
+      subst O (sym (run-begun laws table commands starts s t u left))
       (oldest-append (reverse (take left.begun hs)) starts t.device.flash
       ∙ oldest-other starts (oldest (reverse (take left.begun hs)) t.device.flash) s.device.flash
       (λ none. oldest-taken left.begun hs s.device.flash t.device.flash (λ h rest e. first-before s.device.chip s.device.flash (standing_in s commands) h rest e)
@@ -121,10 +122,10 @@ module _ (laws : Laws) {R : Type 0} (view : R → RigState) (table : List ChipDa
   keeps (ran commands old new result) starts s t (begins, contract, returns) =
       let A : World → Type 0 = λ x. Undoable starts x.device x.journal → IsTabled laws view table x → oldest (starts_of_run commands x t starts) t.device.flash ≡ oldest starts x.device.flash in
       let B : World → Type 0 = λ y. oldest (starts_of_run commands (now_of (view old)) y starts) y.device.flash ≡ oldest starts (view old).device.flash in
-      subst A begins.1 (λ u tabled. subst B returns (run-oldest commands starts (now_of (view old)) (now_of (view new)) u (run-left laws view table commands starts (view old) (view new) result begins.0 u tabled contract).1))
+      subst A begins.1 (λ u tabled. subst B returns (run-oldest commands starts (now_of (view old)) (now_of (view new)) u (run-left laws table commands starts (view old) (view new) result begins.0 u tabled contract).1))
   keeps (run_stopped commands old new result) starts s t (begins, contract, left) =
       let A : World → Type 0 = λ x. Undoable starts x.device x.journal → IsTabled laws view table x → oldest (starts_of_run commands x t starts) t.device.flash ≡ oldest starts x.device.flash in
-      subst A begins.1 (λ u tabled. run-oldest commands starts (now_of (view old)) t u ((run-left laws view table commands starts (view old) (view new) result begins.0 u tabled contract).0 t left))
+      subst A begins.1 (λ u tabled. run-oldest commands starts (now_of (view old)) t u ((run-left laws table commands starts (view old) (view new) result begins.0 u tabled contract).0 t left))
   keeps (informed old new result) starts s t leads = λ u tabled. oldest-other starts t.device.flash s.device.flash (λ none. (gives laws view table (informed old new result) starts s t leads u tabled).2.0)
   keeps (info_stopped old new result) starts s t leads = λ u tabled. oldest-other starts t.device.flash s.device.flash (λ none. (gives laws view table (info_stopped old new result) starts s t leads u tabled).2.0)
   keeps (undid count old new result) starts s t (begins, contract, returns) =

@@ -96,12 +96,15 @@ pub fn check_commands(
     told: &Commands,
     commands: &[Command],
 ) -> Result<(), Fault>
-    ensures in_flash { OnOk result (list_all (lies_in_flash chip.now) (map command_data commands.now) ≡ true) }
+    ensures in_flash { OnOk result
+        (list_all (lies_in_flash chip.now) (map command_data commands.now) ≡ true) }
     ensures room { let changes = changes_of (map command_data commands.now) in
         OnOk result (length journal.now.state.stack + length changes ≤ 65535) }
     ensures refusal { (d : Device) → AreCommandsOf d told.now
-        → let refusals = command_refusals journal.now.state d chip.now (map command_data commands.now) in
-        MatchResult result (λ _. first_refusal refusals ≡ None) (λ fault. first_refusal refusals ≡ Some fault) }
+        → let refusals = command_refusals journal.now.state d chip.now
+        (map command_data commands.now) in
+        MatchResult result (λ _. first_refusal refusals ≡ None)
+        (λ fault. first_refusal refusals ≡ Some fault) }
     ensures named { IfErr result IsLaterRefusal }
 {
     if !can_change(chip, told, commands) {

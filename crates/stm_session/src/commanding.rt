@@ -34,7 +34,8 @@ pub fn change_flash<R: Rig>(
     requires room { length journal.old.state.stack < 65535 }
     requires finished { is_unfinished journal.old.state ≡ false }
     ensures finished { OnOk result (is_unfinished journal.new.state ≡ false) }
-    ensures depth { OnOk result (length journal.new.state.stack ≡ length journal.old.state.stack + 1) }
+    ensures depth { OnOk result
+        (length journal.new.state.stack ≡ length journal.old.state.stack + 1) }
     ensures number { IfOk result (λ answer. answer.0 ≡ length journal.old.state.stack + 1) }
     ensures cause { HasSessionCause (R.view rig.old) (R.view rig.new) result }
     ensures named { IfErr result (λ fault. fault ≢ Fault.Unfinished) }
@@ -45,7 +46,8 @@ pub fn change_flash<R: Rig>(
         OnOk result (Follows Done journal.old journal.new old new) }
     ensures honest { let old = R.view rig.old in let new = R.view rig.new in
         (flashes : List (List ℕ)) → IsSteady flashes journal.old old → old.device.chip ≡ chip.now
-        → let flash = old.device.flash in let after = flash_after chip.now flash (command_of change.now) in
+        → let flash = old.device.flash in
+        let after = flash_after chip.now flash (command_of change.now) in
         let k = depth_at old.journal + 1 in
         let lines = segment_entries (is_named_at old.journal) chip.now k flash after in
         Changes flashes lines after journal.new old new result

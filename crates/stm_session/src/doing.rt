@@ -38,7 +38,8 @@ fn write_image<R: Rig>(
     requires room { length journal.old.state.stack < 65535 }
     requires finished { is_unfinished journal.old.state ≡ false }
     ensures finished { OnOk result (is_unfinished journal.new.state ≡ false) }
-    ensures depth { OnOk result (length journal.new.state.stack ≡ length journal.old.state.stack + 1) }
+    ensures depth { OnOk result
+        (length journal.new.state.stack ≡ length journal.old.state.stack + 1) }
     ensures kind { IfOk result (IsKindOf (Command.Write image.now)) }
     ensures cause { HasSessionCause (R.view rig.old) (R.view rig.new) result }
     ensures named { IfErr result (λ fault. fault ≢ Fault.Unfinished) }
@@ -66,7 +67,8 @@ fn erase_pages<R: Rig>(
     requires room { length journal.old.state.stack < 65535 }
     requires finished { is_unfinished journal.old.state ≡ false }
     ensures finished { OnOk result (is_unfinished journal.new.state ≡ false) }
-    ensures depth { OnOk result (length journal.new.state.stack ≡ length journal.old.state.stack + 1) }
+    ensures depth { OnOk result
+        (length journal.new.state.stack ≡ length journal.old.state.stack + 1) }
     ensures kind { IfOk result (IsKindOf (Command.Erase pages.now)) }
     ensures cause { HasSessionCause (R.view rig.old) (R.view rig.new) result }
     ensures named { IfErr result (λ fault. fault ≢ Fault.Unfinished) }

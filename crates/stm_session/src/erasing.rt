@@ -25,16 +25,18 @@ pub fn erase_kept<R: Rig>(
 ) -> Result<(), Fault>
     requires exists { n < page_count chip.now }
     requires kept { IsTrue (newest_keeps n journal.old.state) }
-    ensures intended { OnOk result (HasIntended n (Intent.Erase n) journal.old.state journal.new.state) }
+    ensures intended { OnOk result
+        (HasIntended n (Intent.Erase n) journal.old.state journal.new.state) }
     ensures cause { HasSessionCause (R.view rig.old) (R.view rig.new) result }
     ensures named { IfErr result (λ fault. fault ≢ Fault.Unfinished) }
     ensures puts { let old = R.view rig.old in let new = R.view rig.new in
         GoesOn (IsPart (Some chip.now) (is_whole result) 9) old.calls new.calls }
     ensures order { let old = R.view rig.old in let new = R.view rig.new in
         OnOk result (DoesSteps (erase_steps chip.now n) journal.old journal.new old new) }
-    ensures honest { (flashes : List (List ℕ)) → IsSteady flashes journal.old (R.view rig.old) → (R.view rig.old).device.chip ≡ chip.now
-        → Goes flashes (Erases n ∷ []) journal.new (R.view rig.old) (R.view rig.new) result
-        (λ _. (R.view rig.new).device.flash ≡ with_page chip.now n (erased_page chip.now n) (R.view rig.old).device.flash) }
+    ensures honest { let old = R.view rig.old in let new = R.view rig.new in
+        (flashes : List (List ℕ)) → IsSteady flashes journal.old old → old.device.chip ≡ chip.now
+        → Goes flashes (Erases n ∷ []) journal.new old new result
+        (λ _. new.device.flash ≡ with_page chip.now n (erased_page chip.now n) old.device.flash) }
 {
     step_laws();
     chip.keeps_limits();

@@ -39,10 +39,13 @@ fn program_frame<R: Rig>(
     ensures order { let old = R.view rig.old in let new = R.view rig.new in
         (torn : Bool) → let steps = write_step chip.now n page.now frame ∷ [] in
         OnOk result (GoesOn (IsInOrder torn steps) old.calls new.calls) }
-    ensures honest { (flashes : List (List ℕ)) (l : Loaded) → IsSteady flashes l (R.view rig.old) → (R.view rig.old).device.chip ≡ chip.now
-        → IsUnder n (Intent.Program n) (state_at (R.view rig.old).journal) → IsErasedAt chip.now (page_offset chip.now n + frame.offset) frame.length (R.view rig.old).device.flash
-        → Goes flashes [] l (R.view rig.old) (R.view rig.new) result
-        (λ _. (R.view rig.new).device.flash ≡ with_bytes (page_offset chip.now n + frame.offset) (take frame.length (drop frame.offset page.now)) (R.view rig.old).device.flash) }
+    ensures honest { let old = R.view rig.old in let new = R.view rig.new in
+        (flashes : List (List ℕ)) (l : Loaded) → IsSteady flashes l old → old.device.chip ≡ chip.now
+        → IsUnder n (Intent.Program n) (state_at old.journal)
+        → IsErasedAt chip.now (page_offset chip.now n + frame.offset) frame.length old.device.flash
+        → Goes flashes [] l old new result
+        (λ _. new.device.flash ≡ with_bytes (page_offset chip.now n + frame.offset)
+        (take frame.length (drop frame.offset page.now)) old.device.flash) }
 {
     step_laws();
     chip.keeps_limits();
@@ -66,15 +69,19 @@ fn program_frames<R: Rig>(
     ensures cause { HasSessionCause (R.view rig.old) (R.view rig.new) result }
     ensures named { IfErr result (λ fault. fault ≢ Fault.Unfinished) }
     ensures puts { let old = R.view rig.old in let new = R.view rig.new in
-        GoesOn (IsPart (Some chip.now) (is_whole result) (2 * length page.now)) old.calls new.calls }
+        GoesOn (IsPart (Some chip.now) (is_whole result) (2 * length page.now))
+        old.calls new.calls }
     ensures order { let old = R.view rig.old in let new = R.view rig.new in
         (torn : Bool) → let steps = write_steps chip.now n page.now frames.now in
         OnOk result (GoesOn (IsInOrder torn steps) old.calls new.calls) }
-    ensures honest { (flashes : List (List ℕ)) (l : Loaded) (base : List ℕ) → IsSteady flashes l (R.view rig.old) → (R.view rig.old).device.chip ≡ chip.now
-        → IsUnder n (Intent.Program n) (state_at (R.view rig.old).journal) → length base ≡ flash_size chip.now
-        → (R.view rig.old).device.flash ≡ with_page chip.now n (erased_page chip.now n) base
-        → Goes flashes [] l (R.view rig.old) (R.view rig.new) result
-        (λ _. (R.view rig.new).device.flash ≡ with_page chip.now n (written page.now frames.now (erased_page chip.now n)) base) }
+    ensures honest { let old = R.view rig.old in let new = R.view rig.new in
+        (flashes : List (List ℕ)) (l : Loaded) (base : List ℕ) → IsSteady flashes l old
+        → old.device.chip ≡ chip.now → IsUnder n (Intent.Program n) (state_at old.journal)
+        → length base ≡ flash_size chip.now
+        → old.device.flash ≡ with_page chip.now n (erased_page chip.now n) base
+        → Goes flashes [] l old new result
+        (λ _. new.device.flash ≡ with_page chip.now n
+        (written page.now frames.now (erased_page chip.now n)) base) }
 {
     step_laws();
     for frame in frames {
@@ -96,19 +103,23 @@ pub fn program_kept<R: Rig>(
     requires kept { IsTrue (newest_keeps n journal.old.state) }
     requires size { length page.now ≡ page_size chip.now n }
     requires frames { AreFrames 0 (length page.now) frames.now }
-    ensures intended { OnOk result (HasIntended n (Intent.Program n) journal.old.state journal.new.state) }
+    ensures intended { OnOk result
+        (HasIntended n (Intent.Program n) journal.old.state journal.new.state) }
     ensures cause { HasSessionCause (R.view rig.old) (R.view rig.new) result }
     ensures named { IfErr result (λ fault. fault ≢ Fault.Unfinished) }
     ensures puts { let old = R.view rig.old in let new = R.view rig.new in
-        GoesOn (IsPart (Some chip.now) (is_whole result) (2 * length page.now)) old.calls new.calls }
+        GoesOn (IsPart (Some chip.now) (is_whole result) (2 * length page.now))
+        old.calls new.calls }
     ensures order { let old = R.view rig.old in let new = R.view rig.new in
         let steps = Adds (Programs n ∷ []) ∷ write_steps chip.now n page.now frames.now in
         OnOk result (DoesSteps steps journal.old journal.new old new) }
-    ensures honest { (flashes : List (List ℕ)) (base : List ℕ) → IsSteady flashes journal.old (R.view rig.old) → (R.view rig.old).device.chip ≡ chip.now
-        → length base ≡ flash_size chip.now
-        → (R.view rig.old).device.flash ≡ with_page chip.now n (erased_page chip.now n) base
-        → Goes flashes (Programs n ∷ []) journal.new (R.view rig.old) (R.view rig.new) result
-        (λ _. (R.view rig.new).device.flash ≡ with_page chip.now n (written page.now frames.now (erased_page chip.now n)) base) }
+    ensures honest { let old = R.view rig.old in let new = R.view rig.new in
+        (flashes : List (List ℕ)) (base : List ℕ) → IsSteady flashes journal.old old
+        → old.device.chip ≡ chip.now → length base ≡ flash_size chip.now
+        → old.device.flash ≡ with_page chip.now n (erased_page chip.now n) base
+        → Goes flashes (Programs n ∷ []) journal.new old new result
+        (λ _. new.device.flash ≡ with_page chip.now n
+        (written page.now frames.now (erased_page chip.now n)) base) }
 {
     step_laws();
     let _depth = journal.depth();

@@ -36,16 +36,18 @@ pub fn restore_page<R: Rig>(
     ensures same { OnOk result (KeepsSame journal.old.state journal.new.state) }
     ensures cause { HasSessionCause (R.view rig.old) (R.view rig.new) result }
     ensures puts { let old = R.view rig.old in let new = R.view rig.new in
-        GoesOn (IsPart (Some chip.now) (is_whole result) (9 + 2 * length page.now)) old.calls new.calls }
+        GoesOn (IsPart (Some chip.now) (is_whole result) (9 + 2 * length page.now))
+        old.calls new.calls }
     ensures order { let old = R.view rig.old in let new = R.view rig.new in
         let steps = restore_steps chip.now n held.now page.now in
         OnOk result (DoesSteps steps journal.old journal.new old new) }
-    ensures honest { (flashes : List (List ℕ)) → IsSteady flashes journal.old (R.view rig.old)
-        → (R.view rig.old).device.chip ≡ chip.now
-        → held.now ≡ page_of chip.now (R.view rig.old).device.flash n
-        → let lines = if bytes_eq held.now page.now then [] else rewrite_entries chip.now n page.now in
-        Goes flashes lines journal.new (R.view rig.old) (R.view rig.new) result
-        (λ _. (R.view rig.new).device.flash ≡ with_page chip.now n page.now (R.view rig.old).device.flash) }
+    ensures honest { let old = R.view rig.old in let new = R.view rig.new in
+        (flashes : List (List ℕ)) → IsSteady flashes journal.old old → old.device.chip ≡ chip.now
+        → held.now ≡ page_of chip.now old.device.flash n
+        → let lines = if bytes_eq held.now page.now then []
+        else rewrite_entries chip.now n page.now in
+        Goes flashes lines journal.new old new result
+        (λ _. new.device.flash ≡ with_page chip.now n page.now old.device.flash) }
 {
     step_laws();
     chip.keeps_limits();

@@ -38,7 +38,8 @@ pub fn restore_line<R: Rig>(
     ensures same { OnOk result (KeepsSame journal.old.state journal.new.state) }
     ensures cause { HasSessionCause (R.view rig.old) (R.view rig.new) result }
     ensures puts { let old = R.view rig.old in let new = R.view rig.new in
-        GoesOn (IsPart (Some chip.now) (is_whole result) (13 * page_size chip.now n)) old.calls new.calls }
+        GoesOn (IsPart (Some chip.now) (is_whole result) (13 * page_size chip.now n))
+        old.calls new.calls }
     ensures order { let old = R.view rig.old in let new = R.view rig.new in
         OnOk result (Follows (IsReturned chip.now n) journal.old journal.new old new) }
     ensures honest { let old = R.view rig.old in let new = R.view rig.new in

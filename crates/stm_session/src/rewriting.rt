@@ -36,17 +36,20 @@ pub fn rewrite_kept<R: Rig>(
     requires frames { AreFrames 0 (length page.now) frames.now }
     requires gives { written page.now frames.now (erased_page chip.now n) ≡ page.now }
     ensures same { OnOk result (KeepsSame journal.old.state journal.new.state) }
-    ensures open { OnOk result (newest_is_open journal.new.state ≡ newest_is_open journal.old.state) }
+    ensures open { OnOk result
+        (newest_is_open journal.new.state ≡ newest_is_open journal.old.state) }
     ensures cause { HasSessionCause (R.view rig.old) (R.view rig.new) result }
     ensures named { IfErr result (λ fault. fault ≢ Fault.Unfinished) }
     ensures puts { let old = R.view rig.old in let new = R.view rig.new in
-        GoesOn (IsPart (Some chip.now) (is_whole result) (9 + 2 * length page.now)) old.calls new.calls }
+        GoesOn (IsPart (Some chip.now) (is_whole result) (9 + 2 * length page.now))
+        old.calls new.calls }
     ensures order { let old = R.view rig.old in let new = R.view rig.new in
         let steps = rewrite_steps chip.now n page.now frames.now in
         OnOk result (DoesSteps steps journal.old journal.new old new) }
-    ensures honest { (flashes : List (List ℕ)) → IsSteady flashes journal.old (R.view rig.old) → (R.view rig.old).device.chip ≡ chip.now
-        → Goes flashes (Erases n ∷ program_entries n frames.now) journal.new (R.view rig.old) (R.view rig.new) result
-        (λ _. (R.view rig.new).device.flash ≡ with_page chip.now n page.now (R.view rig.old).device.flash) }
+    ensures honest { let old = R.view rig.old in let new = R.view rig.new in
+        (flashes : List (List ℕ)) → IsSteady flashes journal.old old → old.device.chip ≡ chip.now
+        → Goes flashes (Erases n ∷ program_entries n frames.now) journal.new old new result
+        (λ _. new.device.flash ≡ with_page chip.now n page.now old.device.flash) }
 {
     erase_kept(rig, journal, chip, n)?;
     if frames.is_empty() {

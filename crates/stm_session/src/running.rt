@@ -44,7 +44,8 @@ fn run_commands<R: Rig>(
         old.calls new.calls }
     ensures kinds { IfOk result (λ outcomes. AreKindsOf commands.now outcomes.items) }
     ensures order { let old = R.view rig.old in let new = R.view rig.new in
-        let Done = AreDone chip.now (commands_in commands.now) journal.old.state journal.new.state in
+        let Done = AreDone chip.now (commands_in commands.now)
+        journal.old.state journal.new.state in
         OnOk result (Follows Done journal.old journal.new old new) }
     ensures nothing { commands.now ≡ [] → IfErr result (λ _. ⊥) }
     ensures cause { HasSessionCause (R.view rig.old) (R.view rig.new) result }

@@ -31,7 +31,8 @@ fn save_page<R: Rig>(
     requires exists { n < page_count chip.now }
     requires size { length held.now ≡ page_size chip.now n }
     requires may { IsTrue (newest_may_keep n journal.old.state) }
-    requires companion { n ≡ 1 → IsTrue (has_companion chip.now) → IsTrue (newest_keeps 257 journal.old.state) }
+    requires companion { n ≡ 1 → IsTrue (has_companion chip.now)
+        → IsTrue (newest_keeps 257 journal.old.state) }
     ensures saved { OnOk result (HasSaved n journal.old.state journal.new.state) }
     ensures cause { HasSessionCause (R.view rig.old) (R.view rig.new) result }
     ensures named { IfErr result (λ fault. fault ≢ Fault.Unfinished) }

@@ -1,12 +1,15 @@
--- Bad lines for tests: what each is, as contracts see it, and what its calls do. Neither follows the model.
-use Rattle.std.specs.Prelude.{◌≡◌, ◌⊎◌, ℕ, ◌-◌, ◌==◌, if◌then◌else◌, List, [], ◌∷◌, ◌++◌, drop, length, Option, Some, None, Result, Ok, Err}
+-- Bad lines for tests: what each is, as contracts see it, and what its calls do. Neither follows
+-- the model.
+use Rattle.std.specs.Prelude.{◌≡◌, ◌⊎◌, ℕ, ◌-◌, ◌==◌, if◌then◌else◌, List, [], ◌∷◌}
+use Rattle.std.specs.Prelude.{◌++◌, drop, length, Option, Some, None, Result, Ok, Err}
 use Rattle.stm_wire.specs.declared.fault.RigFault.{RigFault}
 use Rattle.stm_wire.specs.declared.fault.RigFault.TheVariants.{Line, File, Stopped}
 use Rattle.stm_wire.specs.declared.rig.RigCall.{RigCall}
 use Rattle.stm_wire.specs.declared.rig.RigCall.TheVariants.{Put, Get, Append, Fetch}
 use Rattle.stm_wire.specs.Device.{Device}
 use Rattle.stm_wire.specs.Exchange.{complement}
-use Rattle.stm_wire.specs.Memory.{MemoryData, PutsInMemory, GetsInMemory, AppendsInMemory, FetchesInMemory, count_more}
+use Rattle.stm_wire.specs.Memory.{MemoryData, PutsInMemory, GetsInMemory}
+use Rattle.stm_wire.specs.Memory.{AppendsInMemory, FetchesInMemory, count_more}
 use Rattle.stm_wire.specs.Rig.{RigState}
 use Rattle.stm_wire.specs.Unmodelled.{no_device}
 
@@ -34,7 +37,12 @@ pub record ListData : Type 0 where
 
 abbrev pub list_data : List (Option ℕ) → ℕ → ℕ → List RigCall → ListData
 list_data replies line_failures journal_failures calls =
-    record { replies = replies; line_failures = line_failures; journal_failures = journal_failures; calls = calls }
+    record {
+      replies = replies;
+      line_failures = line_failures;
+      journal_failures = journal_failures;
+      calls = calls;
+    }
 
 abbrev pub list_state : ListData → RigState
 list_state d = bad_line no_device [] d.line_failures d.journal_failures d.calls
@@ -64,13 +72,16 @@ ListsJournalCall call (Err fault) old new = (fault ≡ File) × GoesUnlisted fau
 
 abbrev pub GetsFromList : Result (Option ℕ) RigFault → ListData → ListData → Type 0
 GetsFromList (Ok answer) old new =
-    (answer ≡ next_reply old.replies) × (new ≡ with_entry (Get answer) (record old { replies = drop 1 old.replies }))
+    (answer ≡ next_reply old.replies)
+    × (new ≡ with_entry (Get answer) (record old { replies = drop 1 old.replies }))
 GetsFromList (Err fault) old new = (fault ≡ Line) × GoesUnlisted fault old new
 
 -- there is nothing to read
 abbrev pub FetchesNothing : List ℕ → List ℕ → Result ℕ RigFault → ListData → ListData → Type 0
-FetchesNothing before after (Ok n) old new = (n ≡ 0) × (after ≡ before) × (new ≡ with_entry Fetch old)
-FetchesNothing before after (Err fault) old new = (after ≡ before) × (fault ≡ File) × GoesUnlisted fault old new
+FetchesNothing before after (Ok n) old new =
+    (n ≡ 0) × (after ≡ before) × (new ≡ with_entry Fetch old)
+FetchesNothing before after (Err fault) old new =
+    (after ≡ before) × (fault ≡ File) × GoesUnlisted fault old new
 
 -- a line that complements one of the bytes that another gives
 pub record FlipData : Type 0 where
@@ -83,7 +94,13 @@ pub record FlipData : Type 0 where
 
 abbrev pub flip_data : MemoryData → ℕ → ℕ → ℕ → List RigCall → FlipData
 flip_data inner flips line_failures journal_failures calls =
-    record { inner = inner; flips = flips; line_failures = line_failures; journal_failures = journal_failures; calls = calls }
+    record {
+      inner = inner;
+      flips = flips;
+      line_failures = line_failures;
+      journal_failures = journal_failures;
+      calls = calls;
+    }
 
 abbrev pub flip_state : FlipData → RigState
 flip_state d = bad_line d.inner.device d.inner.journal d.line_failures d.journal_failures d.calls
@@ -108,9 +125,11 @@ abbrev pub handed_on : RigCall → MemoryData → FlipData → FlipData
 handed_on call inner d = record d { inner = inner; calls = d.calls ++ call ∷ [] }
 
 abbrev pub PutsOn : ℕ → Result (Unit {0}) RigFault → FlipData → FlipData → Type 0
-PutsOn byte (Ok done) old new = PutsInMemory byte (Ok done) old.inner new.inner × (new ≡ handed_on (Put byte) new.inner old)
+PutsOn byte (Ok done) old new =
+    PutsInMemory byte (Ok done) old.inner new.inner × (new ≡ handed_on (Put byte) new.inner old)
 PutsOn byte (Err fault) old new =
-    (PutsInMemory byte (Err fault) old.inner new.inner × (new ≡ counts_line_of (handed_on (Put byte) new.inner old)))
+    (PutsInMemory byte (Err fault) old.inner new.inner
+    × (new ≡ counts_line_of (handed_on (Put byte) new.inner old)))
     ⊎ ((fault ≡ Line) × (new ≡ counts_line_of old))
 
 abbrev pub GetsOn : Result (Option ℕ) RigFault → FlipData → FlipData → Type 0
@@ -118,19 +137,24 @@ GetsOn (Ok given) old new =
     (got : Option ℕ) × GetsInMemory (Ok got) old.inner new.inner × (given ≡ given_for old.flips got)
     × (new ≡ record (handed_on (Get given) new.inner old) { flips = flips_after old.flips got })
 GetsOn (Err fault) old new =
-    (GetsInMemory (Err fault) old.inner new.inner × (new ≡ counts_line_of (handed_on (Get None) new.inner old)))
+    (GetsInMemory (Err fault) old.inner new.inner
+    × (new ≡ counts_line_of (handed_on (Get None) new.inner old)))
     ⊎ ((fault ≡ Line) × (new ≡ counts_line_of old))
 
 abbrev pub AppendsOn : List ℕ → Result (Unit {0}) RigFault → FlipData → FlipData → Type 0
 AppendsOn bytes (Ok done) old new =
-    AppendsInMemory bytes (Ok done) old.inner new.inner × (new ≡ handed_on (Append (length bytes)) new.inner old)
+    AppendsInMemory bytes (Ok done) old.inner new.inner
+    × (new ≡ handed_on (Append (length bytes)) new.inner old)
 AppendsOn bytes (Err fault) old new =
-    (AppendsInMemory bytes (Err fault) old.inner new.inner × (new ≡ counts_journal_of (handed_on (Append (length bytes)) new.inner old)))
+    (AppendsInMemory bytes (Err fault) old.inner new.inner
+    × (new ≡ counts_journal_of (handed_on (Append (length bytes)) new.inner old)))
     ⊎ ((fault ≡ File) × (new ≡ counts_journal_of old))
 
 abbrev pub FetchesOn : ℕ → List ℕ → List ℕ → Result ℕ RigFault → FlipData → FlipData → Type 0
 FetchesOn at before after (Ok n) old new =
-    FetchesInMemory at before after (Ok n) old.inner new.inner × (new ≡ handed_on Fetch new.inner old)
+    FetchesInMemory at before after (Ok n) old.inner new.inner
+    × (new ≡ handed_on Fetch new.inner old)
 FetchesOn at before after (Err fault) old new =
-    (FetchesInMemory at before after (Err fault) old.inner new.inner × (new ≡ counts_journal_of (handed_on Fetch new.inner old)))
+    (FetchesInMemory at before after (Err fault) old.inner new.inner
+    × (new ≡ counts_journal_of (handed_on Fetch new.inner old)))
     ⊎ ((fault ≡ File) × (after ≡ before) × (new ≡ counts_journal_of old))

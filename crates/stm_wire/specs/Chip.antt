@@ -1,5 +1,6 @@
 -- A chip, and its flash: one list of bytes from the chip's base on, parted into pages.
-use Rattle.std.specs.Prelude.{◌≡◌, ℕ, ◌+◌, ◌%◌, ◌^◌, ◌<◌, ◌≤◌, ◌⊎◌, Bool, ◌&&◌, nat_lt, nat_le, List, ◌++◌, length, take, drop, replicate, slice_index, sum, All}
+use Rattle.std.specs.Prelude.{◌≡◌, ℕ, ◌+◌, ◌%◌, ◌^◌, ◌<◌, ◌≤◌, ◌⊎◌, Bool, ◌&&◌, nat_lt, nat_le}
+use Rattle.std.specs.Prelude.{List, ◌++◌, length, take, drop, replicate, slice_index, sum, All}
 use Rattle.stm_wire.specs.declared.chip.EraseKind.{EraseKind}
 use Rattle.stm_wire.specs.declared.chip.EraseKind.TheVariants.{Page, Extended}
 
@@ -14,7 +15,8 @@ pub record ChipData : Type 0 where
   pub erased : ℕ
 
 abbrev pub chip_of : ℕ → ℕ → List ℕ → EraseKind → ℕ → ChipData
-chip_of id base sizes kind erased = record { id = id; base = base; sizes = sizes; kind = kind; erased = erased }
+chip_of id base sizes kind erased =
+    record { id = id; base = base; sizes = sizes; kind = kind; erased = erased }
 
 abbrev pub page_count : ChipData → ℕ
 page_count chip = length chip.sizes
@@ -50,7 +52,8 @@ erased_page chip n = replicate (page_size chip n) (erased_byte chip)
 
 -- n bytes from this address lie inside the flash
 abbrev pub fits_inside : ChipData → ℕ → ℕ → Bool
-fits_inside chip address n = nat_le chip.base address && nat_le (address + n) (chip.base + flash_size chip)
+fits_inside chip address n =
+    nat_le chip.base address && nat_le (address + n) (chip.base + flash_size chip)
 
 -- the address lies inside the flash
 abbrev pub is_inside : ChipData → ℕ → Bool

@@ -1,5 +1,6 @@
 -- What commands ask of a device that follows the model, and what they do to it.
-use Rattle.std.specs.Prelude.{◌<◌, ◌-◌, [], IsTrue, ◌≡◌, ◌⊎◌, ℕ, List, ◌++◌, ◌∷◌, length, take, drop, Result, IfErr, IfOk}
+use Rattle.std.specs.Prelude.{◌<◌, ◌-◌, [], IsTrue, ◌≡◌, ◌⊎◌, ℕ, List, ◌++◌}
+use Rattle.std.specs.Prelude.{◌∷◌, length, take, drop, Result, IfErr, IfOk}
 use Rattle.stm_wire.specs.declared.fault.WireFault.{WireFault}
 use Rattle.stm_wire.specs.declared.fault.WireFault.TheVariants.{Line}
 use Rattle.stm_wire.specs.Device.{Device, Connected, Fed, IsSettled}

@@ -1,5 +1,6 @@
 -- A device on the line, and what a byte does to it.
-use Rattle.std.specs.Prelude.{◌≡◌, ℕ, ◌<◌, ◌≤◌, Bool, false, ◌||◌, ◌==◌, if◌then◌else◌, List, [], ◌∷◌, ◌++◌, length, drop, All, Option, Some, None, IsTrue}
+use Rattle.std.specs.Prelude.{◌≡◌, ℕ, ◌<◌, ◌≤◌, Bool, false, ◌||◌, ◌==◌, if◌then◌else◌, List}
+use Rattle.std.specs.Prelude.{[], ◌∷◌, ◌++◌, length, drop, All, Option, Some, None, IsTrue}
 use Rattle.stm_wire.specs.declared.chip.EraseKind.{EraseKind}
 use Rattle.stm_wire.specs.declared.chip.EraseKind.TheVariants.{Page, Extended}
 use Rattle.stm_wire.specs.Chip.{ChipData, IsChip, flash_size}
@@ -63,16 +64,26 @@ pub record IsLoose (old : Device) (bytes : List ℕ) (new : Device) : Type 0 whe
 
 -- a connected device has all of a list, with this verdict
 abbrev pub Takes : Device → List ℕ → Option Verdict → Device → Type 0
-Takes old bytes None new = new ≡ record old { owed = old.owed ++ reply_of old bytes; phase = Connected bytes }
-Takes old bytes (Some Refused) new = new ≡ record old { owed = old.owed ++ reply_of old bytes; phase = Connected [] }
+Takes old bytes None new =
+    new ≡ record old { owed = old.owed ++ reply_of old bytes; phase = Connected bytes }
+Takes old bytes (Some Refused) new =
+    new ≡ record old { owed = old.owed ++ reply_of old bytes; phase = Connected [] }
 Takes old bytes (Some Done) new =
     (flash : List ℕ) × Effect old.chip (change_of bytes) old.flash flash
-    × (new ≡ record old { flash = flash; owed = old.owed ++ reply_of old bytes; phase = phase_after bytes })
+    × (new
+    ≡ record old {
+      flash = flash;
+      owed = old.owed ++ reply_of old bytes;
+      phase = phase_after bytes;
+    })
 Takes old bytes (Some Loose) new = IsLoose old bytes new
 
 abbrev pub Receives : Device → Phase → ℕ → Device → Type 0
-Receives old Fresh byte new = new ≡ (if byte == 0x7F then record old { owed = old.owed ++ ack ∷ []; phase = Connected [] } else old)
-Receives old (Connected rest) byte new = Takes old (rest ++ byte ∷ []) (verdict old.chip old.codes (rest ++ byte ∷ [])) new
+Receives old Fresh byte new =
+    new ≡ (if byte == 0x7F then record old { owed = old.owed ++ ack ∷ []; phase = Connected [] }
+    else old)
+Receives old (Connected rest) byte new =
+    Takes old (rest ++ byte ∷ []) (verdict old.chip old.codes (rest ++ byte ∷ [])) new
 Receives old Gone byte new = new ≡ old
 
 -- the byte, fed to old, may leave new

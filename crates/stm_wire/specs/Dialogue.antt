@@ -73,13 +73,14 @@ FailsBy Garbled Acknowledged call = IsOther ack nack call
 FailsBy Garbled (Expects byte) call = IsOther byte byte call
 FailsBy Garbled (Learns byte) call = ⊥
 
--- the calls of a dialogue that went as it should up to one turn, which this fault ended; where the line failed for want
--- of memory, that last call may be missing
+-- the calls of a dialogue that went as it should up to one turn, which this fault ended; where the
+-- line failed for want of memory, that last call may be missing
 abbrev pub IsBrokenOff : WireFault → List Turn → List RigCall → Type 0
 IsBrokenOff fault [] calls = ⊥
 IsBrokenOff fault (turn ∷ turns) [] = fault ≡ Line
 IsBrokenOff fault (turn ∷ turns) (call ∷ calls) =
-    (FailsBy fault turn call × (calls ≡ [])) ⊎ ((call ≡ call_of turn) × IsBrokenOff fault turns calls)
+    (FailsBy fault turn call × (calls ≡ []))
+    ⊎ ((call ≡ call_of turn) × IsBrokenOff fault turns calls)
 
 -- where there is a record, it went on by exactly these calls
 abbrev pub Adds : List RigCall → Option (List RigCall) → Option (List RigCall) → Type 0

@@ -1,5 +1,6 @@
 -- What a done list does to the flash.
-use Rattle.std.specs.Prelude.{◌≡◌, ℕ, ◌+◌, ◌-◌, ◌*◌, ◌<◌, ◌==◌, if◌then◌else◌, List, [], ◌∷◌, length, take, drop, replicate}
+use Rattle.std.specs.Prelude.{◌≡◌, ℕ, ◌+◌, ◌-◌, ◌*◌, ◌<◌, ◌==◌, if◌then◌else◌}
+use Rattle.std.specs.Prelude.{List, [], ◌∷◌, length, take, drop, replicate}
 use Rattle.stm_wire.specs.Chip.{ChipData, erased_byte, erased_page, with_bytes, with_page}
 use Rattle.stm_wire.specs.Exchange.{number_of, pair_of, pairs_of}
 
@@ -18,7 +19,9 @@ erase_change [] = Nothing
 
 -- after 44 BB
 abbrev pub extended_change : List ℕ → Change
-extended_change (high ∷ low ∷ rest) = if pair_of high low == 0xFFFF then EraseAll else ErasePages (pairs_of (take (2 * (pair_of high low + 1)) rest))
+extended_change (high ∷ low ∷ rest) =
+    if pair_of high low == 0xFFFF then EraseAll
+    else ErasePages (pairs_of (take (2 * (pair_of high low + 1)) rest))
 extended_change rest = Nothing
 
 -- after 31 CE
@@ -36,11 +39,14 @@ change_of bytes = Nothing
 
 abbrev pub erased_pages : ChipData → List ℕ → List ℕ → List ℕ
 erased_pages chip [] flash = flash
-erased_pages chip (n ∷ pages) flash = erased_pages chip pages (with_page chip n (erased_page chip n) flash)
+erased_pages chip (n ∷ pages) flash =
+    erased_pages chip pages (with_page chip n (erased_page chip n) flash)
 
--- Place by place, a byte written over an erased one becomes the byte sent; over another it may become any byte.
+-- Place by place, a byte written over an erased one becomes the byte sent; over another it may
+-- become any byte.
 abbrev pub Stores : ℕ → List ℕ → List ℕ → List ℕ → Type 0
-Stores erased (old ∷ olds) (sent ∷ sents) (new ∷ news) = (new < 256) × (old ≡ erased → new ≡ sent) × Stores erased olds sents news
+Stores erased (old ∷ olds) (sent ∷ sents) (new ∷ news) =
+    (new < 256) × (old ≡ erased → new ≡ sent) × Stores erased olds sents news
 Stores erased [] [] [] = Unit {0}
 Stores erased olds sents news = ⊥
 
@@ -50,5 +56,6 @@ Effect chip Nothing old new = new ≡ old
 Effect chip (ErasePages pages) old new = new ≡ erased_pages chip pages old
 Effect chip EraseAll old new = new ≡ replicate (length old) (erased_byte chip)
 Effect chip (Write address sent) old new =
-    (written : List ℕ) × Stores (erased_byte chip) (take (length sent) (drop (address - chip.base) old)) sent written
+    (written : List ℕ)
+    × Stores (erased_byte chip) (take (length sent) (drop (address - chip.base) old)) sent written
     × (new ≡ with_bytes (address - chip.base) written old)

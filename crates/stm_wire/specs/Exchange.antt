@@ -1,6 +1,9 @@
--- What a device makes of a whole list of bytes that came to it since its last verdict. No proper beginning of a
--- list with a verdict has one, and a list with no verdict at any beginning is open: the device waits for more.
-use Rattle.std.specs.Prelude.{◌≡◌, ℕ, ◌+◌, ◌-◌, ◌*◌, Bool, ◌&&◌, nat_lt, nat_le, ◌==◌, if◌then◌else◌, List, [], ◌∷◌, ◌++◌, length, take, slice_index, fold, bit_xor, Option, Some, None}
+-- What a device makes of a whole list of bytes that came to it since its last verdict. No proper
+-- beginning of a list with a verdict has one, and a list with no verdict at any beginning is open:
+-- the device waits for more.
+use Rattle.std.specs.Prelude.{◌≡◌, ℕ, ◌+◌, ◌-◌, ◌*◌, Bool, ◌&&◌, nat_lt, nat_le}
+use Rattle.std.specs.Prelude.{◌==◌, if◌then◌else◌, List, [], ◌∷◌, ◌++◌, length}
+use Rattle.std.specs.Prelude.{take, slice_index, fold, bit_xor, Option, Some, None}
 use Rattle.std.specs.List.{list_all, list_any}
 use Rattle.stm_wire.specs.declared.verdict.Verdict.{Verdict}
 use Rattle.stm_wire.specs.declared.verdict.Verdict.TheVariants.{Done, Refused, Loose}
@@ -50,14 +53,16 @@ after_address chip next bytes = None
 
 -- n, ~n
 abbrev pub read_verdict : ChipData → ℕ → List ℕ → Option Verdict
-read_verdict chip address (n ∷ check ∷ rest) = at_end (done_if (check == complement n && fits_inside chip address (n + 1))) rest
+read_verdict chip address (n ∷ check ∷ rest) =
+    at_end (done_if (check == complement n && fits_inside chip address (n + 1))) rest
 read_verdict chip address bytes = None
 
 -- n, n + 1 bytes, a check
 abbrev pub write_verdict : ChipData → ℕ → List ℕ → Option Verdict
 write_verdict chip address (n ∷ rest) =
     if length rest == n + 2
-    then Some (done_if (slice_index rest (n + 1) == xor (n ∷ take (n + 1) rest) && fits_inside chip address (n + 1)))
+    then Some (done_if (slice_index rest (n + 1) == xor (n ∷ take (n + 1) rest)
+    && fits_inside chip address (n + 1)))
     else None
 write_verdict chip address [] = None
 
@@ -73,7 +78,8 @@ erase_verdict chip (n ∷ rest) =
     then all_verdict rest
     else
     (if length rest == n + 2
-    then Some (done_if (slice_index rest (n + 1) == xor (n ∷ take (n + 1) rest) && all_exist chip (take (n + 1) rest)))
+    then Some (done_if (slice_index rest (n + 1) == xor (n ∷ take (n + 1) rest)
+    && all_exist chip (take (n + 1) rest)))
     else None)
 erase_verdict chip [] = None
 
@@ -81,7 +87,8 @@ erase_verdict chip [] = None
 abbrev pub pages_verdict : ChipData → List ℕ → ℕ → List ℕ → Option Verdict
 pages_verdict chip count size rest =
     if length rest == size + 1
-    then Some (done_if (slice_index rest size == xor (count ++ take size rest) && all_exist chip (pairs_of (take size rest))))
+    then Some (done_if (slice_index rest size == xor (count ++ take size rest)
+    && all_exist chip (pairs_of (take size rest))))
     else None
 
 -- the same with numbers of two bytes; of the counts from FFF0 on only FFFF is promised

@@ -6,7 +6,8 @@ use Rattle.stm_wire.specs.Device.{Device, Phase, Fresh, Connected, Gone, Feeds, 
 -- the two flashes agree in each page that isn't among these
 pub record SameOutside (chip : ChipData) (pages : List ℕ) (old new : List ℕ) : Type 0 where
   pub same_length : length new ≡ length old
-  pub elsewhere : (n : ℕ) → n < page_count chip → (Contains pages n → ⊥) → page_of chip new n ≡ page_of chip old n
+  pub elsewhere : (n : ℕ) → n < page_count chip → (Contains pages n → ⊥)
+      → page_of chip new n ≡ page_of chip old n
 
 -- fresh or connected
 abbrev pub IsListening : Phase → Type 0
@@ -21,7 +22,8 @@ pub data Event : Type 0 where
 -- these events, each the byte fed or a reset, may lead from old to new
 abbrev pub Reaches : ℕ → List Event → Device → Device → Type 0
 Reaches byte [] old new = new ≡ old
-Reaches byte (Feed ∷ events) old new = (mid : Device) × Feeds byte old mid × Reaches byte events mid new
+Reaches byte (Feed ∷ events) old new =
+    (mid : Device) × Feeds byte old mid × Reaches byte events mid new
 Reaches byte (Reset ∷ events) old new = Reaches byte events (reset old) new
 
 -- fresh or connected, and the flash is the same outside these pages
@@ -31,4 +33,5 @@ pub record IsUnharmed (old : Device) (pages : List ℕ) (new : Device) : Type 0 
 
 -- However often the byte is fed and the device is reset, it stays so.
 pub record Harmless (d : Device) (byte : ℕ) (pages : List ℕ) : Type 0 where
-  pub each : (events : List Event) (new : Device) → Reaches byte events d new → IsUnharmed d pages new
+  pub each : (events : List Event) (new : Device) → Reaches byte events d new
+      → IsUnharmed d pages new

@@ -10,6 +10,7 @@ pub mod Frames
 pub mod Intents
 pub mod SentList
 pub mod Parts
+pub mod PartJoins
 pub mod PartLaws
 pub mod Stopped
 pub mod Settling
@@ -25,9 +26,12 @@ pub mod Protection
 pub mod Rest
 pub mod Simulator
 pub mod Memory
+pub mod SimulatedChange
 pub mod Simulated
 pub mod SimulatedDevice
+pub mod FirstDevice
 pub mod Past
+pub mod HonestLine
 pub mod Honest
 pub mod Examples
 pub mod Unmodelled

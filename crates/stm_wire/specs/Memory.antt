@@ -1,5 +1,8 @@
--- A Rig in memory: its device, its journal and its record, what it has been, and when it is to stop or fail.
-use Rattle.std.specs.Prelude.{◌≡◌, ◌⊎◌, ℕ, ◌+◌, ◌-◌, ◌^◌, ◌≤◌, nat_lt, Bool, true, false, List, [], ◌∷◌, ◌++◌, min, length, take, drop, Option, Some, None, Result, Ok, Err}
+-- A Rig in memory: its device, its journal and its record, what it has been, and when it is to stop
+-- or fail.
+use Rattle.std.specs.Prelude.{◌≡◌, ◌⊎◌, ℕ, ◌+◌, ◌-◌, ◌^◌, ◌≤◌, nat_lt, Bool}
+use Rattle.std.specs.Prelude.{true, false, List, [], ◌∷◌, ◌++◌, min, length}
+use Rattle.std.specs.Prelude.{take, drop, Option, Some, None, Result, Ok, Err}
 use Rattle.stm_wire.specs.declared.fault.RigFault.{RigFault}
 use Rattle.stm_wire.specs.declared.fault.RigFault.TheVariants.{Line, File, Stopped}
 use Rattle.stm_wire.specs.declared.rig.RigCall.{RigCall}
@@ -23,8 +26,8 @@ pub record MemoryData : Type 0 where
   pub calls : List RigCall
   -- when it is to stop, and which later call is to fail
   pub plan : Plan
-  -- since it was made or last reset: the device and the journal's length at first, how many calls there were, and what
-  -- each call did
+  -- since it was made or last reset: the device and the journal's length at first, how many calls
+  -- there were, and what each call did
   pub first : Device
   pub begun : ℕ
   pub start : ℕ
@@ -50,7 +53,8 @@ added_by (Taken ∷ past) = added_by past
 added_by (Nothing ∷ past) = added_by past
 
 -- what it keeps
-pub record Keeps (now : Device) (written : List ℕ) (entries : List RigCall) (at_first : Device) (size_at_first calls_at_first : ℕ) (steps : List PastStep) : Type 0 where
+pub record Keeps (now : Device) (written : List ℕ) (entries : List RigCall) (at_first : Device)
+    (size_at_first calls_at_first : ℕ) (steps : List PastStep) : Type 0 where
   pub is_device : IsDevice now
   pub places : calls_at_first + length steps ≡ length entries
   pub replayed : now ≡ replay steps at_first
@@ -60,9 +64,11 @@ pub record Keeps (now : Device) (written : List ℕ) (entries : List RigCall) (a
 abbrev pub IsMemory : MemoryData → Type 0
 IsMemory m = Keeps m.device m.journal m.calls m.first m.begun m.start m.past
 
--- after some call since place t, or inside the call behind it: the device is as after that call, but for owed bytes lost
--- from the front, and the journal ends with or before what the next call added
-pub record LeftSince (written : List ℕ) (at_first : Device) (size_at_first calls_at_first : ℕ) (steps : List PastStep) (t : ℕ) (d : Device) (left : List ℕ) : Type 0 where
+-- after some call since place t, or inside the call behind it: the device is as after that call,
+-- but for owed bytes lost from the front, and the journal ends with or before what the next call
+-- added
+pub record LeftSince (written : List ℕ) (at_first : Device) (size_at_first calls_at_first : ℕ)
+    (steps : List PastStep) (t : ℕ) (d : Device) (left : List ℕ) : Type 0 where
   pub place : ℕ
   pub since : t ≤ calls_at_first + place
   pub until : place ≤ length steps
@@ -93,7 +99,8 @@ first_flash (Some first) flash = first
 abbrev pub first_device : Option (List ℕ) → Device → Device
 first_device first d = record d { flash = first_flash first d.flash; owed = []; phase = Fresh }
 
-abbrev pub memory_of : Device → List ℕ → ℕ → ℕ → List RigCall → Plan → Option (List ℕ) → ℕ → ℕ → List PastStep → MemoryData
+abbrev pub memory_of : Device → List ℕ → ℕ → ℕ → List RigCall → Plan → Option (List ℕ) → ℕ → ℕ
+    → List PastStep → MemoryData
 memory_of device journal line_failures journal_failures calls plan first begun start past =
     record {
       device = device;
@@ -130,7 +137,8 @@ fresh_memory chip flash journal =
 
 -- from now on its past begins here
 abbrev pub begins : Device → MemoryData → MemoryData
-begins d m = record m { device = d; first = d; begun = length m.journal; start = length m.calls; past = [] }
+begins d m =
+    record m { device = d; first = d; begun = length m.journal; start = length m.calls; past = [] }
 
 -- so many steps more would run into the stop: a call that does them is stopped
 abbrev pub runs_into_stop : ℕ → Stop → Bool
@@ -179,12 +187,17 @@ counts_journal m = record m { journal_failures = count_more m.journal_failures }
 
 -- the same with one call more, after which the device is this
 abbrev pub with_call : RigCall → PastStep → Device → MemoryData → MemoryData
-with_call call s device m = record m { device = device; calls = m.calls ++ call ∷ []; past = m.past ++ s ∷ [] }
+with_call call s device m =
+    record m { device = device; calls = m.calls ++ call ∷ []; past = m.past ++ s ∷ [] }
 
 -- the same with one append more, of which these bytes were added
 abbrev pub with_append : ℕ → List ℕ → MemoryData → MemoryData
 with_append handed_in bytes m =
-    record m { journal = m.journal ++ bytes; calls = m.calls ++ Append handed_in ∷ []; past = m.past ++ Added (length bytes) ∷ [] }
+    record m {
+      journal = m.journal ++ bytes;
+      calls = m.calls ++ Append handed_in ∷ [];
+      past = m.past ++ Added (length bytes) ∷ [];
+    }
 
 -- a call that did nothing stands in the record, or there was no memory for its entry
 abbrev pub Fails : RigCall → MemoryData → MemoryData → Type 0
@@ -194,15 +207,21 @@ Fails call old new = (new ≡ with_call call Nothing old.device old) ⊎ (new �
 abbrev pub PutsInMemory : ℕ → Result (Unit {0}) RigFault → MemoryData → MemoryData → Type 0
 PutsInMemory byte (Ok done) old new =
     (runs_into_stop 1 old.plan.stop ≡ false) × (old.plan.put_fails ≡ 1 → ⊥)
-    × (new ≡ with_call (Put byte) (Fed byte) (simulated_device byte old.device) (takes_steps 1 (counts_put old)))
-PutsInMemory byte (Err Stopped) old new = (runs_into_stop 1 old.plan.stop ≡ true) × Fails (Put byte) (counts_line (stopped old)) new
-PutsInMemory byte (Err Line) old new = (runs_into_stop 1 old.plan.stop ≡ false) × Fails (Put byte) (counts_line (counts_put old)) new
+    × (new
+    ≡ with_call (Put byte) (Fed byte) (simulated_device byte old.device)
+    (takes_steps 1 (counts_put old)))
+PutsInMemory byte (Err Stopped) old new =
+    (runs_into_stop 1 old.plan.stop ≡ true) × Fails (Put byte) (counts_line (stopped old)) new
+PutsInMemory byte (Err Line) old new =
+    (runs_into_stop 1 old.plan.stop ≡ false) × Fails (Put byte) (counts_line (counts_put old)) new
 PutsInMemory byte (Err File) old new = ⊥
 
 -- nothing was owed, or the first byte owed was taken
 abbrev pub GetsFrom : Option ℕ → MemoryData → MemoryData → Type 0
 GetsFrom None old new = (old.device.owed ≡ []) × (new ≡ with_call (Get None) Nothing old.device old)
-GetsFrom (Some byte) old new = (rest : List ℕ) × (old.device.owed ≡ byte ∷ rest) × (new ≡ with_call (Get (Some byte)) Taken (record old.device { owed = rest }) old)
+GetsFrom (Some byte) old new =
+    (rest : List ℕ) × (old.device.owed ≡ byte ∷ rest)
+    × (new ≡ with_call (Get (Some byte)) Taken (record old.device { owed = rest }) old)
 
 -- a get is one step where a byte is owed
 abbrev pub steps_of_get : MemoryData → ℕ
@@ -215,29 +234,42 @@ GetsInMemory (Ok None) old new =
 GetsInMemory (Ok (Some byte)) old new =
     (runs_into_stop 1 old.plan.stop ≡ false) × (old.plan.get_fails ≡ 1 → ⊥)
     × ((rest : List ℕ) × (old.device.owed ≡ byte ∷ rest)
-    × (new ≡ with_call (Get (Some byte)) Taken (record old.device { owed = rest }) (takes_steps 1 (counts_get old))))
-GetsInMemory (Err Stopped) old new = (runs_into_stop (steps_of_get old) old.plan.stop ≡ true) × Fails (Get None) (counts_line (stopped old)) new
-GetsInMemory (Err Line) old new = (runs_into_stop (steps_of_get old) old.plan.stop ≡ false) × Fails (Get None) (counts_line (counts_get old)) new
+    × (new
+    ≡ with_call (Get (Some byte)) Taken (record old.device { owed = rest })
+    (takes_steps 1 (counts_get old))))
+GetsInMemory (Err Stopped) old new =
+    (runs_into_stop (steps_of_get old) old.plan.stop ≡ true)
+    × Fails (Get None) (counts_line (stopped old)) new
+GetsInMemory (Err Line) old new =
+    (runs_into_stop (steps_of_get old) old.plan.stop ≡ false)
+    × Fails (Get None) (counts_line (counts_get old)) new
 GetsInMemory (Err File) old new = ⊥
 
--- An append is a step a byte. One that runs into the stop adds the bytes before it, where there is memory for these and
--- for its entry.
+-- An append is a step a byte. One that runs into the stop adds the bytes before it, where there is
+-- memory for these and for its entry.
 abbrev pub AppendsInMemory : List ℕ → Result (Unit {0}) RigFault → MemoryData → MemoryData → Type 0
 AppendsInMemory bytes (Ok done) old new =
     (runs_into_stop (length bytes) old.plan.stop ≡ false) × (old.plan.append_fails ≡ 1 → ⊥)
     × (new ≡ with_append (length bytes) bytes (takes_steps (length bytes) (counts_append old)))
 AppendsInMemory bytes (Err Stopped) old new =
     (runs_into_stop (length bytes) old.plan.stop ≡ true)
-    × ((new ≡ with_append (length bytes) (take (steps_left old.plan.stop) bytes) (counts_journal (stopped old))) ⊎ (new ≡ counts_journal (stopped old)))
+    × ((new
+    ≡ with_append (length bytes) (take (steps_left old.plan.stop) bytes)
+    (counts_journal (stopped old))) ⊎ (new ≡ counts_journal (stopped old)))
 AppendsInMemory bytes (Err File) old new =
-    (runs_into_stop (length bytes) old.plan.stop ≡ false) × Fails (Append (length bytes)) (counts_journal (counts_append old)) new
+    (runs_into_stop (length bytes) old.plan.stop ≡ false)
+    × Fails (Append (length bytes)) (counts_journal (counts_append old)) new
 AppendsInMemory bytes (Err Line) old new = ⊥
 
 -- a fetch is no step
-abbrev pub FetchesInMemory : ℕ → List ℕ → List ℕ → Result ℕ RigFault → MemoryData → MemoryData → Type 0
+abbrev pub FetchesInMemory : ℕ → List ℕ → List ℕ → Result ℕ RigFault → MemoryData → MemoryData
+    → Type 0
 FetchesInMemory at before after (Ok n) old new =
     (runs_into_stop 0 old.plan.stop ≡ false) × (n ≡ min (length before) (length old.journal - at))
-    × (after ≡ take n (drop at old.journal) ++ drop n before) × (new ≡ with_call Fetch Nothing old.device old)
-FetchesInMemory at before after (Err Stopped) old new = (runs_into_stop 0 old.plan.stop ≡ true) × Fails Fetch (counts_journal (stopped old)) new
-FetchesInMemory at before after (Err File) old new = (runs_into_stop 0 old.plan.stop ≡ false) × Fails Fetch (counts_journal old) new
+    × (after ≡ take n (drop at old.journal) ++ drop n before)
+    × (new ≡ with_call Fetch Nothing old.device old)
+FetchesInMemory at before after (Err Stopped) old new =
+    (runs_into_stop 0 old.plan.stop ≡ true) × Fails Fetch (counts_journal (stopped old)) new
+FetchesInMemory at before after (Err File) old new =
+    (runs_into_stop 0 old.plan.stop ≡ false) × Fails Fetch (counts_journal old) new
 FetchesInMemory at before after (Err Line) old new = ⊥

@@ -8,7 +8,8 @@ pub record LeavesOnly (P : Device → List ℕ → Type 0) (old new : RigState) 
   pub later : old.moment ≤ new.moment
   pub each : (d : Device) (journal : List ℕ) → new.left_since old.moment d journal → P d journal
   -- for a run that began earlier
-  pub before : (t : ℕ) (d : Device) (journal : List ℕ) → t ≤ old.moment → new.left_since t d journal → old.left_since t d journal ⊎ P d journal
+  pub before : (t : ℕ) (d : Device) (journal : List ℕ) → t ≤ old.moment → new.left_since t d journal
+      → old.left_since t d journal ⊎ P d journal
 
 -- the bytes were fed, one after another, and owed bytes were taken or lost
 abbrev pub FedAndTaken : List ℕ → Device → Device → Type 0

@@ -1,23 +1,25 @@
 -- What a Rig in memory keeps and tells after one call more.
-use Rattle.std.proofs.Common.{if◌then◌else◌, Bool, true, false, ◌==◌, ◌||◌, ◌≡◌, ◌⊎◌, inl, inr, ⊎_elim, ℕ, zero, suc, eq-or-lt_of_le, ◌+◌, ◌-◌, ◌^◌, ◌≤◌, List, [], ◌∷◌, ◌++◌, length, take, drop, Option, Some, None, refl, sym, ◌∙◌, ap, ap₂, subst, arith, length-append, append-nil, take_all}
+use Rattle.std.proofs.Common.{◌≡◌, ◌⊎◌, inl, inr, ⊎_elim, ℕ, zero, suc, eq-or-lt_of_le, ◌+◌}
+use Rattle.std.proofs.Common.{◌-◌, ◌^◌, ◌≤◌, List, [], ◌∷◌, ◌++◌, length, take, refl, sym}
+use Rattle.std.proofs.Common.{◌∙◌, ap, ap₂, subst, arith, length-append, append-nil, take_all}
 use Rattle.std.proofs.lemmas.List.{take-append-le}
 use Rattle.stm_wire.specs.declared.past.PastStep.{PastStep}
 use Rattle.stm_wire.specs.declared.past.PastStep.TheVariants.{Fed, Taken, Added, Nothing}
 use Rattle.stm_wire.specs.declared.rig.RigCall.{RigCall}
-use Rattle.stm_wire.specs.declared.verdict.Verdict.{Verdict}
-use Rattle.stm_wire.specs.declared.verdict.Verdict.TheVariants.{Done, Refused, Loose}
-use Rattle.stm_wire.specs.Exchange.{verdict}
-use Rattle.stm_wire.specs.Device.{Device, Phase, Fresh, Connected, Gone, IsDevice, LosesOwed}
-use Rattle.stm_wire.specs.Simulator.{simulated_device, after_byte, after_verdict, after_loose}
+use Rattle.stm_wire.specs.Device.{Device, IsDevice, LosesOwed}
 use Rattle.stm_wire.specs.SimulatedDevice.{le-or-gt}
-use Rattle.stm_wire.specs.Rig.{Elapses, IsModel, GetsFirst}
-use Rattle.stm_wire.specs.Memory.{MemoryData, IsMemory, Keeps, rig_state, first_flash, first_device, step, replay, added_by, with_call}
+use Rattle.stm_wire.specs.Rig.{Elapses, IsModel}
+use Rattle.stm_wire.specs.Memory.{MemoryData, IsMemory, Keeps, rig_state, step, replay, added_by}
+pub use Rattle.stm_wire.specs.FirstDevice.{restored, first-fed, taken-step, taken-rest}
+pub use Rattle.stm_wire.specs.FirstDevice.{taken-first, owed-device, taken-device, is-with_call}
 
-replay-append : (past : List PastStep) (s : PastStep) (d : Device) → replay (past ++ s ∷ []) d ≡ step s (replay past d)
+replay-append : (past : List PastStep) (s : PastStep) (d : Device)
+    → replay (past ++ s ∷ []) d ≡ step s (replay past d)
 replay-append [] s d = refl
 replay-append (x ∷ past) s d = replay-append past s (step x d)
 
-added_by-append : (past : List PastStep) (s : PastStep) → added_by (past ++ s ∷ []) ≡ added_by past + added_by (s ∷ [])
+added_by-append : (past : List PastStep) (s : PastStep)
+    → added_by (past ++ s ∷ []) ≡ added_by past + added_by (s ∷ [])
 added_by-append [] s = omega arith
 added_by-append (Added n ∷ past) s = omega (arith, added_by-append past s)
 added_by-append (Fed byte ∷ past) s = added_by-append past s
@@ -50,39 +52,56 @@ pub record Goes (call : RigCall) (s : PastStep) (bytes : List ℕ) (m n : Memory
   pub past : n.past ≡ m.past ++ s ∷ []
 
 now-device : (m : MemoryData) → IsMemory m → device_at m (length m.past) ≡ m.device
-now-device m is = ap (λ p. replay p m.first) (take_all (length m.past) m.past (omega arith)) ∙ sym is.replayed
+now-device m is =
+    ap (λ p. replay p m.first) (take_all (length m.past) m.past (omega arith)) ∙ sym is.replayed
 
 -- from the last place on, the journal's length is its length now
-now-size : (m : MemoryData) (k : ℕ) → IsMemory m → length m.past ≤ k → size_at m k ≡ length m.journal
+now-size : (m : MemoryData) (k : ℕ) → IsMemory m → length m.past ≤ k
+    → size_at m k ≡ length m.journal
 now-size m k is le = ap (λ p. m.begun + added_by p) (take_all k m.past le) ∙ is.added
 
 size-within : (m : MemoryData) (k : ℕ) → IsMemory m → size_at m k ≤ length m.journal
 size-within m k is = omega (arith, added_by-take m.past k, is.added)
 
-pub keeps-call : (call : RigCall) (s : PastStep) (bytes : List ℕ) (m : MemoryData) (device : Device) (journal : List ℕ) (calls : List RigCall) (first : Device) (past : List PastStep)
-    → device ≡ step s m.device → journal ≡ m.journal ++ bytes → calls ≡ m.calls ++ call ∷ [] → first ≡ m.first → past ≡ m.past ++ s ∷ []
-    → IsMemory m → IsDevice device → added_by (s ∷ []) ≡ length bytes → length journal ≤ 2 ^ 63 - 1 → Keeps device journal calls first m.begun m.start past
-keeps-call call s bytes m device journal calls first past is_step is_journal is_calls is_first is_past is is_device size limit =
-    let past_length : length past ≡ length m.past + 1 = ap length is_past ∙ length-append m.past (s ∷ []) in
-    let calls_length : length calls ≡ length m.calls + 1 = ap length is_calls ∙ length-append m.calls (call ∷ []) in
-    let journal_length : length journal ≡ length m.journal + length bytes = ap length is_journal ∙ length-append m.journal bytes in
-    let more : added_by past ≡ added_by m.past + added_by (s ∷ []) = ap added_by is_past ∙ added_by-append m.past s in
+pub keeps-call : (call : RigCall) (s : PastStep) (bytes : List ℕ) (m : MemoryData) (device : Device)
+    (journal : List ℕ) (calls : List RigCall) (first : Device) (past : List PastStep)
+    → device ≡ step s m.device → journal ≡ m.journal ++ bytes → calls ≡ m.calls ++ call ∷ []
+    → first ≡ m.first → past ≡ m.past ++ s ∷ []
+    → IsMemory m → IsDevice device → added_by (s ∷ []) ≡ length bytes → length journal ≤ 2 ^ 63 - 1
+    → Keeps device journal calls first m.begun m.start past
+keeps-call call s bytes m device journal calls first past is_step is_journal is_calls is_first
+    is_past is is_device size limit =
+    let past_length : length past ≡ length m.past + 1 =
+    ap length is_past ∙ length-append m.past (s ∷ []) in
+    let calls_length : length calls ≡ length m.calls + 1 =
+    ap length is_calls ∙ length-append m.calls (call ∷ []) in
+    let journal_length : length journal ≡ length m.journal + length bytes =
+    ap length is_journal ∙ length-append m.journal bytes in
+    let more : added_by past ≡ added_by m.past + added_by (s ∷ []) =
+    ap added_by is_past ∙ added_by-append m.past s in
     record {
       is_device = is_device;
       places = omega (arith, past_length, calls_length, is.places);
-      replayed = is_step ∙ ap (λ d. step s d) is.replayed ∙ sym (replay-append m.past s m.first) ∙ sym (ap₂ (λ p d. replay p d) is_past is_first);
+      replayed =
+          is_step ∙ ap (λ d. step s d) is.replayed ∙ sym (replay-append m.past s m.first)
+          ∙ sym (ap₂ (λ p d. replay p d) is_past is_first);
       added = omega (arith, more, journal_length, is.added, size);
       limit = limit;
     }
 
 -- the same for a call that left the journal as it was
-pub keeps-quiet : (call : RigCall) (s : PastStep) (m : MemoryData) (device : Device) (calls : List RigCall) (first : Device) (past : List PastStep)
-    → device ≡ step s m.device → calls ≡ m.calls ++ call ∷ [] → first ≡ m.first → past ≡ m.past ++ s ∷ []
-    → IsMemory m → IsDevice device → added_by (s ∷ []) ≡ 0 → Keeps device m.journal calls first m.begun m.start past
+pub keeps-quiet : (call : RigCall) (s : PastStep) (m : MemoryData) (device : Device)
+    (calls : List RigCall) (first : Device) (past : List PastStep)
+    → device ≡ step s m.device → calls ≡ m.calls ++ call ∷ [] → first ≡ m.first
+    → past ≡ m.past ++ s ∷ []
+    → IsMemory m → IsDevice device → added_by (s ∷ []) ≡ 0
+    → Keeps device m.journal calls first m.begun m.start past
 keeps-quiet call s m device calls first past is_step is_calls is_first is_past is is_device size =
-    keeps-call call s [] m device m.journal calls first past is_step (sym (append-nil m.journal)) is_calls is_first is_past is is_device size is.limit
+    keeps-call call s [] m device m.journal calls first past is_step
+    (sym (append-nil m.journal)) is_calls is_first is_past is is_device size is.limit
 
-module _ (call : RigCall) (s : PastStep) (bytes : List ℕ) (m n : MemoryData) (is_m : IsMemory m) (is_n : IsMemory n) (goes : Goes call s bytes m n) where
+module _ (call : RigCall) (s : PastStep) (bytes : List ℕ) (m n : MemoryData) (is_m : IsMemory m)
+    (is_n : IsMemory n) (goes : Goes call s bytes m n) where
   one-more : length n.past ≡ length m.past + 1
   one-more = ap length goes.past ∙ length-append m.past (s ∷ [])
 
@@ -108,8 +127,11 @@ module _ (call : RigCall) (s : PastStep) (bytes : List ℕ) (m n : MemoryData) (
   longer : length m.journal ≤ length n.journal
   longer = omega (arith, ap length goes.journal, length-append m.journal bytes)
 
-  -- What was left before one more call is what is left after it, and nothing else but what that call may leave.
-  pub elapses : (P : Device → List ℕ → Type 0) → ((d : Device) (size : ℕ) → LosesOwed m.device d ⊎ LosesOwed n.device d → length m.journal ≤ size → size ≤ length n.journal → P d (take size n.journal))
+  -- What was left before one more call is what is left after it, and nothing else but what that
+  -- call may leave.
+  pub elapses : (P : Device → List ℕ → Type 0)
+      → ((d : Device) (size : ℕ) → LosesOwed m.device d ⊎ LosesOwed n.device d
+      → length m.journal ≤ size → size ≤ length n.journal → P d (take size n.journal))
       → Elapses P (rig_state m) (rig_state n)
   elapses P p =
       record {
@@ -117,21 +139,32 @@ module _ (call : RigCall) (s : PastStep) (bytes : List ℕ) (m n : MemoryData) (
         nothing_else = λ t d journal le left.
             let D : Device → Type 0 = λ e. LosesOwed e d in
             let J : List ℕ → Type 0 = λ j. P d j in
-            let within : left.size ≤ length n.journal = omega (arith, left.to, size-within n (left.place + 1) is_n) in
+            let within : left.size ≤ length n.journal =
+            omega (arith, left.to, size-within n (left.place + 1) is_n) in
             ⊎_elim
             (λ last.
-            let size : size_at n left.place ≡ length n.journal = now-size n left.place is_n (omega (arith, last)) in
-            let here : device_at n left.place ≡ n.device = ap (λ k. device_at n k) last ∙ now-device n is_n in
-            inr (subst J (sym left.same) (p d left.size (inr (subst D here left.device)) (omega (arith, left.from, size, longer)) within)))
+            let size : size_at n left.place ≡ length n.journal =
+            now-size n left.place is_n (omega (arith, last)) in
+            let here : device_at n left.place ≡ n.device =
+            ap (λ k. device_at n k) last ∙ now-device n is_n in
+            inr (subst J (sym left.same)
+            (p d left.size (inr (subst D here left.device))
+            (omega (arith, left.from, size, longer)) within)))
             (λ before.
             ⊎_elim
             (λ now.
             let place : left.place ≡ length m.past = omega (arith, now, before, one-more) in
-            let size : size_at n left.place ≡ length m.journal = ap (λ k. size_at n k) place ∙ same-size (length m.past) (omega arith) ∙ now-size m (length m.past) is_m (omega arith) in
-            let here : device_at n left.place ≡ m.device = ap (λ k. device_at n k) place ∙ old-device in
-            inr (subst J (sym left.same) (p d left.size (inl (subst D here left.device)) (omega (arith, left.from, size)) within)))
+            let size : size_at n left.place ≡ length m.journal =
+            ap (λ k. size_at n k) place ∙ same-size (length m.past) (omega arith)
+            ∙ now-size m (length m.past) is_m (omega arith) in
+            let here : device_at n left.place ≡ m.device =
+            ap (λ k. device_at n k) place ∙ old-device in
+            inr (subst J (sym left.same)
+            (p d left.size (inl (subst D here left.device))
+            (omega (arith, left.from, size)) within)))
             (λ earlier.
-            let to : left.size ≤ size_at m (left.place + 1) = omega (arith, left.to, same-size (left.place + 1) (omega (arith, earlier))) in
+            let to : left.size ≤ size_at m (left.place + 1) =
+            omega (arith, left.to, same-size (left.place + 1) (omega (arith, earlier))) in
             inl
             (record {
               place = left.place;
@@ -141,13 +174,16 @@ module _ (call : RigCall) (s : PastStep) (bytes : List ℕ) (m n : MemoryData) (
               size = left.size;
               from = omega (arith, left.from, same-size left.place (omega (arith, earlier)));
               to = to;
-              same = left.same ∙ same-journal left.size (omega (arith, to, size-within m (left.place + 1) is_m));
+              same =
+                  left.same
+                  ∙ same-journal left.size (omega (arith, to, size-within m (left.place + 1) is_m));
             }))
             (le-or-gt (length m.past) left.place))
             (eq-or-lt_of_le left.until);
         keeps = λ t d journal le left.
             let D : Device → Type 0 = λ e. LosesOwed e d in
-            let within : left.size ≤ length m.journal = omega (arith, left.to, size-within m (left.place + 1) is_m) in
+            let within : left.size ≤ length m.journal =
+            omega (arith, left.to, size-within m (left.place + 1) is_m) in
             record {
               place = left.place;
               since = omega (arith, left.since, goes.start);
@@ -157,20 +193,31 @@ module _ (call : RigCall) (s : PastStep) (bytes : List ℕ) (m n : MemoryData) (
               from = omega (arith, left.from, same-size left.place left.until);
               to =
                   ⊎_elim
-                  (λ last. omega (arith, within, longer, now-size n (left.place + 1) is_n (omega (arith, last, one-more))))
-                  (λ earlier. omega (arith, left.to, same-size (left.place + 1) (omega (arith, earlier))))
+                  (λ last.
+                  omega (
+                    arith,
+                    within,
+                    longer,
+                    now-size n (left.place + 1) is_n (omega (arith, last, one-more)),
+                  ))
+                  (λ earlier.
+                  omega (arith, left.to, same-size (left.place + 1) (omega (arith, earlier))))
                   (eq-or-lt_of_le left.until);
               same = left.same ∙ sym (same-journal left.size within);
             };
       }
 
   -- Each beginning of what an append added was left during it.
-  pub beginnings : (t k : ℕ) (d : Device) → t ≤ length m.calls → length m.journal ≤ k → LosesOwed m.device d → (rig_state n).left_since t d (take k n.journal)
+  pub beginnings : (t k : ℕ) (d : Device) → t ≤ length m.calls → length m.journal ≤ k
+      → LosesOwed m.device d → (rig_state n).left_since t d (take k n.journal)
   beginnings t k d le from lost =
       let D : Device → Type 0 = λ e. LosesOwed e d in
-      let size : size_at n (length m.past) ≡ length m.journal = same-size (length m.past) (omega arith) ∙ now-size m (length m.past) is_m (omega arith) in
-      let whole : size_at n (length m.past + 1) ≡ length n.journal = now-size n (length m.past + 1) is_n (omega (arith, one-more)) in
-      let make : (s : ℕ) → length m.journal ≤ s → s ≤ length n.journal → take k n.journal ≡ take s n.journal → (rig_state n).left_since t d (take k n.journal) =
+      let size : size_at n (length m.past) ≡ length m.journal =
+      same-size (length m.past) (omega arith) ∙ now-size m (length m.past) is_m (omega arith) in
+      let whole : size_at n (length m.past + 1) ≡ length n.journal =
+      now-size n (length m.past + 1) is_n (omega (arith, one-more)) in
+      let make : (s : ℕ) → length m.journal ≤ s → s ≤ length n.journal
+      → take k n.journal ≡ take s n.journal → (rig_state n).left_since t d (take k n.journal) =
       λ s above below same.
       record {
         place = length m.past;
@@ -185,7 +232,10 @@ module _ (call : RigCall) (s : PastStep) (bytes : List ℕ) (m n : MemoryData) (
       in
       ⊎_elim
       (λ below. make k from below refl)
-      (λ past. make (length n.journal) longer (omega arith) (take_all k n.journal (omega (arith, past)) ∙ sym (take_all (length n.journal) n.journal (omega arith))))
+      (λ past.
+      make (length n.journal) longer (omega arith)
+      (take_all k n.journal (omega (arith, past))
+      ∙ sym (take_all (length n.journal) n.journal (omega arith))))
       (le-or-gt k (length n.journal))
 
 pub model : (m : MemoryData) → IsMemory m → IsModel (rig_state m)
@@ -207,79 +257,12 @@ model m is =
           };
       only_now = λ d journal left.
           let D : Device → Type 0 = λ e. LosesOwed e d in
-          let last : left.place ≡ length m.past = omega (arith, left.since, left.until, is.places) in
-          let size : size_at m left.place ≡ length m.journal = now-size m left.place is (omega (arith, last)) in
-          (left.same ∙ take_all left.size m.journal (omega (arith, left.from, size)), subst D (ap (λ k. device_at m k) last ∙ now-device m is) left.device);
+          let last : left.place ≡ length m.past =
+          omega (arith, left.since, left.until, is.places) in
+          let size : size_at m left.place ≡ length m.journal =
+          now-size m left.place is (omega (arith, last)) in (
+            left.same
+                ∙ take_all left.size m.journal (omega (arith, left.from, size)),
+            subst D (ap (λ k. device_at m k) last ∙ now-device m is) left.device,
+          );
     }
-
--- with another flash, fresh and owing nothing
-abbrev pub restored : List ℕ → Device → Device
-restored flash d = record d { flash = flash; owed = []; phase = Fresh }
-
-restored-choice : (b : Bool) (flash : List ℕ) (old x y : Device) → restored flash x ≡ restored flash old → restored flash y ≡ restored flash old → restored flash (if b then x else y) ≡ restored flash old
-restored-choice true flash old x y p q = p
-restored-choice false flash old x y p q = q
-
-restored-loose : (flash bytes : List ℕ) (d : Device) → restored flash (after_loose d bytes) ≡ restored flash d
-restored-loose flash [] d = refl
-restored-loose flash (code ∷ rest) d = restored-choice (code == 0x92) flash d _ _ refl (restored-choice (code == 0x73 || code == 0x82) flash d _ _ refl refl)
-
-restored-verdict : (flash bytes : List ℕ) (d : Device) (v : Option Verdict) → restored flash (after_verdict d bytes v) ≡ restored flash d
-restored-verdict flash bytes d None = refl
-restored-verdict flash bytes d (Some Refused) = refl
-restored-verdict flash bytes d (Some Done) = refl
-restored-verdict flash bytes d (Some Loose) = restored-loose flash bytes d
-
-restored-byte : (flash : List ℕ) (byte : ℕ) (d : Device) (phase : Phase) → restored flash (after_byte d phase byte) ≡ restored flash d
-restored-byte flash byte d Fresh = restored-choice (byte == 0x7F) flash d _ _ refl refl
-restored-byte flash byte d (Connected rest) = restored-verdict flash (rest ++ byte ∷ []) d (verdict d.chip d.codes (rest ++ byte ∷ []))
-restored-byte flash byte d Gone = refl
-
-restored-fed : (flash : List ℕ) (byte : ℕ) (d : Device) → restored flash (simulated_device byte d) ≡ restored flash d
-unfolding simulated_device
-restored-fed flash byte d = restored-byte flash byte d d.phase
-
--- the device at first is the same after a byte fed, where its flash was kept before
-pub first-fed : (byte : ℕ) (d new : Device) (old now : Option (List ℕ)) (flash : List ℕ) → new ≡ simulated_device byte d → flash ≡ d.flash → now ≡ Some (first_flash old flash) → first_device now new ≡ first_device old d
-first-fed byte d new old now flash is_new is_flash is_now =
-    ap₂ (λ (o : Option (List ℕ)) (x : Device). first_device o x) (is_now ∙ ap (λ f. Some (first_flash old f)) is_flash) is_new ∙ restored-fed (first_flash old d.flash) byte d
-
--- a device that lost the first byte owed
-pub taken-step : (byte : ℕ) (old new : Device) → GetsFirst (Some byte) old new → new ≡ record old { owed = drop 1 old.owed }
-taken-step byte old new e = let P : Device → Device = λ d. record d { owed = drop 1 d.owed } in sym (ap P e)
-
-pub taken-rest : (byte : ℕ) (old new : Device) → GetsFirst (Some byte) old new → new ≡ record old { owed = new.owed }
-taken-rest byte old new e = let P : Device → Device = λ d. record d { owed = new.owed } in sym (ap P e)
-
-pub taken-first : (first : Option (List ℕ)) (byte : ℕ) (old new : Device) → GetsFirst (Some byte) old new → first_device first new ≡ first_device first old
-taken-first first byte old new e = sym (ap (λ d. first_device first d) e)
-
-pub owed-device : (d : Device) (owed : List ℕ) → IsDevice d → IsDevice (record d { owed = owed })
-owed-device d owed is =
-    record {
-      chip = is.chip;
-      version = is.version;
-      codes = is.codes;
-      count = is.count;
-      get = is.get;
-      get_id = is.get_id;
-      read = is.read;
-      write = is.write;
-      erase = is.erase;
-      no_connect = is.no_connect;
-      size = is.size;
-      flash = is.flash;
-      phase = is.phase;
-    }
-
-pub taken-device : (byte : ℕ) (old new : Device) → GetsFirst (Some byte) old new → IsDevice old → IsDevice new
-taken-device byte old new e is = let P : Device → Type 0 = λ d. IsDevice d in subst P (sym (taken-rest byte old new e)) (owed-device old new.owed is)
-
--- these parts make the value after one call more
-pub is-with_call : (call : RigCall) (s : PastStep) (m : MemoryData) (device device' : Device) (calls : List RigCall) (first : Device) (past : List PastStep)
-    → device ≡ device' → calls ≡ m.calls ++ call ∷ [] → first ≡ m.first → past ≡ m.past ++ s ∷ []
-    → record m { device = device; calls = calls; first = first; past = past } ≡ with_call call s device' m
-is-with_call call s m device device' calls first past d c f p =
-    let one : Device → List RigCall → MemoryData = λ x y. record m { device = x; calls = y; first = first; past = past } in
-    let two : Device → List PastStep → MemoryData = λ x y. record m { device = device'; calls = m.calls ++ call ∷ []; first = x; past = y } in
-    ap₂ one d c ∙ ap₂ two f p

@@ -1,7 +1,9 @@
 -- The commands that change a chip's protection.
 use Rattle.std.specs.Prelude.{ℕ}
 use Rattle.stm_wire.specs.declared.protection.Protection.{Protection}
-use Rattle.stm_wire.specs.declared.protection.Protection.TheVariants.{WriteUnprotect, ReadoutProtect, ReadoutUnprotect}
+use Rattle.stm_wire.specs.declared.protection.Protection.TheVariants.{WriteUnprotect}
+use Rattle.stm_wire.specs.declared.protection.Protection.TheVariants.{ReadoutProtect}
+use Rattle.stm_wire.specs.declared.protection.Protection.TheVariants.{ReadoutUnprotect}
 
 -- the code of the command
 abbrev pub protection_code : Protection → ℕ

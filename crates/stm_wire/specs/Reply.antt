@@ -1,5 +1,6 @@
 -- What a device owes after the last byte of a list.
-use Rattle.std.specs.Prelude.{ℕ, ◌+◌, ◌-◌, ◌/◌, ◌%◌, ◌||◌, ◌==◌, if◌then◌else◌, List, [], ◌∷◌, ◌++◌, length, take, drop, Option, Some, None}
+use Rattle.std.specs.Prelude.{ℕ, ◌+◌, ◌-◌, ◌/◌, ◌%◌, ◌||◌, ◌==◌, if◌then◌else◌, List}
+use Rattle.std.specs.Prelude.{[], ◌∷◌, ◌++◌, length, take, drop, Option, Some, None}
 use Rattle.stm_wire.specs.Chip.{ChipData}
 use Rattle.stm_wire.specs.declared.verdict.Verdict.{Verdict}
 use Rattle.stm_wire.specs.declared.verdict.Verdict.TheVariants.{Done, Refused, Loose}
@@ -21,7 +22,8 @@ id_answer chip = 1 ∷ chip.id / 256 ∷ chip.id % 256 ∷ ack ∷ []
 
 -- after 11 EE: the bytes from the address
 abbrev pub read_answer : ChipData → List ℕ → List ℕ → List ℕ
-read_answer chip flash (a ∷ b ∷ c ∷ d ∷ check ∷ n ∷ rest) = take (n + 1) (drop (number_of a b c d - chip.base) flash)
+read_answer chip flash (a ∷ b ∷ c ∷ d ∷ check ∷ n ∷ rest) =
+    take (n + 1) (drop (number_of a b c d - chip.base) flash)
 read_answer chip flash bytes = []
 
 -- the data that follow the acknowledgement of a done list
@@ -33,10 +35,12 @@ answer chip version codes flash (code ∷ check ∷ rest) =
     else []))
 answer chip version codes flash bytes = []
 
--- an open list ends a step that is acknowledged: a code with its complement, or the address of a read or a write
+-- an open list ends a step that is acknowledged: a code with its complement, or the address of a
+-- read or a write
 abbrev pub step_reply : List ℕ → List ℕ
 step_reply (code ∷ check ∷ []) = ack ∷ []
-step_reply (code ∷ check ∷ a ∷ b ∷ c ∷ d ∷ x ∷ []) = if code == 0x11 || code == 0x31 then ack ∷ [] else []
+step_reply (code ∷ check ∷ a ∷ b ∷ c ∷ d ∷ x ∷ []) =
+    if code == 0x11 || code == 0x31 then ack ∷ [] else []
 step_reply bytes = []
 
 -- of the loose lists, this is promised of the protections alone
@@ -48,4 +52,5 @@ reply_to (Some Loose) chip version codes flash bytes = ack ∷ ack ∷ []
 
 -- what the last byte of the list adds to the bytes owed
 abbrev pub reply : ChipData → ℕ → List ℕ → List ℕ → List ℕ → List ℕ
-reply chip version codes flash bytes = reply_to (verdict chip codes bytes) chip version codes flash bytes
+reply chip version codes flash bytes =
+    reply_to (verdict chip codes bytes) chip version codes flash bytes

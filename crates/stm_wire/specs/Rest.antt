@@ -1,12 +1,15 @@
--- What the simulator keeps of the bytes since the last verdict, so that it need not look at them again.
-use Rattle.std.specs.Prelude.{◌≡◌, ℕ, ◌<◌, ◌==◌, if◌then◌else◌, List, [], ◌∷◌, ◌++◌, length, drop, None}
+-- What the simulator keeps of the bytes since the last verdict, so that it need not look at them
+-- again.
+use Rattle.std.specs.Prelude.{◌≡◌, ℕ, ◌<◌, ◌==◌, if◌then◌else◌, List}
+use Rattle.std.specs.Prelude.{[], ◌∷◌, ◌++◌, length, drop, None}
 use Rattle.stm_wire.specs.declared.simulator.rest.Rest.{Rest}
 use Rattle.stm_wire.specs.Chip.{ChipData}
 use Rattle.stm_wire.specs.Exchange.{IsOpen, all_exist, pairs_of, verdict, xor}
 
 -- whatever follows, the list has no verdict before n bytes more came
 abbrev pub IsAwaiting : ChipData → List ℕ → List ℕ → ℕ → Type 0
-IsAwaiting chip codes bytes n = (more : List ℕ) → length more < n → verdict chip codes (bytes ++ more) ≡ None
+IsAwaiting chip codes bytes n =
+    (more : List ℕ) → length more < n → verdict chip codes (bytes ++ more) ≡ None
 
 -- the numbers behind the count of a page list, as far as they have come
 abbrev pub named_pages : List ℕ → List ℕ

@@ -1,5 +1,7 @@
 -- A Rig, as contracts see it: a device on a line and a journal, and what its calls do to them.
-use Rattle.std.specs.Prelude.{◌≡◌, ◌⊎◌, ℕ, ◌+◌, ◌-◌, ◌^◌, ◌<◌, ◌≤◌, min, List, [], ◌∷◌, ◌++◌, length, take, drop, Option, Some, None, Result, Ok, Err, OnOk, OnErr, IfOk}
+use Rattle.std.specs.Prelude.{◌≡◌, ◌⊎◌, ℕ, ◌+◌, ◌-◌, ◌^◌, ◌<◌, ◌≤◌, min, List}
+use Rattle.std.specs.Prelude.{[], ◌∷◌, ◌++◌, length, take, drop, Option, Some}
+use Rattle.std.specs.Prelude.{None, Result, Ok, Err, OnOk, OnErr, IfOk}
 use Rattle.stm_wire.specs.declared.rig.RigCall.{RigCall}
 use Rattle.stm_wire.specs.declared.rig.RigCall.TheVariants.{Get}
 use Rattle.stm_wire.specs.declared.fault.RigFault.{RigFault}
@@ -30,9 +32,11 @@ pub record HasCause {T : Type 0} (before now : ℕ) (result : Result T RigFault)
   pub done : OnOk result (now ≡ before)
   pub failed : OnErr result (Rises before now)
 
--- The call stands in the record; one that fails for want of memory may not. Such a call has done nothing on an honest
--- Rig, since its moment is the old one, and of that moment the Rig tells the old state alone.
-abbrev pub Records : {T : Type 0} → RigCall → Result T RigFault → Option (List RigCall) → Option (List RigCall) → Type 0
+-- The call stands in the record; one that fails for want of memory may not. Such a call has done
+-- nothing on an honest Rig, since its moment is the old one, and of that moment the Rig tells the
+-- old state alone.
+abbrev pub Records : {T : Type 0} → RigCall → Result T RigFault → Option (List RigCall)
+    → Option (List RigCall) → Type 0
 Records call result None new = new ≡ None
 Records call (Ok x) (Some past) new = new ≡ Some (past ++ call ∷ [])
 Records call (Err e) (Some past) new = (new ≡ Some (past ++ call ∷ [])) ⊎ (new ≡ Some past)
@@ -45,12 +49,16 @@ entry_of_get (Err e) = Get None
 -- From old to new, a stop may have left what it might have left before, or what has P.
 pub record Elapses (P : Device → List ℕ → Type 0) (old new : RigState) : Type 0 where
   pub later : old.moment ≤ new.moment
-  pub nothing_else : (t : ℕ) (d : Device) (journal : List ℕ) → t ≤ old.moment → new.left_since t d journal → old.left_since t d journal ⊎ P d journal
-  pub keeps : (t : ℕ) (d : Device) (journal : List ℕ) → t ≤ old.moment → old.left_since t d journal → new.left_since t d journal
+  pub nothing_else : (t : ℕ) (d : Device) (journal : List ℕ) → t ≤ old.moment
+      → new.left_since t d journal → old.left_since t d journal ⊎ P d journal
+  pub keeps : (t : ℕ) (d : Device) (journal : List ℕ) → t ≤ old.moment → old.left_since t d journal
+      → new.left_since t d journal
 
 -- during a put: the byte is fed or not, and owed bytes may be lost
 abbrev pub LeftByPut : ℕ → RigState → Device → List ℕ → Type 0
-LeftByPut byte old d journal = (journal ≡ old.journal) × ((mid : Device) × ((mid ≡ old.device) ⊎ Feeds byte old.device mid) × LosesOwed mid d)
+LeftByPut byte old d journal =
+    (journal ≡ old.journal)
+    × ((mid : Device) × ((mid ≡ old.device) ⊎ Feeds byte old.device mid) × LosesOwed mid d)
 
 -- during a get or a fetch: owed bytes may be lost
 abbrev pub LeftByGet : RigState → Device → List ℕ → Type 0
@@ -58,9 +66,11 @@ LeftByGet old d journal = (journal ≡ old.journal) × LosesOwed old.device d
 
 -- during an append: a beginning of the bytes is added, and owed bytes may be lost
 abbrev pub LeftByAppend : List ℕ → RigState → Device → List ℕ → Type 0
-LeftByAppend bytes old d journal = ((n : ℕ) × (journal ≡ old.journal ++ take n bytes)) × LosesOwed old.device d
+LeftByAppend bytes old d journal =
+    ((n : ℕ) × (journal ≡ old.journal ++ take n bytes)) × LosesOwed old.device d
 
-pub record PutsHonestly {T : Type 0} (byte : ℕ) (result : Result T RigFault) (old new : RigState) : Type 0 where
+pub record PutsHonestly {T : Type 0} (byte : ℕ) (result : Result T RigFault)
+    (old new : RigState) : Type 0 where
   pub honest : new.is_honest
   pub ok : OnOk result (Feeds byte old.device new.device × (new.journal ≡ old.journal))
   pub err : OnErr result (LeftByPut byte old new.device new.journal)
@@ -78,17 +88,21 @@ pub record GetsHonestly (result : Result (Option ℕ) RigFault) (old new : RigSt
   pub err : OnErr result (LeftByGet old new.device new.journal)
   pub time : Elapses (LeftByGet old) old new
 
-pub record AppendsHonestly {T : Type 0} (bytes : List ℕ) (result : Result T RigFault) (old new : RigState) : Type 0 where
+pub record AppendsHonestly {T : Type 0} (bytes : List ℕ) (result : Result T RigFault)
+    (old new : RigState) : Type 0 where
   pub honest : new.is_honest
   pub ok : OnOk result ((new.device ≡ old.device) × (new.journal ≡ old.journal ++ bytes))
   pub err : OnErr result (LeftByAppend bytes old new.device new.journal)
   pub time : Elapses (LeftByAppend bytes old) old new
   -- a stop in it may have left each beginning of what was added
-  pub beginnings : (t n : ℕ) (d : Device) → t ≤ old.moment → length old.journal ≤ n → LosesOwed old.device d
+  pub beginnings : (t n : ℕ) (d : Device) → t ≤ old.moment → length old.journal ≤ n
+      → LosesOwed old.device d
       → new.left_since t d (take n new.journal)
 
--- the journal's bytes from the place on, as many as were answered; none only where there are none or no room
-pub record FetchesHonestly (at : ℕ) (before after : List ℕ) (result : Result ℕ RigFault) (old new : RigState) : Type 0 where
+-- the journal's bytes from the place on, as many as were answered; none only where there are none
+-- or no room
+pub record FetchesHonestly (at : ℕ) (before after : List ℕ) (result : Result ℕ RigFault)
+    (old new : RigState) : Type 0 where
   pub honest : new.is_honest
   pub ok : OnOk result ((new.device ≡ old.device) × (new.journal ≡ old.journal))
   pub bytes : IfOk result (λ n. take n after ≡ take n (drop at old.journal))
@@ -97,7 +111,8 @@ pub record FetchesHonestly (at : ℕ) (before after : List ℕ) (result : Result
   pub time : Elapses (LeftByGet old) old new
 
 -- a call answers at most the buffer's length, and nothing from the last place on
-pub record FetchesWithin (at : ℕ) (before after : List ℕ) (result : Result ℕ RigFault) : Type 0 where
+pub record FetchesWithin (at : ℕ) (before after : List ℕ)
+    (result : Result ℕ RigFault) : Type 0 where
   pub same_length : length after ≡ length before
   pub within : IfOk result (λ n. n ≤ length before)
   pub last : 2 ^ 63 - 1 ≤ at → IfOk result (λ n. n ≡ 0)
@@ -107,8 +122,10 @@ pub record IsModel (rig : RigState) : Type 0 where
   pub device : IsDevice rig.device
   pub journal : length rig.journal ≤ 2 ^ 63 - 1
   -- this moment is one of those since an earlier one, and since this moment there is no other
-  pub counts_now : (t : ℕ) (d : Device) → t ≤ rig.moment → LosesOwed rig.device d → rig.left_since t d rig.journal
-  pub only_now : (d : Device) (journal : List ℕ) → rig.left_since rig.moment d journal → (journal ≡ rig.journal) × LosesOwed rig.device d
+  pub counts_now : (t : ℕ) (d : Device) → t ≤ rig.moment → LosesOwed rig.device d
+      → rig.left_since t d rig.journal
+  pub only_now : (d : Device) (journal : List ℕ) → rig.left_since rig.moment d journal
+      → (journal ≡ rig.journal) × LosesOwed rig.device d
 
 -- where there is a record, a moment is a place in it
 abbrev pub IsPlace : ℕ → Option (List RigCall) → Type 0

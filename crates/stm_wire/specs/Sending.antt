@@ -28,7 +28,8 @@ pub record Holds (bytes : List ℕ) (turns : List Turn) (old new : RigState) : T
   pub honestly : old.is_honest → SentHonestly bytes old new
 
 -- It was broken off with this fault.
-pub record BreaksOff (fault : WireFault) (bytes : List ℕ) (turns : List Turn) (old new : RigState) : Type 0 where
+pub record BreaksOff (fault : WireFault) (bytes : List ℕ) (turns : List Turn)
+    (old new : RigState) : Type 0 where
   pub recorded : GoesOn (IsBrokenOff fault turns) old.calls new.calls
   pub line_count : old.line_failures ≤ new.line_failures
   pub line_cause : fault ≡ Line → Rises old.line_failures new.line_failures

@@ -1,5 +1,6 @@
 -- Lists of the bytes that a session may send: bytes that settle, and then frames.
-use Rattle.std.specs.Prelude.{◌≡◌, ℕ, ◌<◌, ◌≤◌, List, [], ◌∷◌, ◌++◌, length, take, replicate, Option, Some}
+use Rattle.std.specs.Prelude.{◌≡◌, ℕ, ◌<◌, ◌≤◌, List, [], ◌∷◌, ◌++◌}
+use Rattle.std.specs.Prelude.{length, take, replicate, Option, Some}
 use Rattle.std.specs.List.{AllByRecursion, concat}
 use Rattle.stm_wire.specs.Chip.{ChipData, page_count}
 use Rattle.stm_wire.specs.Frames.{command, read_frame, write_frame, erase_frame}
@@ -11,7 +12,8 @@ pub data IsFrame (chip : Option ChipData) (bytes : List ℕ) : Type 0 where
   get_id : bytes ≡ command 0x02 → IsFrame chip bytes
   read : (c : ChipData) (page address size : ℕ) → chip ≡ Some c → 1 ≤ size → size ≤ 256
       → InPage c page address size → bytes ≡ read_frame address size → IsFrame chip bytes
-  write : (c : ChipData) (page address : ℕ) (sent : List ℕ) → chip ≡ Some c → 1 ≤ length sent → length sent ≤ 256
+  write : (c : ChipData) (page address : ℕ) (sent : List ℕ) → chip ≡ Some c → 1 ≤ length sent
+      → length sent ≤ 256
       → InPage c page address (length sent) → bytes ≡ write_frame address sent → IsFrame chip bytes
   erase : (c : ChipData) (page : ℕ) → chip ≡ Some c → page < page_count c
       → bytes ≡ erase_frame c.kind page → IsFrame chip bytes

@@ -1,5 +1,6 @@
 -- What settling does to a Rig: on any line, and on one that follows the model.
-use Rattle.std.specs.Prelude.{◌≡◌, ℕ, ◌+◌, ◌-◌, ◌*◌, ◌≤◌, ◌==◌, if◌then◌else◌, List, [], ◌∷◌, length, take, replicate, Bool, Result, IfOk, OnOk, IfErr, MatchBool}
+use Rattle.std.specs.Prelude.{◌≡◌, ℕ, ◌+◌, ◌-◌, ◌*◌, ◌≤◌, ◌==◌, if◌then◌else◌, List, [], ◌∷◌}
+use Rattle.std.specs.Prelude.{length, take, replicate, Bool, Result, IfOk, OnOk, IfErr, MatchBool}
 use Rattle.stm_wire.specs.declared.fault.WireFault.{WireFault}
 use Rattle.stm_wire.specs.declared.fault.WireFault.TheVariants.{Line}
 use Rattle.stm_wire.specs.declared.rig.RigCall.{RigCall}
@@ -31,9 +32,10 @@ PutsPart bytes most calls = Talks (λ puts. (n : ℕ) × (puts ≡ take n bytes)
 abbrev pub SettlesWithin : ℕ → ℕ → List RigCall → Type 0
 SettlesWithin byte limit calls = Talks (IsSettlingRun byte limit) (4100 * (limit + 4)) calls
 
--- A fault of the line is answered only where its count rose, and at Ok the count is as it was. That of the journal
--- always is.
-pub record HasLineCause {T : Type 0} (result : Result T WireFault) (old new : RigState) : Type 0 where
+-- A fault of the line is answered only where its count rose, and at Ok the count is as it was. That
+-- of the journal always is.
+pub record HasLineCause {T : Type 0} (result : Result T WireFault)
+    (old new : RigState) : Type 0 where
   pub later : old.line_failures ≤ new.line_failures
   pub done : OnOk result (new.line_failures ≡ old.line_failures)
   pub failed : IfErr result (λ fault. fault ≡ Line → Rises old.line_failures new.line_failures)
@@ -47,7 +49,8 @@ pub record Speaks {T : Type 0} (bytes : List ℕ) (most : ℕ) (result : Result 
   pub whole : OnOk result (GoesOn (PutsAll bytes most) old.calls new.calls)
 
 -- batches of the byte, and how many bytes of the limit they leave
-pub record SpeaksBatches (byte limit : ℕ) (result : Result ℕ WireFault) (old new : RigState) : Type 0 where
+pub record SpeaksBatches (byte limit : ℕ) (result : Result ℕ WireFault)
+    (old new : RigState) : Type 0 where
   pub cause : HasLineCause result old new
   pub part : GoesOn (PutsPart (replicate limit byte) (4099 * limit)) old.calls new.calls
   pub within : IfOk result (λ left. left ≤ limit)
@@ -68,8 +71,8 @@ IsWithin byte left Fresh = byte ≡ 0x7F → 3 ≤ left
 IsWithin byte left (Connected rest) = awaited byte rest ≤ left
 IsWithin byte left Gone = ⊥
 
--- the device is the start's chip, with its version and codes, as harmless, with its flash outside the pages, and owes
--- little
+-- the device is the start's chip, with its version and codes, as harmless, with its flash outside
+-- the pages, and owes little
 pub record IsSettling (byte : ℕ) (pages : List ℕ) (start d : Device) : Type 0 where
   pub same_chip : d.chip ≡ start.chip
   pub same_version : d.version ≡ start.version
@@ -79,7 +82,8 @@ pub record IsSettling (byte : ℕ) (pages : List ℕ) (start d : Device) : Type 
   pub owed : length d.owed ≤ 4096
 
 -- before a byte: nothing is owed
-pub record IsGoing (byte : ℕ) (pages : List ℕ) (start : Device) (left : ℕ) (d : Device) : Type 0 where
+pub record IsGoing (byte : ℕ) (pages : List ℕ) (start : Device) (left : ℕ)
+    (d : Device) : Type 0 where
   pub settling : IsSettling byte pages start d
   pub quiet : d.owed ≡ []
   pub within : IsWithin byte left d.phase
@@ -91,20 +95,25 @@ abbrev pub LeftBySettling : ℕ → List ℕ → Device → List ℕ → Device 
 LeftBySettling byte pages start kept d journal = (journal ≡ kept) × IsSettling byte pages start d
 
 -- at each moment from old to new
-pub record KeepsSettling (byte : ℕ) (pages : List ℕ) (start : Device) (old new : RigState) : Type 0 where
+pub record KeepsSettling (byte : ℕ) (pages : List ℕ) (start : Device)
+    (old new : RigState) : Type 0 where
   pub honest : new.is_honest
   pub journal : new.journal ≡ old.journal
   pub moments : LeavesOnly (LeftBySettling byte pages start old.journal) old new
 
 -- what one byte of settling does, and whether it was refused
-pub record SendsOnce (byte : ℕ) (pages : List ℕ) (start : Device) (left : ℕ) (result : Result Bool WireFault)
+pub record SendsOnce (byte : ℕ) (pages : List ℕ) (start : Device) (left : ℕ)
+    (result : Result Bool WireFault)
     (old new : RigState) : Type 0 where
   pub keeps : KeepsSettling byte pages start old new
-  pub ok : IfOk result (λ refused. MatchBool refused (IsSettled new.device) (IsGoing byte pages start left new.device))
+  pub ok : IfOk result
+      (λ refused.
+      MatchBool refused (IsSettled new.device) (IsGoing byte pages start left new.device))
   pub fails : IsOkOrLine result
 
 -- what a batch does
-pub record SendsBatch {T : Type 0} (byte : ℕ) (pages : List ℕ) (start : Device) (left : ℕ) (result : Result T WireFault)
+pub record SendsBatch {T : Type 0} (byte : ℕ) (pages : List ℕ) (start : Device) (left : ℕ)
+    (result : Result T WireFault)
     (old new : RigState) : Type 0 where
   pub keeps : KeepsSettling byte pages start old new
   pub ok : OnOk result (IsGoing byte pages start left new.device)
@@ -118,14 +127,16 @@ pub record SendsBatches (byte : ℕ) (pages : List ℕ) (start : Device) (result
   pub fails : IsOkOrLine result
 
 -- what settling does
-pub record Settles {T : Type 0} (byte : ℕ) (pages : List ℕ) (start : Device) (result : Result T WireFault)
+pub record Settles {T : Type 0} (byte : ℕ) (pages : List ℕ) (start : Device)
+    (result : Result T WireFault)
     (old new : RigState) : Type 0 where
   pub keeps : KeepsSettling byte pages start old new
   pub ok : OnOk result (IsSettled new.device)
   pub fails : IsOkOrLine result
 
 -- it keeps what settling keeps, and at the end the device is this one
-pub record LeadsTo {T : Type 0} (byte : ℕ) (pages : List ℕ) (start : Device) (result : Result T WireFault)
+pub record LeadsTo {T : Type 0} (byte : ℕ) (pages : List ℕ) (start : Device)
+    (result : Result T WireFault)
     (old new : RigState) (target : Device) : Type 0 where
   pub keeps : KeepsSettling byte pages start old new
   pub ok : OnOk result (new.device ≡ target)

@@ -1,5 +1,7 @@
--- The calls of settling on any line that keeps a record: what is sent and taken, and how they end at each answer.
-use Rattle.std.specs.Prelude.{◌≡◌, ◌≢◌, ◌⊎◌, ℕ, ◌-◌, ◌<◌, ◌≤◌, ◌==◌, ◌||◌, min, List, [], ◌∷◌, ◌++◌, length, replicate, Bool, true, false, Option, Some, None}
+-- The calls of settling on any line that keeps a record: what is sent and taken, and how they end
+-- at each answer.
+use Rattle.std.specs.Prelude.{◌≡◌, ◌≢◌, ◌⊎◌, ℕ, ◌-◌, ◌<◌, ◌≤◌, ◌==◌, ◌||◌, min, List, [], ◌∷◌}
+use Rattle.std.specs.Prelude.{◌++◌, length, replicate, Bool, true, false, Option, Some, None}
 use Rattle.stm_wire.specs.declared.fault.WireFault.{WireFault}
 use Rattle.stm_wire.specs.declared.fault.WireFault.TheVariants.{Nack, Quiet, Garbled}
 use Rattle.stm_wire.specs.declared.rig.RigCall.{RigCall}
@@ -40,19 +42,22 @@ pub record IsBatch (byte count : ℕ) (seen : Bool) (calls : List RigCall) : Typ
   pub is : calls ≡ replicate count (Put byte) ++ drained
   pub is_drained : IsDrained seen drained
 
--- Batches of 256 bytes, or of as many as the limit leaves above two. All but the last brought no NACK, and this says
--- whether the last did. So many bytes of the limit are left.
+-- Batches of 256 bytes, or of as many as the limit leaves above two. All but the last brought no
+-- NACK, and this says whether the last did. So many bytes of the limit are left.
 pub data AreBatches (byte limit : ℕ) : ℕ → Bool → List RigCall → Type 0 where
   none : AreBatches byte limit limit false []
-  more : (left count : ℕ) (seen : Bool) (calls batch : List RigCall) → AreBatches byte limit left false calls
+  more : (left count : ℕ) (seen : Bool) (calls batch : List RigCall)
+      → AreBatches byte limit left false calls
       → 2 < left → count ≡ min (left - 2) 256 → IsBatch byte count seen batch
       → AreBatches byte limit (left - count) seen (calls ++ batch)
 
--- all batches that are sent: none of 7F, and of another byte until one brought a NACK or two bytes are left
+-- all batches that are sent: none of 7F, and of another byte until one brought a NACK or two bytes
+-- are left
 pub data IsBatched (byte limit left : ℕ) (calls : List RigCall) : Type 0 where
   singly : byte ≡ 0x7F → left ≡ limit → calls ≡ [] → IsBatched byte limit left calls
   answered : byte ≢ 0x7F → AreBatches byte limit left true calls → IsBatched byte limit left calls
-  used_up : byte ≢ 0x7F → left ≤ 2 → AreBatches byte limit left false calls → IsBatched byte limit left calls
+  used_up : byte ≢ 0x7F → left ≤ 2 → AreBatches byte limit left false calls
+      → IsBatched byte limit left calls
 
 -- Single bytes:
 
@@ -86,7 +91,8 @@ pub record IsRefused (byte : ℕ) (calls : List RigCall) : Type 0 where
 
 -- a fresh device is connected, and what the byte then begins is ended
 abbrev pub reconnecting : ℕ → List RigCall
-reconnecting byte = Put 0x7F ∷ Get (Some ack) ∷ Put byte ∷ Get None ∷ Put byte ∷ Get (Some nack) ∷ Get None ∷ []
+reconnecting byte =
+    Put 0x7F ∷ Get (Some ack) ∷ Put byte ∷ Get None ∷ Put byte ∷ Get (Some nack) ∷ Get None ∷ []
 
 -- a byte came
 abbrev pub IsAnswer : List RigCall → Type 0
@@ -106,13 +112,16 @@ IsNoAck calls = (x : ℕ) × (x ≢ ack) × (calls ≡ Put 0x7F ∷ Get (Some x)
 
 -- the byte was not refused as it should be: by NACK, and then nothing
 pub data IsUnconfirmed (byte : ℕ) (calls : List RigCall) : Type 0 where
-  unrefused : (answer : Option ℕ) → answer ≢ Some nack → calls ≡ Put byte ∷ Get answer ∷ [] → IsUnconfirmed byte calls
-  answered_on : (x : ℕ) → calls ≡ Put byte ∷ Get (Some nack) ∷ Get (Some x) ∷ [] → IsUnconfirmed byte calls
+  unrefused : (answer : Option ℕ) → answer ≢ Some nack → calls ≡ Put byte ∷ Get answer ∷ []
+      → IsUnconfirmed byte calls
+  answered_on : (x : ℕ) → calls ≡ Put byte ∷ Get (Some nack) ∷ Get (Some x) ∷ []
+      → IsUnconfirmed byte calls
 
 -- another byte came in it than is due
 pub data IsGarbled (byte : ℕ) (calls : List RigCall) : Type 0 where
   unacknowledged : IsNoAck calls → IsGarbled byte calls
-  answered_once : (last : List RigCall) → IsAnswerTo byte last → calls ≡ Put 0x7F ∷ Get (Some ack) ∷ last
+  answered_once : (last : List RigCall) → IsAnswerTo byte last
+      → calls ≡ Put 0x7F ∷ Get (Some ack) ∷ last
       → IsGarbled byte calls
   unconfirmed : (last : List RigCall) → IsUnconfirmed byte last
       → calls ≡ Put 0x7F ∷ Get (Some ack) ∷ Put byte ∷ Get None ∷ last → IsGarbled byte calls
@@ -121,7 +130,8 @@ pub data IsGarbled (byte : ℕ) (calls : List RigCall) : Type 0 where
 pub data EndsSingly (byte limit : ℕ) (calls : List RigCall) : Type 0 where
   refused : (sent : ℕ) (before last : List RigCall) → sent < limit → AreUnrefused byte sent before
       → IsRefused byte last → calls ≡ before ++ last → EndsSingly byte limit calls
-  reconnected : (before : List RigCall) → AreUnrefused byte limit before → calls ≡ before ++ reconnecting byte
+  reconnected : (before : List RigCall) → AreUnrefused byte limit before
+      → calls ≡ before ++ reconnecting byte
       → EndsSingly byte limit calls
 
 -- settling at Ok: what was owed is taken, batches are sent, then single bytes
@@ -157,7 +167,8 @@ abbrev pub Never : List RigCall → Type 0
 Never calls = ⊥
 
 -- A fault is never Nack, and where it is Quiet or Garbled the calls end as these say.
-pub record FailsAs (quiet garbled : List RigCall → Type 0) (old new : Option (List RigCall)) (fault : WireFault)
+pub record FailsAs (quiet garbled : List RigCall → Type 0) (old new : Option (List RigCall))
+    (fault : WireFault)
     : Type 0 where
   pub named : fault ≢ Nack
   pub quiet_end : fault ≡ Quiet → GoesOn quiet old new

@@ -30,7 +30,8 @@ pub fn flag(given: &ArgMatches, id: &str) -> bool
 
 /// The number that was given under this name.
 pub fn number<'a>(given: &ArgMatches<'a>, id: &str) -> Result<u32, UsageFault<'a>>
-    ensures { IfOk result (λ n. option_and_then number_of (first_value (found_of given.now) id.now) ≡ Some n) }
+    ensures { IfOk result (λ n. option_and_then number_of (first_value (found_of given.now) id.now)
+        ≡ Some n) }
 {
     let text = word(given, id)?;
     match parse_number(text) {
@@ -46,7 +47,8 @@ pub fn number_within<'a>(
     limit: u32,
 ) -> Result<u32, UsageFault<'a>>
     ensures within { IfOk result (λ n. (1 ≤ n) × (n ≤ limit)) }
-    ensures number { IfOk result (λ n. option_and_then number_of (first_value (found_of given.now) id.now) ≡ Some n) }
+    ensures number { IfOk result
+        (λ n. option_and_then number_of (first_value (found_of given.now) id.now) ≡ Some n) }
 {
     let n = number(given, id)?;
     if 1 <= n && n <= limit {
@@ -87,7 +89,8 @@ fn page<'a>(word: &'a str) -> Result<u16, UsageFault<'a>>
 
 /// The pages that words name, in their order.
 fn numbers_of<'a>(alloc: Global, words: &[&'a str]) -> Result<Vec<u16>, Unread<'a>>
-    ensures { IfOk result (λ pages. map number_of (map (λ w. w.now) words.now) ≡ map Some pages.items) }
+    ensures { IfOk result (λ pages. map number_of (map (λ w. w.now) words.now)
+        ≡ map Some pages.items) }
 {
     let mut pages = Vec::new(alloc);
     for word in words {
@@ -98,7 +101,8 @@ fn numbers_of<'a>(alloc: Global, words: &[&'a str]) -> Result<Vec<u16>, Unread<'
 
 /// The pages that were given under this name, in their order.
 pub fn pages<'a>(alloc: Global, given: &ArgMatches<'a>, id: &str) -> Result<Vec<u16>, Unread<'a>>
-    ensures { IfOk result (λ pages. map number_of (texts_of (found_of given.now) id.now) ≡ map Some pages.items) }
+    ensures { IfOk result (λ pages. map number_of (texts_of (found_of given.now) id.now)
+        ≡ map Some pages.items) }
 {
     match given.get_strs(id) {
         Some(words) => numbers_of(alloc, words),

@@ -1,8 +1,13 @@
+pub mod Action
+pub mod Answer
+pub mod Conduct
+pub mod Content
 pub mod JournalFile
 pub mod SimulatorFile
 pub mod SimulatorFileLaws
 pub mod SimulatorRig
 pub mod SimulatorRigLaws
 pub mod Protections
+pub mod Reading
 pub mod SocketRig
 pub mod Standing

@@ -1,4 +1,5 @@
 // What is done on a device, over any Rig.
+ghost use Rattle.stmflash.specs.Action.{Does};
 
 use crate::answer::Answer;
 use crate::changing::{erase, erase_all, verify, write, write_and_verify};
@@ -73,7 +74,9 @@ impl Action {
         alloc: Global,
         rig: &mut L,
         table: &Table,
-    ) -> Result<Answer, Failure<'a>> {
+    ) -> Result<Answer, Failure<'a>>
+        ensures { Does L.view table.now self rig.old rig.new result }
+    {
         match self {
             Action::Info => Ok(Answer::Told(info(alloc, rig, table)?)),
             Action::Read(range) => Ok(read(alloc, rig, table, range)?),

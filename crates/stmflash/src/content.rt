@@ -1,4 +1,6 @@
 // The image that a file holds, as far as it can be read before the device is known.
+ghost use Rattle.std.specs.Prelude.{◌≡◌, Ok, IfOk, IfErr, List, ℕ};
+ghost use Rattle.stmflash.specs.Content.{ComesOf, ImageOn, IsNoPlace, IsPlace, has_room, is_hex};
 
 use crate::failure::Failure;
 use std::alloc::Global;
@@ -26,31 +28,63 @@ pub enum Content {
 pub fn read_content<'a, R: Files + AllocGlobal>(
     rt: &R,
     image: &ImageFile<'a>,
-) -> Result<Content, Failure<'a>> {
-    let bytes = match fs::read(rt, image.name) {
-        Ok(bytes) => bytes,
-        Err(e) => return Err(Failure::of_file(&e, Failure::CannotRead(image.name))),
-    };
-    if !image.is_raw && bytes.first() == Some(&COLON) {
-        if image.range.is_some() {
-            return Err(Failure::Usage(UsageFault::RangeNeedsRaw));
-        }
-        return Ok(Content::Placed(read_hex(rt.alloc(), bytes.as_slice())?));
+) -> Result<Content, Failure<'a>>
+    ensures { IfOk result (λ content. (bytes : List ℕ)
+        × ComesOf (is_hex image.now.is_raw bytes) image.now.range bytes (Ok content)) }
+{
+    match fs::read(rt, image.name) {
+        Ok(bytes) => content_of(rt.alloc(), bytes, image.is_raw, image.range),
+        Err(e) => Err(Failure::of_file(&e, Failure::CannotRead(image.name))),
     }
-    match image.range {
-        Some(range) => Ok(Content::Placed(place(rt.alloc(), bytes.as_slice(), range)?)),
-        None => Ok(Content::AtBase(bytes)),
+}
+
+/// The image that the bytes of a file are.
+fn content_of<'a>(
+    alloc: Global,
+    bytes: Vec<u8>,
+    is_raw: bool,
+    range: Option<Range>,
+) -> Result<Content, Failure<'a>>
+    ensures { ComesOf (is_hex is_raw bytes.items) range bytes.items result }
+{
+    match (is_hex(bytes.as_slice(), is_raw), range) {
+        (true, Some(_)) => Err(Failure::Usage(UsageFault::RangeNeedsRaw)),
+        (true, None) => Ok(Content::Placed(read_hex(alloc, bytes.as_slice())?)),
+        (false, Some(range)) => Ok(Content::Placed(place(alloc, bytes.as_slice(), range)?)),
+        (false, None) => Ok(Content::AtBase(bytes)),
+    }
+}
+
+/// Whether the bytes are HEX: they begin with a colon, and aren't said to be raw.
+fn is_hex(bytes: &[u8], is_raw: bool) -> bool
+    ensures { result ≡ is_hex is_raw bytes.now }
+{
+    match bytes.first() {
+        Some(first) => !is_raw && *first == COLON,
+        None => false,
     }
 }
 
 /// The image of raw bytes from a place on; a length that is given has to have room for them.
-fn place<'a>(alloc: Global, bytes: &[u8], range: Range) -> Result<Image, Failure<'a>> {
+fn place<'a>(alloc: Global, bytes: &[u8], range: Range) -> Result<Image, Failure<'a>>
+    ensures placed { IfOk result (IsPlace range bytes.now) }
+    ensures refused { IfErr result (IsNoPlace range bytes.now) }
+{
     let image = read_raw(alloc, bytes, range.start)?;
-    match range.length {
-        Some(length) if bytes.len() as u64 > u64::from(length) => {
-            Err(Failure::Session(Fault::OutOfFlash))
-        }
-        _ => Ok(image),
+    if has_room(range.length, bytes.len()) {
+        Ok(image)
+    } else {
+        Err(Failure::Session(Fault::OutOfFlash))
+    }
+}
+
+/// Whether a length, where one is given, has room for so many bytes.
+fn has_room(length: Option<u32>, size: usize) -> bool
+    ensures { result ≡ has_room length size }
+{
+    match length {
+        Some(most) => size as u64 <= u64::from(most),
+        None => true,
     }
 }
 
@@ -61,7 +95,9 @@ impl Content {
         alloc: Global,
         rig: &mut L,
         table: &Table,
-    ) -> Result<Image, Failure<'a>> {
+    ) -> Result<Image, Failure<'a>>
+        ensures { ImageOn L.view table.now self rig.old rig.new result }
+    {
         match self {
             Content::Placed(image) => Ok(image),
             Content::AtBase(bytes) => {

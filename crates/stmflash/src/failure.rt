@@ -1,4 +1,6 @@
 // Why the program failed, and what it says of it.
+ghost use Rattle.std.specs.Prelude.{◌≡◌};
+ghost use Rattle.stmflash.specs.declared.failure.Failure.TheVariants.{Session, Hex, Raw};
 
 use std::alloc::{AllocError, AllocFailed};
 use std::io;
@@ -74,6 +76,8 @@ impl<'a> Failure<'a> {
 }
 
 impl From<Fault> for Failure<'_> {
+    ghost from_gives = { λ fault failure. failure ≡ Session fault };
+
     fn from(fault: Fault) -> Self {
         Failure::Session(fault)
     }
@@ -92,12 +96,16 @@ impl From<TableFault> for Failure<'_> {
 }
 
 impl From<HexFault> for Failure<'_> {
+    ghost from_gives = { λ fault failure. failure ≡ Hex fault };
+
     fn from(fault: HexFault) -> Self {
         Failure::Hex(fault)
     }
 }
 
 impl From<RawFault> for Failure<'_> {
+    ghost from_gives = { λ fault failure. failure ≡ Raw fault };
+
     fn from(fault: RawFault) -> Self {
         Failure::Raw(fault)
     }

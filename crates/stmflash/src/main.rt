@@ -5,22 +5,10 @@ mod action;
 mod answer;
 mod changing;
 mod content;
-#[cfg(test)]
-mod erase_tests;
 mod failure;
 mod files;
-#[cfg(test)]
-mod full_disk;
-#[cfg(test)]
-mod image_tests;
 mod journal_file;
-#[cfg(test)]
-mod journal_tests;
 mod on_device;
-#[cfg(test)]
-mod option_tests;
-#[cfg(test)]
-mod place;
 mod program;
 mod protection;
 mod reading;
@@ -28,19 +16,9 @@ mod restoring;
 mod serving;
 mod simulator_file;
 mod simulator_rig;
-#[cfg(test)]
-mod simulator_rig_tests;
 mod socket_line;
 mod socket_rig;
-#[cfg(test)]
-mod socket_tests;
 mod standing;
-#[cfg(test)]
-mod tests;
-#[cfg(test)]
-mod undo_tests;
-#[cfg(test)]
-mod write_tests;
 
 use program::program;
 use std::io::ErrorKind;

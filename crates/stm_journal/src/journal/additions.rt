@@ -52,8 +52,10 @@ impl Journal {
     fn prepare(&mut self, entry: Entry, held: &[u8]) -> Result<Vec<u8>, JournalFault>
         requires allowed { IsTrue (allows self.old.state entry) }
         requires held { forget_entry (filled entry held.now) ≡ entry }
-        ensures text { IfOk result (λ text. text.items ≡ added_bytes self.old.is_torn (filled entry held.now ∷ [])) }
-        ensures after { OnOk result (self.new ≡ loaded_after (filled entry held.now ∷ []) self.old) }
+        ensures text { IfOk result
+            (λ text. text.items ≡ added_bytes self.old.is_torn (filled entry held.now ∷ [])) }
+        ensures after { OnOk result
+            (self.new ≡ loaded_after (filled entry held.now ∷ []) self.old) }
         ensures err { IfErr result (λ e. (e ≡ JournalFault.Memory) × (self.new ≡ self.old)) }
     {
         let mut text = self.marked_text()?;
@@ -74,8 +76,11 @@ impl Journal {
     /// Makes it what it is after the header and the line of the first segment, and gives the bytes of these.
     fn prepare_first(&mut self, id: u16) -> Result<Vec<u8>, JournalFault>
         requires { self.old.state ≡ empty_state }
-        ensures text { IfOk result (λ text. text.items ≡ added_bytes self.old.is_torn (Entry.Names 2 id ∷ Entry.Opens 1 ∷ [])) }
-        ensures after { OnOk result (self.new ≡ loaded_after (Entry.Names 2 id ∷ Entry.Opens 1 ∷ []) self.old) }
+        ensures text { IfOk result
+            (λ text. text.items ≡ added_bytes self.old.is_torn
+            (Entry.Names 2 id ∷ Entry.Opens 1 ∷ [])) }
+        ensures after { OnOk result
+            (self.new ≡ loaded_after (Entry.Names 2 id ∷ Entry.Opens 1 ∷ []) self.old) }
         ensures err { IfErr result (λ e. (e ≡ JournalFault.Memory) × (self.new ≡ self.old)) }
     {
         let mut text = self.marked_text()?;
@@ -110,14 +115,19 @@ impl Journal {
     ) -> Result<(), JournalFault>
         requires allowed { IsTrue (allows self.old.state entry) }
         requires held { forget_entry (filled entry held.now) ≡ entry }
-        ensures after { OnOk result (self.new ≡ loaded_after (filled entry held.now ∷ []) self.old) }
+        ensures after { OnOk result
+            (self.new ≡ loaded_after (filled entry held.now ∷ []) self.old) }
         ensures left { IfErr result (LeavesLoaded self.old self.new) }
         ensures cause { HasJournalCause (R.view rig.old) (R.view rig.new) result }
-        ensures calls { GoesOn (AppendsOnce (length (added_bytes self.old.is_torn (filled entry held.now ∷ []))) result) (R.view rig.old).calls (R.view rig.new).calls }
-        ensures honest { (R.view rig.old).is_honest → IsLoaded self.old (R.view rig.old).journal → IsPrintable (filled entry held.now)
-            → Appends (filled entry held.now ∷ []) self.old self.new (R.view rig.old) (R.view rig.new) result }
-        ensures text { (R.view rig.old).is_honest → IsLoaded self.old (R.view rig.old).journal → IsPrintable (filled entry held.now)
-            → OnOk result (InText (HasAdded (filled entry held.now)) (R.view rig.old).journal (R.view rig.new).journal) }
+        ensures calls { let old = R.view rig.old in let new = R.view rig.new in
+            let added = added_bytes self.old.is_torn (filled entry held.now ∷ []) in
+            GoesOn (AppendsOnce (length added) result) old.calls new.calls }
+        ensures honest { let old = R.view rig.old in let new = R.view rig.new in
+            old.is_honest → IsLoaded self.old old.journal → IsPrintable (filled entry held.now)
+            → Appends (filled entry held.now ∷ []) self.old self.new old new result }
+        ensures text { let old = R.view rig.old in let new = R.view rig.new in
+            old.is_honest → IsLoaded self.old old.journal → IsPrintable (filled entry held.now)
+            → OnOk result (InText (HasAdded (filled entry held.now)) old.journal new.journal) }
     {
         let text = self.prepare(entry, held)?;
         append(rig, &text)
@@ -126,12 +136,16 @@ impl Journal {
     /// Adds the header and the line of the first segment.
     pub(super) fn add_first<R: Rig>(&mut self, rig: &mut R, id: u16) -> Result<(), JournalFault>
         requires { self.old.state ≡ empty_state }
-        ensures after { OnOk result (self.new ≡ loaded_after (Entry.Names 2 id ∷ Entry.Opens 1 ∷ []) self.old) }
+        ensures after { OnOk result
+            (self.new ≡ loaded_after (Entry.Names 2 id ∷ Entry.Opens 1 ∷ []) self.old) }
         ensures left { IfErr result (LeavesLoaded self.old self.new) }
         ensures cause { HasJournalCause (R.view rig.old) (R.view rig.new) result }
-        ensures calls { GoesOn (AppendsOnce (length (added_bytes self.old.is_torn (Entry.Names 2 id ∷ Entry.Opens 1 ∷ []))) result) (R.view rig.old).calls (R.view rig.new).calls }
-        ensures honest { (R.view rig.old).is_honest → IsLoaded self.old (R.view rig.old).journal
-            → Appends (Entry.Names 2 id ∷ Entry.Opens 1 ∷ []) self.old self.new (R.view rig.old) (R.view rig.new) result }
+        ensures calls { let old = R.view rig.old in let new = R.view rig.new in
+            let added = added_bytes self.old.is_torn (Entry.Names 2 id ∷ Entry.Opens 1 ∷ []) in
+            GoesOn (AppendsOnce (length added) result) old.calls new.calls }
+        ensures honest { let old = R.view rig.old in let new = R.view rig.new in
+            old.is_honest → IsLoaded self.old old.journal
+            → Appends (Entry.Names 2 id ∷ Entry.Opens 1 ∷ []) self.old self.new old new result }
         ensures text { (R.view rig.old).is_honest → IsLoaded self.old (R.view rig.old).journal
             → OnOk result (InText (HasBegun id) (R.view rig.old).journal (R.view rig.new).journal) }
     {

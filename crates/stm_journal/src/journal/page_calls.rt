@@ -20,15 +20,21 @@ impl Journal {
     ) -> Result<(), JournalFault>
         requires open { IsTrue (newest_may_keep n self.old.state) }
         requires some { 0 < length bytes.now }
-        ensures after { OnOk result (self.new ≡ loaded_after (Entry.Keeps n bytes.now ∷ []) self.old) }
-        ensures kept { OnOk result (HasKept n (blank (length bytes.now)) self.old.state self.new.state) }
+        ensures after { OnOk result
+            (self.new ≡ loaded_after (Entry.Keeps n bytes.now ∷ []) self.old) }
+        ensures kept { OnOk result
+            (HasKept n (blank (length bytes.now)) self.old.state self.new.state) }
         ensures left { IfErr result (LeavesLoaded self.old self.new) }
         ensures cause { HasJournalCause (R.view rig.old) (R.view rig.new) result }
-        ensures calls { GoesOn (AppendsOnce (length (added_bytes self.old.is_torn (Entry.Keeps n bytes.now ∷ []))) result) (R.view rig.old).calls (R.view rig.new).calls }
-        ensures honest { (R.view rig.old).is_honest → IsLoaded self.old (R.view rig.old).journal
-            → Appends (Entry.Keeps n bytes.now ∷ []) self.old self.new (R.view rig.old) (R.view rig.new) result }
-        ensures text { (R.view rig.old).is_honest → IsLoaded self.old (R.view rig.old).journal
-            → OnOk result (InText (HasKept n bytes.now) (R.view rig.old).journal (R.view rig.new).journal) }
+        ensures calls { let old = R.view rig.old in let new = R.view rig.new in
+            let added = added_bytes self.old.is_torn (Entry.Keeps n bytes.now ∷ []) in
+            GoesOn (AppendsOnce (length added) result) old.calls new.calls }
+        ensures honest { let old = R.view rig.old in let new = R.view rig.new in
+            old.is_honest → IsLoaded self.old old.journal
+            → Appends (Entry.Keeps n bytes.now ∷ []) self.old self.new old new result }
+        ensures text { let old = R.view rig.old in let new = R.view rig.new in
+            old.is_honest → IsLoaded self.old old.journal
+            → OnOk result (InText (HasKept n bytes.now) old.journal new.journal) }
     {
         let _depth = self.state.depth();
         let length = PageBytes::new(bytes.len() as u64);
@@ -39,14 +45,19 @@ impl Journal {
     pub fn intend_erase<R: Rig>(&mut self, rig: &mut R, n: u16) -> Result<(), JournalFault>
         requires { IsTrue (newest_keeps n self.old.state) }
         ensures after { OnOk result (self.new ≡ loaded_after (Entry.Erases n ∷ []) self.old) }
-        ensures intended { OnOk result (HasIntended n (Intent.Erase n) self.old.state self.new.state) }
+        ensures intended { OnOk result
+            (HasIntended n (Intent.Erase n) self.old.state self.new.state) }
         ensures left { IfErr result (LeavesLoaded self.old self.new) }
         ensures cause { HasJournalCause (R.view rig.old) (R.view rig.new) result }
-        ensures calls { GoesOn (AppendsOnce (length (added_bytes self.old.is_torn (Entry.Erases n ∷ []))) result) (R.view rig.old).calls (R.view rig.new).calls }
-        ensures honest { (R.view rig.old).is_honest → IsLoaded self.old (R.view rig.old).journal
-            → Appends (Entry.Erases n ∷ []) self.old self.new (R.view rig.old) (R.view rig.new) result }
-        ensures text { (R.view rig.old).is_honest → IsLoaded self.old (R.view rig.old).journal
-            → OnOk result (InText (HasIntended n (Intent.Erase n)) (R.view rig.old).journal (R.view rig.new).journal) }
+        ensures calls { let old = R.view rig.old in let new = R.view rig.new in
+            let added = added_bytes self.old.is_torn (Entry.Erases n ∷ []) in
+            GoesOn (AppendsOnce (length added) result) old.calls new.calls }
+        ensures honest { let old = R.view rig.old in let new = R.view rig.new in
+            old.is_honest → IsLoaded self.old old.journal
+            → Appends (Entry.Erases n ∷ []) self.old self.new old new result }
+        ensures text { let old = R.view rig.old in let new = R.view rig.new in
+            old.is_honest → IsLoaded self.old old.journal
+            → OnOk result (InText (HasIntended n (Intent.Erase n)) old.journal new.journal) }
     {
         let _depth = self.state.depth();
         self.add(rig, Entry::Erases(n), &[])
@@ -56,14 +67,19 @@ impl Journal {
     pub fn intend_program<R: Rig>(&mut self, rig: &mut R, n: u16) -> Result<(), JournalFault>
         requires { IsTrue (newest_keeps n self.old.state) }
         ensures after { OnOk result (self.new ≡ loaded_after (Entry.Programs n ∷ []) self.old) }
-        ensures intended { OnOk result (HasIntended n (Intent.Program n) self.old.state self.new.state) }
+        ensures intended { OnOk result
+            (HasIntended n (Intent.Program n) self.old.state self.new.state) }
         ensures left { IfErr result (LeavesLoaded self.old self.new) }
         ensures cause { HasJournalCause (R.view rig.old) (R.view rig.new) result }
-        ensures calls { GoesOn (AppendsOnce (length (added_bytes self.old.is_torn (Entry.Programs n ∷ []))) result) (R.view rig.old).calls (R.view rig.new).calls }
-        ensures honest { (R.view rig.old).is_honest → IsLoaded self.old (R.view rig.old).journal
-            → Appends (Entry.Programs n ∷ []) self.old self.new (R.view rig.old) (R.view rig.new) result }
-        ensures text { (R.view rig.old).is_honest → IsLoaded self.old (R.view rig.old).journal
-            → OnOk result (InText (HasIntended n (Intent.Program n)) (R.view rig.old).journal (R.view rig.new).journal) }
+        ensures calls { let old = R.view rig.old in let new = R.view rig.new in
+            let added = added_bytes self.old.is_torn (Entry.Programs n ∷ []) in
+            GoesOn (AppendsOnce (length added) result) old.calls new.calls }
+        ensures honest { let old = R.view rig.old in let new = R.view rig.new in
+            old.is_honest → IsLoaded self.old old.journal
+            → Appends (Entry.Programs n ∷ []) self.old self.new old new result }
+        ensures text { let old = R.view rig.old in let new = R.view rig.new in
+            old.is_honest → IsLoaded self.old old.journal
+            → OnOk result (InText (HasIntended n (Intent.Program n)) old.journal new.journal) }
     {
         let _depth = self.state.depth();
         self.add(rig, Entry::Programs(n), &[])

@@ -75,7 +75,8 @@ impl Journal {
 
     /// The version of the header and the number of its line, where there is one.
     pub fn header(&self) -> Option<(u8, u64)>
-        ensures { result ≡ option_map (λ header. (header.version, header.line)) self.now.state.header }
+        ensures { result ≡ option_map
+            (λ header. (header.version, header.line)) self.now.state.header }
     {
         match self.state.header() {
             Some(header) => Some((header.version, header.line)),

@@ -18,13 +18,17 @@ impl Journal {
         requires finished { is_unfinished self.old.state ≡ false }
         ensures number { IfOk result (λ k. k ≡ length self.old.state.stack + 1) }
         ensures device { OnOk result (names_other id self.old.state ≡ false) }
-        ensures after { OnOk result (self.new ≡ loaded_after (begin_entries id self.old.state) self.old) }
+        ensures after { OnOk result
+            (self.new ≡ loaded_after (begin_entries id self.old.state) self.old) }
         ensures begun { OnOk result (HasBegun id self.old.state self.new.state) }
         ensures left { IfErr result (LeavesUnbegun id self.old self.new) }
         ensures cause { HasJournalCause (R.view rig.old) (R.view rig.new) result }
-        ensures calls { GoesOn (AppendsOnce (length (added_bytes self.old.is_torn (begin_entries id self.old.state))) result) (R.view rig.old).calls (R.view rig.new).calls }
-        ensures honest { (R.view rig.old).is_honest → IsLoaded self.old (R.view rig.old).journal
-            → Appends (begin_entries id self.old.state) self.old self.new (R.view rig.old) (R.view rig.new) result }
+        ensures calls { let old = R.view rig.old in let new = R.view rig.new in
+            let added = added_bytes self.old.is_torn (begin_entries id self.old.state) in
+            GoesOn (AppendsOnce (length added) result) old.calls new.calls }
+        ensures honest { let old = R.view rig.old in let new = R.view rig.new in
+            old.is_honest → IsLoaded self.old old.journal
+            → Appends (begin_entries id self.old.state) self.old self.new old new result }
         ensures text { (R.view rig.old).is_honest → IsLoaded self.old (R.view rig.old).journal
             → OnOk result (InText (HasBegun id) (R.view rig.old).journal (R.view rig.new).journal) }
     {
@@ -47,13 +51,19 @@ impl Journal {
     /// Ends the newest segment, which is open.
     pub fn end<R: Rig>(&mut self, rig: &mut R) -> Result<(), JournalFault>
         requires { IsTrue (newest_is_open self.old.state) }
-        ensures after { OnOk result (self.new ≡ loaded_after (Entry.Ends (length self.old.state.stack) ∷ []) self.old) }
+        ensures after { OnOk result
+            (self.new ≡ loaded_after (Entry.Ends (length self.old.state.stack) ∷ []) self.old) }
         ensures ended { OnOk result (HasEnded self.old.state self.new.state) }
         ensures left { IfErr result (LeavesLoaded self.old self.new) }
         ensures cause { HasJournalCause (R.view rig.old) (R.view rig.new) result }
-        ensures calls { GoesOn (AppendsOnce (length (added_bytes self.old.is_torn (Entry.Ends (length self.old.state.stack) ∷ []))) result) (R.view rig.old).calls (R.view rig.new).calls }
-        ensures honest { (R.view rig.old).is_honest → IsLoaded self.old (R.view rig.old).journal
-            → Appends (Entry.Ends (length self.old.state.stack) ∷ []) self.old self.new (R.view rig.old) (R.view rig.new) result }
+        ensures calls { let old = R.view rig.old in let new = R.view rig.new in
+            let line = Entry.Ends (length self.old.state.stack) in
+            let added = added_bytes self.old.is_torn (line ∷ []) in
+            GoesOn (AppendsOnce (length added) result) old.calls new.calls }
+        ensures honest { let old = R.view rig.old in let new = R.view rig.new in
+            let line = Entry.Ends (length self.old.state.stack) in
+            old.is_honest → IsLoaded self.old old.journal
+            → Appends (line ∷ []) self.old self.new old new result }
         ensures text { (R.view rig.old).is_honest → IsLoaded self.old (R.view rig.old).journal
             → OnOk result (InText HasEnded (R.view rig.old).journal (R.view rig.new).journal) }
     {
@@ -64,13 +74,19 @@ impl Journal {
     /// Says that the newest segment was taken back.
     pub fn undone<R: Rig>(&mut self, rig: &mut R) -> Result<(), JournalFault>
         requires { 0 < length self.old.state.stack }
-        ensures after { OnOk result (self.new ≡ loaded_after (Entry.Undoes (length self.old.state.stack) ∷ []) self.old) }
+        ensures after { OnOk result
+            (self.new ≡ loaded_after (Entry.Undoes (length self.old.state.stack) ∷ []) self.old) }
         ensures undone { OnOk result (HasUndone self.old.state self.new.state) }
         ensures left { IfErr result (LeavesLoaded self.old self.new) }
         ensures cause { HasJournalCause (R.view rig.old) (R.view rig.new) result }
-        ensures calls { GoesOn (AppendsOnce (length (added_bytes self.old.is_torn (Entry.Undoes (length self.old.state.stack) ∷ []))) result) (R.view rig.old).calls (R.view rig.new).calls }
-        ensures honest { (R.view rig.old).is_honest → IsLoaded self.old (R.view rig.old).journal
-            → Appends (Entry.Undoes (length self.old.state.stack) ∷ []) self.old self.new (R.view rig.old) (R.view rig.new) result }
+        ensures calls { let old = R.view rig.old in let new = R.view rig.new in
+            let line = Entry.Undoes (length self.old.state.stack) in
+            let added = added_bytes self.old.is_torn (line ∷ []) in
+            GoesOn (AppendsOnce (length added) result) old.calls new.calls }
+        ensures honest { let old = R.view rig.old in let new = R.view rig.new in
+            let line = Entry.Undoes (length self.old.state.stack) in
+            old.is_honest → IsLoaded self.old old.journal
+            → Appends (line ∷ []) self.old self.new old new result }
         ensures text { (R.view rig.old).is_honest → IsLoaded self.old (R.view rig.old).journal
             → OnOk result (InText HasUndone (R.view rig.old).journal (R.view rig.new).journal) }
     {

@@ -1,7 +1,7 @@
 use Rattle.std.proofs.Common.{◌≡◌, ◌+◌, ◌<◌, inl, inr, length, slice_index, slice_set, sym, ap, ◌∙◌, arith}
 use Rattle.std.proofs.lemmas.Bool.{cases_lt}
 use Rattle.std.proofs.lemmas.List.{length-set}
-use Rattle.stm_image.proofs.Laid.{set_there, set_elsewhere}
+use Rattle.stm_image.proofs.LaidRuns.{set_there, set_elsewhere}
 use Rattle.stm_image.proofs.laying.put_at.Goals as goal
 
 -- no room is left

@@ -16,7 +16,7 @@ use Rattle.stm_wire.specs.PartLaws.{part_weaker}
 use Rattle.stm_session.specs.Sending.{is_whole}
 use Rattle.stm_session.proofs.SentParts.{fetch_part, part_after, part_fails, part_fails_after}
 use Rattle.std.proofs.Common.{◌/◌, ap₂, refl}
-use Rattle.stm_session.specs.Order.{Step, IsReturned, page_address, page_reads, read_steps, restore_steps}
+use Rattle.stm_session.specs.Order.{Step, IsReturned, page_reads, read_steps, restore_steps}
 use Rattle.stm_session.proofs.Orders.{does_as, does_fetch, does_reads, does_then}
 use Rattle.stm_session.proofs.returning.restore_line.Goals as goal
 

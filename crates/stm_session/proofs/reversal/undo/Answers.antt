@@ -7,7 +7,8 @@ use Rattle.stm_wire.specs.Intents.{settling_byte}
 use Rattle.stm_journal.specs.States.{intent_of}
 use Rattle.stm_session.proofs.SentUndo.{sends_back, sends_failed, sends_met, sends_nothing}
 use Rattle.stm_session.proofs.Unread.{contract_unread, none_some}
-use Rattle.stm_session.proofs.Undone.{contract_none, contract_unfound, contract_when, contract_after, refuses_elsewhere, undoes_unmet, undoes_stopped, undoes_all, loaded_then, undoable_then, flashes_depth, elsewhere_back, harmless_then, owed_then, own_chip, err_as}
+use Rattle.stm_session.proofs.UndoStarts.{contract_none, contract_unfound, flashes_depth, loaded_then, undoable_then}
+use Rattle.stm_session.proofs.Undone.{contract_when, contract_after, refuses_elsewhere, undoes_unmet, undoes_stopped, undoes_all, elsewhere_back, harmless_then, owed_then, own_chip, err_as}
 use Rattle.std.proofs.Common.{◌++◌}
 use Rattle.stm_session.specs.Order.{asking_steps}
 use Rattle.stm_session.proofs.Orders.{fetched_then, settled_then}

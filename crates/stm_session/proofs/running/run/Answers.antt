@@ -6,7 +6,7 @@ use Rattle.stm_session.specs.Meaning.{commands_in}
 use Rattle.stm_session.specs.Sending.{SendsAsRun, is_whole, most_calls, most_of_command}
 use Rattle.stm_session.proofs.RunContracts.{contract_ran, contract_refused, contract_unopened, runs_err, runs_ok}
 use Rattle.stm_session.proofs.Sending.{same_fault}
-use Rattle.std.proofs.Common.{◌++◌, refl}
+use Rattle.std.proofs.Common.{refl}
 use Rattle.stm_session.specs.Order.{asking_steps}
 use Rattle.stm_session.proofs.Orders.{settled_then}
 use Rattle.stm_session.proofs.running.run.Goals as goal

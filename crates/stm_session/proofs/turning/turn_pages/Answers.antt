@@ -17,7 +17,6 @@ use Rattle.stm_session.specs.Sending.{most_of_command}
 use Rattle.stm_session.proofs.Sending.{same_fault}
 use Rattle.stm_session.proofs.SentChanges.{turned_next, turned_within}
 use Rattle.stm_session.specs.ChangeOrder.{AreAllTurned, AreTurned, none}
-use Rattle.stm_session.specs.Order.{Step}
 use Rattle.stm_session.proofs.ChangeOrders.{all_turned}
 use Rattle.stm_session.proofs.Orders.{does_nothing, does_then}
 use Rattle.stm_session.proofs.turning.turn_pages.Goals as goal

@@ -1,5 +1,5 @@
 use Rattle.std.proofs.Common.{◌≡◌, ◌+◌, ℕ, length, sym, subst, arith}
-use Rattle.stm_image.proofs.Laid.{IsLaidTo, laid_start, laid_run, laid_all, laid_none, laid_far}
+use Rattle.stm_image.proofs.LaidRuns.{IsLaidTo, laid_start, laid_run, laid_all, laid_none, laid_far}
 use Rattle.stm_image.proofs.set.Image.lay.Goals as goal
 
 pub runs-init : goal.runs-init

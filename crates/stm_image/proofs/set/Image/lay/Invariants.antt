@@ -1,5 +1,5 @@
 use Rattle.std.proofs.Common.{◌-◌}
-use Rattle.stm_image.proofs.Laid.{IsLaidTo}
+use Rattle.stm_image.proofs.LaidRuns.{IsLaidTo}
 use Rattle.stm_image.proofs.set.Image.lay.Given as goal
 
 -- the bytes are laid up to an address

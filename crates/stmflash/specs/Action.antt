@@ -1,0 +1,79 @@
+-- What each action of the program does with a device.
+use Rattle.std.specs.Prelude.{◌≡◌, ℕ, List, [], ◌∷◌, Some, None, Result, Ok, Err, IfErr, IsTrue, OnOk, MatchResult}
+use Rattle.stm_image.specs.Pairs.{Pairs}
+use Rattle.stm_wire.specs.Chip.{ChipData, is_inside}
+use Rattle.stm_wire.specs.Device.{Device}
+use Rattle.stm_wire.specs.Dialogue.{Turn, GoesOn}
+use Rattle.stm_wire.specs.Frames.{command, go_frame, go_turns, protect_turns}
+use Rattle.stm_wire.specs.Protection.{protection_code}
+use Rattle.stm_wire.specs.Rig.{RigState}
+use Rattle.stm_journal.specs.Calls.{AreFetches, IsUntouched}
+use Rattle.stm_journal.specs.Journals.{journal_of}
+use Rattle.stm_session.specs.declared.fault.Fault.{Fault}
+use Rattle.stm_session.specs.Fault.{HasSessionCause, IsOutsideFault}
+use Rattle.stm_session.specs.Leaving.{CanLeave, IsSettledThen, Leaves}
+use Rattle.stm_session.specs.Meaning.{erases, verifies, writes}
+use Rattle.stm_session.specs.Moments.{IsSafe}
+use Rattle.stm_session.specs.Promises.{UndoContract}
+use Rattle.stm_session.specs.Refusal.{RefusesUnsent, open_refusal}
+use Rattle.stm_session.specs.Sending.{IsLeaving, SendsAsUndo}
+use Rattle.stmflash.specs.declared.action.Action.{Action}
+use Rattle.stmflash.specs.declared.action.Action.TheVariants as action
+use Rattle.stmflash.specs.declared.answer.Answer.{Answer}
+use Rattle.stmflash.specs.declared.answer.Answer.TheVariants as answer
+use Rattle.stmflash.specs.declared.content.Content.{Content}
+use Rattle.stmflash.specs.declared.failure.Failure.{Failure}
+use Rattle.stmflash.specs.declared.failure.Failure.TheVariants.{Session}
+use Rattle.stmflash.specs.Conduct.{Asks, ErasesAll, RunsIfRoom, RunsTold}
+use Rattle.stmflash.specs.Content.{ImageOn}
+use Rattle.stmflash.specs.Reading.{ReadsRange}
+
+-- What a session answered is handed on.
+abbrev pub HandsOn : {T : Type 0} → (T → Answer) → Result T Fault → Result Answer Failure → Type 0
+HandsOn told (Ok x) result = result ≡ Ok (told x)
+HandsOn told (Err fault) result = result ≡ Err (Session fault)
+
+-- one call of a session
+abbrev pub Calls : {R T : Type 0} → (T → Answer) → (R → R → Result T Fault → Type 0) → R → R → Result Answer Failure → Type 0
+Calls {R} {T} told Done old new result = (said : Result T Fault) × Done old new said × HandsOn told said result
+
+-- The image is placed first; where it can't be, that is the answer, and nothing more is called.
+pub record PlacesFirst {R : Type 0} (view : R → RigState) (table : List ChipData) (content : Content) (Done : Pairs → R → R → Result Answer Fault → Type 0) (old new : R) (result : Result Answer Failure) : Type 0 where
+  pub mid : R
+  pub image : Result Pairs Failure
+  pub places : ImageOn view table content old mid image
+  pub goes_on : MatchResult image (λ image. Calls (λ said. said) (Done image) mid new result) (λ failure. (new ≡ mid) × (result ≡ Err failure))
+
+-- What `undo` promises.
+pub record TakesBack (table : List ChipData) (count : ℕ) (old new : RigState) (taken : Result ℕ Fault) : Type 0 where
+  pub promised : UndoContract table count old new taken
+  pub cause : HasSessionCause old new taken
+  pub puts : SendsAsUndo table count old new taken
+
+-- What `go` and `protect` promise of their frame, on a device that allows it.
+pub record Parts (turns : List Turn) (frame : List ℕ) (Allows : Device → Type 0) (old new : RigState) (parted : Result (Unit {0}) Fault) : Type 0 where
+  pub cause : HasSessionCause old new parted
+  pub puts : GoesOn (IsLeaving turns) old.calls new.calls
+  pub sent : OnOk parted (GoesOn (IsSettledThen turns) old.calls new.calls)
+  pub refused : old.is_honest → (fault : Fault) → open_refusal (journal_of old.journal) ≡ Some fault → RefusesUnsent (IsUntouched old) fault old new parted
+  pub unsent_calls : old.is_honest → (fault : Fault) → open_refusal (journal_of old.journal) ≡ Some fault → GoesOn AreFetches old.calls new.calls
+  pub leaves : old.is_honest → IsSafe old.device → open_refusal (journal_of old.journal) ≡ None → Leaves frame old new parted
+  pub goes : old.is_honest → open_refusal (journal_of old.journal) ≡ None → Allows old.device → IfErr parted IsOutsideFault
+
+-- Each action is the calls of its own, and hands on what they answer.
+abbrev pub Does : {R : Type 0} → (R → RigState) → List ChipData → Action → R → R → Result Answer Failure → Type 0
+Does view table action.Info old new result = Calls answer.Told (λ a b said. Asks table (view a) (view b) said) old new result
+Does view table (action.Read range) old new result = Calls (λ said. said) (ReadsRange view table range) old new result
+Does view table (action.Write content) old new result =
+    PlacesFirst view table content (λ image a b said. RunsTold table (writes image ∷ []) (view a) (view b) said) old new result
+Does view table (action.WriteAndVerify content) old new result =
+    PlacesFirst view table content (λ image. RunsIfRoom view table (writes image ∷ (verifies image ∷ []))) old new result
+Does view table (action.Verify content) old new result =
+    PlacesFirst view table content (λ image a b said. RunsTold table (verifies image ∷ []) (view a) (view b) said) old new result
+Does view table (action.Erase pages) old new result = Calls (λ said. said) (λ a b said. RunsTold table (erases pages.items ∷ []) (view a) (view b) said) old new result
+Does view table action.EraseAll old new result = Calls (λ said. said) (ErasesAll view table) old new result
+Does view table (action.Undo count) old new result = Calls answer.Undone (λ a b said. TakesBack table count (view a) (view b) said) old new result
+Does view table (action.Go address) old new result =
+    Calls (λ done. answer.Nothing) (λ a b said. Parts (go_turns address) (go_frame address) (λ d. CanLeave 0x21 d × IsTrue (is_inside d.chip address)) (view a) (view b) said) old new result
+Does view table (action.Protect kind) old new result =
+    Calls (λ done. answer.Nothing) (λ a b said. Parts (protect_turns (protection_code kind)) (command (protection_code kind)) (CanLeave (protection_code kind)) (view a) (view b) said) old new result

@@ -1,0 +1,130 @@
+"""What the tests share: a folder for each, with a table, the two files of a simulator, a journal and an image, and calls of the
+program there.
+
+The program is the one that the variable STMFLASH names; without it, the one that `make demo` leaves.
+"""
+
+import os
+import subprocess
+import tempfile
+import typing
+import unittest
+
+TOP = os.path.dirname(os.path.dirname(os.path.abspath(__file__)))
+# how long a call may take, in seconds
+PATIENCE = 120
+# a table of chip 0412
+TABLE = b'[[chip]]\nid = 0x412\nbase = 0x08000000\npages = [[32, 1024]]\nerase = "page"\n'
+SIZE = 32768
+ERASED = b"\xff" * SIZE
+ZEROS = b"\x00" * SIZE
+# a flash whose byte i is i modulo 251
+COUNTING = bytes(i % 251 for i in range(SIZE))
+
+
+def program():
+    """The path of the program."""
+    return os.path.abspath(os.environ.get("STMFLASH") or os.path.join(TOP, "bin", "stmflash-unproved"))
+
+
+def with_page(head, digit, tail):
+    """These texts, with a page of this digit between them, as a journal keeps it."""
+    return head + digit * 2048 + tail
+
+
+class Said(typing.NamedTuple):
+    """What the program answered and said."""
+
+    status: int
+    out: bytes
+    err: bytes
+
+
+class Place(unittest.TestCase):
+    """A test with a folder of its own, in which a table stands. All names of files are names in it."""
+
+    def setUp(self):
+        folder = tempfile.TemporaryDirectory(prefix="stmflash-")
+        self.addCleanup(folder.cleanup)
+        self.folder = folder.name
+        self.store("table", TABLE)
+
+    def tearDown(self):
+        # what is written beside a file is renamed or removed, whatever came
+        self.assertEqual([name for name in os.listdir(self.folder) if name.endswith(".new")], [])
+
+    def path(self, name):
+        return os.path.join(self.folder, name)
+
+    def store(self, name, data):
+        with open(self.path(name), "wb") as file:
+            file.write(data)
+
+    def remove(self, *names):
+        for name in names:
+            os.remove(self.path(name))
+
+    def held(self, name):
+        """The bytes of a file; None where it isn't there."""
+        try:
+            with open(self.path(name), "rb") as file:
+                return file.read()
+        except FileNotFoundError:
+            return None
+
+    def is_there(self, name):
+        return os.path.lexists(self.path(name))
+
+    def call(self, *words, before=None):
+        """Runs the program on these words, after its name; `before` is called in its process before it begins."""
+        ran = subprocess.run(["stmflash", *words], executable=program(), cwd=self.folder, env={}, timeout=PATIENCE,
+                             stdin=subprocess.DEVNULL, capture_output=True, preexec_fn=before)
+        return Said(ran.returncode, ran.stdout, ran.stderr)
+
+    def use(self, name, *words, device="sim:0412:flash", journal="journal", before=None):
+        """Runs a subcommand on a device, with these further words."""
+        return self.call(name, "--table", "table", "--device", device, "--journal", journal, *words, before=before)
+
+    def use_image(self, name, image, *words):
+        """Runs a subcommand on an image of these bytes, with these words before its name."""
+        self.store("image", image)
+        return self.use(name, *words, "image")
+
+    def assertFault(self, said, text, status=1):
+        """This one line was all that was said, with this status."""
+        self.assertEqual(said, Said(status, b"", b"stmflash: " + text.encode() + b"\n"))
+
+    def assertUsage(self, said):
+        """`clap` refused the words."""
+        self.assertEqual((said.status, said.out), (2, b""))
+        self.assertGreater(len(said.err), 10)
+
+    def assertTold(self, said, text):
+        """All was done, and just this was said."""
+        self.assertEqual(said, Said(0, text.encode(), b""))
+
+    def assertSilent(self, said):
+        """All was done, and nothing was said."""
+        self.assertTold(said, "")
+
+    def assertFile(self, name, data):
+        """The file holds just these bytes; None: it isn't there."""
+        held = self.held(name)
+        if held != data:
+            self.fail(f"{name} {tell(held)}, not {tell(data)}; {where(held or b'', data or b'')}")
+
+    def assertHolds(self, flash, line):
+        """The simulator's files hold these bytes and this line."""
+        self.assertFile("flash", flash)
+        self.assertFile("flash.line", line)
+
+
+def tell(data):
+    return "isn't there" if data is None else f"has {len(data)} bytes"
+
+
+def where(one, other):
+    """Where two texts differ first, and what stands there."""
+    pairs = enumerate(zip(one, other))
+    at = next((i for i, (a, b) in pairs if a != b), min(len(one), len(other)))
+    return f"from {at} on {one[at:at + 40]!r}, not {other[at:at + 40]!r}"

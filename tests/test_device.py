@@ -1,0 +1,109 @@
+"""The program on files of its own: what a device is, where it stands, and which files are refused."""
+
+import os
+
+from place import COUNTING, ERASED, TABLE, ZEROS, Place
+
+INFO = ("id 0412\nbase 08000000\npages 32\nsize 32768\nerase 43\nerased FF\nversion 22\n"
+        "codes 00 02 11 21 31 43 73 82 92\n")
+BAD_FLASH = "bad simulator file flash"
+# lines that no simulator's file has
+BAD_LINES = (b"rest 43BD\n", b"rest 43bc\n", b"rest \n", b"rest 4\n", b"rest 43BC", b"rest 43BC\n\n", b"rest 02FD\n")
+# words that name no device
+BAD_DEVICES = ("", "sim:0412", "sim:0412:", "sim:412:F", "sim:041G:F")
+
+
+class Device(Place):
+    def test_reads_a_flash_twice(self):
+        self.store("flash", COUNTING)
+        for _ in range(2):
+            self.assertSilent(self.use("read", "out"))
+            self.assertFile("out", COUNTING)
+            self.assertHolds(COUNTING, b"idle\n")
+            self.remove("out")
+
+    def test_tells_what_an_erased_device_is(self):
+        self.assertTold(self.use("info"), INFO)
+        self.assertHolds(ERASED, b"idle\n")
+
+    def test_a_missing_flash_is_erased_as_its_chip_erases(self):
+        """A flash that isn't there is all what the chip's erase leaves."""
+        self.store("table", TABLE + b"erased = 0\n")
+        self.assertTold(self.use("info"), INFO.replace("erased FF", "erased 00"))
+        self.assertHolds(ZEROS, b"idle\n")
+
+    def test_refuses_a_flash_of_another_length(self):
+        self.store("flash", b"seven")
+        self.assertFault(self.use("read", "OUT"), BAD_FLASH)
+        self.assertFile("flash", b"seven")
+        self.assertFile("flash.line", None)
+        self.assertFile("OUT", None)
+
+    def test_refuses_a_line_of_another_form(self):
+        self.store("flash.line", b"fresh\n\n")
+        self.assertFault(self.use("read", "OUT"), BAD_FLASH)
+        self.assertHolds(None, b"fresh\n\n")
+        self.assertFile("OUT", None)
+
+    def test_refuses_a_rest_that_does_not_stay(self):
+        for line in BAD_LINES:
+            with self.subTest(line=line):
+                self.store("flash.line", line)
+                self.assertFault(self.use("info"), BAD_FLASH)
+                self.assertHolds(None, line)
+
+    def test_goes_on_from_a_rest(self):
+        """What stood in the rest is settled by the session, and a session that sends nothing leaves it."""
+        self.store("flash.line", b"rest 11EE08\n")
+        self.store("journal", b"stmjournal 1 0412\nopen 1\n")
+        self.assertFault(self.use("info"), "unfinished command, undo first")
+        self.assertHolds(ERASED, b"rest 11EE08\n")
+        self.remove("journal")
+        self.assertTold(self.use("info"), INFO)
+        self.assertHolds(ERASED, b"idle\n")
+
+    def test_follows_a_link_to_the_flash(self):
+        """The link stays, and what it names is written."""
+        self.store("target", COUNTING)
+        os.symlink(self.path("target"), self.path("flash"))
+        self.assertSilent(self.use("protect", "readout-unprotect"))
+        self.assertFile("target", ERASED)
+        self.assertTrue(os.path.islink(self.path("flash")))
+
+    def test_says_which_file_it_cannot_write(self):
+        self.assertFault(self.use("read", "absent/out"), "cannot write absent/out")
+        self.assertFalse(self.is_there("absent"))
+
+    def test_says_which_simulator_file_it_cannot_read(self):
+        for name in ("flash", "flash.line"):
+            with self.subTest(name=name):
+                os.mkdir(self.path(name))
+                self.assertFault(self.use("info"), f"cannot read {name}")
+                os.rmdir(self.path(name))
+
+    def test_says_which_device_is_bad(self):
+        for device in BAD_DEVICES:
+            with self.subTest(device=device):
+                self.assertFault(self.use("info", device=device), f"usage: bad device {device}", 2)
+        self.assertFault(self.use("info", device="sim:0a01:F"), "unknown chip 0A01")
+
+    def test_says_what_is_wrong_with_a_table(self):
+        self.remove("table")
+        self.assertFault(self.use("info"), "cannot read table")
+        for table, text in ((b"[[chip]", "table: syntax"), (b"", "table: chip 0: missing")):
+            with self.subTest(table=table):
+                self.store("table", table)
+                self.assertFault(self.use("info"), text)
+        self.assertHolds(None, None)
+
+    def test_leaves_the_bootloader(self):
+        self.assertSilent(self.use("go", "0x08000000"))
+        self.assertHolds(ERASED, b"gone\n")
+        self.assertFault(self.use("read", "OUT"), "device does not follow the protocol")
+        self.assertHolds(ERASED, b"gone\n")
+        self.assertFile("OUT", None)
+
+    def test_ends_the_readout_protection(self):
+        self.store("flash", COUNTING)
+        self.assertSilent(self.use("protect", "readout-unprotect"))
+        self.assertHolds(ERASED, b"fresh\n")

@@ -1,0 +1,242 @@
+"""The journal's file where it is added to: byte by byte, in a folder that isn't there, on a disk that is full or doesn't sync."""
+
+import os
+import resource
+import signal
+import subprocess
+
+import syncs
+from place import ZEROS, Place, with_page
+
+# a chip with a flash that is shorter than its journal
+SMALL_TABLE = b'[[chip]]\nid = 0x412\nbase = 0x08000000\npages = [[2, 256]]\nerase = "page"\n'
+SMALL_FLASH = b"\x00" * 512
+IMAGE = b"\xaa" * 256
+WRITTEN = IMAGE + SMALL_FLASH[256:]
+# the same, between the erase and the write
+EMPTIED = b"\xff" * 256 + SMALL_FLASH[256:]
+# a line that counts as nothing, longer than that flash: what is added behind it is cut by a limit that the flash stays below
+VOID = b"." * 1022 + b"!\n"
+HEADER = b"stmjournal 2 0412\n"
+OPENED = HEADER + b"open 1\n"
+KEPT = OPENED + b"page 0 " + b"0" * 512 + b"\n"
+ERASING = KEPT + b"erase 0\n"
+PROGRAMMING = ERASING + b"program 0\n"
+ENDED = PROGRAMMING + b"end 1\n"
+# what an undo adds where the page isn't as it was, and where it is
+GIVEN_BACK = b"erase 0\nprogram 0\nundone 1\n"
+UNDONE = b"undone 1\n"
+
+
+def files_up_to(size):
+    """Lets no file of the process grow above this size: a write that would cross it is cut there, and the next one fails."""
+
+    def limit():
+        signal.signal(signal.SIGXFSZ, signal.SIG_IGN)
+        _, most = resource.getrlimit(resource.RLIMIT_FSIZE)
+        resource.setrlimit(resource.RLIMIT_FSIZE, (size, most))
+
+    return limit
+
+
+def mended(text):
+    """A journal of which an undo goes on: a line that was begun is made void."""
+    return text if text.endswith(b"\n") or not text else text + b"!\n"
+
+
+class Disk(Place):
+    def begin(self, flash, journal=None):
+        """A fresh device with this flash and this journal; None: no journal is there."""
+        for name in ("flash.line", "journal"):
+            if self.is_there(name):
+                self.remove(name)
+        self.store("flash", flash)
+        if journal is not None:
+            self.store("journal", journal)
+
+    def begin_and_go_on(self, journal):
+        """Keeps a page in a journal that isn't there, up to the midst of its line, and goes on with that."""
+        self.store("flash", ZEROS)
+        self.assertTold(self.use("undo", journal=journal), "undone 0\n")
+        self.assertFile(journal, None)
+        torn = b"stmjournal 2 0412\nopen 1\npage 5 000"
+        self.assertFault(self.use("erase", "--stop", str(27 + 25 + 1072 + 10), "5", journal=journal), "stopped", 3)
+        self.assertFile(journal, torn)
+        self.assertTold(self.use("undo", journal=journal), "undone 1\n")
+        self.assertFile(journal, torn + b"!\nundone 1\n")
+        self.assertTold(self.use("erase", "5", journal=journal), "segment 1: 1 pages erased\n")
+        self.assertFile(journal, torn + b"!\nundone 1\n" + with_page(b"open 1\npage 5 ", b"0", b"\nerase 5\nend 1\n"))
+        self.assertTold(self.use("undo", journal=journal), "undone 1\n")
+        self.assertHolds(ZEROS, b"idle\n")
+
+    def test_appends_stand_in_the_file(self):
+        os.mkdir(self.path("folder"))
+        self.begin_and_go_on("folder/journal")
+        self.remove("flash.line")
+        self.begin_and_go_on(self.path("journal"))
+
+    def test_a_name_without_a_folder_is_in_this_one(self):
+        self.begin_and_go_on("journal")
+
+    def test_a_stop_leaves_a_beginning_in_the_file(self):
+        """A contact is 27 steps, and each byte that is added one: the file has as many bytes as there were steps for."""
+        for added in range(len(OPENED) + 1):
+            with self.subTest(added=added):
+                self.begin(ZEROS)
+                self.assertFault(self.use("erase", "--stop", str(27 + added), "5"), "stopped", 3)
+                self.assertHolds(ZEROS, b"idle\n")
+                self.assertFile("journal", OPENED[:added] if added else None)
+                self.assertTold(self.use("undo"), "undone %d\n" % (added == len(OPENED)))
+                self.assertHolds(ZEROS, b"idle\n")
+
+    def test_a_missing_folder_is_not_made(self):
+        self.store("flash", ZEROS)
+        for name, words in (("erase", ("5",)), ("write", ("table",))):
+            with self.subTest(name=name):
+                self.assertFault(self.use(name, *words, journal="absent/journal"), "journal failed")
+                self.assertHolds(ZEROS, b"idle\n")
+                self.assertFalse(self.is_there("absent"))
+
+    def begin_small(self, flash=SMALL_FLASH, journal=None):
+        """A fresh device of the small chip, with this flash and this journal, and an image for its first page."""
+        self.begin(flash, journal)
+        self.store("table", SMALL_TABLE)
+        self.store("image", IMAGE)
+
+    def test_a_full_disk_ends_the_journal(self):
+        """The disk is full at one byte after another of what a write adds. Nothing stands behind it, the command that its
+        line comes before isn't sent, and an undo on a disk with room gives the flash back."""
+        digits = range(len(OPENED) + 9, len(KEPT) - 2)
+        for room in range(len(ENDED)):
+            if room in digits and room % 64:
+                continue
+            with self.subTest(room=room):
+                self.begin_small(journal=VOID)
+                said = self.use("write", "image", before=files_up_to(len(VOID) + room))
+                self.assertFault(said, "journal failed")
+                self.assertFile("journal", VOID + ENDED[:room])
+                flash = SMALL_FLASH
+                if room >= len(ERASING):
+                    flash = EMPTIED
+                if room >= len(PROGRAMMING):
+                    flash = WRITTEN
+                self.assertHolds(flash, b"idle\n")
+                opened = room >= len(OPENED)
+                if opened:
+                    self.assertFault(self.use("info"), "unfinished command, undo first")
+                self.assertTold(self.use("undo"), "undone %d\n" % opened)
+                self.assertHolds(SMALL_FLASH, b"idle\n")
+                added = (UNDONE if flash == SMALL_FLASH else GIVEN_BACK) if opened else b""
+                self.assertFile("journal", VOID + (mended(ENDED[:room]) if opened else ENDED[:room]) + added)
+
+    def test_a_full_disk_ends_an_undo(self):
+        """The same of what an undo adds, and of the undo after it."""
+        for room in range(len(GIVEN_BACK)):
+            with self.subTest(room=room):
+                self.begin_small(WRITTEN, VOID + ENDED)
+                said = self.use("undo", before=files_up_to(len(VOID + ENDED) + room))
+                self.assertFault(said, "journal failed")
+                self.assertFile("journal", VOID + ENDED + GIVEN_BACK[:room])
+                flash = WRITTEN
+                if room >= len(b"erase 0\n"):
+                    flash = EMPTIED
+                if room >= len(b"erase 0\nprogram 0\n"):
+                    flash = SMALL_FLASH
+                self.assertHolds(flash, b"idle\n")
+                self.assertTold(self.use("undo"), "undone 1\n")
+                self.assertHolds(SMALL_FLASH, b"idle\n")
+                added = UNDONE if flash == SMALL_FLASH else GIVEN_BACK
+                self.assertFile("journal", VOID + mended(ENDED + GIVEN_BACK[:room]) + added)
+
+    def test_a_full_disk_keeps_the_simulators_files(self):
+        """What the disk has no room for is told, and a flash of which a part alone was written isn't there."""
+        for room in (0, 1, 511):
+            with self.subTest(room=room):
+                self.begin_small()
+                self.assertFault(self.use("info", before=files_up_to(room)), "cannot write flash")
+                self.assertHolds(SMALL_FLASH, None)
+                self.assertFault(self.use("read", "out", before=files_up_to(room)), "cannot write out")
+                self.assertHolds(SMALL_FLASH, None)
+        self.assertSilent(self.use("read", "out", before=files_up_to(512)))
+        self.assertFile("out", SMALL_FLASH)
+
+    def test_a_file_that_cannot_be_synced_is_no_journal(self):
+        """/dev/null takes every byte, and refuses to be synced: so nothing is sent, and nothing is reported as done."""
+        with open("/dev/null", "wb", buffering=0) as null:
+            self.assertEqual(null.write(OPENED), len(OPENED))
+            with self.assertRaises(OSError):
+                os.fsync(null.fileno())
+        self.store("flash", ZEROS)
+        self.store("image", IMAGE)
+        self.assertFault(self.use("erase", "5", journal="/dev/null"), "journal failed")
+        self.assertFault(self.use("write", "image", journal="/dev/null"), "journal failed")
+        self.assertHolds(ZEROS, b"idle\n")
+        self.assertTold(self.use("undo", journal="/dev/null"), "undone 0\n")
+
+    def use_unsynced(self, fails, *words):
+        """Uses the program with its sync of this number failing, and answers what was said and which files were synced."""
+        name, *words = words
+        files = ("--table", "table", "--device", "sim:0412:flash", "--journal", "journal")
+        try:
+            return syncs.call(self.folder, (name, *files, *words), fails)
+        except subprocess.SubprocessError:
+            return self.skipTest("this system lets no call of a program be held")
+
+    def test_what_is_not_on_the_disk_is_not_answered(self):
+        """Each sync of a write fails, one after the other. A line that was written, and of which it isn't known that it is on
+        the disk, is no line: the command behind it isn't sent, nothing more is added, although the disk works again, and an
+        undo gives the flash back."""
+        journal = [".", *["journal"] * 5]
+        simulator = ["flash.new", ".", "flash.line.new", "."]
+        for fails, (added, flash) in enumerate((
+            (b"", SMALL_FLASH),
+            (OPENED, SMALL_FLASH),
+            (KEPT, SMALL_FLASH),
+            (ERASING, SMALL_FLASH),
+            (PROGRAMMING, EMPTIED),
+            (ENDED, WRITTEN),
+        )):
+            with self.subTest(fails=fails):
+                self.begin_small()
+                said, synced = self.use_unsynced(fails, "write", "image")
+                self.assertFault(said, "journal failed")
+                self.assertEqual(synced, journal[:fails + 1] + simulator)
+                self.assertFile("journal", added)
+                self.assertHolds(flash, b"idle\n")
+                self.assertTold(self.use("undo"), "undone %d\n" % (added != b""))
+                self.assertHolds(SMALL_FLASH, b"idle\n")
+        for fails, (text, flash, line) in enumerate((
+            ("cannot write flash", SMALL_FLASH, None),
+            ("cannot write flash", WRITTEN, None),
+            ("cannot write flash.line", WRITTEN, None),
+            ("cannot write flash.line", WRITTEN, b"idle\n"),
+        ), len(journal)):
+            with self.subTest(fails=fails):
+                self.begin_small()
+                said, synced = self.use_unsynced(fails, "write", "image")
+                self.assertFault(said, text)
+                self.assertEqual(synced, (journal + simulator)[:fails + 1])
+                self.assertFile("journal", ENDED)
+                self.assertHolds(flash, line)
+        self.begin_small()
+        said, synced = self.use_unsynced(len(journal + simulator), "write", "image")
+        self.assertTold(said, "segment 1: 1 pages written\n")
+        self.assertEqual(synced, journal + simulator)
+
+    def test_what_is_not_on_the_disk_is_not_taken_back(self):
+        """The same of an undo, and of the undo after it."""
+        for fails, (added, flash) in enumerate((
+            (b"", WRITTEN),
+            (b"erase 0\n", WRITTEN),
+            (b"erase 0\nprogram 0\n", EMPTIED),
+            (GIVEN_BACK, SMALL_FLASH),
+        )):
+            with self.subTest(fails=fails):
+                self.begin_small(WRITTEN, ENDED)
+                said, synced = self.use_unsynced(fails, "undo")
+                self.assertFault(said, "journal failed")
+                self.assertEqual(synced[:fails + 2], [".", *["journal"] * fails, "flash.new"])
+                self.assertFile("journal", ENDED + added)
+                self.assertHolds(flash, b"idle\n")
+                self.assertTold(self.use("undo"), "undone %d\n" % (added != GIVEN_BACK))
+                self.assertHolds(SMALL_FLASH, b"idle\n")

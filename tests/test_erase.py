@@ -1,0 +1,73 @@
+"""What `erase` makes of a flash and a journal, and how it is taken back."""
+
+from place import ERASED, ZEROS, Place, with_page
+
+HEAD = b"stmjournal 2 0412\nopen 1\npage 5 "
+PAGES = "usage: give pages or --all"
+# words of `erase`, and what is said of them: a bad number comes before a stop of a socket, and that before the pages
+REFUSED = (
+    ("sim:0412:F", (), PAGES),
+    ("sim:0412:F", ("--all", "3"), PAGES),
+    ("sim:0412:F", ("3", "65536"), "usage: bad number 65536"),
+    ("socket", ("--stop", "1", "03"), "usage: bad number 03"),
+    ("socket", ("--stop", "1"), "usage: --stop needs a simulator"),
+    ("socket", (), PAGES),
+)
+
+
+class Erase(Place):
+    def test_takes_a_stopped_erase_back(self):
+        """Stopped after the two bytes of the command, with the intent in the journal; then taken back."""
+        stopped = with_page(HEAD, b"0", b"\nerase 5\n")
+        self.store("flash", ZEROS)
+        self.assertFault(self.use("erase", "--stop", "3190", "5"), "stopped", 3)
+        self.assertHolds(ZEROS, b"rest 43BC\n")
+        self.assertFile("journal", stopped)
+        self.assertTold(self.use("undo"), "undone 1\n")
+        self.assertHolds(ZEROS, b"idle\n")
+        self.assertFile("journal", stopped + b"erase 5\nprogram 5\nundone 1\n")
+
+    def test_erases_a_page(self):
+        """Every other byte stays, and a page that is erased already is counted as none."""
+        self.store("flash", ZEROS)
+        self.assertTold(self.use("erase", "5", "0x5"), "segment 1: 1 pages erased\n")
+        self.assertHolds(ZEROS[:5120] + ERASED[:1024] + ZEROS[:26624], b"idle\n")
+        self.assertTold(self.use("erase", "5"), "segment 2: 0 pages erased\n")
+
+    def test_erases_all(self):
+        self.store("flash", ZEROS)
+        self.assertTold(self.use("erase", "--all"), "segment 1: 32 pages erased\n")
+        self.assertHolds(ERASED, b"idle\n")
+        self.assertTold(self.use("undo"), "undone 1\n")
+        self.assertHolds(ZEROS, b"idle\n")
+
+    def test_erases_no_page_outside(self):
+        """One page that isn't there, and no page is erased."""
+        self.store("flash", ZEROS)
+        self.assertFault(self.use("erase", "5", "32"), "address outside the flash")
+        self.assertHolds(ZEROS, b"idle\n")
+        self.assertFile("journal", None)
+
+    def test_says_which_pages_it_wants(self):
+        for device, words, text in REFUSED:
+            with self.subTest(device=device, words=words):
+                self.assertFault(self.use("erase", *words, device=device), text, 2)
+
+    def test_a_full_journal_takes_no_command(self):
+        """As many segments as there can be, all ended: reading goes on, and nothing is added."""
+        journal = b"stmjournal 2 0412\n" + b"".join(b"open %d\nend %d\n" % (k, k) for k in range(1, 65536))
+        self.store("journal", journal)
+        self.assertFault(self.use("erase", "5"), "journal is full")
+        self.assertFault(self.use_image("write", b"", "-S", "0x08000000"), "journal is full")
+        self.assertTold(self.use_image("verify", b"\xff", "-S", "0x08000000"), "verified 1 bytes\n")
+        self.assertFile("journal", journal)
+
+    def test_a_journal_has_a_file_of_its_own(self):
+        """A journal in the simulator's own file would be lost when that is written."""
+        self.store("flash", ZEROS)
+        table = self.held("table")
+        for journal in ("flash", "flash.line", "table", "./flash", self.path("table")):
+            with self.subTest(journal=journal):
+                self.assertFault(self.use("erase", "5", journal=journal), f"cannot write {journal}")
+        self.assertHolds(ZEROS, None)
+        self.assertFile("table", table)

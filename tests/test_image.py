@@ -1,0 +1,71 @@
+"""Which files are images, where they lie, and which are refused."""
+
+from place import Place
+
+# four bytes at the flash's first address, in HEX
+HEX = b":020000040800F2\r\n:0400000001020304F2\r\n:00000001FF\r\n"
+# texts that aren't HEX, and why
+NO_HEX = (
+    (b":0G", "hex record 1: bad digit"),
+    (b":00", "hex record 1: short"),
+    (b":00000001FE", "hex record 1: checksum"),
+    (b":00000006FA", "hex record 1: type"),
+    (b":0100000100FE", "hex record 1: length"),
+    (b":0100000055AA\n:0100000056A9\n", "hex record 2: conflict"),
+    (b":0100000055AA\n", "hex record 2: no end"),
+    (b":0100000055AAx", "hex record 2: no colon"),
+)
+# places of an image of four bytes, and why they are refused before the device is opened
+NO_PLACES = (
+    ("0x08000000:3", "address outside the flash"),
+    ("0x08000000:0", "address outside the flash"),
+    ("0xFFFFFFFD", "image past the end"),
+    ("0xFFFFFFFD:3", "image past the end"),
+)
+LAST_TABLE = b'[[chip]]\nid = 0x412\nbase = 0xFFFF8000\npages = [[32, 1024]]\nerase = "page"\n'
+
+
+class Image(Place):
+    def test_says_what_is_wrong_with_a_hex_text(self):
+        """The image is read before the simulator's files, and nothing is written."""
+        self.store("flash.line", b"neither")
+        for image, text in NO_HEX:
+            with self.subTest(image=image):
+                self.assertFault(self.use_image("write", image), text)
+                said = self.use_image("verify", image, "-S", "0")
+                self.assertFault(said, "usage: -S needs a raw image", 2)
+        self.assertHolds(None, b"neither")
+        self.assertFile("journal", None)
+
+    def test_writes_hex_where_it_says(self):
+        said = self.use_image("write", HEX, "-v")
+        self.assertTold(said, "segment 1: 1 pages written\nverified 4 bytes\n")
+        self.assertSilent(self.use("read", "-S", "0x08000000:5", "out"))
+        self.assertFile("out", bytes([1, 2, 3, 4, 0xFF]))
+        said = self.use_image("write", b":0100000055AA\n:00000001FF\n")
+        self.assertFault(said, "address outside the flash")
+
+    def test_writes_a_text_as_raw_bytes(self):
+        """With -f the text itself is what is written."""
+        said = self.use_image("write", b":00000001FF", "-f", "-S", "0x08000400")
+        self.assertTold(said, "segment 1: 1 pages written\n")
+        self.assertSilent(self.use("read", "-S", "0x08000400:11", "out"))
+        self.assertFile("out", b":00000001FF")
+
+    def test_says_where_an_image_has_no_place(self):
+        for place, text in NO_PLACES:
+            with self.subTest(place=place):
+                self.assertFault(self.use_image("write", bytes([1, 2, 3, 4]), "-S", place), text)
+        said = self.use_image("write", bytes([1, 2, 3, 4]), "-S", "08")
+        self.assertFault(said, "usage: bad number 08", 2)
+        self.assertHolds(None, None)
+        self.remove("image")
+        self.assertFault(self.use("verify", "image"), "cannot read image")
+
+    def test_an_image_past_the_end_of_all_addresses(self):
+        """Where the chip has to be known first, a fault of its journal comes before that of the image's place."""
+        self.store("table", LAST_TABLE)
+        image = b"\x11" * 32769
+        self.assertFault(self.use_image("write", image), "image past the end")
+        self.store("journal", b"stmjournal 2 0412\nopen 1\n")
+        self.assertFault(self.use_image("write", image), "unfinished command, undo first")

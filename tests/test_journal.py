@@ -1,0 +1,72 @@
+"""What the program does with its journal's file where it adds nothing: it is read and checked."""
+
+import os
+
+from place import Place
+
+# a journal without a segment, that was left in the midst of a line
+TORN = b"stmjournal 1 0412\nopen 1\npage 5 FF0A\nend 1\nundone 1\nopen 1\nundone 1\npage 5 FF"
+# a journal whose second line isn't one
+BAD = b"stmjournal 1 0412\nopen 2\n"
+# a journal whose command was stopped
+UNFINISHED = b"stmjournal 1 0412\nopen 1\n"
+# a journal with a command that was done, on this device and on another
+ENDED = b"stmjournal 1 0412\nopen 1\nend 1\n"
+FOREIGN = b"stmjournal 1 0410\nopen 1\nend 1\n"
+# a journal with a page in another size than the chip's
+MISFIT = b"stmjournal 1 0412\nopen 1\npage 5 FF0A\nend 1\n"
+
+
+class Journal(Place):
+    def assertRefused(self, name, words, journal, text, line):
+        """A use with this journal on a fresh device ends with this fault, the line stands so, and the journal is as it was."""
+        with self.subTest(name=name, journal=journal):
+            self.store("journal", journal)
+            self.store("flash.line", b"fresh\n")
+            self.assertFault(self.use(name, *words), text)
+            self.assertFile("journal", journal)
+            self.assertFile("flash.line", line)
+            self.assertFile("out", None)
+
+    def test_leaves_the_journal_as_it_was(self):
+        for journal in (None, ENDED, TORN):
+            with self.subTest(journal=journal):
+                if journal is not None:
+                    self.store("journal", journal)
+                self.assertSilent(self.use("read", "out"))
+                said = self.use("info")
+                self.assertEqual((said.status, said.err), (0, b""))
+                self.assertFile("journal", journal)
+        self.assertSilent(self.use("protect", "write-unprotect"))
+        self.assertSilent(self.use("go", "0x08000000"))
+        self.assertFile("journal", TORN)
+
+    def test_says_which_line_of_the_journal_is_bad(self):
+        """Nothing is sent: the line stands as before."""
+        for name, words in (("info", ()), ("read", ("out",)), ("go", ("0x08000000",)), ("protect", ("readout-unprotect",))):
+            self.assertRefused(name, words, BAD, "bad journal line 2", b"fresh\n")
+
+    def test_leaves_the_bootloader_only_with_no_segment(self):
+        """Nothing is sent: the line stands as before."""
+        for journal in (ENDED, UNFINISHED, FOREIGN):
+            for name, word in (("go", "0x08000000"), ("protect", "readout-unprotect")):
+                self.assertRefused(name, (word,), journal, "journal is open, refused", b"fresh\n")
+
+    def test_wants_a_stopped_command_taken_back(self):
+        """Nothing is sent, and no file is made."""
+        for name, words in (("info", ()), ("read", ("out",))):
+            self.assertRefused(name, words, UNFINISHED, "unfinished command, undo first", b"fresh\n")
+
+    def test_wants_the_journal_of_this_device(self):
+        """The device is asked first, and no file is made."""
+        for journal, text in ((FOREIGN, "journal belongs to another device"), (MISFIT, "bad journal line 3")):
+            for name, words in (("info", ()), ("read", ("out",))):
+                self.assertRefused(name, words, journal, text, b"idle\n")
+
+    def test_says_which_journal_it_cannot_read(self):
+        """The device's files come before the journal, and a device that was opened is stored."""
+        os.mkdir(self.path("journal"))
+        self.assertFault(self.use("info"), "cannot read journal")
+        self.assertFile("flash.line", b"fresh\n")
+        self.store("flash.line", b"neither")
+        self.assertFault(self.use("info"), "bad simulator file flash")

@@ -1,0 +1,152 @@
+"""What the options of a device do, and which words can't be done."""
+
+import os
+
+from place import COUNTING, ERASED, Place
+
+SUBCOMMANDS = ("info", "read", "write", "verify", "erase", "undo", "go", "protect", "sim")
+# words that are numbers, as the length of what is read
+LENGTHS = (("0", 0), ("255", 255), ("0x0", 0), ("0x00000010", 16))
+# words of the last address of all
+LAST = ("4294967295", "0xFFffFFFF")
+LAST_TABLE = b'[[chip]]\nid = 0x412\nbase = 0xFFFF8000\npages = [[32, 1024]]\nerase = "page"\n'
+# words that are no numbers
+NO_NUMBERS = ("", "08", "00", "4294967296", "10000000000", "0x", "0x123456789", "0X10", "-1", "+1", "0xG")
+# subcommands with further words, of which the one named decides; options come before further words
+BAD_NUMBERS = (
+    ("go", ("--wait=0", "--stop=x", "08"), "0"),
+    ("go", ("--wait=60001", "--stop=x", "08"), "60001"),
+    ("go", ("--wait=1", "--stop=x", "08"), "x"),
+    ("go", ("--wait=1", "--stop=4294967296", "08"), "4294967296"),
+    ("go", ("--wait=60000", "--stop=1", "08"), "08"),
+    ("read", ("-S", "08", "OUT"), "08"),
+    ("read", ("-S", "1:", "OUT"), "1:"),
+    ("read", ("-S", "1:2:3", "OUT"), "1:2:3"),
+)
+# chips and clients of `sim`, and the word that decides
+BAD_SIM_NUMBERS = (("412", "1", "412"), ("0412", "0", "0"), ("0412", "1000001", "1000001"))
+# parts of a flash, and from where to where they go
+PARTS = (
+    ("0x08000001:4", 1, 5),
+    ("0x080000FF:2", 255, 257),
+    ("134225919", 8191, 32768),
+    ("0x08007FFF", 32767, 32768),
+    ("0:0", 0, 0),
+)
+NO_PARTS = ("0x08008000", "0x07FFFFFF", "0x08007FFF:2", "0xFFFFFFFF:4294967295")
+
+
+class Options(Place):
+    def test_says_help_and_usage(self):
+        told = self.call("--help")
+        self.assertEqual((told.status, told.err), (0, b""))
+        self.assertGreater(len(told.out), 100)
+        for name in SUBCOMMANDS:
+            self.assertIn(f"\n  {name} ".encode(), told.out)
+        self.assertUsage(self.use("protect", "all"))
+        self.assertUsage(self.call("read", "OUT"))
+        self.assertUsage(self.call())
+        self.assertFault(self.use("go", "08"), "usage: bad number 08", 2)
+
+    def test_tells_its_version(self):
+        self.assertTold(self.call("--version"), "stmflash 0.1.0\n")
+        for name in SUBCOMMANDS:
+            with self.subTest(name=name):
+                told = self.call(name, "--help")
+                self.assertEqual((told.status, told.err), (0, b""))
+                self.assertGreater(len(told.out), 300)
+                self.assertIn(f"Usage: stmflash {name} ".encode(), told.out)
+
+    def test_reads_numbers(self):
+        """What number a word is shows as the length of what is read, and as the address that a verify tells."""
+        for word, number in LENGTHS:
+            with self.subTest(word=word):
+                self.assertSilent(self.use("read", "-S", "0x08000000:" + word, "out"))
+                self.assertFile("out", ERASED[:number])
+        for word in NO_NUMBERS:
+            for name, words, bad in (
+                ("go", ("--", word), word),
+                ("info", ("--stop=" + word,), word),
+                ("info", ("--wait=" + word,), word),
+                ("undo", ("--", word), word),
+                ("read", ("-S", "0:" + word, "out"), "0:" + word),
+            ):
+                with self.subTest(word=word, words=words):
+                    self.assertFault(self.use(name, *words), f"usage: bad number {bad}", 2)
+        self.remove("flash", "flash.line")
+        self.store("table", LAST_TABLE)
+        for word in LAST:
+            with self.subTest(word=word):
+                self.assertFault(self.use_image("verify", b"\x00", "-S", word), "differs at FFFFFFFF")
+
+    def test_says_which_number_is_bad(self):
+        for name, words, bad in BAD_NUMBERS:
+            with self.subTest(words=words):
+                self.assertFault(self.use(name, *words), f"usage: bad number {bad}", 2)
+        for chip, clients, bad in BAD_SIM_NUMBERS:
+            with self.subTest(chip=chip, clients=clients):
+                files = ("--table", "table", "--id", chip, "--flash", "F", "--socket", "S")
+                self.assertFault(self.call("sim", *files, "--clients", clients), f"usage: bad number {bad}", 2)
+        self.assertEqual(os.listdir(self.folder), ["table"])
+
+    def test_stops_a_simulator_alone(self):
+        """The words come before the table, and the table before the device."""
+        said = self.use("read", "--stop", "0", "OUT", device="socket")
+        self.assertFault(said, "usage: --stop needs a simulator", 2)
+        self.assertFault(self.use("info", "--wait", "1", device="socket"), "cannot connect socket")
+        self.remove("table")
+        said = self.use("read", "--stop", "0", "OUT", device="socket")
+        self.assertFault(said, "usage: --stop needs a simulator", 2)
+        self.assertFault(self.use("info", "--wait", "1", device="socket"), "cannot read table")
+
+    def test_reads_a_part(self):
+        self.store("flash", COUNTING)
+        for part, start, end in PARTS:
+            with self.subTest(part=part):
+                self.assertSilent(self.use("read", "-S", part, "out"))
+                self.assertFile("out", COUNTING[start:end])
+        self.remove("out")
+        for part in NO_PARTS:
+            with self.subTest(part=part):
+                self.assertFault(self.use("read", "-S", part, "out"), "address outside the flash")
+                self.assertFile("out", None)
+
+    def test_stops_after_steps(self):
+        """A contact with a fresh device is 27 steps, with a settled one 25, and a read of a block 268."""
+        for name, words, steps, status in (
+            ("info", (), "0", 3),
+            ("info", (), "26", 3),
+            ("info", (), "27", 0),
+            ("info", (), "34355", 0),
+            ("read", ("out",), "51", 3),
+            ("read", ("out",), "34355", 3),
+            ("read", ("out",), "34356", 0),
+        ):
+            with self.subTest(name=name, steps=steps):
+                if self.is_there("flash.line"):
+                    self.remove("flash.line")
+                said = self.use(name, "--stop", steps, *words)
+                if status == 3:
+                    self.assertFault(said, "stopped", 3)
+                else:
+                    self.assertEqual((said.status, said.err), (0, b""))
+                self.assertFile("out", ERASED if name == "read" and status == 0 else None)
+
+    def test_a_rest_is_no_step(self):
+        """The bytes that bring a device to where it stood are no steps."""
+        self.store("flash.line", b"rest 11EE0800\n")
+        self.assertFault(self.use("info", "--stop", "0"), "stopped", 3)
+        self.assertHolds(ERASED, b"rest 11EE0800\n")
+        self.assertFault(self.use("info", "--stop", "1"), "stopped", 3)
+        self.assertHolds(ERASED, b"rest 11EE08007F\n")
+
+    def test_keeps_its_own_files(self):
+        """Nothing is written where the bytes would stand in place of what a run needs."""
+        journal = b"stmjournal 1 0412\n"
+        self.store("journal", journal)
+        os.symlink(self.path("journal"), self.path("link"))
+        for name in ("journal", "table", "flash", "flash.line", "link", "./journal", self.path("table")):
+            with self.subTest(name=name):
+                self.assertFault(self.use("read", name), f"cannot write {name}")
+        self.assertFile("journal", journal)
+        self.assertHolds(None, None)

@@ -1,0 +1,150 @@
+"""Both ends of a socket: a served simulator and a plain client, the program and a plain device, and the two together."""
+
+import socket
+import subprocess
+import time
+
+from place import ERASED, PATIENCE, ZEROS, Place, program, with_page
+
+ID = bytes([0x79, 0x01, 0x04, 0x12, 0x79])
+HEAD = b"stmjournal 2 0412\nopen 1\npage 5 "
+# how long a host waits until the line counts as quiet, in ms: longer than a busy machine takes to answer
+WAIT = "1000"
+
+
+class Socket(Place):
+    def start(self, *words):
+        """Starts the program on these words."""
+        started = subprocess.Popen(["stmflash", *words], executable=program(), cwd=self.folder, env={}, stdin=subprocess.DEVNULL,
+                                   stdout=subprocess.PIPE, stderr=subprocess.PIPE)
+
+        def end():
+            if started.returncode is None:
+                started.kill()
+                started.communicate()
+
+        self.addCleanup(end)
+        return started
+
+    def serve(self, clients):
+        """Serves the simulator to so many clients, and answers once it listens: a client of its own has come and gone."""
+        files = ("--table", "table", "--id", "0412", "--flash", "flash", "--socket", "board")
+        self.simulator = self.start("sim", *files, "--clients", str(clients + 1))
+        end = time.monotonic() + PATIENCE
+        while True:
+            try:
+                client = self.connect()
+                break
+            except (FileNotFoundError, ConnectionRefusedError):
+                self.assertIsNone(self.simulator.poll(), "the simulator doesn't start")
+                self.assertLess(time.monotonic(), end, "the simulator doesn't listen")
+                time.sleep(0.01)
+        self.leave(client)
+
+    def assertServed(self):
+        """The simulator ends well when its last client has gone, says nothing, and its socket is no more."""
+        out, err = self.simulator.communicate(timeout=PATIENCE)
+        self.assertEqual((self.simulator.returncode, out, err), (0, b"", b""))
+        self.assertFalse(self.is_there("board"))
+
+    def connect(self):
+        client = socket.socket(socket.AF_UNIX, socket.SOCK_STREAM)
+        self.addCleanup(client.close)
+        client.settimeout(PATIENCE)
+        client.connect(self.path("board"))
+        return client
+
+    def leave(self, client):
+        """Goes, once the simulator has stored what was left."""
+        client.shutdown(socket.SHUT_WR)
+        self.assertEqual(client.recv(1), b"")
+        client.close()
+
+    def assertReplies(self, client, sent, replies):
+        client.sendall(sent)
+        held = b""
+        while len(held) < len(replies):
+            came = client.recv(len(replies) - len(held))
+            self.assertNotEqual(came, b"", "the simulator hangs up")
+            held += came
+        self.assertEqual(held, replies)
+
+    def assertQuiet(self, client):
+        client.settimeout(0.2)
+        with self.assertRaises(TimeoutError):
+            client.recv(1)
+        client.settimeout(PATIENCE)
+
+    def test_takes_turns(self):
+        """A plain client is answered byte by byte, and then the line is quiet."""
+        self.serve(1)
+        client = self.connect()
+        for sent, replies in ((b"\x7f", b"\x79"), (b"\x02", b""), (b"\xfd", ID)):
+            self.assertReplies(client, sent, replies)
+            self.assertQuiet(client)
+        self.leave(client)
+        self.assertServed()
+        self.assertHolds(ERASED, b"idle\n")
+
+    def test_a_client_that_goes_ends_serving(self):
+        self.serve(1)
+        client = self.connect()
+        for sent, replies in ((b"\x7f", b"\x79"), (b"\x43", b""), (b"\xbc", b"\x79")):
+            self.assertReplies(client, sent, replies)
+        client.close()
+        self.assertServed()
+        self.assertHolds(ERASED, b"rest 43BC\n")
+
+    def test_keeps_its_journal_over_a_socket(self):
+        """What the line answered and what the journal keeps come together: a page is erased, and given back from there."""
+        self.store("flash", ZEROS)
+        self.serve(2)
+        erased = with_page(HEAD, b"0", b"\nerase 5\nend 1\n")
+        said = self.use("erase", "5", "--wait", WAIT, device="board")
+        self.assertTold(said, "segment 1: 1 pages erased\n")
+        self.assertFile("journal", erased)
+        self.assertTold(self.use("undo", "--wait", WAIT, device="board"), "undone 1\n")
+        self.assertFile("journal", erased + b"erase 5\nprogram 5\nundone 1\n")
+        self.assertServed()
+        self.assertHolds(ZEROS, b"idle\n")
+
+    def test_a_line_that_ends_is_told(self):
+        """A device that hangs up, or sends nothing more and still takes what is sent: at once, after a byte, and after it has
+        answered."""
+        listener = socket.socket(socket.AF_UNIX, socket.SOCK_STREAM)
+        self.addCleanup(listener.close)
+        listener.settimeout(PATIENCE)
+        listener.bind(self.path("board"))
+        listener.listen()
+        files = ("--table", "table", "--device", "board", "--journal", "journal")
+        for turns in range(3):
+            for end in (socket.SHUT_RDWR, socket.SHUT_WR):
+                with self.subTest(turns=turns, end=end):
+                    host = self.start("erase", *files, "--wait", WAIT, "5")
+                    device, _ = listener.accept()
+                    with device:
+                        device.settimeout(PATIENCE)
+                        if turns > 0:
+                            self.assertEqual(device.recv(1), b"\x7f")
+                        if turns > 1:
+                            device.sendall(b"\x79")
+                        device.shutdown(end)
+                        out, err = host.communicate(timeout=PATIENCE)
+                    self.assertEqual((host.returncode, out, err), (1, b"", b"stmflash: line failed\n"))
+                    self.assertFile("journal", None)
+
+    def assertUnserved(self, chip, text):
+        files = ("--table", "table", "--id", chip, "--flash", "flash", "--socket", "table")
+        self.assertFault(self.call("sim", *files), text)
+
+    def test_says_why_it_does_not_serve(self):
+        """The table comes before the simulator's files, and these before the socket; nothing is written."""
+        table = self.held("table")
+        self.store("flash.line", b"rest 43BD\n")
+        self.assertUnserved("0410", "unknown chip 0410")
+        self.assertUnserved("0412", "bad simulator file flash")
+        self.assertFile("flash.line", b"rest 43BD\n")
+        self.remove("flash.line")
+        self.assertUnserved("0412", "cannot connect table")
+        self.assertHolds(None, None)
+        self.assertFile("table", table)

@@ -1,0 +1,85 @@
+"""What `undo` takes back, from journals that were left by others."""
+
+from place import ERASED, TABLE, ZEROS, Place, with_page
+
+HEAD = b"stmjournal 2 0412\nopen 1\npage 5 "
+# a journal that was left in the midst of a page's line, and the same after its segment was taken back
+TORN = b"stmjournal 1 0412\nopen 1\npage 0 FFFF"
+MENDED = b"stmjournal 1 0412\nopen 1\npage 0 FFFF!\nundone 1\n"
+# three segments without pages, and what `undo 2` and `undo 5` add to them
+THREE = b"stmjournal 2 0412\nopen 1\nend 1\nopen 2\nend 2\nopen 3\n"
+TAKEN_TWO = THREE + b"undone 3\nundone 2\n"
+TAKEN = TAKEN_TWO + b"undone 1\n"
+OTHER_CHIP = b'[[chip]]\nid = 0x410\nbase = 0x08000000\npages = [[128, 1024]]\nerase = "page"\n'
+# journals that aren't taken back, what is said of each, and how the line stands then: nothing is sent where the journal
+# alone tells
+REFUSED = (
+    (b"stmjournal 1 0412\nopen 2\n", "bad journal line 2", b"fresh\n"),
+    (b"stmjournal 1 0412\nopen 1\npage 0 FF\n", "bad journal line 3", b"fresh\n"),
+    (b"stmjournal 1 0414\nopen 1\n", "unknown chip 0414", b"fresh\n"),
+    (b"stmjournal 1 0410\nopen 1\n", "journal belongs to another device", b"idle\n"),
+)
+
+
+class Undo(Place):
+    def test_takes_back_a_stopped_erase(self):
+        """The device waits for the pages of an erase, and the settling byte names the one that the journal keeps."""
+        before = with_page(HEAD, b"0", b"\nerase 5\n")
+        after = with_page(HEAD, b"0", b"\nerase 5\nerase 5\nprogram 5\nundone 1\n")
+        self.store("flash", ZEROS)
+        self.store("flash.line", b"rest 43BC\n")
+        self.store("journal", before)
+        self.assertTold(self.use("undo"), "undone 1\n")
+        self.assertHolds(ZEROS, b"idle\n")
+        self.assertFile("journal", after)
+        self.assertTold(self.use("undo"), "undone 0\n")
+        self.assertHolds(ZEROS, b"idle\n")
+        self.assertFile("journal", after)
+
+    def test_gives_a_kept_page_back(self):
+        """The page that was kept is given back, and every other byte stays."""
+        self.store("journal", with_page(b"stmjournal 2 0412\nopen 1\npage 0 ", b"0", b"\nerase 0\nend 1\n"))
+        self.assertTold(self.use("undo", "1"), "undone 1\n")
+        self.assertHolds(ZEROS[:1024] + ERASED[1024:], b"idle\n")
+
+    def test_takes_back_a_torn_line(self):
+        self.store("journal", TORN)
+        self.assertTold(self.use("undo"), "undone 1\n")
+        self.assertHolds(ERASED, b"idle\n")
+        self.assertFile("journal", MENDED)
+
+    def test_takes_back_as_many_as_there_are(self):
+        self.store("journal", THREE)
+        self.assertTold(self.use("undo", "2"), "undone 2\n")
+        self.assertFile("journal", TAKEN_TWO)
+        self.assertTold(self.use("undo", "5"), "undone 1\n")
+        self.assertFile("journal", TAKEN)
+
+    def test_takes_back_nothing(self):
+        """No byte is sent: the line stands as before, and no journal is made."""
+        self.assertTold(self.use("undo"), "undone 0\n")
+        self.assertHolds(ERASED, b"fresh\n")
+        self.assertFile("journal", None)
+        self.assertFault(self.use("undo", "4294967296"), "usage: bad number 4294967296", 2)
+
+    def test_refuses_to_take_back(self):
+        self.store("table", OTHER_CHIP + TABLE)
+        for journal, text, line in REFUSED:
+            with self.subTest(text=text):
+                self.store("journal", journal)
+                self.store("flash.line", b"fresh\n")
+                self.assertFault(self.use("undo"), text)
+                self.assertHolds(ERASED, line)
+                self.assertFile("journal", journal)
+
+    def test_stops_in_the_midst_of_taking_back(self):
+        """Steps are counted from the first byte: settling, Get, Get ID, and a page that is read, erased and written."""
+        before = with_page(HEAD, b"0", b"\nerase 5\nend 1\n")
+        self.store("journal", before)
+        self.assertFault(self.use("undo", "--stop", "1108"), "stopped", 3)
+        self.assertFile("journal", before + b"erase 5\n")
+        self.assertFault(self.use("read", "out"), "unfinished command, undo first")
+        self.assertFile("out", None)
+        self.assertTold(self.use("undo"), "undone 1\n")
+        self.assertSilent(self.use("read", "-S", "0x08001400:1024", "out"))
+        self.assertFile("out", ZEROS[:1024])

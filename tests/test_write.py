@@ -1,0 +1,62 @@
+"""What `write` and `verify` make of a flash and a journal, and how a write is taken back."""
+
+from place import ERASED, ZEROS, Place, with_page
+
+
+def flash_from(head):
+    """A flash of FF that begins with these bytes."""
+    return head + ERASED[len(head):]
+
+
+class Write(Place):
+    def test_writes_and_verifies(self):
+        image = bytes([1, 2, 3, 4])
+        self.assertTold(self.use_image("write", image, "-v"), "segment 1: 1 pages written\nverified 4 bytes\n")
+        self.assertHolds(flash_from(image), b"idle\n")
+        self.assertTold(self.use_image("write", image), "segment 2: 0 pages written\n")
+        self.assertTold(self.use("undo"), "undone 2\n")
+        self.assertHolds(ERASED, b"idle\n")
+
+    def test_writes_up_to_the_end(self):
+        """The last byte of the flash is written, and an image that goes on past it changes nothing."""
+        journal = with_page(b"stmjournal 2 0412\nopen 1\npage 31 ", b"F", b"\nerase 31\nprogram 31\nend 1\n")
+        flash = ERASED[1:] + b"\xaa"
+        said = self.use_image("write", b"\xaa", "-S", "0x08007FFF")
+        self.assertTold(said, "segment 1: 1 pages written\n")
+        self.assertHolds(flash, b"idle\n")
+        self.assertFile("journal", journal)
+        said = self.use_image("write", b"\xaa\xbb", "-S", "0x08007FFF")
+        self.assertFault(said, "address outside the flash")
+        self.assertHolds(flash, b"idle\n")
+        self.assertFile("journal", journal)
+
+    def test_writes_nothing(self):
+        self.assertTold(self.use_image("write", b""), "segment 1: 0 pages written\n")
+        self.assertHolds(ERASED, b"idle\n")
+        self.assertFile("journal", b"stmjournal 2 0412\nopen 1\nend 1\n")
+
+    def test_takes_writes_back_one_by_one(self):
+        """Each write is taken back alone, also one that was stopped among its data, and then nothing is left to take back."""
+        base = ("-S", "0x08000000")
+        first, second = b"\x11\x22\x33\x44", b"\xaa\xbb\xcc\xdd"
+        self.assertTold(self.use_image("write", first, *base), "segment 1: 1 pages written\n")
+        self.assertFault(self.use_image("write", second, *base, "--stop", "3197"), "stopped", 3)
+        self.assertHolds(ERASED, b"rest 31CE080000000803AABB\n")
+        self.assertFault(self.use_image("write", second, *base), "unfinished command, undo first")
+        self.assertTold(self.use("undo", "1"), "undone 1\n")
+        self.assertHolds(flash_from(first), b"idle\n")
+        self.assertTold(self.use("undo"), "undone 1\n")
+        self.assertHolds(ERASED, b"idle\n")
+        self.assertTold(self.use("undo"), "undone 0\n")
+
+    def test_tells_where_the_flash_differs(self):
+        self.assertFault(self.use_image("verify", b"\xff\x01\x02"), "differs at 08000001")
+        self.assertTold(self.use_image("verify", b"\xff\xff", "-S", "0x08007C00:2"), "verified 2 bytes\n")
+        self.assertFile("journal", None)
+
+    def test_a_journal_that_cannot_be_made_fails(self):
+        """A journal that can't be made is told, the flash stays, and its folder isn't made."""
+        self.store("flash", ZEROS)
+        self.assertFault(self.use("erase", "5", journal="absent/journal"), "journal failed")
+        self.assertHolds(ZEROS, b"idle\n")
+        self.assertFalse(self.is_there("absent"))
