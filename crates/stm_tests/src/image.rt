@@ -60,19 +60,37 @@ fn fault(alloc: Global, text: &[u8]) -> Option<HexFault> {
     }
 }
 
-// Whether a text means the bytes from a start on.
-fn means_raw(alloc: Global, text: &[u8], bytes: &[u8], start: u32) -> bool {
-    let (Ok(read), Ok(raw)) = (read_hex(alloc, text), read_raw(alloc, bytes, start)) else {
-        return false;
-    };
+// Whether an image has just these bytes, from a start on.
+fn holds(image: &Image, bytes: &[u8], start: u32) -> bool {
     let mut address = start;
     for byte in bytes {
-        if read.get(address) != Some(*byte) || raw.get(address) != Some(*byte) {
+        if image.get(address) != Some(*byte) {
             return false;
         }
         address = address.wrapping_add(1);
     }
-    read.len() == bytes.len() && raw.len() == bytes.len()
+    image.len() == bytes.len()
+}
+
+// Whether a text means the bytes from a start on.
+fn is_text_of(alloc: Global, text: &[u8], bytes: &[u8], start: u32) -> bool {
+    match read_hex(alloc, text) {
+        Ok(image) => holds(&image, bytes, start),
+        Err(_) => false,
+    }
+}
+
+// Whether raw bytes mean themselves, from a start on.
+fn is_raw(alloc: Global, bytes: &[u8], start: u32) -> bool {
+    match read_raw(alloc, bytes, start) {
+        Ok(image) => holds(&image, bytes, start),
+        Err(_) => false,
+    }
+}
+
+// Whether a text means the bytes from a start on, as the bytes themselves do there.
+fn means_raw(alloc: Global, text: &[u8], bytes: &[u8], start: u32) -> bool {
+    is_text_of(alloc, text, bytes, start) && is_raw(alloc, bytes, start)
 }
 
 #[test]

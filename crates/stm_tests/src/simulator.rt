@@ -5,24 +5,33 @@ use std::alloc::Global;
 use std::test::Fail;
 use stm_wire::{Chip, EraseKind, MemoryRig, Patience, Rig, RigCall, RigFault};
 
+/// A Rig with a chip of so many pages of one size; its flash is all `byte`.
+fn rig_with(
+    alloc: Global,
+    id: u16,
+    (pages, size): (usize, u32),
+    (kind, erased): (EraseKind, u8),
+    byte: u8,
+) -> Result<MemoryRig, Fail> {
+    let sizes = vec![in alloc; size; pages]?;
+    let chip = Chip::new(id, 0x0800_0000, sizes, kind, erased).ok_or("limits")?;
+    let length = chip.flash_size() as usize;
+    let flash = vec![in alloc; byte; length]?;
+    Ok(MemoryRig::new(alloc, chip, flash, Vec::new(alloc)).ok_or("length")?)
+}
+
 /// A Rig with chip 0412, or one of 256 pages of 256 bytes that is erased by 44; its flash is all `byte`.
 pub(crate) fn rig_of(alloc: Global, kind: EraseKind, byte: u8) -> Result<MemoryRig, Fail> {
-    let (pages, size, length) = match kind {
-        EraseKind::Page => (32, 1024, 32_768),
-        EraseKind::Extended => (256, 256, 65_536),
+    let layout = match kind {
+        EraseKind::Page => (32, 1024),
+        EraseKind::Extended => (256, 256),
     };
-    let sizes = vec![in alloc; size; pages]?;
-    let flash = vec![in alloc; byte; length]?;
-    let chip = Chip::new(0x0412, 0x0800_0000, sizes, kind, 0xFF).ok_or("limits")?;
-    Ok(MemoryRig::new(alloc, chip, flash, Vec::new(alloc)).ok_or("length")?)
+    rig_with(alloc, 0x0412, layout, (kind, 0xFF), byte)
 }
 
 /// A Rig with a chip of four pages of 256 bytes whose erased places hold 00; its flash is all `byte`.
 fn rig_erased_to_zero(alloc: Global, byte: u8) -> Result<MemoryRig, Fail> {
-    let sizes = vec![in alloc; 256; 4]?;
-    let flash = vec![in alloc; byte; 1024]?;
-    let chip = Chip::new(0x0A03, 0x0800_0000, sizes, EraseKind::Page, 0x00).ok_or("limits")?;
-    Ok(MemoryRig::new(alloc, chip, flash, Vec::new(alloc)).ok_or("length")?)
+    rig_with(alloc, 0x0A03, (4, 256), (EraseKind::Page, 0x00), byte)
 }
 
 /// Puts the bytes, and gets until the line is quiet.

@@ -1,6 +1,7 @@
--- What each action of the program does with a device.
-use Rattle.std.specs.Prelude.{◌≡◌, ℕ, List, [], ◌∷◌, Some, None, Result, Ok, Err, IfErr, IsTrue, OnOk, MatchResult}
+-- Which action a task asks for, and what each does with a device.
+use Rattle.std.specs.Prelude.{◌≡◌, ℕ, true, false, List, [], ◌∷◌, Some, None, Result, Ok, Err, IfErr, IsTrue, OnOk, MatchResult}
 use Rattle.stm_image.specs.Pairs.{Pairs}
+use Rattle.stm_wire.specs.declared.protection.Protection.{Protection}
 use Rattle.stm_wire.specs.Chip.{ChipData, is_inside}
 use Rattle.stm_wire.specs.Device.{Device}
 use Rattle.stm_wire.specs.Dialogue.{Turn, GoesOn}
@@ -17,6 +18,9 @@ use Rattle.stm_session.specs.Moments.{IsSafe}
 use Rattle.stm_session.specs.Promises.{UndoContract}
 use Rattle.stm_session.specs.Refusal.{RefusesUnsent, open_refusal}
 use Rattle.stm_session.specs.Sending.{IsLeaving, SendsAsUndo}
+use Rattle.stm_words.specs.declared.image_file.ImageFile.{ImageFile}
+use Rattle.stm_words.specs.declared.task.Task.{Task}
+use Rattle.stm_words.specs.declared.task.Task.TheVariants as task
 use Rattle.stmflash.specs.declared.action.Action.{Action}
 use Rattle.stmflash.specs.declared.action.Action.TheVariants as action
 use Rattle.stmflash.specs.declared.answer.Answer.{Answer}
@@ -25,8 +29,26 @@ use Rattle.stmflash.specs.declared.content.Content.{Content}
 use Rattle.stmflash.specs.declared.failure.Failure.{Failure}
 use Rattle.stmflash.specs.declared.failure.Failure.TheVariants.{Session}
 use Rattle.stmflash.specs.Conduct.{Asks, ErasesAll, RunsIfRoom, RunsTold}
-use Rattle.stmflash.specs.Content.{ImageOn}
+use Rattle.stmflash.specs.Content.{ComesOf, ImageOn, is_hex}
+use Rattle.stmflash.specs.Protections.{protection_of}
 use Rattle.stmflash.specs.Reading.{ReadsRange}
+
+-- some bytes mean it, by the words that name the image's file
+abbrev pub ComesOfFile : ImageFile → Content → Type 0
+ComesOfFile image content = (bytes : List ℕ) × ComesOf (is_hex image.is_raw bytes) image.range bytes (Ok content)
+
+-- the action that a task asks for
+abbrev pub IsFor : Task → Action → Type 0
+IsFor task.Info does = does ≡ action.Info
+IsFor (task.Read range out) does = does ≡ action.Read range
+IsFor (task.Write image true) does = (content : Content) × (does ≡ action.WriteAndVerify content) × ComesOfFile image content
+IsFor (task.Write image false) does = (content : Content) × (does ≡ action.Write content) × ComesOfFile image content
+IsFor (task.Verify image) does = (content : Content) × (does ≡ action.Verify content) × ComesOfFile image content
+IsFor (task.Erase true pages) does = does ≡ action.EraseAll
+IsFor (task.Erase false pages) does = does ≡ action.Erase pages
+IsFor (task.Undo count) does = does ≡ action.Undo count
+IsFor (task.Go address) does = does ≡ action.Go address
+IsFor (task.Protect word) does = (kind : Protection) × (does ≡ action.Protect kind) × (protection_of word.now ≡ Some kind)
 
 -- What a session answered is handed on.
 abbrev pub HandsOn : {T : Type 0} → (T → Answer) → Result T Fault → Result Answer Failure → Type 0

@@ -1,5 +1,6 @@
 // What is done on a device, over any Rig.
-ghost use Rattle.stmflash.specs.Action.{Does};
+ghost use Rattle.std.specs.Prelude.{IfOk};
+ghost use Rattle.stmflash.specs.Action.{Does, IsFor};
 
 use crate::answer::Answer;
 use crate::changing::{erase, erase_all, verify, write, write_and_verify};
@@ -41,7 +42,9 @@ pub enum Action {
 
 impl Action {
     /// What a task asks for. The file of an image is read.
-    pub fn of<'a, R: Files + AllocGlobal>(rt: &R, task: Task<'a>) -> Result<Action, Failure<'a>> {
+    pub fn of<'a, R: Files + AllocGlobal>(rt: &R, task: Task<'a>) -> Result<Action, Failure<'a>>
+        ensures { IfOk result (IsFor task.entry) }
+    {
         match task {
             Task::Info => Ok(Action::Info),
             Task::Read { range, .. } => Ok(Action::Read(range)),

@@ -68,7 +68,8 @@ impl<'a, R: Files> SimulatorRig<'a, R> {
     /// Adds to the file what the journal in memory has from this place on.
     fn append_to_file(&mut self, start: usize) -> io::Result<()>
         requires { start ≤ length self.old.memory.journal }
-        ensures added { OnOk result (Appends self.old.file.known self.new.file.known (drop start self.old.memory.journal)) }
+        ensures added { OnOk result (Appends
+            self.old.file.known self.new.file.known (drop start self.old.memory.journal)) }
         ensures err { OnErr result (self.new.file.has_failed ≡ true) }
         ensures memory { self.new.memory ≡ self.old.memory }
         ensures count { self.new.journal_failures ≡ self.old.journal_failures }
@@ -89,10 +90,16 @@ impl<'a, R: Files> Rig for SimulatorRig<'a, R> {
     ghost places = { λ rig. refl };
 
     fn put(&mut self, byte: u8) -> Result<(), RigFault>
-        ensures cause { HasCause (simulator_rig_state self.old).line_failures (simulator_rig_state self.new).line_failures result }
-        ensures journal_count { (simulator_rig_state self.new).journal_failures ≡ (simulator_rig_state self.old).journal_failures }
-        ensures recorded { Records (RigCall.Put byte) result (simulator_rig_state self.old).calls (simulator_rig_state self.new).calls }
-        ensures honest { (simulator_rig_state self.old).is_honest → PutsHonestly byte result (simulator_rig_state self.old) (simulator_rig_state self.new) }
+        ensures cause { HasCause
+            (simulator_rig_state self.old).line_failures
+            (simulator_rig_state self.new).line_failures result }
+        ensures journal_count { (simulator_rig_state self.new).journal_failures
+            ≡ (simulator_rig_state self.old).journal_failures }
+        ensures recorded { Records (RigCall.Put byte) result
+            (simulator_rig_state self.old).calls (simulator_rig_state self.new).calls }
+        ensures honest { (simulator_rig_state self.old).is_honest
+            → PutsHonestly byte result
+            (simulator_rig_state self.old) (simulator_rig_state self.new) }
         ensures in_memory { PutsInMemory byte result self.old.memory self.new.memory }
         ensures file { self.new.file ≡ self.old.file }
     {
@@ -100,10 +107,16 @@ impl<'a, R: Files> Rig for SimulatorRig<'a, R> {
     }
 
     fn get(&mut self, patience: Patience) -> Result<Option<u8>, RigFault>
-        ensures cause { HasCause (simulator_rig_state self.old).line_failures (simulator_rig_state self.new).line_failures result }
-        ensures journal_count { (simulator_rig_state self.new).journal_failures ≡ (simulator_rig_state self.old).journal_failures }
-        ensures recorded { Records (entry_of_get result) result (simulator_rig_state self.old).calls (simulator_rig_state self.new).calls }
-        ensures honest { (simulator_rig_state self.old).is_honest → GetsHonestly result (simulator_rig_state self.old) (simulator_rig_state self.new) }
+        ensures cause { HasCause
+            (simulator_rig_state self.old).line_failures
+            (simulator_rig_state self.new).line_failures result }
+        ensures journal_count { (simulator_rig_state self.new).journal_failures
+            ≡ (simulator_rig_state self.old).journal_failures }
+        ensures recorded { Records (entry_of_get result) result
+            (simulator_rig_state self.old).calls (simulator_rig_state self.new).calls }
+        ensures honest { (simulator_rig_state self.old).is_honest
+            → GetsHonestly result
+            (simulator_rig_state self.old) (simulator_rig_state self.new) }
         ensures in_memory { GetsInMemory result self.old.memory self.new.memory }
         ensures file { self.new.file ≡ self.old.file }
     {
@@ -111,10 +124,16 @@ impl<'a, R: Files> Rig for SimulatorRig<'a, R> {
     }
 
     fn append(&mut self, bytes: &[u8]) -> Result<(), RigFault>
-        ensures cause { HasCause (simulator_rig_state self.old).journal_failures (simulator_rig_state self.new).journal_failures result }
-        ensures line_count { (simulator_rig_state self.new).line_failures ≡ (simulator_rig_state self.old).line_failures }
-        ensures recorded { Records (RigCall.Append (length bytes.now)) result (simulator_rig_state self.old).calls (simulator_rig_state self.new).calls }
-        ensures honest { (simulator_rig_state self.old).is_honest → AppendsHonestly bytes.now result (simulator_rig_state self.old) (simulator_rig_state self.new) }
+        ensures cause { HasCause
+            (simulator_rig_state self.old).journal_failures
+            (simulator_rig_state self.new).journal_failures result }
+        ensures line_count { (simulator_rig_state self.new).line_failures
+            ≡ (simulator_rig_state self.old).line_failures }
+        ensures recorded { Records (RigCall.Append (length bytes.now)) result
+            (simulator_rig_state self.old).calls (simulator_rig_state self.new).calls }
+        ensures honest { (simulator_rig_state self.old).is_honest
+            → AppendsHonestly bytes.now result
+            (simulator_rig_state self.old) (simulator_rig_state self.new) }
         ensures in_file { AppendsToFile bytes.now result self.old self.new }
     {
         if self.file.has_failed() {
@@ -131,10 +150,16 @@ impl<'a, R: Files> Rig for SimulatorRig<'a, R> {
 
     fn fetch(&mut self, at: u64, buf: &mut [u8]) -> Result<usize, RigFault>
         ensures within { FetchesWithin at buf.old buf.new result }
-        ensures cause { HasCause (simulator_rig_state self.old).journal_failures (simulator_rig_state self.new).journal_failures result }
-        ensures line_count { (simulator_rig_state self.new).line_failures ≡ (simulator_rig_state self.old).line_failures }
-        ensures recorded { Records RigCall.Fetch result (simulator_rig_state self.old).calls (simulator_rig_state self.new).calls }
-        ensures honest { (simulator_rig_state self.old).is_honest → FetchesHonestly at buf.old buf.new result (simulator_rig_state self.old) (simulator_rig_state self.new) }
+        ensures cause { HasCause
+            (simulator_rig_state self.old).journal_failures
+            (simulator_rig_state self.new).journal_failures result }
+        ensures line_count { (simulator_rig_state self.new).line_failures
+            ≡ (simulator_rig_state self.old).line_failures }
+        ensures recorded { Records RigCall.Fetch result
+            (simulator_rig_state self.old).calls (simulator_rig_state self.new).calls }
+        ensures honest { (simulator_rig_state self.old).is_honest
+            → FetchesHonestly at buf.old buf.new result
+            (simulator_rig_state self.old) (simulator_rig_state self.new) }
         ensures in_memory { FetchesUnlessFailed at buf.old buf.new result self.old self.new }
         ensures file { self.new.file ≡ self.old.file }
     {

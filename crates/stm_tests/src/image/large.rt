@@ -51,18 +51,24 @@ fn byte_of(place: usize) -> u8 {
     (place % 251) as u8 ^ (place / 251 % 256) as u8
 }
 
-fn bytes(alloc: Global) -> Result<Vec<u8>, AllocError> {
+/// The bytes of so many places.
+fn bytes_of(alloc: Global, count: usize) -> Result<Vec<u8>, AllocError> {
     let mut bytes = Vec::new(alloc);
-    for place in 0..BYTES {
+    for place in 0..count {
         bytes.push(byte_of(place))?;
     }
     Ok(bytes)
 }
 
+/// The digit of a value below 16.
+fn digit(value: u8) -> u8 {
+    let first = if value < 10 { b'0' } else { b'A' - 10 };
+    first.wrapping_add(value)
+}
+
 fn put_digits(text: &mut Vec<u8>, byte: u8) -> Result<(), AllocError> {
-    let digits = b"0123456789ABCDEF";
-    text.push(digits[usize::from(byte / 16)])?;
-    text.push(digits[usize::from(byte % 16)])?;
+    text.push(digit(byte / 16))?;
+    text.push(digit(byte % 16))?;
     Ok(())
 }
 
@@ -139,7 +145,7 @@ fn has(image: &Image, bytes: &[u8]) -> bool {
 #[test]
 fn texts_in_four_orders(rt: HostRuntime) -> Result<(), Fail> {
     let alloc = rt.alloc();
-    let bytes = bytes(alloc)?;
+    let bytes = bytes_of(alloc, BYTES)?;
     let canonical = text_of(alloc, IN_ORDER)?;
     for order in [IN_ORDER, REVERSED, SHUFFLED, TWICE] {
         let image = read_hex(alloc, &text_of(alloc, order)?)?;
@@ -166,7 +172,7 @@ fn a_conflict_at_the_end(rt: HostRuntime) -> Result<(), Fail> {
 #[test]
 fn raw_bytes(rt: HostRuntime) -> Result<(), Fail> {
     let alloc = rt.alloc();
-    let bytes = bytes(alloc)?;
+    let bytes = bytes_of(alloc, BYTES)?;
     let image = read_raw(alloc, &bytes, START)?;
     assert!(rt; has(&image, &bytes));
     let canonical = text_of(alloc, IN_ORDER)?;
@@ -177,7 +183,7 @@ fn raw_bytes(rt: HostRuntime) -> Result<(), Fail> {
 #[test]
 fn an_image_is_laid_and_compared(rt: HostRuntime) -> Result<(), Fail> {
     let alloc = rt.alloc();
-    let bytes = bytes(alloc)?;
+    let bytes = bytes_of(alloc, BYTES)?;
     let image = read_raw(alloc, &bytes, START)?.clone()?;
     let mut flash = vec![in alloc; 0xA5u8; 131_072]?;
     assert_eq!(rt; flash.len(), 131_072);
