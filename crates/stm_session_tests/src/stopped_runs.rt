@@ -196,7 +196,7 @@ fn takes_back(
     undo(rt.alloc(), rig, table, count) == Ok(taken) && is_same(rig.flash(), flash)
 }
 
-/// How many segments there are behind those before the run, and so many that it has begun.
+/// How many segments there are: those before the run, and so many that it has begun.
 fn depth_of(case: &Case, begun: u32) -> u32 {
     let mut depth = begun;
     for _change in case.before {
