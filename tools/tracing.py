@@ -52,6 +52,10 @@ def places_of(program):
     return [found[call] for call in CALLS]
 
 
+class CannotTrace(Exception):
+    """The system doesn't let a program trace its child."""
+
+
 class Traced:
     """A run of the program, stopped at each allocation."""
 
@@ -67,7 +71,7 @@ class Traced:
                 os._exit(127)
         _, status = os.waitpid(self.process, 0)
         if not os.WIFSTOPPED(status):
-            sys.exit("the program can't be traced here")
+            raise CannotTrace("left out: this system doesn't let a program trace its child (ptrace)")
         ptrace(SET_OPTIONS, self.process, None, EXIT_KILL)
         self.memory = os.open(f"/proc/{self.process}/mem", os.O_RDWR)
         with open(f"/proc/{self.process}/maps") as maps:
