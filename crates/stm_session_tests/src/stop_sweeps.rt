@@ -73,7 +73,7 @@ fn a_write_over_an_edge_comes_back_with_all_before_it(rt: HostRuntime) -> Result
     Ok(())
 }
 
-/// Chip 0A03 with a flash of AA, whose erased byte is 00.
+/// Chip 0A03, whose erased byte is 00, with a flash of FF.
 fn zeros(change: Change, parts: &'static [Part]) -> Case {
     Case {
         id: 0x0A03,
