@@ -1,4 +1,4 @@
-// The bad lines that tests of sessions use: one that answers from a list, and one that complements a byte.
+// Bad lines for tests: one that answers from a list, and one that complements a byte.
 use crate::simulator::rig_of;
 use std::test::Fail;
 use stm_wire::{EraseKind, FlipRig, ListRig, Patience, Rig, RigCall, RigFault, WireFault, get_id};
