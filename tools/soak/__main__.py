@@ -32,7 +32,7 @@ class Story:
         self.room = room
         self.chance = random.Random(self.name)
         self.told = []
-        self.counts = {"sessions": 0, "stopped": 0, "refused": 0, "undone": 0, "reset": 0}
+        self.counts = {"sessions": 0, "stopped": 0, "refused": 0, "undone": 0, "reset": 0, "without power": 0, "pages lost": 0}
         self.begin()
 
     def begin(self):
@@ -170,11 +170,38 @@ class Story:
             self.counts["reset"] += "F.line" in self.world.files
             self.tell("(reset)")
             self.remove("F.line")
+        journal = self.journal()
+        if chance.random() < (0.5 if journal is not None and journal.is_unfinished() else 0.1):
+            self.lose_power()
         if chance.random() < 0.02:
             self.tell("(a torn tail)")
             self.write("J", self.world.files.get("J", b"") + chance.choice((b"page 3 FF0", b"und", b"open", b"x" * 40)))
         if chance.random() < 0.02:
             self.spoil()
+
+    def lose_power(self):
+        """The device loses its power, it may be inside an erase or a write: it is reset, and pages that the unfinished newest segment
+        keeps hold any bytes."""
+        chance = self.chance
+        journal = self.journal()
+        risked = journal.risked_pages() if journal is not None else []
+        lost = [page for page in risked if page < self.chip.pages() and chance.random() < 0.7]
+        held = bytearray(self.flash())
+        for page in lost:
+            part = self.chip.part(page)
+            kind = chance.randrange(3)
+            if kind == 0:
+                held[part] = chance.randbytes(self.chip.sizes[page])
+            elif kind == 1:
+                held[part] = bytes(byte & chance.randrange(256) for byte in held[part])
+            else:
+                held[part] = bytes([self.chip.erased]) * self.chip.sizes[page]
+        self.tell("(without power, pages %s)" % lost)
+        self.counts["without power"] += "F.line" in self.world.files
+        self.counts["pages lost"] += len(lost)
+        if lost:
+            self.write("F", bytes(held))
+        self.remove("F.line")
 
     def spoil(self):
         chance = self.chance

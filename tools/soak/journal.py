@@ -116,6 +116,10 @@ class Journal:
     def intent(self):
         return self.stack[-1].intent if self.is_unfinished() else None
 
+    def risked_pages(self):
+        """The pages that a stopped command may have been at work on."""
+        return [kept.page for kept in self.stack[-1].kept] if self.is_unfinished() else []
+
     def add(self, rig, line, number=None):
         """Adds a line in one append; with a number before the first segment, the header too."""
         text = b""

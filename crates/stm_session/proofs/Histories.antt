@@ -16,7 +16,7 @@ use Rattle.stm_session.specs.Meaning.{CommandData}
 use Rattle.stm_session.specs.Answers.{outcomes_in}
 use Rattle.stm_session.specs.Undoes.{taken_count, flash_taken_back, AmidUndo, Undoes}
 use Rattle.stm_session.specs.Promises.{RunContract, InfoContract, UndoContract}
-use Rattle.stm_session.specs.Headline.{World, now_of, Event, ran, run_stopped, informed, info_stopped, undid, undo_stopped, was_reset, Stops, Leads, grown, starts_after, UndoHolds, UndoLeaves, LeavesAlone, Holds, Happening, AllLead, AllHold, IsStart, Headline}
+use Rattle.stm_session.specs.Headline.{World, now_of, Event, ran, run_stopped, informed, info_stopped, undid, undo_stopped, was_reset, lost_power, Stops, Leads, grown, starts_after, UndoHolds, UndoLeaves, LeavesAlone, Holds, Happening, AllLead, AllHold, IsStart, Headline}
 use Rattle.stm_session.proofs.RunHistories.{Laws, depth-is, run-holds, run-leaves, run-left, run-starts, taken-within, unbegun-keeps, untouched-keeps, waits}
 
 module _ (laws : Laws) {R : Type 0} (view : R → RigState) (table : List ChipData) where
@@ -145,6 +145,9 @@ module _ (laws : Laws) {R : Type 0} (view : R → RigState) (table : List ChipDa
   gives was_reset starts s t e = λ u tabled.
       let U : World → Type 0 = λ x. Undoable starts x.device x.journal in
       (subst U (sym e) (laws.resets starts s.device s.journal u), ap (λ (x : World). x.device.chip) e, (ap (λ (x : World). x.device.flash) e, ap (λ (x : World). x.journal) e))
+  gives lost_power starts s t (lost, e) = λ u tabled.
+      let U : List ℕ → Type 0 = λ j. Undoable starts t.device j in
+      (subst U (sym e) (laws.loses_power starts s.device t.device s.journal u lost), lost.make.chip, λ finished. (laws.loses_nothing s.device t.device s.journal finished lost, e))
 
   pub still-tabled : (s t : World) → t.device.chip ≡ s.device.chip → IsTabled s → IsTabled t
   still-tabled s t e tabled = let C : ChipData → Type 0 = λ c. IsChipWith table c.id c in subst C (sym e) tabled

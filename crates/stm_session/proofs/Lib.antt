@@ -1,4 +1,5 @@
 pub mod Asking
+pub mod Unwritings
 pub mod Fitting
 pub mod Leavings
 mod Forgetting
@@ -12,6 +13,7 @@ pub mod Sending
 pub mod Unbegun
 pub mod Undoing
 mod Unrefused
+mod PowerLosses
 pub mod RunHistories
 pub mod Histories
 pub mod Whole

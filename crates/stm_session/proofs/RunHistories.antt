@@ -15,6 +15,7 @@ use Rattle.stm_journal.specs.Calls.{IsUntouched}
 use Rattle.stm_session.specs.declared.fault.Fault.{Fault}
 use Rattle.stm_session.specs.declared.fault.Fault.TheVariants as faults
 use Rattle.stm_session.specs.Moments.{IsSafe, IsUnbegun, SameMake}
+use Rattle.stm_session.specs.PowerLoss.{FinishedLosesNothing, PowerLossKeepsFlashes}
 use Rattle.stm_session.specs.Refusal.{unsent_refusal, refused_unless}
 use Rattle.stm_session.specs.Undoable.{Undoable, is_unfinished_at, state_at, risked_pages}
 use Rattle.stm_session.specs.declared.outcome.Report.{Report}
@@ -61,6 +62,8 @@ taken-within count below = chosen (count == 0) (nat_lt below count) refl
 pub record Laws : Type 0 where
   pub loses : LossStaysHarmless
   pub resets : (flashes : List (List ℕ)) (d : Device) (journal : List ℕ) → Undoable flashes d journal → Undoable flashes (reset d) journal
+  pub loses_power : PowerLossKeepsFlashes
+  pub loses_nothing : FinishedLosesNothing
   pub safe : (flashes : List (List ℕ)) (d : Device) (journal : List ℕ) → Undoable flashes d journal → is_unfinished_at journal ≡ false → IsSafe d
   pub unbegun : (flashes : List (List ℕ)) (old d : Device) (journal : List ℕ) → Undoable flashes old journal → is_unfinished_at journal ≡ false
       → SameMake old d → d.flash ≡ old.flash → IsSafe d → Undoable flashes d journal

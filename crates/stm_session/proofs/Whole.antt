@@ -8,7 +8,7 @@ use Rattle.stm_session.specs.Undoable.{Undoable, is_unfinished_at, state_at}
 use Rattle.stm_session.specs.Meaning.{CommandData, writes, erases, verifies, reads, flash_after, flash_after_all, flashes_before, changes_of, is_change, before_if}
 use Rattle.stm_session.specs.Lines.{depth_at}
 use Rattle.stm_session.specs.Undoes.{taken_count, flash_taken_back, AmidUndo}
-use Rattle.stm_session.specs.Headline.{World, now_of, Event, ran, run_stopped, informed, info_stopped, undid, undo_stopped, was_reset, Leads, standing_in, grown, starts_of_run, starts_after, Happening, AllLead, end_of, AllIsTakenBack, WritesWhole}
+use Rattle.stm_session.specs.Headline.{World, now_of, Event, ran, run_stopped, informed, info_stopped, undid, undo_stopped, was_reset, lost_power, Leads, standing_in, grown, starts_of_run, starts_after, Happening, AllLead, end_of, AllIsTakenBack, WritesWhole}
 use Rattle.stm_session.proofs.RunHistories.{Laws, RunLeft, depth-is, length-before, taken-within, run-left, run-begun}
 use Rattle.stm_session.proofs.Histories.{undo-undone, gives, still-tabled, start-undoable, IsTabled}
 
@@ -136,6 +136,9 @@ module _ (laws : Laws) {R : Type 0} (view : R → RigState) (table : List ChipDa
       let A : World → Type 0 = λ x. Undoable starts x.device x.journal → IsTabled laws view table x → oldest (drop (grown t x) starts) t.device.flash ≡ oldest starts x.device.flash in
       subst A begins.1 (λ u tabled. undo-oldest starts (taken_count count (length starts)) (view old) t (taken-within count (length starts)) u ((contract.undoes begins.0 starts u tabled).moments.each t.device t.journal left))
   keeps was_reset starts s t e = λ u tabled. ap (λ (x : World). oldest starts x.device.flash) e
+  keeps lost_power starts s t (lost, e) = λ u tabled.
+      oldest-other starts t.device.flash s.device.flash
+      (λ none. laws.loses_nothing s.device t.device s.journal (none-finished s.journal (depth-is starts s.device s.journal u ∙ ap length none)) lost)
 
   -- where a history ends
   record Ends (first : List ℕ) (w : World) : Type 0 where

@@ -1,4 +1,4 @@
--- The headline: any list of calls, stops and resets.
+-- The headline: any list of calls, stops, resets and losses of power.
 use Rattle.std.specs.Prelude.{◌≡◌, ℕ, ◌+◌, ◌-◌, false, List, [], ◌∷◌, ◌++◌, length, take, drop, reverse, Result, Ok, Err}
 use Rattle.stm_image.specs.Lay.{lay}
 use Rattle.stm_image.specs.Pairs.{Pairs}
@@ -9,6 +9,7 @@ use Rattle.stm_chip.specs.Document.{IsChipWith}
 use Rattle.stm_session.specs.declared.information.Info.{Info}
 use Rattle.stm_session.specs.declared.fault.Fault.{Fault}
 use Rattle.stm_session.specs.Fault.{IsOutsideFault}
+use Rattle.stm_session.specs.PowerLoss.{LosesPower}
 use Rattle.stm_session.specs.Undoable.{Undoable, is_unfinished_at}
 use Rattle.stm_session.specs.declared.outcome.Report.{Report}
 use Rattle.stm_session.specs.Meaning.{CommandData, writes, flash_after_all, flashes_before, changes_of}
@@ -25,8 +26,8 @@ pub record World : Type 0 where
 abbrev pub now_of : RigState → World
 now_of rig = record { device = rig.device; journal = rig.journal }
 
--- a call that returned, or was stopped at a moment of it, or a reset of the device
--- on Rigs of this type
+-- a call that returned, or was stopped at a moment of it; a reset of the device; a loss of its power, also while a command that was
+-- stopped was at work; on Rigs of this type
 pub data Event (R : Type 0) : Type 0 where
   ran : (commands : List CommandData) (old new : R) (result : Result Report Fault) → Event R
   run_stopped : (commands : List CommandData) (old new : R) (result : Result Report Fault) → Event R
@@ -35,6 +36,7 @@ pub data Event (R : Type 0) : Type 0 where
   undid : (count : ℕ) (old new : R) (result : Result ℕ Fault) → Event R
   undo_stopped : (count : ℕ) (old new : R) (result : Result ℕ Fault) → Event R
   was_reset : Event R
+  lost_power : Event R
 
 -- a call on an honest Rig that finds this
 abbrev pub Begins : World → RigState → Type 0
@@ -55,6 +57,7 @@ Leads view table (info_stopped old new result) w w2 = Begins w (view old) × Inf
 Leads view table (undid count old new result) w w2 = Begins w (view old) × UndoContract table count (view old) (view new) result × (now_of (view new) ≡ w2)
 Leads view table (undo_stopped count old new result) w w2 = Begins w (view old) × UndoContract table count (view old) (view new) result × Stops (view old) (view new) w2
 Leads view table was_reset w w2 = w2 ≡ record { device = reset w.device; journal = w.journal }
+Leads view table lost_power w w2 = LosesPower w.journal w.device w2.device × (w2.journal ≡ w.journal)
 
 -- the commands of a run that can begin: those before the first verify that doesn't agree
 abbrev pub standing_in : World → List CommandData → List CommandData
@@ -77,6 +80,7 @@ starts_after (info_stopped old new result) w w2 starts = starts
 starts_after (undid count old new result) w w2 starts = drop (grown w2 w) starts
 starts_after (undo_stopped count old new result) w w2 starts = drop (grown w2 w) starts
 starts_after was_reset w w2 starts = starts
+starts_after lost_power w w2 starts = starts
 
 -- a run that reports success leaves what the commands mean, each change as one ended segment
 pub record RunHolds (commands : List CommandData) (w w2 : World) : Type 0 where
@@ -114,6 +118,7 @@ Holds (undid count old new (Ok n)) w w2 starts = UndoHolds count n w w2 starts
 Holds (undid count old new (Err e)) w w2 starts = IsOutsideFault e × UndoLeaves w w2 starts
 Holds (undo_stopped count old new result) w w2 starts = UndoLeaves w w2 starts
 Holds was_reset w w2 starts = LeavesAlone w w2
+Holds lost_power w w2 starts = is_unfinished_at w.journal ≡ false → LeavesAlone w w2
 
 -- an event, and what it led to
 pub record Happening (R : Type 0) : Type 0 where
@@ -137,7 +142,7 @@ pub record IsStart (table : List ChipData) (w : World) : Type 0 where
   pub journal : w.journal ≡ []
   pub tabled : IsChipWith table w.device.chip.id w.device.chip
 
--- The headline: whatever calls, stops and resets follow.
+-- The headline: whatever calls, stops, resets and losses of power follow.
 abbrev pub Headline : {R : Type 0} → (R → RigState) → List ChipData → Type 0
 Headline {R} view table =
     (history : List (Happening R)) (start : World) → IsStart table start → AllLead view table history start → AllHold history start []
@@ -147,7 +152,7 @@ abbrev pub end_of : {R : Type 0} → List (Happening R) → World → World
 end_of [] w = w
 end_of (x ∷ history) w = end_of history x.after
 
--- In short: whatever calls, stops and resets came before, an undo of everything that reports success leaves every byte of the
+-- In short: whatever calls, stops, resets and losses of power came before, an undo of everything that reports success leaves every byte of the
 -- flash as it was when the session began, and no segment.
 abbrev pub AllIsTakenBack : {R : Type 0} → (R → RigState) → List ChipData → Type 0
 AllIsTakenBack {R} view table =

@@ -1,8 +1,10 @@
 pub mod Fault
 pub mod Sending
+pub mod Unwritten
 pub mod Order
 pub mod Undoable
 pub mod Moments
+pub mod PowerLoss
 pub mod Asking
 pub mod Refusal
 pub mod Opening

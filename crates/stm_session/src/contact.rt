@@ -5,6 +5,7 @@ ghost use Rattle.stm_wire.specs.Dialogue.{GoesOn};
 ghost use Rattle.stm_wire.specs.Frames.{command};
 ghost use Rattle.stm_wire.specs.Parts.{IsPart};
 ghost use Rattle.stm_wire.specs.Settling.{SettlesWithin};
+ghost use Rattle.stm_session.specs.Unwritten.{AppendsNothing};
 ghost use Rattle.stm_session.specs.Fault.{HasSessionCause, IsOfLine};
 ghost use Rattle.stm_session.specs.Asking.{Asks};
 ghost use Rattle.stm_session.specs.Moments.{BeginsNothing, IsSafe};
@@ -41,6 +42,8 @@ pub fn settle_safe<R: Rig>(rig: &mut R) -> Result<(), Fault>
 
 /// Asks a settled device for its commands.
 pub fn ask_commands<R: Rig>(rig: &mut R) -> Result<Commands, Fault>
+    ensures unwritten { let old = R.view rig.old in let new = R.view rig.new in
+        GoesOn AppendsNothing old.calls new.calls }
     ensures cause { let old = R.view rig.old in let new = R.view rig.new in
         HasSessionCause old new result }
     ensures puts { let old = R.view rig.old in let new = R.view rig.new in
@@ -59,6 +62,8 @@ pub fn ask_commands<R: Rig>(rig: &mut R) -> Result<Commands, Fault>
 
 /// Asks a settled device for its product id.
 pub fn ask_id<R: Rig>(rig: &mut R) -> Result<u16, Fault>
+    ensures unwritten { let old = R.view rig.old in let new = R.view rig.new in
+        GoesOn AppendsNothing old.calls new.calls }
     ensures cause { let old = R.view rig.old in let new = R.view rig.new in
         HasSessionCause old new result }
     ensures puts { let old = R.view rig.old in let new = R.view rig.new in
@@ -85,6 +90,8 @@ pub struct Told {
 
 /// Asks a settled device for its commands, and for its product id.
 pub fn ask<R: Rig>(rig: &mut R) -> Result<Told, Fault>
+    ensures unwritten { let old = R.view rig.old in let new = R.view rig.new in
+        GoesOn AppendsNothing old.calls new.calls }
     ensures cause { let old = R.view rig.old in let new = R.view rig.new in
         HasSessionCause old new result }
     ensures puts { let old = R.view rig.old in let new = R.view rig.new in

@@ -6,12 +6,12 @@ ghost use Rattle.stm_session.specs.Answers.{FirstDifferenceIsFirst, NoDifference
 ghost use Rattle.stm_session.specs.Headline.{AllIsTakenBack, Headline, WritesWhole};
 
 use crate::{
-    a_ready_device_can_begin, a_reset_keeps_what_can_be_taken_back,
-    asking_keeps_what_can_be_taken_back,
+    a_power_loss_keeps_what_can_be_taken_back, a_ready_device_can_begin,
+    a_reset_keeps_what_can_be_taken_back, asking_keeps_what_can_be_taken_back,
 };
 use stm_wire::{Rig, harmless_is_kept};
 
-/// Whatever calls, stops and resets follow a session's start: each call holds what is promised of it, and what was begun can
+/// Whatever calls, stops, resets and losses of power follow a session's start: each call holds what is promised of it, and what was begun can
 /// be taken back. An undo of everything that reports success leaves the flash as it was when the session began; and a write
 /// that reports success leaves the image in its places and every other byte as it was.
 pub fn a_session_can_be_taken_back<R: Rig>()
@@ -22,6 +22,7 @@ pub fn a_session_can_be_taken_back<R: Rig>()
     harmless_is_kept();
     a_ready_device_can_begin();
     a_reset_keeps_what_can_be_taken_back();
+    a_power_loss_keeps_what_can_be_taken_back();
     asking_keeps_what_can_be_taken_back();
 }
 

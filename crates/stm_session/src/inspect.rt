@@ -3,6 +3,7 @@ ghost use Rattle.std.specs.Prelude.{◌≡◌, IfErr, IfOk, None};
 ghost use Rattle.stm_wire.specs.Dialogue.{GoesOn};
 ghost use Rattle.stm_wire.specs.Parts.{IsSession};
 ghost use Rattle.stm_journal.specs.Calls.{AreFetches};
+ghost use Rattle.stm_session.specs.Unwritten.{AppendsNothing};
 ghost use Rattle.stm_session.specs.Fault.{HasSessionCause};
 ghost use Rattle.stm_session.specs.Sending.{is_whole, most_calls};
 ghost use Rattle.stm_session.specs.Information.{Describes};
@@ -16,6 +17,8 @@ use stm_wire::Rig;
 
 /// Tells what the device is.
 pub fn info<R: Rig>(alloc: Global, rig: &mut R, table: &Table) -> Result<Info, Fault>
+    ensures unwritten { let old = R.view rig.old in let new = R.view rig.new in
+        GoesOn AppendsNothing old.calls new.calls }
     ensures cause { let old = R.view rig.old in let new = R.view rig.new in
         HasSessionCause old new result }
     ensures puts { let old = R.view rig.old in let new = R.view rig.new in

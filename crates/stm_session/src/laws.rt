@@ -13,14 +13,20 @@ ghost use Rattle.stm_session.specs.declared.outcome.Report.{Report};
 ghost use Rattle.stm_session.specs.Answers.{outcomes_in};
 ghost use Rattle.stm_session.specs.Meaning.{CommandData, commands_in};
 ghost use Rattle.stm_session.specs.Moments.{IsSafe, SameMake};
+ghost use Rattle.stm_session.specs.PowerLoss.{
+  AnyBytesAreLeft,
+  FinishedLosesNothing,
+  IntentIsAtRisk,
+  PowerLossKeepsFlashes,
+};
 ghost use Rattle.stm_session.specs.Refusal.{chip_with, misfit_refusal, opening_refusal};
 ghost use Rattle.stm_session.specs.Refusals.{is_in_flash, run_refusal};
 ghost use Rattle.stm_session.specs.Running.{RunsReads, is_read};
 ghost use Rattle.stm_session.specs.Runs.{Runs};
 ghost use Rattle.stm_session.specs.Undoable.{IsJournalOf, Undoable, is_unfinished_at, state_at};
 
-use stm_journal::a_journal_is_sound;
-use stm_wire::{Rig, harmless_is_kept, stopped_is_harmless};
+use stm_journal::{a_journal_is_sound, changes_of_kept_pages_keep_the_flashes};
+use stm_wire::{Rig, harmless_is_kept, pages_are_the_flash, stopped_is_harmless};
 
 /// A ready device is safe, and with an empty journal there is nothing to take back.
 pub fn a_ready_device_can_begin()
@@ -36,6 +42,21 @@ pub fn a_reset_keeps_what_can_be_taken_back()
         → Undoable flashes d journal → Undoable flashes (reset d) journal }
 {
     harmless_is_kept();
+}
+
+/// What can be taken back, still can after a loss of power, also inside an erase or a write, whatever bytes that leaves in the
+/// pages which the unfinished newest segment keeps. These have the page of the journal's intent among them, and each page that
+/// settling the device by that intent may change. Where no segment is unfinished, the flash is as it was.
+pub fn a_power_loss_keeps_what_can_be_taken_back()
+    ensures undoable { PowerLossKeepsFlashes }
+    ensures finished { FinishedLosesNothing }
+    ensures intended { IntentIsAtRisk }
+    ensures any { AnyBytesAreLeft }
+{
+    stopped_is_harmless();
+    pages_are_the_flash();
+    a_journal_is_sound();
+    changes_of_kept_pages_keep_the_flashes();
 }
 
 /// Where the journal is finished, the device is safe, and at any moment of calls that begin no segment, what could be taken

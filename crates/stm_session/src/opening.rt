@@ -6,6 +6,7 @@ ghost use Rattle.stm_journal.specs.Calls.{AreFetches, IsUntouched};
 ghost use Rattle.stm_chip.specs.Document.{IsChipWith};
 ghost use Rattle.stm_journal.specs.Journals.{IsLoaded, journal_of};
 ghost use Rattle.stm_journal.specs.States.{is_unfinished, names_other};
+ghost use Rattle.stm_session.specs.Unwritten.{AppendsNothing};
 ghost use Rattle.stm_session.specs.Fault.{HasSessionCause, IsOfLine, IsLaterRefusal};
 ghost use Rattle.stm_session.specs.Moments.{BeginsNothing, IsSafe};
 ghost use Rattle.stm_session.specs.Refusal.{RefusesUnsent, device_refusals, first_refusal, misfit_refusal, unsent_refusal};
@@ -52,6 +53,8 @@ fn load_finished<R: Rig>(alloc: Global, rig: &mut R) -> Result<Journal, Fault>
 
 /// Settles a device with 7F, and asks who it is.
 fn reach<R: Rig>(rig: &mut R) -> Result<Told, Fault>
+    ensures unwritten { let old = R.view rig.old in let new = R.view rig.new in
+        GoesOn AppendsNothing old.calls new.calls }
     ensures cause { let old = R.view rig.old in let new = R.view rig.new in
         HasSessionCause old new result }
     ensures puts { let old = R.view rig.old in let new = R.view rig.new in
@@ -102,6 +105,8 @@ fn find_chip<'t>(journal: &Journal, table: &'t Table, id: u16) -> Result<&'t Chi
 /// Loads the journal, which must be finished; settles the device with 7F; and asks who it is. The journal must be of that
 /// device, the table must have its chip, and each page that the journal keeps must be one of that chip.
 pub fn open<'t, R: Rig>(alloc: Global, rig: &mut R, table: &'t Table) -> Result<Opened<'t>, Fault>
+    ensures unwritten { let old = R.view rig.old in let new = R.view rig.new in
+        GoesOn AppendsNothing old.calls new.calls }
     ensures cause { let old = R.view rig.old in let new = R.view rig.new in
         HasSessionCause old new result }
     ensures puts { let old = R.view rig.old in let new = R.view rig.new in

@@ -153,3 +153,22 @@ fn lost_replies_do_no_harm(rt: HostRuntime) -> Result<(), Fail> {
     }
     Ok(())
 }
+
+// A page at risk holds bytes that nobody wrote. Few stops, since a reset device is settled by 131,072 bytes.
+#[test]
+fn pages_that_lost_their_power_come_back(rt: HostRuntime) -> Result<(), Fail> {
+    for between in [Between::Power(0xA5, false), Between::Power(0x5A, true)] {
+        for (change, parts) in ZEROS {
+            let case = zeros(change, parts);
+            assert_eq!(rt; first_failure(&rt, &case, between, 0, 0, 0)?, None);
+        }
+    }
+    Ok(())
+}
+
+#[test]
+fn a_write_without_power_comes_back_alone(rt: HostRuntime) -> Result<(), Fail> {
+    let between = Between::Power(0x3C, true);
+    assert_eq!(rt; first_failure(&rt, &OVER_AN_EDGE, between, 1, 0, 0)?, None);
+    Ok(())
+}

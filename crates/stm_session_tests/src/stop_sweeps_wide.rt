@@ -201,10 +201,11 @@ fn page_511_comes_back(rt: HostRuntime) -> Result<(), Fail> {
 
 /// What befalls a device of 512 pages before the undo, and how near to the turns the stops are, and
 /// which of the others are made.
-const BEFALLS: [(Between, u64, u64); 3] = [
+const BEFALLS: [(Between, u64, u64); 4] = [
     (Between::Lost(1), 0, 0),
     (Between::Lost(4096), 3, 0),
     (Between::Reset, 0, 0),
+    (Between::Power(0xA5, true), 0, 0),
 ];
 
 #[test]

@@ -3,8 +3,9 @@
 use crate::devices::{device, erase_of, is_same, rig_of, table, write_of};
 use std::test::Fail;
 use stm_chip::Table;
+use stm_journal::Journal;
 use stm_session::{Command, Fault, run, undo};
-use stm_wire::{MemoryRig, Patience, Rig};
+use stm_wire::{Intent, MemoryRig, Patience, Rig};
 
 /// A command that changes the flash, whose first byte lies at 08000000.
 #[derive(Clone, Copy)]
@@ -33,6 +34,8 @@ pub enum Between {
     /// So many of the bytes that it owes are lost, or all where it owes fewer.
     Lost(u32),
     Reset,
+    /// Its power: every page that the unfinished newest segment keeps, or just that of the intent, holds this byte then.
+    Power(u8, bool),
 }
 
 /// A run on a fresh device, the stack of segments before it, and the parts that it has by
@@ -163,7 +166,40 @@ fn is_near_a_turn(parts: &[Part], steps: u64, near: u64) -> bool {
     turn.abs_diff(steps) <= near
 }
 
-fn befall(rig: &mut MemoryRig, between: Between) -> Result<(), Fail> {
+/// The device loses its power, and this page holds this byte everywhere.
+fn lose_page(rt: &HostRuntime, rig: &mut MemoryRig, n: u16, byte: u8) -> Result<(), Fail> {
+    let chip = rig.chip();
+    if n >= chip.pages() {
+        return Ok(());
+    }
+    let page = vec![in rt.alloc(); byte; chip.page_size(n) as usize]?;
+    rig.lose_power(n, &page);
+    Ok(())
+}
+
+/// The device loses its power, and the pages at risk hold this byte everywhere.
+fn lose_power(rt: &HostRuntime, rig: &mut MemoryRig, byte: u8, all: bool) -> Result<(), Fail> {
+    let Ok(journal) = Journal::load(rt.alloc(), rig) else {
+        return Err(Fail::new("a bad journal"));
+    };
+    rig.reset();
+    match journal.last_intent() {
+        Some(Intent::Erase(n)) | Some(Intent::Program(n)) => lose_page(rt, rig, n, byte)?,
+        None => {}
+    }
+    if !all || !journal.is_unfinished() {
+        return Ok(());
+    }
+    let newest = journal.depth();
+    for i in 0..journal.kept_count(newest) {
+        if let Some((n, _)) = journal.kept(newest, i) {
+            lose_page(rt, rig, n, byte)?;
+        }
+    }
+    Ok(())
+}
+
+fn befall(rt: &HostRuntime, rig: &mut MemoryRig, between: Between) -> Result<(), Fail> {
     match between {
         Between::Nothing => {}
         Between::Lost(count) => {
@@ -174,6 +210,7 @@ fn befall(rig: &mut MemoryRig, between: Between) -> Result<(), Fail> {
             }
         }
         Between::Reset => rig.reset(),
+        Between::Power(byte, all) => lose_power(rt, rig, byte, all)?,
     }
     Ok(())
 }
@@ -250,7 +287,7 @@ pub fn first_failure(
     for steps in 0..=total(case.parts) {
         if is_near_a_turn(case.parts, steps, near) || steps.checked_rem(stride) == Some(0) {
             let (fault, mut rig) = stopped_run(rt, &table, case, &start, steps)?;
-            befall(&mut rig, between)?;
+            befall(rt, &mut rig, between)?;
             let (due, begun) = due(case.parts, steps);
             let depth = depth_of(case, begun);
             let taken = takes_back(rt, &table, &mut rig, &start.flashes, count, depth);

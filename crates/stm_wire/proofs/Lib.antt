@@ -20,6 +20,7 @@ mod Mild
 mod NamedPages
 mod Pages
 mod Plain
+mod PowerLosses
 mod Protecting
 mod Reading
 mod Receiving

@@ -26,6 +26,7 @@ pub mod Protection
 pub mod Rest
 pub mod Simulator
 pub mod Memory
+pub mod PowerLoss
 pub mod SimulatedChange
 pub mod Simulated
 pub mod SimulatedDevice

@@ -1,9 +1,11 @@
 // A Rig in memory: a simulator, a journal, and a record of all calls.
-ghost use Rattle.std.specs.Prelude.{◌≡◌, ◌↔◌, ℕ, ◌-◌, ◌^◌, ◌≤◌, [], List};
+ghost use Rattle.std.specs.Prelude.{◌≡◌, ◌↔◌, ℕ, ◌-◌, ◌^◌, ◌<◌, ◌≤◌, [], ◌∷◌, List};
 ghost use Rattle.std.specs.Prelude.{length, IsSome, IfSome, IsTrue, MatchOption};
 ghost use Rattle.std.specs.Option.{option_map};
-ghost use Rattle.stm_wire.specs.Chip.{flash_size};
+ghost use Rattle.stm_wire.specs.Chip.{flash_size, page_count, page_size};
 ghost use Rattle.stm_wire.specs.Device.{Connected, Gone, reset};
+ghost use Rattle.stm_wire.specs.Harmless.{SameOutside};
+ghost use Rattle.stm_wire.specs.PowerLoss.{powered_again};
 ghost use Rattle.stm_wire.specs.Simulator.{device_of};
 ghost use Rattle.stm_wire.specs.Memory.{MemoryData, IsMemory, rig_state};
 ghost use Rattle.stm_wire.specs.Memory.{memory_of, fresh_memory, begins};
@@ -85,6 +87,13 @@ impl MemoryRig {
         })
     }
 
+    /// The device's chip.
+    pub fn chip(&self) -> &Chip
+        ensures { result.now ≡ self.now.device.chip }
+    {
+        self.simulator.chip()
+    }
+
     /// The flash's bytes, from the chip's base on.
     pub fn flash(&self) -> &[u8]
         ensures { result.now ≡ self.now.device.flash }
@@ -143,6 +152,23 @@ impl MemoryRig {
         ensures honest { (rig_state self.old).is_honest → (rig_state self.new).is_honest }
     {
         self.simulator.reset();
+        self.first = None;
+        self.begun = self.journal.len();
+        self.start = self.calls.len();
+        self.past.clear();
+    }
+
+    /// Takes the device's power away and gives it back, inside an erase or a write of page `n`: it is
+    /// fresh, owes nothing, and holds these bytes as that page.
+    pub fn lose_power(&mut self, n: u16, page: &[u8])
+        requires exists { n < page_count self.old.device.chip }
+        requires size { length page.now ≡ page_size self.old.device.chip n }
+        ensures lost { self.new ≡ begins (powered_again n page.now self.old.device) self.old }
+        ensures outside { let old = self.old.device in let new = self.new.device in
+            SameOutside old.chip (n ∷ []) old.flash new.flash }
+        ensures honest { (rig_state self.old).is_honest → (rig_state self.new).is_honest }
+    {
+        self.simulator.lose_power(n, page);
         self.first = None;
         self.begun = self.journal.len();
         self.start = self.calls.len();

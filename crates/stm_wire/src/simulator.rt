@@ -3,8 +3,9 @@ ghost use Rattle.std.specs.Prelude.{if◌then◌else◌, ◌≡◌, ◌+◌, ◌
 ghost use Rattle.std.specs.Prelude.{length, OnOk, OnErr, MatchOption, IsTrue, ◌↔◌, vec_len};
 ghost use Rattle.std.specs.Vec.{vec_capacity};
 ghost use Rattle.std.specs.VecDeque.{deque_len, deque_capacity};
-ghost use Rattle.stm_wire.specs.Chip.{flash_size};
+ghost use Rattle.stm_wire.specs.Chip.{flash_size, page_count, page_size};
 ghost use Rattle.stm_wire.specs.Device.{Device, Connected, Gone, IsDevice, reset};
+ghost use Rattle.stm_wire.specs.PowerLoss.{powered_again};
 ghost use Rattle.stm_wire.specs.Rig.{GetsFirst};
 ghost use Rattle.stm_wire.specs.Reply.{ack, step_reply};
 ghost use Rattle.stm_wire.specs.Exchange.{verdict};
@@ -268,6 +269,25 @@ impl Simulator {
         self.rest.clear();
         self.owed.clear();
         self.stage = Stage::Fresh;
+    }
+
+    /// Makes it fresh, owing nothing, with these bytes as page `n`, whatever that held: what a loss of
+    /// power inside an erase or a write of this page may leave.
+    pub fn lose_power(&mut self, n: u16, page: &[u8])
+        requires exists { n < page_count self.old.chip }
+        requires size { length page.now ≡ page_size self.old.chip n }
+        ensures lost { self.new ≡ powered_again n page.now self.old }
+        ensures device { IsDevice self.new }
+    {
+        let at = (self.chip.page_start(n) - self.chip.base()) as usize;
+        self.flash[at..at + page.len()].copy_from_slice(page);
+        self.reset();
+    }
+
+    pub fn chip(&self) -> &Chip
+        ensures { result.now ≡ self.now.chip }
+    {
+        &self.chip
     }
 
     pub fn flash(&self) -> &[u8]

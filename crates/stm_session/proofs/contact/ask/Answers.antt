@@ -1,3 +1,4 @@
+use Rattle.stm_session.proofs.Unwritings.{then_appends_nothing}
 use Rattle.std.proofs.Common.{arith, Bool, None, true, ◌∙◌, ap}
 use Rattle.stm_wire.specs.Device.{Device}
 use Rattle.stm_wire.specs.Dialogue.{GoesOn}
@@ -58,3 +59,13 @@ pub returns-clause-order : goal.returns-clause-order
 returns-clause-order g c torn =
     let V = g.R.Rig.view in
     order_then torn (Sends (command 0x00) ∷ []) (Sends (command 0x02) ∷ []) (V c.args.rig.now).calls (V c.ask_commands.new.rig).calls (V c.ask_id.new.rig).calls (c.in_ok-commands.ensures.order torn) (c.in_ok-id.ensures.order torn)
+
+pub returns-in_err-id-clause-unwritten : goal.returns-in_err-id-clause-unwritten
+returns-in_err-id-clause-unwritten g c =
+    let V = g.R.Rig.view in
+    then_appends_nothing (V c.args.rig.now).calls (V c.ask_commands.new.rig).calls (V c.ask_id.new.rig).calls c.in_ok-commands.ensures.unwritten c.in_err-id.ensures.unwritten
+
+pub returns-clause-unwritten : goal.returns-clause-unwritten
+returns-clause-unwritten g c =
+    let V = g.R.Rig.view in
+    then_appends_nothing (V c.args.rig.now).calls (V c.ask_commands.new.rig).calls (V c.ask_id.new.rig).calls c.in_ok-commands.ensures.unwritten c.in_ok-id.ensures.unwritten

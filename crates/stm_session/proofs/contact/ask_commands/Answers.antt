@@ -1,5 +1,7 @@
+use Rattle.stm_session.proofs.Unwritings.{held_appends_nothing, broken_appends_nothing}
 use Rattle.std.proofs.Common.{◌<◌, rules, ℕ, List, Bool, None, length, take, refl}
 use Rattle.stm_wire.specs.Dialogue.{GoesOn}
+use Rattle.stm_wire.specs.Frames.{get_turns}
 use Rattle.stm_wire.specs.Parts.{IsPart}
 use Rattle.stm_wire.specs.PartLaws.{get_broken, get_held}
 use Rattle.stm_wire.specs.Stopped.{get}
@@ -45,3 +47,13 @@ returns-clause-order g c torn =
     let version : ℕ = c.in_ok-commands.commands.version in
     let codes : List ℕ = take c.in_ok-commands.commands.count c.in_ok-commands.commands.codes in
     order_get torn version codes (V c.args.rig.now).calls (V c.get_commands.new.rig).calls c.in_ok-commands.ensures.held.recorded
+
+pub returns-in_err-commands-clause-unwritten : goal.returns-in_err-commands-clause-unwritten
+returns-in_err-commands-clause-unwritten g c =
+    let V = g.R.Rig.view in
+    broken_appends_nothing _ (get_turns c.in_err-commands.ensures.broken.0 c.in_err-commands.ensures.broken.1) (V c.args.rig.now).calls (V c.get_commands.new.rig).calls c.in_err-commands.ensures.broken.3.recorded
+
+pub returns-clause-unwritten : goal.returns-clause-unwritten
+returns-clause-unwritten g c =
+    let V = g.R.Rig.view in
+    held_appends_nothing (get_turns c.in_ok-commands.commands.version (take c.in_ok-commands.commands.count c.in_ok-commands.commands.codes)) (V c.args.rig.now).calls (V c.get_commands.new.rig).calls c.in_ok-commands.ensures.held.recorded

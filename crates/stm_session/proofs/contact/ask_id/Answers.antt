@@ -1,4 +1,6 @@
-use Rattle.std.proofs.Common.{Bool, None, refl}
+use Rattle.stm_session.proofs.Unwritings.{held_appends_nothing, broken_appends_nothing}
+use Rattle.std.proofs.Common.{◌/◌, ◌%◌, Bool, None, refl}
+use Rattle.stm_wire.specs.Frames.{get_id_turns}
 use Rattle.stm_wire.specs.Dialogue.{GoesOn}
 use Rattle.stm_wire.specs.Parts.{IsPart}
 use Rattle.stm_wire.specs.PartLaws.{get_id_broken, get_id_held}
@@ -40,3 +42,13 @@ pub returns-clause-order : goal.returns-clause-order
 returns-clause-order g c torn =
     let V = g.R.Rig.view in
     order_get_id torn _ _ (V c.args.rig.now).calls (V c.get_id.new.rig).calls c.in_ok-id.ensures.held.recorded
+
+pub returns-in_err-id-clause-unwritten : goal.returns-in_err-id-clause-unwritten
+returns-in_err-id-clause-unwritten g c =
+    let V = g.R.Rig.view in
+    broken_appends_nothing _ (get_id_turns c.in_err-id.ensures.broken.0 c.in_err-id.ensures.broken.1) (V c.args.rig.now).calls (V c.get_id.new.rig).calls c.in_err-id.ensures.broken.2.recorded
+
+pub returns-clause-unwritten : goal.returns-clause-unwritten
+returns-clause-unwritten g c =
+    let V = g.R.Rig.view in
+    held_appends_nothing (get_id_turns (c.in_ok-id.id / 256) (c.in_ok-id.id % 256)) (V c.args.rig.now).calls (V c.get_id.new.rig).calls c.in_ok-id.ensures.held.recorded

@@ -7,6 +7,8 @@ returns-clause-headline g c table history start is all =
     headline (record {
       loses = c.harmless_is_kept.ensures.lost;
       resets = c.a_reset_keeps_what_can_be_taken_back.ensures;
+      loses_power = c.a_power_loss_keeps_what_can_be_taken_back.ensures.undoable;
+      loses_nothing = c.a_power_loss_keeps_what_can_be_taken_back.ensures.finished;
       safe = c.asking_keeps_what_can_be_taken_back.ensures.safe;
       unbegun = c.asking_keeps_what_can_be_taken_back.ensures.undoable;
       begins = c.a_ready_device_can_begin.ensures.undoable;
@@ -17,6 +19,8 @@ returns-clause-whole g c table history start is all old new n w2 leads =
     all-taken-back (record {
       loses = c.harmless_is_kept.ensures.lost;
       resets = c.a_reset_keeps_what_can_be_taken_back.ensures;
+      loses_power = c.a_power_loss_keeps_what_can_be_taken_back.ensures.undoable;
+      loses_nothing = c.a_power_loss_keeps_what_can_be_taken_back.ensures.finished;
       safe = c.asking_keeps_what_can_be_taken_back.ensures.safe;
       unbegun = c.asking_keeps_what_can_be_taken_back.ensures.undoable;
       begins = c.a_ready_device_can_begin.ensures.undoable;
@@ -27,6 +31,8 @@ returns-clause-writes g c table history start is all image old new report w2 lea
     writes-whole (record {
       loses = c.harmless_is_kept.ensures.lost;
       resets = c.a_reset_keeps_what_can_be_taken_back.ensures;
+      loses_power = c.a_power_loss_keeps_what_can_be_taken_back.ensures.undoable;
+      loses_nothing = c.a_power_loss_keeps_what_can_be_taken_back.ensures.finished;
       safe = c.asking_keeps_what_can_be_taken_back.ensures.safe;
       unbegun = c.asking_keeps_what_can_be_taken_back.ensures.undoable;
       begins = c.a_ready_device_can_begin.ensures.undoable;

@@ -1,3 +1,4 @@
+use Rattle.stm_session.proofs.Unwritings.{fetching_appends_nothing, then_appends_nothing}
 use Rattle.std.proofs.Common.{arith, Bool, None, true, refl}
 use Rattle.stm_session.proofs.Openings.{left_by_loading, opens_all, opens_refused, opens_unreached, opens_unread}
 use Rattle.stm_wire.specs.Dialogue.{GoesOn}
@@ -78,3 +79,29 @@ pub returns-clause-order : goal.returns-clause-order
 returns-clause-order g c torn =
     let V = g.R.Rig.view in
     fetched_then 0x7F torn asking_steps (V c.args.rig.now).calls (V c.load_finished.new.rig).calls (V c.reach.new.rig).calls c.load_finished.ensures.calls (c.in_ok-told.ensures.order torn)
+
+pub returns-in_err-journal-clause-unwritten : goal.returns-in_err-journal-clause-unwritten
+returns-in_err-journal-clause-unwritten g c =
+    let V = g.R.Rig.view in
+    fetching_appends_nothing (V c.args.rig.now).calls (V c.load_finished.new.rig).calls c.load_finished.ensures.calls
+
+pub returns-in_err-told-clause-unwritten : goal.returns-in_err-told-clause-unwritten
+returns-in_err-told-clause-unwritten g c =
+    let V = g.R.Rig.view in
+    let a = (V c.args.rig.now).calls in
+    let b = (V c.load_finished.new.rig).calls in
+    then_appends_nothing a b (V c.reach.new.rig).calls (fetching_appends_nothing a b c.load_finished.ensures.calls) c.in_err-told.ensures.unwritten
+
+pub returns-in_err-chip-clause-unwritten : goal.returns-in_err-chip-clause-unwritten
+returns-in_err-chip-clause-unwritten g c =
+    let V = g.R.Rig.view in
+    let a = (V c.args.rig.now).calls in
+    let b = (V c.load_finished.new.rig).calls in
+    then_appends_nothing a b (V c.reach.new.rig).calls (fetching_appends_nothing a b c.load_finished.ensures.calls) c.in_ok-told.ensures.unwritten
+
+pub returns-clause-unwritten : goal.returns-clause-unwritten
+returns-clause-unwritten g c =
+    let V = g.R.Rig.view in
+    let a = (V c.args.rig.now).calls in
+    let b = (V c.load_finished.new.rig).calls in
+    then_appends_nothing a b (V c.reach.new.rig).calls (fetching_appends_nothing a b c.load_finished.ensures.calls) c.in_ok-told.ensures.unwritten

@@ -1,3 +1,4 @@
+use Rattle.stm_session.proofs.Unwritings.{settling_appends_nothing, then_appends_nothing}
 use Rattle.stm_session.proofs.Unbegun.{begins_failed, then_asks}
 use Rattle.stm_session.proofs.Openings.{tells_first}
 use Rattle.std.proofs.Common.{arith, None, true}
@@ -43,3 +44,15 @@ returns-clause-order g c torn =
     let b = (V c.settle_safe.new.rig).calls in
     let d = (V c.ask.new.rig).calls in
     ok_then c.ask.result (λ asks. settles_then 0x7F torn asking_steps a b d c.settle_safe.ensures.calls asks) (c.ask.ensures.order torn)
+
+pub returns-in_err-settle_safe-clause-unwritten : goal.returns-in_err-settle_safe-clause-unwritten
+returns-in_err-settle_safe-clause-unwritten g c =
+    let V = g.R.Rig.view in
+    settling_appends_nothing 0x7F 131072 (V c.args.rig.now).calls (V c.settle_safe.new.rig).calls c.settle_safe.ensures.calls
+
+pub returns-clause-unwritten : goal.returns-clause-unwritten
+returns-clause-unwritten g c =
+    let V = g.R.Rig.view in
+    let a = (V c.args.rig.now).calls in
+    let b = (V c.settle_safe.new.rig).calls in
+    then_appends_nothing a b (V c.ask.new.rig).calls (settling_appends_nothing 0x7F 131072 a b c.settle_safe.ensures.calls) c.ask.ensures.unwritten

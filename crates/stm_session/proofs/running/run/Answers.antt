@@ -1,5 +1,7 @@
 use Rattle.std.proofs.Common.{◌≡◌, ◌*◌, [], List, ◌∷◌, Bool, None, Some, length, map, true, arith, refl}
-use Rattle.stm_wire.specs.PartLaws.{session_joins, session_of_any, session_weaker}
+use Rattle.stm_wire.specs.PartLaws.{session_joins, session_longer, session_of_any, session_weaker}
+use Rattle.stm_wire.specs.Dialogue.{GoesOn}
+use Rattle.stm_wire.specs.Parts.{IsSession}
 use Rattle.stm_session.specs.declared.command.Command.{Command}
 use Rattle.stm_session.specs.Answers.{outcome_data, outcomes_in}
 use Rattle.stm_session.specs.Meaning.{commands_in}
@@ -105,3 +107,12 @@ returns-clause-order g c =
       are_steps = done.1;
       calls = settled_then 0x7F l.is_torn asking_steps done.0 a b d refl (c.in_ok-opened.ensures.order l.is_torn) done.2.acts;
     }
+
+pub returns-in_err-opened-clause-puts : goal.returns-in_err-opened-clause-puts
+returns-in_err-opened-clause-puts g c =
+    let V = g.R.Rig.view in
+    let a = (V c.args.rig.now).calls in
+    let b = (V c.open.new.rig).calls in
+    let n = length c.args.commands.now in
+    let P : Bool → Type 0 = λ w. GoesOn (IsSession None 0x7F 131072 w (most_calls n)) a b in
+    record { chip = None; listed = tt; calls = same_fault P _ c.from_residual.result c.from_residual.ensures.1 (session_longer None 0x7F 131072 _ (most_calls 0) (most_calls n) a b (omega arith) c.in_err-opened.ensures.puts) }
