@@ -1,0 +1,59 @@
+"""A test that serves a simulator on a socket, and reaches it as a plain client."""
+
+import socket
+import subprocess
+import time
+
+from place import PATIENCE, Place, program
+
+# how long a host waits until the line counts as quiet, in ms: longer than a busy machine takes to answer
+WAIT = "1000"
+
+
+class Served(Place):
+    def start(self, *words):
+        """Starts the program on these words."""
+        started = subprocess.Popen(["stmflash", *words], executable=program(), cwd=self.folder, env={}, stdin=subprocess.DEVNULL,
+                                   stdout=subprocess.PIPE, stderr=subprocess.PIPE)
+
+        def end():
+            if started.returncode is None:
+                started.kill()
+                started.communicate()
+
+        self.addCleanup(end)
+        return started
+
+    def serve(self, clients, table="table", number="0412"):
+        """Serves the simulator to so many clients, and answers once it listens: a client of its own has come and gone."""
+        files = ("--table", table, "--id", number, "--flash", "flash", "--socket", "board")
+        self.simulator = self.start("sim", *files, "--clients", str(clients + 1))
+        end = time.monotonic() + PATIENCE
+        while True:
+            try:
+                client = self.connect()
+                break
+            except (FileNotFoundError, ConnectionRefusedError):
+                self.assertIsNone(self.simulator.poll(), "the simulator doesn't start")
+                self.assertLess(time.monotonic(), end, "the simulator doesn't listen")
+                time.sleep(0.01)
+        self.leave(client)
+
+    def assertServed(self):
+        """The simulator ends well when its last client has gone, says nothing, and its socket is no more."""
+        out, err = self.simulator.communicate(timeout=PATIENCE)
+        self.assertEqual((self.simulator.returncode, out, err), (0, b"", b""))
+        self.assertFalse(self.is_there("board"))
+
+    def connect(self):
+        client = socket.socket(socket.AF_UNIX, socket.SOCK_STREAM)
+        self.addCleanup(client.close)
+        client.settimeout(PATIENCE)
+        client.connect(self.path("board"))
+        return client
+
+    def leave(self, client):
+        """Goes, once the simulator has stored what was left."""
+        client.shutdown(socket.SHUT_WR)
+        self.assertEqual(client.recv(1), b"")
+        client.close()

@@ -1,0 +1,110 @@
+"""Each chip of chips.toml on its simulator, in the process and served: what it is told to be, a verified write into its last
+page, and its undo; and what each entry says of itself."""
+
+import os
+import re
+import tomllib
+
+from place import TOP
+from served import WAIT, Served
+
+TABLE = os.path.join(TOP, "chips.toml")
+with open(TABLE, "rb") as text:
+    CHIPS = {f"{chip['id']:04X}": chip for chip in tomllib.load(text)["chip"]}
+# the one that no maker sells
+FOR_TESTS = "0A01"
+# chips that are served too: of many pages, of sectors of three sizes, erased by 44, erased to 00
+SERVED = ("0410", "0413", "0430", "0416")
+# so many tests share the chips, so that they run side by side
+PARTS = 6
+IMAGE = b"a last page's last bytes"
+# families of which something isn't known: the words of their notes, and which ids begin so in stm32flash's and OpenOCD's tables
+EIGHT = ("0466", "0456", "0460", "0467", "0468", "0469", "0479", "0464", "0435", "0462", "0415", "0461", "0470")
+BANKS = ("0430", "0419", "0434", "0467", "0469", "0450", "0415", "0461", "0470")
+
+
+class Geometry:
+    """What an entry says of its flash."""
+
+    def __init__(self, chip):
+        self.base = chip["base"]
+        self.pages = [size for count, size in chip["pages"] for _ in range(count)]
+        self.size = sum(self.pages)
+        self.erase = {"page": "43", "extended": "44"}[chip["erase"]]
+        self.erased = chip.get("erased", 255)
+
+    def told(self):
+        """The lines of `info` up to the bootloader's version."""
+        return (f"base {self.base:08X}\npages {len(self.pages)}\nsize {self.size}\nerase {self.erase}\n"
+                f"erased {self.erased:02X}\nversion ")
+
+    def flash(self):
+        """A flash without an erased page."""
+        return (bytes(range(251)) * (self.size // 251 + 1))[:self.size]
+
+
+class Chips(Served):
+    def use_chip(self, name, *words, device, wait=()):
+        return self.call(name, "--table", TABLE, "--device", device, "--journal", "journal", *wait, *words)
+
+    def try_chip(self, number, device, wait=()):
+        """What it is; a write into the last page, which keeps all else; and the way back."""
+        chip = Geometry(CHIPS[number])
+        place = chip.size - len(IMAGE)
+        told = self.use_chip("info", device=device, wait=wait)
+        self.assertEqual((told.status, told.err), (0, b""))
+        self.assertTrue(told.out.decode().startswith(f"id {number}\n" + chip.told()), told)
+        self.store("image", IMAGE)
+        words = ("-v", "-S", f"0x{chip.base + place:08X}", "image")
+        self.assertTold(self.use_chip("write", *words, device=device, wait=wait),
+                        f"segment 1: 1 pages written\nverified {len(IMAGE)} bytes\n")
+        if not wait:
+            self.assertFile("flash", chip.flash()[:place] + IMAGE)
+        self.assertTold(self.use_chip("undo", device=device, wait=wait), "undone 1\n")
+
+    def try_part(self, part):
+        for number in sorted(CHIPS)[part::PARTS]:
+            with self.subTest(chip=number):
+                for name in ("journal", "flash.line"):
+                    if self.is_there(name):
+                        self.remove(name)
+                before = Geometry(CHIPS[number]).flash()
+                self.store("flash", before)
+                self.try_chip(number, f"sim:{number}:flash")
+                self.assertFile("flash", before)
+
+    def try_served(self, number):
+        before = Geometry(CHIPS[number]).flash()
+        self.store("flash", before)
+        self.serve(3, TABLE, number)
+        self.try_chip(number, "board", ("--wait", WAIT))
+        self.assertServed()
+        self.assertFile("flash", before)
+
+    def test_each_says_where_its_numbers_come_from(self):
+        for number, chip in CHIPS.items():
+            if number == FOR_TESTS:
+                continue
+            with self.subTest(chip=number):
+                tables, notes = chip["tables"].split(", "), " ".join(chip.get("notes", ()))
+                self.assertGreater(len(chip["name"]), 5)
+                self.assertLessEqual(set(tables), {"stm32flash", "OpenOCD"})
+                self.assertRegex(chip.get("manual", "RM0000"), r"^[RP]M\d{4}(, [RP]M\d{4})*$")
+                if tables != ["stm32flash", "OpenOCD"]:
+                    self.assertTrue(re.search("doubtful|alone|OpenOCD has", notes), notes)
+                self.assertEqual("manual" in chip, "alone" not in notes)
+        self.assertEqual(len(CHIPS), 51)
+
+    def test_what_is_not_known_stands_at_the_entry(self):
+        for number, chip in CHIPS.items():
+            notes = " ".join(chip.get("notes", ()))
+            with self.subTest(chip=number):
+                self.assertEqual("words of 8 bytes" in notes, number in EIGHT)
+                self.assertEqual("words of 32 bytes" in notes, number == "0450")
+                self.assertEqual("second bank" in notes, number in BANKS)
+
+
+for part in range(PARTS):
+    setattr(Chips, f"test_each_on_its_simulator_{part}", lambda self, part=part: self.try_part(part))
+for number in SERVED:
+    setattr(Chips, f"test_served_{number}", lambda self, number=number: self.try_served(number))
