@@ -62,7 +62,9 @@ soak:
 install: bin/stmflash
 	install -d $(DESTDIR)$(PREFIX)/bin $(DESTDIR)$(PREFIX)/share/man/man1 $(DESTDIR)$(PREFIX)/share/stmflash
 	install -m 755 bin/stmflash $(DESTDIR)$(PREFIX)/bin/stmflash
+	install -m 755 line/stmflash-line $(DESTDIR)$(PREFIX)/bin/stmflash-line
 	install -m 644 stmflash.1 $(DESTDIR)$(PREFIX)/share/man/man1/stmflash.1
+	install -m 644 line/stmflash-line.1 $(DESTDIR)$(PREFIX)/share/man/man1/stmflash-line.1
 	install -m 644 chips.toml $(DESTDIR)$(PREFIX)/share/stmflash/chips.toml
 
 bench: bin/stmflash
