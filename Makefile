@@ -5,10 +5,15 @@
 #   make tests  the tests of the program alone (tests/), on the one that `make demo` leaves (needs python3)
 #   make test   the whole gate: every proof from nothing, the wrong bodies, the tests of the libraries, the programs; then each
 #               allocation of small sessions and of the program refused in turn, journals of 1 GB (1.2 GB free in TMPDIR),
-#               the demo, the tests of the program, on the proved one and on the demo's, the program and the simulator over a
-#               real socket, 60 kills of the program there, and random sessions: 300, and 2,000 of the proved one (python3)
+#               a Debian package that is packed, installed, used and removed (left out where there is no dpkg), the demo, the
+#               tests of the program, on the proved one and on the demo's, the program and the simulator over a real socket, 60
+#               kills of the program there, and random sessions: 300, and 2,000 of the proved one (python3)
 #   make install PREFIX=/usr/local DESTDIR=
-#               the proved program, its manual page and the sample table
+#               what `make` left at bin/stmflash, the line to a serial port, manual pages, chips.toml, completions, unit, udev rule;
+#               it proves and builds nothing, so that it needs no `rt`, also under sudo
+#   make deb    a Debian package of the proved program, in bin/ (dpkg-deb, binutils); of another one: STMFLASH_BINARY=
+#   make pictures
+#               draws docs/pictures/ from runs of the program (python3)
 #   make bench  builds what is measured, measures it beside its peers, and prints ratios (needs python3; Debian's binutils
 #               and srecord for the peers of HEX)
 #   make beside lets the real stm32flash drive our simulator (docs/BESIDE.md); skipped with a word where it isn't installed
@@ -18,21 +23,23 @@
 
 PREFIX ?= /usr/local
 DESTDIR ?=
+STMFLASH_BINARY ?= bin/stmflash
+# what is installed and packed
+BINARY ?= $(STMFLASH_BINARY)
 JOBS ?= $(shell nproc)
 SOAKED = $(if $(wildcard bin/stmflash),bin/stmflash,bin/stmflash-unproved)
 
-.PHONY: all demo tests test soak install bench beside clean
+.PHONY: all demo tests test soak install deb pictures bench beside clean
 
-all: bin/stmflash
-
-bin/stmflash: FORCE
+all:
 	cd crates/stmflash && rt check
 	cd crates/stmflash && rt run -- --help > /dev/null
 	mkdir -p bin && cp crates/stmflash/out/stmflash bin/stmflash
 	@echo "bin/stmflash is proved and built"
 
-.PHONY: FORCE
-FORCE:
+# where it isn't there; "make" proves again what was changed since
+bin/stmflash:
+	@$(MAKE) --no-print-directory all
 
 demo:
 	@sh tools/demo.sh
@@ -48,6 +55,7 @@ test:
 	python3 tools/allocations crates/refused_memory/out/refused_memory
 	python3 tools/refused-program crates/stmflash/out/stmflash
 	python3 tools/large-journals crates/stmflash/out/stmflash
+	sh packaging/try-deb crates/stmflash/out/stmflash
 	sh tools/demo.sh
 	python3 tests/run crates/stmflash/out/stmflash crates/stmflash/out/stmflash.by-rattle bin/stmflash-unproved
 	sh tools/socket.sh bin/stmflash-unproved
@@ -59,15 +67,33 @@ soak:
 	@test -x bin/stmflash || test -x bin/stmflash-unproved || sh tools/demo.sh
 	python3 tools/soak $(SOAKED) --jobs $(JOBS)
 
-install: bin/stmflash
-	install -d $(DESTDIR)$(PREFIX)/bin $(DESTDIR)$(PREFIX)/share/man/man1 $(DESTDIR)$(PREFIX)/share/stmflash
-	install -m 755 bin/stmflash $(DESTDIR)$(PREFIX)/bin/stmflash
-	install -m 755 line/stmflash-line $(DESTDIR)$(PREFIX)/bin/stmflash-line
-	install -m 644 stmflash.1 $(DESTDIR)$(PREFIX)/share/man/man1/stmflash.1
-	install -m 644 line/stmflash-line.1 $(DESTDIR)$(PREFIX)/share/man/man1/stmflash-line.1
-	install -m 644 chips.toml $(DESTDIR)$(PREFIX)/share/stmflash/chips.toml
+share = $(DESTDIR)$(PREFIX)/share
+lib = $(DESTDIR)$(PREFIX)/lib
+completions = packaging/completions
 
-bench: bin/stmflash
+install:
+	@test -x $(BINARY) || { echo "make install: there is no $(BINARY); run make before" >&2; exit 1; }
+	install -d $(DESTDIR)$(PREFIX)/bin $(share)/man/man1 $(share)/stmflash
+	install -m 755 $(BINARY) $(DESTDIR)$(PREFIX)/bin/stmflash
+	install -m 644 stmflash.1 $(share)/man/man1/stmflash.1
+	install -m 644 chips.toml $(share)/stmflash/chips.toml
+	install -d $(share)/bash-completion/completions $(share)/zsh/vendor-completions $(share)/fish/vendor_completions.d
+	install -m 644 $(completions)/stmflash.bash $(share)/bash-completion/completions/stmflash
+	install -m 644 $(completions)/_stmflash $(share)/zsh/vendor-completions/_stmflash
+	install -m 644 $(completions)/stmflash.fish $(share)/fish/vendor_completions.d/stmflash.fish
+	install -m 755 line/stmflash-line $(DESTDIR)$(PREFIX)/bin/stmflash-line
+	install -m 644 line/stmflash-line.1 $(share)/man/man1/stmflash-line.1
+	ln -sf stmflash $(share)/bash-completion/completions/stmflash-line
+	install -m 644 $(completions)/stmflash-line.fish $(share)/fish/vendor_completions.d/stmflash-line.fish
+	install -d $(lib)/systemd/system $(lib)/udev/rules.d
+	sed 's|/usr/bin/|$(PREFIX)/bin/|' packaging/stmflash-line@.service > $(lib)/systemd/system/stmflash-line@.service
+	install -m 644 packaging/70-stmflash.rules $(lib)/udev/rules.d/70-stmflash.rules
+
+deb: $(STMFLASH_BINARY)
+	@mkdir -p bin
+	@packaging/deb $(STMFLASH_BINARY) bin
+
+bench: all
 	cd crates/hex_bench && rt run > /dev/null
 	cd crates/layer_bench && rt run > /dev/null
 	cd crates/session_bench && rt run > /dev/null
@@ -77,7 +103,7 @@ bench: bin/stmflash
 	python3 bench/read
 	python3 bench/program
 
-beside: bin/stmflash
+beside: all
 	sh tools/beside.sh bin/stmflash
 
 clean:

@@ -1,0 +1,10 @@
+# Completion of stmflash-line for fish.
+
+complete -c stmflash-line -f
+complete -c stmflash-line -n "not contains -- -- (commandline -opc)" -a '(path filter /dev/ttyUSB* /dev/ttyACM* /dev/ttyS* /dev/serial/by-id/*)'
+complete -c stmflash-line -n "not contains -- -- (commandline -opc)" -s h -l help -d 'Print help'
+complete -c stmflash-line -n "not contains -- -- (commandline -opc)" -l baud -x -a '9600 19200 38400 57600 115200' -d 'Its speed'
+complete -c stmflash-line -n "not contains -- -- (commandline -opc)" -l boot -x -d 'How RTS, DTR and break bring the board into its bootloader'
+complete -c stmflash-line -n "not contains -- -- (commandline -opc)" -l after -x -d 'The same for the end'
+complete -c stmflash-line -n "not contains -- -- (commandline -opc)" -l socket -r -F -d 'Serves this socket'
+complete -c stmflash-line -n "contains -- -- (commandline -opc)" -F

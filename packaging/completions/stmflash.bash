@@ -1,0 +1,77 @@
+# Completion of stmflash and stmflash-line for bash.
+
+_stmflash_files() { mapfile -t COMPREPLY < <(compgen -f -- "$1"); }
+_stmflash_words() { mapfile -t COMPREPLY < <(compgen -W "$2" -- "$1"); }
+_stmflash_ports() { mapfile -t COMPREPLY < <(compgen -G "$1*" | grep -E '^/dev/(tty(USB|ACM|AMA|S)|serial/)'); }
+
+_stmflash() {
+    local word=${COMP_WORDS[COMP_CWORD]} before=${COMP_WORDS[COMP_CWORD-1]} subcommand="" i
+    local subcommands="info read write verify erase undo go protect log keep sim help"
+    local device="--table --device --journal --wait --stop --give-up --progress --quiet --fresh --help"
+    COMPREPLY=()
+    for ((i = 1; i < COMP_CWORD; i++)); do
+        if [[ " $subcommands " == *" ${COMP_WORDS[i]} "* ]]; then
+            subcommand=${COMP_WORDS[i]}
+            break
+        fi
+    done
+    case $before in
+        --table | --journal | --flash | --socket) _stmflash_files "$word"; return ;;
+        --device)
+            _stmflash_files "$word"
+            [[ sim: == "$word"* ]] && COMPREPLY+=(sim:)
+            return ;;
+        --wait | --stop | --give-up | --id | --clients | -S) return ;;
+    esac
+    if [[ $word != -* ]]; then
+        case $subcommand in
+            "" | help) _stmflash_words "$word" "$subcommands" ;;
+            protect) _stmflash_words "$word" "write-unprotect readout-protect readout-unprotect" ;;
+            read | write | verify | keep) _stmflash_files "$word" ;;
+        esac
+        return
+    fi
+    case $subcommand in
+        "") _stmflash_words "$word" "--help --version -h -V" ;;
+        help) ;;
+        info) _stmflash_words "$word" "$device --raw -h" ;;
+        read) _stmflash_words "$word" "$device -S -h" ;;
+        write) _stmflash_words "$word" "$device -f -v -S -h" ;;
+        verify) _stmflash_words "$word" "$device -f -S -h" ;;
+        erase) _stmflash_words "$word" "$device --all -h" ;;
+        undo | go | protect) _stmflash_words "$word" "$device -h" ;;
+        log | keep) _stmflash_words "$word" "--journal --help -h" ;;
+        sim) _stmflash_words "$word" "--table --id --flash --socket --clients --help -h" ;;
+    esac
+}
+
+_stmflash_line() {
+    local word=${COMP_WORDS[COMP_CWORD]} before=${COMP_WORDS[COMP_CWORD-1]} i
+    COMPREPLY=()
+    for ((i = 1; i < COMP_CWORD; i++)); do
+        if [[ ${COMP_WORDS[i]} == -- ]]; then
+            # what follows is a command of its own
+            COMP_WORDS=("${COMP_WORDS[@]:i+1}")
+            COMP_CWORD=$((COMP_CWORD - i - 1))
+            case $COMP_CWORD:${COMP_WORDS[0]##*/} in
+                0:*) mapfile -t COMPREPLY < <(compgen -c -- "$word") ;;
+                *:stmflash) _stmflash ;;
+                *) _stmflash_files "$word" ;;
+            esac
+            return
+        fi
+    done
+    case $before in
+        --socket) _stmflash_files "$word"; return ;;
+        --baud) _stmflash_words "$word" "9600 19200 38400 57600 115200"; return ;;
+        --boot | --after) return ;;
+    esac
+    if [[ $word == -* ]]; then
+        _stmflash_words "$word" "--baud --boot --after --socket --help -h --"
+    else
+        _stmflash_ports "${word:-/dev/tty}"
+    fi
+}
+
+complete -o filenames -F _stmflash stmflash
+complete -o filenames -F _stmflash_line stmflash-line
