@@ -5,15 +5,16 @@ use Rattle.clap.specs.Words.{FailsBy, IsAmong, Kinds, is_simple, is_simple_and_f
 use Rattle.clap.specs.declared.builder.value_parser.ValueParser.{ValueParser}
 use Rattle.clap.specs.declared.error.Error.{Error}
 use Rattle.clap.specs.declared.error.ErrorKind.TheVariants.{OutOfMemory}
+use Rattle.stm_words.specs.declared.environment.Environment.{Environment}
 use Rattle.stm_words.specs.CommandSet.{command_set}
 
-pub simple : (kinds : ValueParser) → is_simple (command_set kinds) ≡ true
+pub simple : (e : Environment) (kinds : ValueParser) → is_simple (command_set e kinds) ≡ true
 unfolding clap_on_literals command_set
-simple kinds = refl
+simple e kinds = refl
 
-pub simple_and_free : (kinds : ValueParser) → is_simple_and_free (command_set kinds) ≡ true
+pub simple_and_free : (e : Environment) (kinds : ValueParser) → is_simple_and_free (command_set e kinds) ≡ true
 unfolding clap_on_literals command_set
-simple_and_free kinds = refl
+simple_and_free e kinds = refl
 
 pub at_ok : {T : Type 0} (r : Result T Error) (kinds : Kinds) (P Q : T → Type 0) → FailsBy kinds r → IfOk r P → ((m : T) → kinds ≡ [] → P m → Q m) → IfOk r Q
 at_ok (Ok m) kinds P Q none h f = f m none h

@@ -1,5 +1,5 @@
 -- The program's subcommands, as `clap` sees them.
-use Rattle.std.specs.Prelude.{◌≡◌, ℕ, List, [], ◌∷◌, Some, codes, map, true, false}
+use Rattle.std.specs.Prelude.{◌≡◌, ℕ, List, [], ◌∷◌, Option, Some, codes, is_some, map, not, option_map, option_to_list, true, false}
 use Rattle.std.specs.Borrow.{Bor}
 use Rattle.clap.specs.Words.{App, Rule, Text, app_of, found_of, matches_of, new_app, new_rule, rows_of, subcommand_of, subcommand_rows_of, with_rule, with_subcommand}
 use Rattle.clap.specs.declared.builder.ArgAction.TheVariants.{Append, SetTrue}
@@ -8,6 +8,7 @@ use Rattle.clap.specs.declared.builder.command.Command.TheViews.{out-Command as 
 use Rattle.clap.specs.declared.builder.value_parser.ValueParser.{ValueParser}
 use Rattle.clap.specs.declared.builder.value_parser.ValueParser.TheVariants.{Names}
 use Rattle.clap.specs.declared.parser.matches.ArgMatches.{ArgMatches}
+use Rattle.stm_words.specs.declared.environment.Environment.{Environment}
 
 -- `--name VALUE`
 abbrev pub option_rule : Text → Rule
@@ -21,6 +22,11 @@ needed_option_rule name = record (option_rule name) { required = true }
 abbrev pub default_option_rule : Text → Text → Rule
 default_option_rule name text = record (option_rule name) { defaults = text ∷ [] }
 
+-- the same, which has this value, or has to be given where there is none
+abbrev pub standing_option_rule : Text → Option Text → Rule
+standing_option_rule name standing =
+    record (option_rule name) { required = not (is_some standing); defaults = option_to_list standing }
+
 -- `-S RANGE`
 abbrev pub range_rule : Rule
 range_rule = record (new_rule (codes "range")) { short = Some 83; value_names = 1 }
@@ -29,9 +35,9 @@ range_rule = record (new_rule (codes "range")) { short = Some 83; value_names = 
 abbrev pub letter_rule : Text → ℕ → Rule
 letter_rule id letter = record (new_rule id) { short = Some letter; action = Some SetTrue }
 
--- `--all`
-abbrev pub all_rule : Rule
-all_rule = record (new_rule (codes "all")) { long = Some (codes "all"); action = Some SetTrue }
+-- the flag `--name`
+abbrev pub flag_rule : Text → Rule
+flag_rule name = record (new_rule name) { long = Some name; action = Some SetTrue }
 
 -- a further word, which has to be given
 abbrev pub needed_rule : Text → Rule
@@ -49,45 +55,60 @@ default_rule id text = record (new_rule id) { defaults = text ∷ [] }
 abbrev pub kind_rule : ValueParser → Rule
 kind_rule kinds = record (needed_rule (codes "KIND")) { parser = Some kinds }
 
+-- the text that stands for an option
+abbrev pub text_of : Option (Bor Text) → Option Text
+text_of = option_map (λ s. s.now)
+
 -- a subcommand with the options that every use of a device has
-abbrev pub on_device : Text → App
-on_device name = with_rule (with_rule (with_rule (with_rule (with_rule (new_app name)
-    (needed_option_rule (codes "table"))) (needed_option_rule (codes "device")))
-    (needed_option_rule (codes "journal"))) (default_option_rule (codes "wait") (codes "500")))
-    (option_rule (codes "stop"))
+abbrev pub on_device : Environment → Text → App
+on_device e name = with_rule (with_rule (with_rule (with_rule (with_rule (with_rule (with_rule (with_rule (with_rule (new_app name)
+    (standing_option_rule (codes "table") (text_of e.table))) (standing_option_rule (codes "device") (text_of e.device)))
+    (standing_option_rule (codes "journal") (text_of e.journal))) (default_option_rule (codes "wait") (codes "500")))
+    (default_option_rule (codes "give-up") (codes "20"))) (flag_rule (codes "fresh"))) (flag_rule (codes "progress")))
+    (flag_rule (codes "quiet"))) (option_rule (codes "stop"))
 
-abbrev pub info_app : App
-info_app = on_device (codes "info")
+abbrev pub info_app : Environment → App
+info_app e = with_rule (on_device e (codes "info")) (flag_rule (codes "raw"))
 
-abbrev pub read_app : App
-read_app = with_rule (with_rule (on_device (codes "read")) range_rule) (needed_rule (codes "OUT"))
+abbrev pub read_app : Environment → App
+read_app e = with_rule (with_rule (on_device e (codes "read")) range_rule) (needed_rule (codes "OUT"))
 
-abbrev pub write_app : App
-write_app = with_rule (with_rule (with_rule (with_rule (on_device (codes "write"))
+abbrev pub write_app : Environment → App
+write_app e = with_rule (with_rule (with_rule (with_rule (on_device e (codes "write"))
     (letter_rule (codes "force") 102)) (letter_rule (codes "check") 118)) range_rule)
     (needed_rule (codes "IMAGE"))
 
-abbrev pub verify_app : App
-verify_app = with_rule (with_rule (with_rule (on_device (codes "verify"))
+abbrev pub verify_app : Environment → App
+verify_app e = with_rule (with_rule (with_rule (on_device e (codes "verify"))
     (letter_rule (codes "force") 102)) range_rule) (needed_rule (codes "IMAGE"))
 
-abbrev pub erase_app : App
-erase_app = with_rule (with_rule (on_device (codes "erase")) all_rule) (repeated_rule (codes "PAGE"))
+abbrev pub erase_app : Environment → App
+erase_app e = with_rule (with_rule (on_device e (codes "erase")) (flag_rule (codes "all"))) (repeated_rule (codes "PAGE"))
 
-abbrev pub undo_app : App
-undo_app = with_rule (on_device (codes "undo")) (default_rule (codes "COUNT") (codes "0"))
+abbrev pub undo_app : Environment → App
+undo_app e = with_rule (on_device e (codes "undo")) (default_rule (codes "COUNT") (codes "0"))
 
-abbrev pub go_app : App
-go_app = with_rule (on_device (codes "go")) (needed_rule (codes "ADDRESS"))
+-- a subcommand that reads a journal and uses no device
+abbrev pub on_journal : Environment → Text → App
+on_journal e name = with_rule (new_app name) (standing_option_rule (codes "journal") (text_of e.journal))
 
-abbrev pub protect_app : ValueParser → App
-protect_app kinds = with_rule (on_device (codes "protect")) (kind_rule kinds)
+abbrev pub log_app : Environment → App
+log_app e = on_journal e (codes "log")
 
-abbrev pub sim_app : App
-sim_app = with_rule (with_rule (with_rule (with_rule (with_rule (new_app (codes "sim"))
-    (needed_option_rule (codes "table"))) (needed_option_rule (codes "id")))
+abbrev pub keep_app : Environment → App
+keep_app e = with_rule (on_journal e (codes "keep")) (new_rule (codes "TO"))
+
+abbrev pub go_app : Environment → App
+go_app e = with_rule (on_device e (codes "go")) (needed_rule (codes "ADDRESS"))
+
+abbrev pub protect_app : Environment → ValueParser → App
+protect_app e kinds = with_rule (on_device e (codes "protect")) (kind_rule kinds)
+
+abbrev pub sim_app : Environment → App
+sim_app e = with_rule (with_rule (with_rule (with_rule (with_rule (with_rule (new_app (codes "sim"))
+    (standing_option_rule (codes "table") (text_of e.table))) (needed_option_rule (codes "id")))
     (needed_option_rule (codes "flash"))) (needed_option_rule (codes "socket")))
-    (default_option_rule (codes "clients") (codes "1"))
+    (default_option_rule (codes "mode") (codes "600"))) (default_option_rule (codes "clients") (codes "1"))
 
 -- the program's name, where a subcommand has to follow, or a flag that asks for help or the version
 abbrev pub bare_app : App
@@ -95,12 +116,12 @@ bare_app =
     let a = new_app (codes "stmflash") in
     record a { top = record a.top { subcommand_required = true; has_version = true } }
 
--- all subcommands; `kinds` reads the word of `protect`
-unfoldable pub command_set : ValueParser → App
-command_set kinds = with_subcommand (with_subcommand (with_subcommand (with_subcommand
-    (with_subcommand (with_subcommand (with_subcommand (with_subcommand (with_subcommand bare_app
-    info_app.top) read_app.top) write_app.top) verify_app.top) erase_app.top) undo_app.top)
-    go_app.top) (protect_app kinds).top) sim_app.top
+-- all subcommands, where these values stand in the place of options; `kinds` reads the word of `protect`
+unfoldable pub command_set : Environment → ValueParser → App
+command_set e kinds = with_subcommand (with_subcommand (with_subcommand (with_subcommand (with_subcommand
+    (with_subcommand (with_subcommand (with_subcommand (with_subcommand (with_subcommand (with_subcommand bare_app
+    (info_app e).top) (read_app e).top) (write_app e).top) (verify_app e).top) (erase_app e).top) (undo_app e).top)
+    (log_app e).top) (keep_app e).top) (go_app e).top) (protect_app e kinds).top) (sim_app e).top
 
 -- c is the command that a stands for, with no global argument
 abbrev pub Makes : App → Command → Type 0

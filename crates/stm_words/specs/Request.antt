@@ -5,6 +5,7 @@ use Rattle.clap.specs.declared.parser.matches.Found.{Found}
 use Rattle.stm_words.specs.declared.device.Device.{Device}
 use Rattle.stm_words.specs.declared.device.Device.TheVariants.{Simulator, Socket}
 use Rattle.stm_words.specs.declared.image_file.ImageFile.{ImageFile}
+use Rattle.stm_words.specs.declared.kept.Kept.{Kept}
 use Rattle.stm_words.specs.declared.task.Task.{Task}
 use Rattle.stm_words.specs.declared.task.Task.TheVariants.{Info, Read, Write, Verify, Erase, Undo, Go, Protect}
 use Rattle.stm_words.specs.Number.{number_of}
@@ -35,7 +36,7 @@ IsImageFile given image = (first_value given (codes "IMAGE") ≡ Some image.name
 abbrev pub IsErase : Found → Task → Type 0
 IsErase given (Erase is_all pages) = IsFlag given (codes "all") is_all
     × (map number_of (texts_of given (codes "PAGE")) ≡ map Some pages.items)
-IsErase given Info = ⊥
+IsErase given (Info is_raw) = ⊥
 IsErase given (Read range out) = ⊥
 IsErase given (Write image verifies) = ⊥
 IsErase given (Verify image) = ⊥
@@ -43,9 +44,14 @@ IsErase given (Undo count) = ⊥
 IsErase given (Go address) = ⊥
 IsErase given (Protect kind) = ⊥
 
+-- the journal that `keep` names, and where it goes
+abbrev pub IsKept : Found → Kept → Type 0
+IsKept given kept = (first_value given (codes "journal") ≡ Some kept.journal.now)
+    × (first_value given (codes "TO") ≡ option_map (λ s. s.now) kept.to)
+
 -- the subcommand of this name, with these words, asks for this
 abbrev pub IsTask : List ℕ → Found → Task → Type 0
-IsTask name given Info = name ≡ codes "info"
+IsTask name given (Info is_raw) = (name ≡ codes "info") × IsFlag given (codes "raw") is_raw
 IsTask name given (Read range out) = (name ≡ codes "read") × (first_value given (codes "OUT") ≡ Some out.now)
 IsTask name given (Write image verifies) = (name ≡ codes "write") × IsImageFile given image × IsFlag given (codes "check") verifies
 IsTask name given (Verify image) = (name ≡ codes "verify") × IsImageFile given image

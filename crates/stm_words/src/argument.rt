@@ -1,7 +1,7 @@
 // The options and further words of which subcommands are made, for `clap`.
-ghost use Rattle.std.specs.Prelude.{◌≡◌, false};
-ghost use Rattle.clap.specs.Words.{rule_of};
-ghost use Rattle.stm_words.specs.CommandSet.{TakesKinds, all_rule, default_option_rule, default_rule, kind_rule, letter_rule, needed_option_rule, needed_rule, option_rule, range_rule, repeated_rule};
+ghost use Rattle.std.specs.Prelude.{◌≡◌, false, option_map};
+ghost use Rattle.clap.specs.Words.{new_rule, rule_of};
+ghost use Rattle.stm_words.specs.CommandSet.{TakesKinds, default_option_rule, default_rule, flag_rule, kind_rule, letter_rule, needed_option_rule, needed_rule, option_rule, range_rule, repeated_rule, standing_option_rule};
 
 use crate::help;
 use clap::{Arg, ArgAction};
@@ -43,6 +43,23 @@ pub fn default_option<'a>(
     option(alloc, name, value, help).default_value(text)
 }
 
+/// The option `--name VALUE`, which has to be given unless a value stands in its place.
+pub fn standing_option<'a>(
+    alloc: Global,
+    name: &'a str,
+    value: &'a str,
+    standing: Option<&'a str>,
+    help: &'a str,
+) -> Arg<'a>
+    ensures rule { rule_of result ≡ standing_option_rule name.entry.now (option_map (λ s. s.now) standing.entry) }
+    ensures local { result.global ≡ false }
+{
+    match standing {
+        Some(text) => default_option(alloc, name, value, text, help),
+        None => needed_option(alloc, name, value, help),
+    }
+}
+
 /// `-S RANGE`.
 pub fn range<'a>(alloc: Global, help: &'a str) -> Arg<'a>
     ensures rule { rule_of result ≡ range_rule }
@@ -65,13 +82,13 @@ pub fn letter<'a>(alloc: Global, id: &'a str, letter: char, help: &'a str) -> Ar
         .help(help)
 }
 
-/// The flag `--all`.
-pub fn all<'a>(alloc: Global, help: &'a str) -> Arg<'a>
-    ensures rule { rule_of result ≡ all_rule }
+/// The flag `--name`.
+pub fn flag<'a>(alloc: Global, name: &'a str, help: &'a str) -> Arg<'a>
+    ensures rule { rule_of result ≡ flag_rule name.entry.now }
     ensures local { result.global ≡ false }
 {
-    Arg::new(alloc, "all")
-        .long("all")
+    Arg::new(alloc, name)
+        .long(name)
         .action(ArgAction::SetTrue)
         .help(help)
 }
@@ -98,6 +115,14 @@ pub fn optional<'a>(alloc: Global, id: &'a str, text: &'a str, help: &'a str) ->
     ensures local { result.global ≡ false }
 {
     Arg::new(alloc, id).default_value(text).help(help)
+}
+
+/// A further word, which may be left out.
+pub fn spare<'a>(alloc: Global, id: &'a str, help: &'a str) -> Arg<'a>
+    ensures rule { rule_of result ≡ new_rule id.entry.now }
+    ensures local { result.global ≡ false }
+{
+    Arg::new(alloc, id).help(help)
 }
 
 /// The word of `protect`.

@@ -1,110 +1,156 @@
 // The subcommands and their words, for `clap`.
 ghost use Rattle.std.specs.Prelude.{IfOk};
-ghost use Rattle.stm_words.specs.CommandSet.{Makes, TakesKinds, command_set, erase_app, go_app, on_device, protect_app, read_app, sim_app, undo_app, verify_app, write_app};
+ghost use Rattle.stm_words.specs.CommandSet.{Makes, TakesKinds, command_set, erase_app, go_app, info_app, keep_app, log_app, on_device, on_journal, protect_app, read_app, sim_app, undo_app, verify_app, write_app};
 
 use crate::argument::{
-    all, default_option, kind, letter, needed, needed_option, option, optional, range, repeated,
+    default_option, flag, kind, letter, needed, needed_option, option, optional, range, repeated,
+    spare, standing_option,
 };
+use crate::environment::Environment;
 use crate::help;
 use clap::Command;
 use std::alloc::{AllocError, Global};
 
 /// The version that `--version` tells.
-const VERSION: &str = "0.1.0";
+const VERSION: &str = "0.2.0";
 
 /// A subcommand with the options that every use of a device has.
-fn on_device<'a>(alloc: Global, name: &'a str, about: &'a str) -> Result<Command<'a>, AllocError>
-    ensures { IfOk result (Makes (on_device name.entry.now)) }
+fn on_device<'a>(
+    alloc: Global,
+    environment: Environment<'a>,
+    name: &'a str,
+    about: &'a str,
+) -> Result<Command<'a>, AllocError>
+    ensures { IfOk result (Makes (on_device environment.entry name.entry.now)) }
 {
     Command::new(alloc, name)
         .about(about)
-        .arg(needed_option(alloc, "table", "FILE", help::TABLE))?
-        .arg(needed_option(alloc, "device", "DEV", help::DEVICE))?
-        .arg(needed_option(alloc, "journal", "FILE", help::JOURNAL))?
+        .arg(standing_option(alloc, "table", "FILE", environment.table, help::TABLE))?
+        .arg(standing_option(alloc, "device", "DEV", environment.device, help::DEVICE))?
+        .arg(standing_option(alloc, "journal", "FILE", environment.journal, help::JOURNAL))?
         .arg(default_option(alloc, "wait", "MS", "500", help::WAIT))?
+        .arg(default_option(alloc, "give-up", "SECONDS", "20", help::GIVE_UP))?
+        .arg(flag(alloc, "fresh", help::FRESH))?
+        .arg(flag(alloc, "progress", help::PROGRESS))?
+        .arg(flag(alloc, "quiet", help::QUIET))?
         .arg(option(alloc, "stop", "K", help::STOP))
 }
 
-fn read<'a>(alloc: Global) -> Result<Command<'a>, AllocError>
-    ensures { IfOk result (Makes read_app) }
+fn info<'a>(alloc: Global, environment: Environment<'a>) -> Result<Command<'a>, AllocError>
+    ensures { IfOk result (Makes (info_app environment.entry)) }
 {
-    on_device(alloc, "read", help::READ)?
+    on_device(alloc, environment, "info", help::INFO)?.arg(flag(alloc, "raw", help::RAW))
+}
+
+fn read<'a>(alloc: Global, environment: Environment<'a>) -> Result<Command<'a>, AllocError>
+    ensures { IfOk result (Makes (read_app environment.entry)) }
+{
+    on_device(alloc, environment, "read", help::READ)?
         .arg(range(alloc, help::READ_RANGE))?
         .arg(needed(alloc, "OUT", help::OUT))
 }
 
-fn write<'a>(alloc: Global) -> Result<Command<'a>, AllocError>
-    ensures { IfOk result (Makes write_app) }
+fn write<'a>(alloc: Global, environment: Environment<'a>) -> Result<Command<'a>, AllocError>
+    ensures { IfOk result (Makes (write_app environment.entry)) }
 {
-    on_device(alloc, "write", help::WRITE)?
+    on_device(alloc, environment, "write", help::WRITE)?
         .arg(letter(alloc, "force", 'f', help::FORCE))?
         .arg(letter(alloc, "check", 'v', help::CHECK))?
         .arg(range(alloc, help::IMAGE_RANGE))?
         .arg(needed(alloc, "IMAGE", help::IMAGE))
 }
 
-fn verify<'a>(alloc: Global) -> Result<Command<'a>, AllocError>
-    ensures { IfOk result (Makes verify_app) }
+fn verify<'a>(alloc: Global, environment: Environment<'a>) -> Result<Command<'a>, AllocError>
+    ensures { IfOk result (Makes (verify_app environment.entry)) }
 {
-    on_device(alloc, "verify", help::VERIFY)?
+    on_device(alloc, environment, "verify", help::VERIFY)?
         .arg(letter(alloc, "force", 'f', help::FORCE))?
         .arg(range(alloc, help::IMAGE_RANGE))?
         .arg(needed(alloc, "IMAGE", help::IMAGE))
 }
 
-fn erase<'a>(alloc: Global) -> Result<Command<'a>, AllocError>
-    ensures { IfOk result (Makes erase_app) }
+fn erase<'a>(alloc: Global, environment: Environment<'a>) -> Result<Command<'a>, AllocError>
+    ensures { IfOk result (Makes (erase_app environment.entry)) }
 {
-    on_device(alloc, "erase", help::ERASE)?
-        .arg(all(alloc, help::ALL))?
+    on_device(alloc, environment, "erase", help::ERASE)?
+        .arg(flag(alloc, "all", help::ALL))?
         .arg(repeated(alloc, "PAGE", help::PAGE))
 }
 
-fn undo<'a>(alloc: Global) -> Result<Command<'a>, AllocError>
-    ensures { IfOk result (Makes undo_app) }
+fn undo<'a>(alloc: Global, environment: Environment<'a>) -> Result<Command<'a>, AllocError>
+    ensures { IfOk result (Makes (undo_app environment.entry)) }
 {
-    on_device(alloc, "undo", help::UNDO)?.arg(optional(alloc, "COUNT", "0", help::COUNT))
+    on_device(alloc, environment, "undo", help::UNDO)?.arg(optional(alloc, "COUNT", "0", help::COUNT))
 }
 
-fn go<'a>(alloc: Global) -> Result<Command<'a>, AllocError>
-    ensures { IfOk result (Makes go_app) }
+/// A subcommand that reads a journal and uses no device.
+fn on_journal<'a>(
+    alloc: Global,
+    environment: Environment<'a>,
+    name: &'a str,
+    about: &'a str,
+) -> Result<Command<'a>, AllocError>
+    ensures { IfOk result (Makes (on_journal environment.entry name.entry.now)) }
 {
-    on_device(alloc, "go", help::GO)?.arg(needed(alloc, "ADDRESS", help::ADDRESS))
+    Command::new(alloc, name)
+        .about(about)
+        .arg(standing_option(alloc, "journal", "FILE", environment.journal, help::JOURNAL))
 }
 
-fn protect<'a>(alloc: Global) -> Result<Command<'a>, AllocError>
-    ensures { IfOk result (λ c. (p : _) × Makes (protect_app p) c × TakesKinds p) }
+fn log<'a>(alloc: Global, environment: Environment<'a>) -> Result<Command<'a>, AllocError>
+    ensures { IfOk result (Makes (log_app environment.entry)) }
 {
-    on_device(alloc, "protect", help::PROTECT)?.arg(kind(alloc))
+    on_journal(alloc, environment, "log", help::LOG)
 }
 
-fn sim<'a>(alloc: Global) -> Result<Command<'a>, AllocError>
-    ensures { IfOk result (Makes sim_app) }
+fn keep<'a>(alloc: Global, environment: Environment<'a>) -> Result<Command<'a>, AllocError>
+    ensures { IfOk result (Makes (keep_app environment.entry)) }
+{
+    on_journal(alloc, environment, "keep", help::KEEP)?.arg(spare(alloc, "TO", help::TO))
+}
+
+fn go<'a>(alloc: Global, environment: Environment<'a>) -> Result<Command<'a>, AllocError>
+    ensures { IfOk result (Makes (go_app environment.entry)) }
+{
+    on_device(alloc, environment, "go", help::GO)?.arg(needed(alloc, "ADDRESS", help::ADDRESS))
+}
+
+fn protect<'a>(alloc: Global, environment: Environment<'a>) -> Result<Command<'a>, AllocError>
+    ensures { IfOk result (λ c. (p : _) × Makes (protect_app environment.entry p) c × TakesKinds p) }
+{
+    on_device(alloc, environment, "protect", help::PROTECT)?.arg(kind(alloc))
+}
+
+fn sim<'a>(alloc: Global, environment: Environment<'a>) -> Result<Command<'a>, AllocError>
+    ensures { IfOk result (Makes (sim_app environment.entry)) }
 {
     Command::new(alloc, "sim")
         .about(help::SIM)
-        .arg(needed_option(alloc, "table", "FILE", help::TABLE))?
+        .arg(standing_option(alloc, "table", "FILE", environment.table, help::TABLE))?
         .arg(needed_option(alloc, "id", "ID", help::ID))?
         .arg(needed_option(alloc, "flash", "FILE", help::FLASH))?
         .arg(needed_option(alloc, "socket", "PATH", help::SOCKET))?
+        .arg(default_option(alloc, "mode", "MODE", "600", help::MODE))?
         .arg(default_option(alloc, "clients", "N", "1", help::CLIENTS))
 }
 
 /// The program's subcommands.
-pub fn command_set<'a>(alloc: Global) -> Result<Command<'a>, AllocError>
-    ensures { IfOk result (λ c. (p : _) × Makes (command_set p) c × TakesKinds p) }
+pub fn command_set<'a>(alloc: Global, environment: Environment<'a>) -> Result<Command<'a>, AllocError>
+    ensures { IfOk result (λ c. (p : _) × Makes (command_set environment.entry p) c × TakesKinds p) }
 {
     Command::new(alloc, "stmflash")
         .about(help::STMFLASH)
         .version(VERSION)
         .subcommand_required(true)
-        .subcommand(on_device(alloc, "info", help::INFO)?)?
-        .subcommand(read(alloc)?)?
-        .subcommand(write(alloc)?)?
-        .subcommand(verify(alloc)?)?
-        .subcommand(erase(alloc)?)?
-        .subcommand(undo(alloc)?)?
-        .subcommand(go(alloc)?)?
-        .subcommand(protect(alloc)?)?
-        .subcommand(sim(alloc)?)
+        .subcommand(info(alloc, environment)?)?
+        .subcommand(read(alloc, environment)?)?
+        .subcommand(write(alloc, environment)?)?
+        .subcommand(verify(alloc, environment)?)?
+        .subcommand(erase(alloc, environment)?)?
+        .subcommand(undo(alloc, environment)?)?
+        .subcommand(log(alloc, environment)?)?
+        .subcommand(keep(alloc, environment)?)?
+        .subcommand(go(alloc, environment)?)?
+        .subcommand(protect(alloc, environment)?)?
+        .subcommand(sim(alloc, environment)?)
 }

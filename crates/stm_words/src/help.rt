@@ -19,6 +19,11 @@ pub const GO: &str = "Lets the device leave the bootloader and run what stands a
 
 pub const PROTECT: &str = "Changes a protection; readout-unprotect erases the chip for good";
 
+pub const LOG: &str = "Tells what a journal says; no device is used";
+
+pub const KEEP: &str =
+    "Lets what was written and erased stay for good: the journal is removed, or renamed to TO";
+
 pub const SIM: &str = "Serves a simulated device on a Unix socket";
 
 pub const TABLE: &str = "The chip table, a TOML file";
@@ -28,6 +33,18 @@ pub const DEVICE: &str = "The device: sim:ID:FILE, or the path of a Unix socket"
 pub const JOURNAL: &str = "The journal of what was done; a missing file is an empty journal";
 
 pub const WAIT: &str = "How long a reply may take, in milliseconds, 1 to 60000";
+
+pub const GIVE_UP: &str = "After how many seconds without an answer the line is given up; 0: never";
+
+pub const PROGRESS: &str = "Tells each page in a line of its own on standard error, also where that is no terminal";
+
+pub const QUIET: &str = "Shows nothing while a session runs";
+
+pub const FRESH: &str = "The device was reset since the last session";
+
+pub const RAW: &str = "Tells id, version and codes alone, also of a chip that the table hasn't";
+
+pub const TO: &str = "A name for the journal, which isn't there yet";
 
 pub const STOP: &str = "Stops a simulated device after K steps";
 
@@ -47,7 +64,7 @@ pub const IMAGE: &str =
 
 pub const ALL: &str = "Erases every page";
 
-pub const PAGE: &str = "The numbers of pages, counted from 0";
+pub const PAGE: &str = "The numbers of pages, counted from 0, or ranges of them, as 4-9";
 
 pub const COUNT: &str = "How many writes and erases, the newest first; 0: all";
 
@@ -61,5 +78,7 @@ pub const FLASH: &str =
     "The file that holds the flash; where the device stands is kept in FILE.line";
 
 pub const SOCKET: &str = "The socket that is made, and removed at the end";
+
+pub const MODE: &str = "Who may connect: the mode of the socket, 1 to 3 octal digits";
 
 pub const CLIENTS: &str = "How many clients are served, one after the other, 1 to 1000000";

@@ -4,11 +4,15 @@
 mod argument;
 mod command_set;
 mod device;
+mod environment;
 mod given;
 mod help;
 mod image_file;
+mod kept;
+mod mode;
 mod number;
 mod options;
+mod progress;
 mod range;
 mod request;
 mod served;
@@ -18,9 +22,12 @@ mod usage_fault;
 mod words;
 
 pub use device::Device;
+pub use environment::Environment;
 pub use image_file::ImageFile;
+pub use kept::Kept;
 pub use number::parse_number;
 pub use options::Options;
+pub use progress::Progress;
 pub use range::Range;
 pub use request::Request;
 pub use served::Served;

@@ -1,7 +1,12 @@
 // The options that every use of a device has.
+ghost use Rattle.std.specs.Prelude.{IfOk};
+ghost use Rattle.clap.specs.Words.{found_of};
+ghost use Rattle.stm_words.specs.Options.{AreOptions};
 
 use crate::device::Device;
-use crate::given::{number_within, stop, word};
+use crate::environment::Environment;
+use crate::given::{flag, number, number_within, stop, word};
+use crate::progress::Progress;
 use crate::usage_fault::UsageFault;
 use clap::ArgMatches;
 
@@ -15,23 +20,41 @@ pub struct Options<'a> {
     pub journal: &'a str,
     /// How long a reply may take, in milliseconds: 1 to 60,000.
     pub wait: u32,
+    /// After how many seconds without an answer the line is given up; 0: never.
+    pub give_up: u32,
+    /// Whether the device was reset since the last session.
+    pub is_fresh: bool,
+    /// What is shown while the session runs.
+    pub progress: Progress,
     /// After how many steps a simulator is stopped.
     pub stop: Option<u32>,
 }
 
 impl<'a> Options<'a> {
-    /// The options that the words of a subcommand give.
-    pub fn parse(given: &ArgMatches<'a>) -> Result<Options<'a>, UsageFault<'a>> {
+    /// The options that the words of a subcommand give. The environment says that the device is fresh, where the words
+    /// don't.
+    pub fn parse(
+        environment: Environment<'a>,
+        given: &ArgMatches<'a>,
+    ) -> Result<Options<'a>, UsageFault<'a>>
+        ensures { IfOk result (AreOptions environment.entry.is_fresh (found_of given.now)) }
+    {
         let table = word(given, "table")?;
         let device = word(given, "device")?;
         let Some(device) = Device::parse(device) else {
             return Err(UsageFault::BadDevice(device));
         };
+        let journal = word(given, "journal")?;
+        let wait = number_within(given, "wait", 60_000)?;
+        let give_up = number(given, "give-up")?;
         Ok(Options {
             table,
             device,
-            journal: word(given, "journal")?,
-            wait: number_within(given, "wait", 60_000)?,
+            journal,
+            wait,
+            give_up,
+            is_fresh: flag(given, "fresh") || environment.is_fresh,
+            progress: Progress::of(flag(given, "progress"), flag(given, "quiet")),
             stop: stop(given)?,
         })
     }

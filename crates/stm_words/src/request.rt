@@ -1,5 +1,8 @@
 // What the words ask for.
 
+use crate::environment::Environment;
+use crate::given::word;
+use crate::kept::Kept;
 use crate::options::Options;
 use crate::served::Served;
 use crate::task::Task;
@@ -13,6 +16,10 @@ use std::alloc::Global;
 pub enum Request<'a> {
     /// A use of a device.
     Use(Options<'a>, Task<'a>),
+    /// A look at the journal in this file.
+    Log(&'a str),
+    /// An end of a journal, whose writes and erases stay.
+    Keep(Kept<'a>),
     /// A simulator on a socket.
     Serve(Served<'a>),
 }
@@ -20,11 +27,17 @@ pub enum Request<'a> {
 impl<'a> Request<'a> {
     /// What the words that `clap` found ask for. The first word that can't be read decides, options before further words;
     /// then a stop that there can't be; then an erase that names no pages.
-    pub fn parse(alloc: Global, matches: &ArgMatches<'a>) -> Result<Request<'a>, Unread<'a>> {
+    pub fn parse(
+        alloc: Global,
+        environment: Environment<'a>,
+        matches: &ArgMatches<'a>,
+    ) -> Result<Request<'a>, Unread<'a>> {
         match matches.subcommand() {
+            Some(("log", given)) => Ok(Request::Log(word(given, "journal")?)),
+            Some(("keep", given)) => Ok(Request::Keep(Kept::parse(given)?)),
             Some(("sim", given)) => Ok(Request::Serve(Served::parse(given)?)),
             Some((name, given)) => {
-                let options = Options::parse(given)?;
+                let options = Options::parse(environment, given)?;
                 let task = Task::parse(alloc, name, given)?;
                 if options.has_vain_stop() {
                     return Err(Unread::Usage(UsageFault::StopNeedsSimulator));

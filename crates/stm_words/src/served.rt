@@ -2,6 +2,7 @@
 
 use crate::device::parse_id;
 use crate::given::{number_within, word};
+use crate::mode::parse_mode;
 use crate::usage_fault::UsageFault;
 use clap::ArgMatches;
 
@@ -16,6 +17,8 @@ pub struct Served<'a> {
     pub flash: &'a str,
     /// The path of the socket.
     pub socket: &'a str,
+    /// The mode of the socket: who may connect.
+    pub mode: u32,
     /// How many clients, one after the other: 1 to 1,000,000.
     pub clients: u32,
 }
@@ -28,11 +31,18 @@ impl<'a> Served<'a> {
         let Some(id) = parse_id(id) else {
             return Err(UsageFault::BadNumber(id));
         };
+        let flash = word(given, "flash")?;
+        let socket = word(given, "socket")?;
+        let mode = word(given, "mode")?;
+        let Some(mode) = parse_mode(mode) else {
+            return Err(UsageFault::BadNumber(mode));
+        };
         Ok(Served {
             table,
             id,
-            flash: word(given, "flash")?,
-            socket: word(given, "socket")?,
+            flash,
+            socket,
+            mode,
             clients: number_within(given, "clients", 1_000_000)?,
         })
     }

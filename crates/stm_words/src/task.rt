@@ -14,8 +14,8 @@ use std::alloc::Global;
 /// What is asked of a device.
 #[derive(Debug, Drop)]
 pub enum Task<'a> {
-    /// Tells what the device is.
-    Info,
+    /// Tells what the device is; raw: what it says itself, whether or not the table has it.
+    Info { is_raw: bool },
     /// Reads the whole flash or a part of it into a file.
     Read {
         range: Option<Range>,
@@ -47,7 +47,9 @@ impl<'a> Task<'a> {
         ensures { IfOk result (IsTask name.now (found_of given.now)) }
     {
         match name {
-            "info" => Ok(Task::Info),
+            "info" => Ok(Task::Info {
+                is_raw: flag(given, "raw"),
+            }),
             "read" => Ok(Task::Read {
                 range: range(given)?,
                 out: word(given, "OUT")?,

@@ -5,6 +5,7 @@ ghost use Rattle.clap.specs.declared.error.ErrorKind.TheVariants.{OutOfMemory};
 ghost use Rattle.stm_words.specs.CommandSet.{Reads, TakesKinds, command_set};
 
 use crate::command_set::command_set;
+use crate::environment::Environment;
 use crate::request::Request;
 use crate::unread::Unread;
 use clap::error::ErrorKind;
@@ -12,15 +13,19 @@ use clap::{ArgMatches, Error};
 use std::alloc::Global;
 
 /// What the words say: the subcommand and its values, as `clap` defines them for the command set. The first word is the
-/// program's name.
-pub fn read_words<'a>(alloc: Global, words: &'a [&'a str]) -> Result<ArgMatches<'a>, Error>
+/// program's name. What the environment has stands for an option that the words don't give; a word goes before it.
+pub fn read_words<'a>(
+    alloc: Global,
+    environment: Environment<'a>,
+    words: &'a [&'a str],
+) -> Result<ArgMatches<'a>, Error>
     ensures value { IfOk result (λ m. (p : _) × TakesKinds p
-        × (fault_of (command_set p) (map (λ s. s.now) words.entry.now) ≡ [])
-        × Reads (command_set p) (map (λ s. s.now) words.entry.now) m) }
+        × (fault_of (command_set environment.entry p) (map (λ s. s.now) words.entry.now) ≡ [])
+        × Reads (command_set environment.entry p) (map (λ s. s.now) words.entry.now) m) }
     ensures fault { IfErr result (λ e. (kind_of e ≡ OutOfMemory) ⊎ ((p : _) × TakesKinds p
-        × IsAmong (kind_of e) (fault_of (command_set p) (map (λ s. s.now) words.entry.now)))) }
+        × IsAmong (kind_of e) (fault_of (command_set environment.entry p) (map (λ s. s.now) words.entry.now)))) }
 {
-    command_set(alloc)?.try_get_matches_from(words)
+    command_set(alloc, environment)?.try_get_matches_from(words)
 }
 
 /// What `clap` says where it finds nothing to do.
@@ -36,9 +41,13 @@ fn unread<'a>(alloc: Global, error: &Error) -> Unread<'a> {
 }
 
 /// What the words ask for. The first word is the program's name.
-pub fn read_request<'a>(alloc: Global, words: &'a [&'a str]) -> Result<Request<'a>, Unread<'a>> {
-    match read_words(alloc, words) {
-        Ok(matches) => Request::parse(alloc, &matches),
+pub fn read_request<'a>(
+    alloc: Global,
+    environment: Environment<'a>,
+    words: &'a [&'a str],
+) -> Result<Request<'a>, Unread<'a>> {
+    match read_words(alloc, environment, words) {
+        Ok(matches) => Request::parse(alloc, environment, &matches),
         Err(error) => Err(unread(alloc, &error)),
     }
 }

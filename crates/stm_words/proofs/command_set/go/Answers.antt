@@ -7,7 +7,7 @@ use Rattle.stm_words.proofs.command_set.go.Goals as goal
 
 pub returns : goal.returns
 returns c =
-    let a0 : App = on_device (codes "go") in
+    let a0 : App = on_device c.args.environment (codes "go") in
     let m0 : Makes a0 c.in_ok-on_device.field-0 = c.in_ok-on_device.ensures in
     IfOk-weaker c.arg.result _ _
     (λ r h. adds a0 (needed_rule (codes "ADDRESS")) c.in_ok-on_device.field-0 c.needed.result r m0 c.needed.ensures.rule c.needed.ensures.local h) c.arg.ensures

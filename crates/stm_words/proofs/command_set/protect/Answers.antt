@@ -10,7 +10,7 @@ returns c =
     IfOk-weaker c.arg.result _ _
     (λ r h. (
       rule.0,
-      adds (on_device (codes "protect")) (kind_rule rule.0) c.in_ok-on_device.field-0 c.kind.result r c.in_ok-on_device.ensures rule.1
+      adds (on_device c.args.environment (codes "protect")) (kind_rule rule.0) c.in_ok-on_device.field-0 c.kind.result r c.in_ok-on_device.ensures rule.1
           c.kind.ensures.local h,
       rule.2,
     ))

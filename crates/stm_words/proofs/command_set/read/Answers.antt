@@ -7,7 +7,7 @@ use Rattle.stm_words.proofs.command_set.read.Goals as goal
 
 pub returns : goal.returns
 returns c =
-    let a0 : App = on_device (codes "read") in
+    let a0 : App = on_device c.args.environment (codes "read") in
     let a1 : App = with_rule a0 (range_rule) in
     let m0 : Makes a0 c.in_ok-on_device.field-0 = c.in_ok-on_device.ensures in
     let m1 : Makes a1 c.in_ok-arg.field-0 =

@@ -7,7 +7,7 @@ use Rattle.stm_words.proofs.command_set.undo.Goals as goal
 
 pub returns : goal.returns
 returns c =
-    let a0 : App = on_device (codes "undo") in
+    let a0 : App = on_device c.args.environment (codes "undo") in
     let m0 : Makes a0 c.in_ok-on_device.field-0 = c.in_ok-on_device.ensures in
     IfOk-weaker c.arg.result _ _
     (λ r h. adds a0 (default_rule (codes "COUNT") (codes "0")) c.in_ok-on_device.field-0 c.optional.result r m0 c.optional.ensures.rule c.optional.ensures.local h) c.arg.ensures

@@ -7,7 +7,7 @@ use Rattle.stm_words.proofs.command_set.verify.Goals as goal
 
 pub returns : goal.returns
 returns c =
-    let a0 : App = on_device (codes "verify") in
+    let a0 : App = on_device c.args.environment (codes "verify") in
     let a1 : App = with_rule a0 (letter_rule (codes "force") 102) in
     let a2 : App = with_rule a1 (range_rule) in
     let m0 : Makes a0 c.in_ok-on_device.field-0 = c.in_ok-on_device.ensures in

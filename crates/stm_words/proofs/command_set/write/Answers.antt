@@ -7,7 +7,7 @@ use Rattle.stm_words.proofs.command_set.write.Goals as goal
 
 pub returns : goal.returns
 returns c =
-    let a0 : App = on_device (codes "write") in
+    let a0 : App = on_device c.args.environment (codes "write") in
     let a1 : App = with_rule a0 (letter_rule (codes "force") 102) in
     let a2 : App = with_rule a1 (letter_rule (codes "check") 118) in
     let a3 : App = with_rule a2 (range_rule) in

@@ -8,23 +8,23 @@ pub returns-clause-value : goal.returns-clause-value
 returns-clause-value c =
     let p = c.in_ok-command_set.ensures in
     let parse = c.try_get_matches_from in
-    let same : app_of c.in_ok-command_set.field-0 ≡ command_set p.0 = p.1.0 in
+    let same : app_of c.in_ok-command_set.field-0 ≡ command_set c.args.environment p.0 = p.1.0 in
     let words : List Text = map (λ s. s.now) c.args.words.now in
-    at_ok parse.result _ _ _ (parse.ensures.kinds (ap is_simple_and_free same ∙ simple_and_free p.0)) parse.ensures.matches
+    at_ok parse.result _ _ _ (parse.ensures.kinds (ap is_simple_and_free same ∙ simple_and_free c.args.environment p.0)) parse.ensures.matches
     (λ m none h. (
       p.0,
       p.2,
       sym (ap (λ a. fault_of a words) same) ∙ none,
-      subst (λ a. Reads a words m) same (h (ap is_simple same ∙ simple p.0)),
+      subst (λ a. Reads a words m) same (h (ap is_simple same ∙ simple c.args.environment p.0)),
     ))
 
 pub returns-clause-fault : goal.returns-clause-fault
 returns-clause-fault c =
     let p = c.in_ok-command_set.ensures in
     let parse = c.try_get_matches_from in
-    let same : app_of c.in_ok-command_set.field-0 ≡ command_set p.0 = p.1.0 in
+    let same : app_of c.in_ok-command_set.field-0 ≡ command_set c.args.environment p.0 = p.1.0 in
     let words : List Text = map (λ s. s.now) c.args.words.now in
-    at_err parse.result _ _ (parse.ensures.kinds (ap is_simple_and_free same ∙ simple_and_free p.0))
+    at_err parse.result _ _ (parse.ensures.kinds (ap is_simple_and_free same ∙ simple_and_free c.args.environment p.0))
     (λ e h. elim h [
       | inl memory ↦ inl memory
       | inr among ↦ inr (p.0, p.2, subst (λ a. IsAmong (kind_of e) (fault_of a words)) same among)

@@ -1,0 +1,15 @@
+// What stands in the place of options that the words don't give.
+
+/// What stands in the place of options that the words don't give: values of environment variables, or names of installed
+/// files. A word goes before it.
+#[derive(Clone, Copy, Debug)]
+pub struct Environment<'a> {
+    /// The file of the chip table.
+    pub table: Option<&'a str>,
+    /// The word that names the device.
+    pub device: Option<&'a str>,
+    /// The file of the journal.
+    pub journal: Option<&'a str>,
+    /// Whether the device was reset since the last session.
+    pub is_fresh: bool,
+}

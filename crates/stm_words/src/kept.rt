@@ -1,0 +1,30 @@
+// A journal whose writes and erases are to stay.
+ghost use Rattle.std.specs.Prelude.{IfOk};
+ghost use Rattle.clap.specs.Words.{found_of};
+ghost use Rattle.stm_words.specs.Request.{IsKept};
+
+use crate::given::word;
+use crate::usage_fault::UsageFault;
+use clap::ArgMatches;
+
+/// A journal whose writes and erases are to stay, so that they can't be taken back any more.
+#[derive(Clone, Copy, Debug)]
+pub struct Kept<'a> {
+    /// The file of the journal.
+    pub journal: &'a str,
+    /// Where it goes; without a name it is removed.
+    pub to: Option<&'a str>,
+}
+
+impl<'a> Kept<'a> {
+    /// The journal that the words of `keep` name.
+    pub fn parse(given: &ArgMatches<'a>) -> Result<Kept<'a>, UsageFault<'a>>
+        ensures { IfOk result (IsKept (found_of given.now)) }
+    {
+        let to = given.get_str("TO");
+        Ok(Kept {
+            journal: word(given, "journal")?,
+            to,
+        })
+    }
+}
