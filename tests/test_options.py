@@ -49,7 +49,7 @@ class Options(Place):
         self.assertFault(self.use("go", "08"), "usage: bad number 08", 2)
 
     def test_tells_its_version(self):
-        self.assertTold(self.call("--version"), "stmflash 0.1.0\n")
+        self.assertTold(self.call("--version"), "stmflash 0.2.0\n")
         for name in SUBCOMMANDS:
             with self.subTest(name=name):
                 told = self.call(name, "--help")

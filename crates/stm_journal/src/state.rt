@@ -288,6 +288,16 @@ impl State {
         }
     }
 
+    /// Where segment k stands.
+    pub(crate) fn stage(&self, k: u32) -> Option<Stage>
+        ensures { result ≡ option_map (λ segment. segment.stage) (segment_of self.now k) }
+    {
+        match self.segment(k) {
+            Some(segment) => Some(segment.stage()),
+            None => None,
+        }
+    }
+
     /// How many pages segment k keeps.
     pub(crate) fn kept_count(&self, k: u32) -> usize
         ensures { result ≡ kept_count self.now k }

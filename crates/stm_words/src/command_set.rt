@@ -80,7 +80,12 @@ fn erase<'a>(alloc: Global, environment: Environment<'a>) -> Result<Command<'a>,
 fn undo<'a>(alloc: Global, environment: Environment<'a>) -> Result<Command<'a>, AllocError>
     ensures { IfOk result (Makes (undo_app environment.entry)) }
 {
-    on_device(alloc, environment, "undo", help::UNDO)?.arg(optional(alloc, "COUNT", "0", help::COUNT))
+    on_device(alloc, environment, "undo", help::UNDO)?.arg(optional(
+        alloc,
+        "COUNT",
+        "0",
+        help::COUNT,
+    ))
 }
 
 /// A subcommand that reads a journal and uses no device.
@@ -92,9 +97,13 @@ fn on_journal<'a>(
 ) -> Result<Command<'a>, AllocError>
     ensures { IfOk result (Makes (on_journal environment.entry name.entry.now)) }
 {
-    Command::new(alloc, name)
-        .about(about)
-        .arg(standing_option(alloc, "journal", "FILE", environment.journal, help::JOURNAL))
+    Command::new(alloc, name).about(about).arg(standing_option(
+        alloc,
+        "journal",
+        "FILE",
+        environment.journal,
+        help::JOURNAL,
+    ))
 }
 
 fn log<'a>(alloc: Global, environment: Environment<'a>) -> Result<Command<'a>, AllocError>
@@ -135,7 +144,10 @@ fn sim<'a>(alloc: Global, environment: Environment<'a>) -> Result<Command<'a>, A
 }
 
 /// The program's subcommands.
-pub fn command_set<'a>(alloc: Global, environment: Environment<'a>) -> Result<Command<'a>, AllocError>
+pub fn command_set<'a>(
+    alloc: Global,
+    environment: Environment<'a>,
+) -> Result<Command<'a>, AllocError>
     ensures { IfOk result (λ c. (p : _) × Makes (command_set environment.entry p) c × TakesKinds p) }
 {
     Command::new(alloc, "stmflash")

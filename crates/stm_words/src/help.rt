@@ -36,7 +36,8 @@ pub const WAIT: &str = "How long a reply may take, in milliseconds, 1 to 60000";
 
 pub const GIVE_UP: &str = "After how many seconds without an answer the line is given up; 0: never";
 
-pub const PROGRESS: &str = "Tells each page in a line of its own on standard error, also where that is no terminal";
+pub const PROGRESS: &str =
+    "Tells each page in a line of its own on standard error, also where that is no terminal";
 
 pub const QUIET: &str = "Shows nothing while a session runs";
 

@@ -15,7 +15,9 @@ use std::alloc::Global;
 #[derive(Debug, Drop)]
 pub enum Task<'a> {
     /// Tells what the device is; raw: what it says itself, whether or not the table has it.
-    Info { is_raw: bool },
+    Info {
+        is_raw: bool,
+    },
     /// Reads the whole flash or a part of it into a file.
     Read {
         range: Option<Range>,

@@ -20,6 +20,9 @@ pub enum UsageFault<'a> {
     /// An erase of neither all pages nor some is asked for, or of both.
     #[error("usage: give pages or --all")]
     GivePages,
+    /// A variable of the environment is no text.
+    #[error("usage: {0} is not text")]
+    NotText(&'a str),
     /// The words are none of the command set, which `clap` would have told.
     #[error("usage: unknown words")]
     UnknownWords,

@@ -39,7 +39,7 @@ ComesOfFile image content = (bytes : List ℕ) × ComesOf (is_hex image.is_raw b
 
 -- the action that a task asks for
 abbrev pub IsFor : Task → Action → Type 0
-IsFor task.Info does = does ≡ action.Info
+IsFor (task.Info is_raw) does = does ≡ action.Info
 IsFor (task.Read range out) does = does ≡ action.Read range
 IsFor (task.Write image true) does = (content : Content) × (does ≡ action.WriteAndVerify content) × ComesOfFile image content
 IsFor (task.Write image false) does = (content : Content) × (does ≡ action.Write content) × ComesOfFile image content

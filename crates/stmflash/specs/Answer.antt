@@ -14,6 +14,8 @@ outcomes_told (answer.WrittenAndVerified segment pages bytes) = was_written segm
 outcomes_told (answer.Verified bytes) = was_verified ∷ []
 outcomes_told (answer.Erased segment pages) = was_erased segment pages ∷ []
 outcomes_told (answer.Undone count) = []
+outcomes_told (answer.Logged text) = []
+outcomes_told (answer.Kept count) = []
 
 -- it tells bytes, so many
 abbrev pub IsRead : ℕ → Answer → Type 0

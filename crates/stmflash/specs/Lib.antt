@@ -3,6 +3,7 @@ pub mod Answer
 pub mod Conduct
 pub mod Content
 pub mod JournalFile
+pub mod Logging
 pub mod SimulatorFile
 pub mod SimulatorFileLaws
 pub mod SimulatorRig

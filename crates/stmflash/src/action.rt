@@ -46,7 +46,7 @@ impl Action {
         ensures { IfOk result (IsFor task.entry) }
     {
         match task {
-            Task::Info => Ok(Action::Info),
+            Task::Info { .. } => Ok(Action::Info),
             Task::Read { range, .. } => Ok(Action::Read(range)),
             Task::Write { image, verifies } => {
                 let content = read_content(rt, &image)?;

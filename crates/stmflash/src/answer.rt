@@ -34,6 +34,10 @@ pub enum Answer {
     },
     /// How many segments were taken back.
     Undone(u32),
+    /// What a journal says, in lines.
+    Logged(Vec<u8>),
+    /// How many segments stay.
+    Kept(u32),
 }
 
 impl Answer {
@@ -55,6 +59,8 @@ impl Answer {
                 writeln!(out, "segment {segment}: {pages} pages erased")
             }
             Answer::Undone(count) => writeln!(out, "undone {count}"),
+            Answer::Logged(text) => out.write_all(text.as_slice()),
+            Answer::Kept(count) => writeln!(out, "kept {count}"),
             Answer::Nothing | Answer::Bytes(_) => Ok(()),
         }
     }

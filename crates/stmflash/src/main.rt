@@ -8,6 +8,10 @@ mod content;
 mod failure;
 mod files;
 mod journal_file;
+mod journal_rig;
+mod journal_tasks;
+mod keeping;
+mod logging;
 mod on_device;
 mod program;
 mod protection;
@@ -19,6 +23,7 @@ mod simulator_rig;
 mod socket_line;
 mod socket_rig;
 mod standing;
+mod variables;
 
 use program::program;
 use std::io::ErrorKind;

@@ -2,8 +2,11 @@
 
 use crate::answer::Answer;
 use crate::failure::Failure;
+use crate::journal_tasks::{keep, log};
 use crate::on_device::use_device;
 use crate::serving::serve;
+use crate::variables::Variables;
+use std::env::Env;
 use std::fs::Files;
 use std::io::Write;
 use std::net::Net;
@@ -12,14 +15,20 @@ use stm_words::{Request, Unread, read_request};
 /// Runs the program on its words, the first of which is its name, and answers the exit status: 0 where all was done or
 /// help was asked for, 1 after a fault, 2 where the words can't be done, 3 where a simulator was stopped. A fault is one
 /// line on `err`; of words that `clap` refuses its text stands there. Nothing is printed while a line or a journal is open.
-pub fn program<R: Files + Net + AllocGlobal, O: Write, E: Write>(
+pub fn program<R: Env + Files + Net + AllocGlobal, O: Write, E: Write>(
     rt: &R,
     words: &[&str],
     out: &mut O,
     err: &mut E,
 ) -> u8 {
-    let done = match read_request(rt.alloc(), words) {
+    let variables = match Variables::read(rt) {
+        Ok(variables) => variables,
+        Err(failure) => return fail(&failure, err),
+    };
+    let done = match read_request(rt.alloc(), variables.environment(rt), words) {
         Ok(Request::Use(options, task)) => use_device(rt, &options, task),
+        Ok(Request::Log(journal)) => log(rt, journal),
+        Ok(Request::Keep(kept)) => keep(rt, &kept),
         Ok(Request::Serve(served)) => serve(rt, &served),
         Err(Unread::Help(text)) => return print_help(text.as_str(), out, err),
         Err(Unread::Refused(text)) => {

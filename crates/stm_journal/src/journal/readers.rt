@@ -1,10 +1,10 @@
 // What a journal answers of its segments and its header.
 ghost use Rattle.std.specs.Prelude.{◌≡◌, nat_lt, length, option_map, IfSome};
-ghost use Rattle.stm_journal.specs.States.{is_unfinished, intent_of, kept_at, IsSound};
+ghost use Rattle.stm_journal.specs.States.{is_unfinished, intent_of, kept_at, segment_of, IsSound};
 ghost use Rattle.stm_journal.specs.KeptPlaces.{page_place, kept_place, kept_count, entries_of, IsPlaceIn};
 ghost use Rattle.stm_journal.specs.Journals.{capped};
 
-use crate::{Intent, Journal, PagePlace};
+use crate::{Intent, Journal, PagePlace, Stage};
 
 impl Journal {
     /// Where page `n` stands in the journal, if segment `k`, counted from the oldest, which is 1, keeps that page.
@@ -28,6 +28,13 @@ impl Journal {
         ensures { result ≡ kept_count self.now.state k }
     {
         self.state.kept_count(k)
+    }
+
+    /// Where segment `k` stands, counted from the oldest, which is 1.
+    pub fn stage(&self, k: u32) -> Option<Stage>
+        ensures { result ≡ option_map (λ segment. segment.stage) (segment_of self.now.state k) }
+    {
+        self.state.stage(k)
     }
 
     /// How many pages the segments keep.
