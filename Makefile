@@ -102,6 +102,7 @@ bench: all
 	python3 bench/sessions
 	python3 bench/read
 	python3 bench/program
+	python3 bench/line
 
 beside: all
 	sh tools/beside.sh bin/stmflash

@@ -117,6 +117,7 @@ class PtyBoard:
         if not data:
             if self.device is device:
                 self.device = None
+            device.close()
             return
         while data:
             try:

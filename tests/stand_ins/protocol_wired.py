@@ -1,0 +1,15 @@
+"""pyserial's port `wired://PATH?file=LOG`: its own `spy://`, which notes each call with its time, on a pseudo-terminal that is taken
+to have RTS and DTR."""
+
+from serial.urlhandler import protocol_spy
+
+
+class Serial(protocol_spy.Serial):
+    def from_url(self, url):
+        return super().from_url(url.replace("wired:", "spy:", 1))
+
+    def _update_rts_state(self):
+        pass
+
+    def _update_dtr_state(self):
+        pass

@@ -1,0 +1,249 @@
+"""stmflash-line over pseudo-terminals, with simulated boards behind them: sessions, bytes both ways, signals, kills."""
+
+import concurrent.futures
+import os
+import random
+import signal
+import socket
+import stat
+import threading
+import time
+
+from boards import WAIT, LinePlace, end_with
+from place import COUNTING, ERASED, PATIENCE, SIZE
+
+KILLS = int(os.environ.get("STMFLASH_LINE_KILLS", "6"))
+ENDING = (signal.SIGTERM, signal.SIGINT, signal.SIGHUP)
+
+
+class Sessions(LinePlace):
+    def test_is_as_over_a_socket(self):
+        """A write, a look at it and its undo, with what they say, and nothing left behind."""
+        self.store("ttyUSB0.flash", COUNTING)
+        board = self.board()
+        # bytes that a port marks, and that a terminal would take for its own
+        image = bytes(range(256)) * 9 + b"\xff" * 300 + b"\xff\x00" * 99 + b"\x03\x04\x11\x13\r\n"
+        self.store("image", image)
+        said = self.through("write", "-v", "-S", "0x08000000", "-f", "image")
+        self.assertTold(said, f"segment 1: 3 pages written\nverified {len(image)} bytes\n")
+        self.assertEqual(board.store(), image + COUNTING[len(image):])
+        self.assertSilent(self.through("read", "-S", "0x08000000", "out"))
+        self.assertFile("out", image + COUNTING[len(image):])
+        self.assertTold(self.through("undo"), "undone 1\n")
+        self.assertEqual(board.store(), COUNTING)
+
+    def test_a_fault_of_the_command_is_its_own(self):
+        self.board()
+        self.store("journal", b"no journal\n")
+        self.assertFault(self.through("info"), "bad journal line 1")
+
+    def test_eight_at_once(self):
+        boards = [self.board(f"ttyUSB{number}") for number in range(8)]
+        images = [random.Random(number).randbytes(5000) for number in range(8)]
+
+        def use(number, name, *words):
+            self.store(f"image{number}", images[number])
+            said = self.line(f"ttyUSB{number}", "--", *self.stmflash(name, *words, journal=f"journal{number}"))
+            return said.status, said.err
+
+        with concurrent.futures.ThreadPoolExecutor(8) as pool:
+            place = ("-v", "-f", "-S", "0x08000100")
+            written = pool.map(lambda number: use(number, "write", *place, f"image{number}"), range(8))
+            self.assertEqual(list(written), [(0, b"")] * 8)
+            for board, image in zip(boards, images):
+                self.assertEqual(board.store(), ERASED[:256] + image + ERASED[256 + len(image):])
+            self.assertEqual(list(pool.map(lambda number: use(number, "undo"), range(8))), [(0, b"")] * 8)
+        self.assertEqual([board.store() for board in boards], [ERASED] * 8)
+
+
+class Commands(LinePlace):
+    def setUp(self):
+        super().setUp()
+        self.master = self.plain()
+
+    def test_hands_the_status_on(self):
+        for script, status in (("exit 0", 0), ("exit 7", 7), ("kill -9 $$", 128 + 9)):
+            with self.subTest(script=script):
+                said = self.line("ttyUSB0", "--", "sh", "-c", script)
+                self.assertEqual((said.status, said.out, said.err), (status, b"", b""))
+
+    def test_names_the_socket(self):
+        """Every {} is the socket's path, also inside a word; it stands in a folder of ours alone."""
+        script = 'echo "$0" "$1" "$STMFLASH_DEVICE" "$(stat -c %a "$0" "$(dirname "$0")" | xargs)" "${STMFLASH_FRESH-none}"'
+        said = self.line("ttyUSB0", "--", "sh", "-c", script, "{}", "is {}{}.")
+        path, _, rest = said.out.decode().partition(" ")
+        self.assertTrue(path.startswith(self.path("temporary/")), path)
+        self.assertEqual(rest, f"is {path}{path}. {path} 660 700 none\n")
+
+    def test_a_command_that_is_not_there(self):
+        said = self.line("ttyUSB0", "--", "no-such-program")
+        self.assertLineFault(said, "no-such-program: no such command", 127)
+        self.store("bad", b"\x7fELF")
+        os.chmod(self.path("bad"), 0o755)
+        self.assertLineFault(self.line("ttyUSB0", "--", "./bad"), "./bad: Exec format error")
+
+    def test_a_signal_ends_the_command_too(self):
+        for number in ENDING:
+            with self.subTest(number=number):
+                started = self.start("ttyUSB0", "--", "sh", "-c", "echo $$; exec sleep 1000")
+                child = int(started.stdout.readline())
+                self.assertEqual(end_with(started, number), 128 + number)
+                self.assertFalse(os.path.exists(f"/proc/{child}"))
+                self.assertEqual(started.stderr.read(), b"")
+
+    def test_a_command_that_does_not_listen_is_killed(self):
+        started = self.start("ttyUSB0", "--", "sh", "-c", "trap '' TERM; echo $$; while :; do sleep 1; done")
+        child = int(started.stdout.readline())
+        self.assertEqual(end_with(started, signal.SIGTERM), 128 + signal.SIGTERM)
+        self.assertFalse(os.path.exists(f"/proc/{child}"))
+
+    def test_killed_it_ends_the_command(self):
+        """What it has to leave behind, the next one removes."""
+        started = self.start("ttyUSB0", "--", "sh", "-c", "echo $$; exec sleep 1000")
+        child = int(started.stdout.readline())
+        self.assertEqual(end_with(started, signal.SIGKILL), -signal.SIGKILL)
+        self.until(lambda: not os.path.exists(f"/proc/{child}"), "the command goes on")
+        self.assertEqual(len(os.listdir(self.path("temporary"))), 1)
+        self.remove("ttyUSB0")
+        self.plain()
+        self.assertSilent(self.line("ttyUSB0", "--", "true"))
+
+    def test_what_a_killed_client_has_sent_goes_out(self):
+        """More than a port takes at once, by a client that is killed when it has sent it."""
+        script = "import os, socket, sys; s = socket.socket(socket.AF_UNIX); s.connect(sys.argv[1]); " \
+                 "s.sendall(bytes(range(251)) * 400); os.kill(os.getpid(), 9)"
+        started = self.start("ttyUSB0", "--", "python3", "-c", script, "{}")
+        self.assertTrue(self.read_from(self.master, 251 * 400) == bytes(range(251)) * 400)
+        self.assertEqual(self.ended(started).status, 128 + signal.SIGKILL)
+        os.set_blocking(self.master, False)
+        with self.assertRaises(OSError):
+            os.read(self.master, 1)
+
+
+class Serving(LinePlace):
+    def test_one_client_after_another(self):
+        self.board()
+        started = self.serve()
+        self.assertEqual(stat.S_IMODE(os.stat(self.path("board")).st_mode), 0o660)
+        for _ in range(2):
+            said = self.use("info", "--wait", WAIT, device="board")
+            self.assertEqual((said.status, said.out.split(b"\n")[0], said.err), (0, b"id 0412", b""))
+        self.assertEqual(end_with(started, signal.SIGTERM), 0)
+        self.assertEqual(self.ended(started).err, b"")
+        self.assertFalse(self.is_there("board"))
+
+    def test_signals_end_it(self):
+        master = self.plain()
+        for number in ENDING:
+            with self.subTest(number=number):
+                started = self.serve()
+                client = self.connect()
+                client.sendall(b"?")
+                self.assertEqual(self.read_from(master, 1), b"?")
+                self.assertEqual(end_with(started, number), 0)
+                self.assertEqual(client.recv(1), b"")
+                self.assertFalse(self.is_there("board"))
+
+    def test_places_that_are_taken(self):
+        self.plain()
+        self.store("board", b"kept")
+        said = self.line("ttyUSB0", "--socket", "board")
+        self.assertLineFault(said, "board: something else stands there already; give --socket another name")
+        self.assertFile("board", b"kept")
+        self.remove("board")
+        # a socket that nobody listens at any more is replaced, and one that somebody listens at is not
+        with socket.socket(socket.AF_UNIX, socket.SOCK_STREAM) as listener:
+            listener.bind(self.path("board"))
+            listener.listen()
+            said = self.line("ttyUSB0", "--socket", "board")
+            self.assertLineFault(said, "board: another program listens there already")
+        self.assertEqual(end_with(self.serve(), signal.SIGTERM), 0)
+        self.assertLineFault(self.line("ttyUSB0", "--socket", "none/board"), "none/board: No such file or directory")
+        long = "a" * 200
+        self.assertLineFault(self.line("ttyUSB0", "--socket", long), f"{long}: AF_UNIX path too long")
+
+    def test_what_waited_is_dropped(self):
+        master = self.plain()
+        os.write(master, b"old")
+        self.serve()
+        client = self.connect()
+        # the companion has taken this client when it hands its byte on
+        client.sendall(b"?")
+        self.assertEqual(self.read_from(master, 1), b"?")
+        os.write(master, b"new")
+        self.assertEqual(client.recv(3, socket.MSG_WAITALL), b"new")
+
+    def test_no_byte_is_lost_or_doubled(self):
+        """Many at once both ways, in pieces of all sizes."""
+        master = self.plain()
+        self.serve()
+        client = self.connect()
+        chance = random.Random(7)
+        down, up = chance.randbytes(1 << 20), chance.randbytes(1 << 20)
+        # what a port marks is well among them
+        down = down.replace(b"\x01", b"\xff").replace(b"\x02", b"\x00")
+
+        def feed(send, data):
+            at = 0
+            while at < len(data):
+                at += send(data[at:at + chance.randint(1, 9000)])
+
+        def take(receive, held, count):
+            while sum(map(len, held)) < count:
+                held.append(receive(70000))
+
+        came_down, came_up = [], []
+        parts = [
+            threading.Thread(target=feed, args=(client.send, down)),
+            threading.Thread(target=feed, args=(lambda data: os.write(master, data), up)),
+            threading.Thread(target=take, args=(lambda most: os.read(master, most), came_down, len(down))),
+            threading.Thread(target=take, args=(client.recv, came_up, len(up))),
+        ]
+        for part in parts:
+            part.daemon = True
+            part.start()
+        for part in parts:
+            part.join(PATIENCE)
+            self.assertFalse(part.is_alive(), "bytes are missing")
+        self.assertTrue(b"".join(came_down) == down and b"".join(came_up) == up)
+
+
+class Kills(LinePlace):
+    """STMFLASH_LINE_KILLS says how many, 6 without it."""
+
+    def test_what_was_killed_is_taken_back(self):
+        """The companion, the program or both are killed at random moments of a write; `undo` gives the flash back."""
+        seed = time.time_ns()
+        chance = random.Random(seed)
+        self.store("ttyUSB0.flash", COUNTING)
+        board = self.board()
+        most = 3.0
+        for turn in range(KILLS):
+            with self.subTest(turn=turn, seed=seed):
+                self.store("image", chance.randbytes(SIZE))
+                # the shell writes its process id, and becomes the program
+                words = self.stmflash("write", "-f", "-S", "0x08000000", "image", wait="100")
+                started = self.start("ttyUSB0", "--", "sh", "-c", 'echo $$; exec "$@"', "sh", *words)
+                child = int(started.stdout.readline())
+                time.sleep(chance.uniform(0.3, most))
+                killed = chance.choice(("line", "client", "both"))
+                if killed != "line":
+                    kill(child)
+                if killed != "client":
+                    kill(started.pid)
+                most = max(0.5, most * (0.9 if started.wait(PATIENCE) == 0 else 1.02))
+                started.stdout.close()
+                started.stderr.close()
+                self.until(lambda: not os.path.exists(f"/proc/{child}"), "the program goes on")
+                board.renew()
+                said = self.through("undo")
+                self.assertEqual((said.status, said.err), (0, b""), killed)
+                self.assertTrue(board.store() == COUNTING, f"the flash isn't what it was: {killed}, {said.out}")
+        self.line("ttyUSB0", "--", "true")
+
+
+def kill(process):
+    try:
+        os.kill(process, signal.SIGKILL)
+    except ProcessLookupError:
+        pass

@@ -1,0 +1,175 @@
+"""What stmflash-line says where a port can't be had or goes: one line each, with what to do."""
+
+import grp
+import os
+import pwd
+import shutil
+import signal
+import socket
+import subprocess
+import sys
+import termios
+
+from boards import LINE, WAIT, LinePlace, end_with
+from place import Said
+
+NOBODY = 65534
+
+
+def name_of(process):
+    """How a process is told of."""
+    with open(f"/proc/{process}/comm", encoding="utf-8") as comm:
+        return f"{comm.read().strip()} (process {process})"
+
+
+class Faults(LinePlace):
+    def assertUnusable(self, port, text, *words, **more):
+        self.assertLineFault(self.line(port, *(words or ("--", "true")), **more), text)
+
+    def assertBegins(self, said, text, status=1):
+        """One line was said, which begins so."""
+        line = "stmflash-line: " + text
+        self.assertEqual((said.status, said.out, said.err.decode()[:len(line)]), (status, b"", line))
+        self.assertEqual(said.err.count(b"\n"), 1)
+
+    def test_no_such_port(self):
+        for port in ("none", "no/folder", "table/none"):
+            said = self.line(port, "--", "true")
+            self.assertBegins(said, f"{port}: no such port; this machine has ")
+
+    def test_not_a_serial_port(self):
+        os.mkdir(self.path("folder"))
+        os.mkfifo(self.path("pipe"))
+        with socket.socket(socket.AF_UNIX, socket.SOCK_STREAM) as listener:
+            listener.bind(self.path("socket"))
+            self.assertUnusable("socket", "socket: is not a serial port but a socket: hand it to stmflash itself, as --device")
+        for port, kind in (("folder", "folder"), ("table", "file"), ("pipe", "file")):
+            self.assertBegins(self.line(port, "--", "true"), f"{port}: is not a serial port but a {kind}; this machine has ")
+        self.assertUnusable("/dev/null", "/dev/null: is not a serial port")
+        for port in ("loop://", "socket://localhost:1", "none://here"):
+            self.assertUnusable(port, f"{port}: is not a serial port of this machine")
+
+    def test_held_by_another_line(self):
+        """Who came first keeps the port, and its session isn't disturbed."""
+        self.board()
+        holder = self.start("ttyUSB0", "--socket", "board")
+        self.until(self.listens, "the companion doesn't listen")
+        self.assertUnusable("ttyUSB0", f"ttyUSB0: busy: {name_of(holder.pid)} has it")
+        self.assertEqual(self.use("info", "--wait", WAIT, device="board").status, 0)
+        self.assertEqual(end_with(holder, signal.SIGTERM), 0)
+        self.assertEqual(self.through("info").status, 0)
+
+    def test_held_by_a_program_without_a_lock(self):
+        self.plain()
+        with open(self.path("ttyUSB0"), "rb+", buffering=0):
+            self.assertUnusable("ttyUSB0", f"ttyUSB0: busy: {name_of(os.getpid())} has it")
+        self.assertSilent(self.line("ttyUSB0", "--", "true"))
+
+    def test_held_is_held_for_others(self):
+        """Who opens the port while it is ours is refused, and afterwards isn't; root may always."""
+        self.plain()
+        script = "import os, sys, errno\ntry: os.open(sys.argv[1], os.O_RDWR | os.O_NOCTTY)\n" \
+                 "except OSError as e: print(errno.errorcode[e.errno])\nelse: print('open')"
+        words = [sys.executable, "-c", script, self.path("ttyUSB0")]
+        holder = self.start("ttyUSB0", "--socket", "board")
+        self.until(self.listens, "the companion doesn't listen")
+        if os.geteuid() != 0:
+            self.assertEqual(subprocess.run(words, capture_output=True).stdout, b"EBUSY\n")
+        self.assertEqual(end_with(holder, signal.SIGTERM), 0)
+        self.assertEqual(subprocess.run(words, capture_output=True).stdout, b"open\n")
+
+    def test_no_permission(self):
+        """The group that would have it is named, and who has to join it."""
+        self.plain()
+        # a copy that everyone may run, since root has permission for everything
+        shutil.copy(LINE, self.path("line"))
+        before, user = None, pwd.getpwuid(os.geteuid()).pw_name
+        place = os.stat(self.path("ttyUSB0"))
+        group = grp.getgrgid(place.st_gid).gr_name
+        os.chmod(self.path("ttyUSB0"), 0o060)
+        if os.geteuid() == 0:
+            os.chmod(self.folder, 0o755)
+            os.chmod(self.path("temporary"), 0o777)
+            user = pwd.getpwuid(NOBODY).pw_name
+
+            def before():
+                os.setgroups([])
+                os.setgid(NOBODY)
+                os.setuid(NOBODY)
+
+        told = f"no permission; group {group} has it: sudo adduser {user} {group}, and log in again"
+        self.assertUnusable("ttyUSB0", "ttyUSB0: " + told, line=("line",), before=before)
+        os.chmod(self.path("ttyUSB0"), 0o000)
+        owner = pwd.getpwuid(place.st_uid).pw_name
+        self.assertUnusable("ttyUSB0", f"ttyUSB0: no permission; only {owner} has it", line=("line",), before=before)
+
+    def test_no_signals(self):
+        """A pseudo-terminal has neither RTS nor DTR."""
+        self.plain()
+        for words, name in ((("--boot", "rts"), "RTS"), (("--boot=-dtr",), "DTR"), (("--after", "-rts"), "RTS")):
+            said = self.line("ttyUSB0", *words, "--", "true")
+            self.assertLineFault(said, f"ttyUSB0: has no {name}; leave --boot and --after out")
+
+    def test_bad_words(self):
+        self.plain()
+        for words in ((), ("ttyUSB0",), ("--", "true"), ("ttyUSB0", "--"), ("ttyUSB0", "--socket", "board", "--", "true"),
+                      ("ttyUSB0", "--baud", "0", "--", "true"), ("ttyUSB0", "--baud", "fast", "--", "true"),
+                      ("ttyUSB0", "--baud", "4000001", "--", "true"), ("ttyUSB0", "--boot", "cts", "--", "true"),
+                      ("ttyUSB0", "--boot", "--rts", "--", "true"), ("ttyUSB0", "--after", "rts:dtr", "--", "true"),
+                      ("ttyUSB0", "--boot", "rts:dtr", "--after", "dtr", "--", "true"), ("ttyUSB0", "--boo", "rts", "--", "true"),
+                      ("ttyUSB0", "ttyUSB1", "--", "true"), ("ttyUSB0", "--boot")):
+            with self.subTest(words=words):
+                said = self.line(*words)
+                self.assertEqual((said.status, said.out), (2, b""))
+                self.assertIn(b"stmflash-line: error: ", said.err)
+        said = self.line("--help")
+        self.assertEqual((said.status, said.err), (0, b""))
+
+
+class Pulled(LinePlace):
+    UNPLUGGED = "stmflash-line: ttyUSB0: unplugged; plug it in, and `stmflash undo` takes back what was begun\n"
+
+    def plain_to_pull(self):
+        master, slave = os.openpty()
+        os.symlink(os.ttyname(slave), self.path("ttyUSB0"))
+        mode = termios.tcgetattr(slave)
+        mode[3] &= ~(termios.ECHO | termios.ICANON)
+        termios.tcsetattr(slave, termios.TCSANOW, mode)
+        os.close(slave)
+        return master
+
+    def test_in_the_midst(self):
+        """The client sees its line closed, and then the port is told."""
+        master = self.plain_to_pull()
+        started = self.start("ttyUSB0", "--", *self.stmflash("info", wait="60000"))
+        self.assertEqual(self.read_from(master, 1), b"\x7f")
+        os.close(master)
+        self.assertEqual(self.ended(started), Said(1, b"", b"stmflash: line failed\n" + self.UNPLUGGED.encode()))
+
+    def test_while_nobody_is_connected(self):
+        master = self.plain_to_pull()
+        started = self.serve()
+        os.close(master)
+        self.assertEqual(self.ended(started), Said(1, b"", self.UNPLUGGED.encode()))
+        self.assertFalse(self.is_there("board"))
+
+    def test_a_command_that_goes_on_is_ended(self):
+        master = self.plain_to_pull()
+        started = self.start("ttyUSB0", "--", "sh", "-c", "echo $$; exec sleep 1000")
+        child = int(started.stdout.readline())
+        os.close(master)
+        self.assertEqual(self.ended(started), Said(1, b"", self.UNPLUGGED.encode()))
+        self.assertFalse(os.path.exists(f"/proc/{child}"))
+
+    def test_a_write_is_taken_back(self):
+        """A board is pulled in a write, and plugged in again."""
+        self.store("ttyUSB0.flash", b"\x55" * 32768)
+        board = self.board()
+        self.store("image", b"\xaa" * 32768)
+        started = self.start("ttyUSB0", "--", *self.stmflash("write", "-f", "-S", "0x08000000", "image"))
+        self.until(lambda: b"program 2" in (self.held("journal") or b"") or started.poll() is not None, "nothing is written")
+        board.renew()
+        said = self.ended(started)
+        self.assertEqual(said, Said(1, b"", b"stmflash: line failed\n" + self.UNPLUGGED.encode()))
+        self.assertTold(self.through("undo"), "undone 1\n")
+        self.assertEqual(board.store(), b"\x55" * 32768)

@@ -1,0 +1,208 @@
+"""The parts of stmflash-line that no pseudo-terminal shows: sequences on RTS, DTR and break, and bytes that came with an error.
+
+Sequences are played on pyserial's own stand-in (tests/stand_ins), which notes each call with its time. Bytes with errors come from a
+pair of sockets in place of a port, marked as the system marks them.
+"""
+
+import contextlib
+import io
+import itertools
+import os
+import signal
+import socket
+import time
+import unittest
+
+from boards import LINE, LinePlace, load
+from place import PATIENCE
+
+line = load("stmflash-line")
+STAND_INS = os.path.dirname(os.path.abspath(__file__))
+# runs the companion where pyserial knows the ports of tests/stand_ins
+RUNNER = "import runpy, serial, sys; sys.path.insert(0, sys.argv.pop(1)); sys.dont_write_bytecode = True; " \
+         "serial.protocol_handler_packages.append('stand_ins'); sys.argv.pop(0); runpy.run_path(sys.argv[0], run_name='__main__')"
+
+
+class Sequences(unittest.TestCase):
+    def test_notation(self):
+        wait = ("wait", 0.1)
+        for text, steps in (
+                ("", []),
+                ("rts", [("rts", True)]),
+                ("rts,-dtr,,", [("rts", True), wait, ("dtr", False), wait, wait]),
+                ("rts&-dtr", [("rts", True), ("dtr", False)]),
+                ("-rts,,,,dtr", [("rts", False), wait, wait, wait, wait, ("dtr", True)]),
+                (",,", [wait, wait]),
+                ("brk,-brk&rts", [("brk", True), wait, ("rts", True)])):
+            with self.subTest(text=text):
+                self.assertEqual(line.read_sequence(text), steps)
+
+    def test_no_signals(self):
+        for text in ("-", "cts", "rts dtr", "4", "-3,3", "rts:dtr", "RTS", "--rts"):
+            with self.subTest(text=text), self.assertRaises(ValueError):
+                line.read_sequence(text)
+
+
+class Played(LinePlace):
+    def setUp(self):
+        super().setUp()
+        self.master = self.plain()
+        self.wired = f"wired://{self.path('ttyUSB0')}?file={self.path('calls')}"
+
+    def play(self, *words):
+        return self.ended(self.begin(*words))
+
+    def begin(self, *words):
+        return self.start(STAND_INS, LINE, self.wired, *words, line=("-c", RUNNER))
+
+    def calls(self, name="calls"):
+        """The calls, and when each was made, in seconds."""
+        lines = [text.split(" ", 1) for text in self.held(name).decode().splitlines()]
+        return [" ".join(call.split()) for _, call in lines], [float(when) for when, _ in lines]
+
+    def test_before_and_after(self):
+        """The calls and delays in this order, and no byte on the line before."""
+        self.assertSilent(self.play("--boot", "rts,-dtr,,:dtr", "--", "cp", "calls", "before"))
+        self.assertEqual(self.calls("before")[0], ["RTS active", "DTR inactive"])
+        calls, (first, second, third) = self.calls()
+        self.assertEqual(calls, ["RTS active", "DTR inactive", "DTR active"])
+        # the times are noted in whole milliseconds
+        self.assertGreaterEqual(second - first, 0.099)
+        self.assertGreaterEqual(third - second, 0.199)
+        os.set_blocking(self.master, False)
+        with self.assertRaises(OSError):
+            os.read(self.master, 1)
+
+    def test_a_break(self):
+        self.assertSilent(self.play("--boot", "brk&-brk", "--after", "-rts&-dtr", "--", "true"))
+        self.assertEqual(self.calls()[0], ["BRK send_break 0.25s", "RTS inactive", "DTR inactive"])
+
+    def test_without_an_option(self):
+        self.assertSilent(self.play("--", "true"))
+        self.assertEqual(self.calls()[0], [])
+
+    def test_the_board_is_left_whatever_came(self):
+        """After a command that failed, and after a signal, also in the midst of --boot."""
+        self.assertEqual(self.play("--after", "-rts", "--", "false").status, 1)
+        self.assertEqual(self.calls()[0], ["RTS inactive"])
+        for boot, calls in (("dtr", ["DTR active", "RTS inactive"]), ("dtr" + 5000 * ",", ["DTR active", "RTS inactive"])):
+            self.remove("calls")
+            started = self.begin("--boot", boot, "--after", "-rts", "--", "sleep", "1000")
+            self.until(lambda: self.held("calls"), "nothing is played")
+            started.send_signal(signal.SIGTERM)
+            said = self.ended(started)
+            self.assertEqual((said.status, said.err), (128 + signal.SIGTERM, b""))
+            self.assertEqual(self.calls()[0], calls)
+
+    def test_tells_that_the_board_is_fresh(self):
+        """Where RTS or DTR was lowered, and only there: both are up before."""
+        for boot, fresh in (("rts,-dtr", "1"), ("-rts&rts", "1"), ("rts,dtr", "no"), (",,", "no"), ("brk", "no")):
+            with self.subTest(boot=boot):
+                said = self.play("--boot", boot, "--", "sh", "-c", "echo ${STMFLASH_FRESH-no}")
+                self.assertTold(said, fresh + "\n")
+
+
+class Unmarking(unittest.TestCase):
+    CLEAN = ((b"", b""), (b"abc", b"abc"), (b"\xff\xff", b"\xff"), (b"a\xff\xff\x00b", b"a\xff\x00b"),
+             (b"\xff\xff\xff\xff\x00\x00", b"\xff\xff\x00\x00"), (b"\x00\xff\xff\xff\xff\xff\xff", b"\x00\xff\xff\xff"))
+    BAD = ((b"ab\xff\x00cd", b"ab", 1), (b"\xff\xff\xff\x00\xff\xff\xff", b"\xff", 1), (b"\xff\x00\x00", b"", 1),
+           (b"a\xff\x00\xff\xff\x00\x00z", b"a", 2), (b"a\xff\xff\x00\xff\x00\nb", b"a\xff\x00", 1), (b"a\xff\x01b", b"a", 1))
+
+    def test_each_split(self):
+        """However a marked stream is parted between reads, the bytes are the same up to the first bad one."""
+        for marked, clean, bad in (*((marked, clean, 0) for marked, clean in self.CLEAN), *self.BAD):
+            for parts in partings(marked):
+                with self.subTest(parts=parts):
+                    unmark, came, found = line.Unmark(), b"", 0
+                    for part in parts:
+                        data, count = unmark.take(part)
+                        came += data if not found else b""
+                        found += count
+                    self.assertEqual((came, found), (clean, bad))
+
+
+def partings(data):
+    """All ways to part these bytes into pieces."""
+    places = range(1, len(data))
+    for count in range(len(data)):
+        for cuts in itertools.combinations(places, count):
+            yield [data[a:b] for a, b in zip((0, *cuts), (*cuts, len(data)))]
+
+
+class Stub:
+    """What the companion needs of pyserial's port once it is open."""
+
+    def __init__(self, end):
+        self.end = end
+
+    def fileno(self):
+        return self.end.fileno()
+
+
+class BadBytes(unittest.TestCase):
+    """A pair of sockets in place of a port, and one in place of that which a client has."""
+
+    def setUp(self):
+        pairs = [socket.socketpair() for _ in range(2)]
+        for end in itertools.chain(*pairs):
+            end.settimeout(PATIENCE)
+            self.addCleanup(end.close)
+        (self.device, port), (self.client, ours) = pairs
+        port.setblocking(False)
+        ours.setblocking(False)
+        self.port = line.Port(Stub(port), "PORT", 9600)
+        self.join = line.Join(self.port, None)
+        self.join.client = ours
+
+    def take(self, marked):
+        """What the companion says when these bytes come."""
+        self.device.sendall(marked)
+        with contextlib.redirect_stderr(io.StringIO()) as said:
+            self.join.from_port()
+        return said.getvalue()
+
+    def assertLeft(self, said, clean, bad):
+        """The client has these bytes and then the end of the line, and one line tells how many were bad and at which speed."""
+        told = f"stmflash-line: PORT: {bad} bytes came with an error at 9600 baud: look at speed, wiring and ground\n"
+        self.assertEqual(said, told)
+        held = b""
+        while data := self.client.recv(100):
+            held += data
+        self.assertEqual(held, clean)
+        self.assertIsNone(self.join.client)
+
+    def test_good_bytes(self):
+        self.assertEqual(self.take(b"a\xff\xff\x00"), "")
+        self.assertEqual(self.client.recv(100), b"a\xff\x00")
+        self.assertIsNotNone(self.join.client)
+
+    def test_a_bad_byte_ends_the_line(self):
+        self.assertLeft(self.take(b"ab\xff\x00cd\xff\x00ef"), b"ab", 2)
+
+    def test_a_bad_byte_in_pieces(self):
+        for piece in (b"ab\xff", b"\x00"):
+            self.assertEqual(self.take(piece), "")
+        self.assertLeft(self.take(b"cd"), b"ab", 1)
+
+    def test_a_lost_byte_ends_the_line(self):
+        """A byte that the port had no room for is in its driver's count alone. Where it was isn't known."""
+        self.port.count_lost = lambda: 3
+        self.assertLeft(self.take(b"abc"), b"", 3)
+        self.join.client = self.client
+        self.assertEqual(self.take(b"d"), "")
+
+    def test_nobody_is_told_while_nobody_is_there(self):
+        ours, self.join.client = self.join.client, None
+        self.assertEqual(self.take(b"a\xff\x00b\xff"), "")
+        # the second half of a byte's mark comes to one who is there since
+        self.join.client = ours
+        self.assertEqual(self.take(b"\xffc"), "")
+        self.assertEqual(self.client.recv(100), b"\xffc")
+
+    def test_a_client_that_takes_nothing(self):
+        said = ""
+        end = time.monotonic() + PATIENCE
+        while not said and time.monotonic() < end:
+            said = self.take(60000 * b"a")
+        self.assertRegex(said, r"\Astmflash-line: PORT: [0-9]+ bytes came that nobody took\n\Z")
+        self.assertIsNone(self.join.client)
