@@ -2,13 +2,15 @@
 //!
 //! - `read HEX` tells how many bytes a HEX file holds.
 //! - `write RAW START HEX` writes a raw file as a HEX file, from the address START (decimal) on.
+//! - `copy RAW START HEX` writes a copy of that image, so that a copy is made at its size.
 //! - `compare RAW START HEX..` tells which HEX files hold just the raw file's bytes from START on.
 #![tactic(auto)]
 
 use std::{env, fs, io};
 use stm_image::{Image, read_hex, read_raw, write_hex};
 
-const USAGE: &str = "usage: read HEX, write RAW START HEX or compare RAW START HEX..";
+const USAGE: &str =
+    "usage: read HEX, write RAW START HEX, copy RAW START HEX or compare RAW START HEX..";
 
 // The image of a HEX file, or `None` once its fault is told.
 fn hex_image(rt: &HostRuntime, name: &str) -> io::Result<Option<Image>> {
@@ -72,6 +74,17 @@ fn write(rt: &HostRuntime, raw: &str, start: &str, hex: &str) -> io::Result<()> 
     Ok(())
 }
 
+// Writes a copy of a raw file's image as a HEX file.
+fn copy(rt: &HostRuntime, raw: &str, start: &str, hex: &str) -> io::Result<()> {
+    if let Some(image) = raw_image(rt, raw, start)? {
+        let copied = image.clone()?;
+        drop(image);
+        let text = write_hex(rt.alloc(), &copied)?;
+        fs::write(rt, hex, text.as_slice())?;
+    }
+    Ok(())
+}
+
 // Tells which HEX files hold just the bytes of a raw file.
 fn compare(rt: &HostRuntime, raw: &str, start: &str, names: &[String]) -> io::Result<()> {
     let Some(wanted) = raw_image(rt, raw, start)? else {
@@ -96,6 +109,9 @@ fn main(rt: HostRuntime) -> io::Result<()> {
         [_, verb, hex] if verb.as_str() == "read" => read(&rt, hex.as_str()),
         [_, verb, raw, start, hex] if verb.as_str() == "write" => {
             write(&rt, raw.as_str(), start.as_str(), hex.as_str())
+        }
+        [_, verb, raw, start, hex] if verb.as_str() == "copy" => {
+            copy(&rt, raw.as_str(), start.as_str(), hex.as_str())
         }
         [_, verb, raw, start, names @ ..] if verb.as_str() == "compare" => {
             compare(&rt, raw.as_str(), start.as_str(), names)

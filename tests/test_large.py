@@ -1,0 +1,51 @@
+"""Flashes, journals and tables as large as the limits allow."""
+
+import random
+
+from place import Place, program
+
+# A flash in 512 pages, of which one write changes all: of 2 MiB, or, for a program that is built with checks on memory and takes
+# some twenty times as long, of 128 KiB.
+PAGES, PAGE = 512, 256 if program().endswith("-unproved") else 4096
+LARGE = f'[[chip]]\nid = 0x470\nbase = 0x08000000\npages = [[{PAGES}, {PAGE}]]\nerase = "extended"\n'.encode()
+BASE = 0x0800_0000
+CHIPS = 60
+
+
+def record(kind, offset, data):
+    body = bytes([len(data)]) + offset.to_bytes(2, "big") + bytes([kind]) + data
+    return b":" + body.hex().upper().encode() + b"%02X\n" % (-sum(body) & 0xFF)
+
+
+def hex_of(data, base):
+    """The text of these bytes, in records of 32, the last address first."""
+    text = []
+    for block in reversed(range(0, len(data), 65536)):
+        text.append(record(4, 0, ((base + block) >> 16).to_bytes(2, "big")))
+        for place in reversed(range(block, min(block + 65536, len(data)), 32)):
+            text.append(record(0, base + place & 0xFFFF, data[place:place + 32]))
+    return b"".join([*text, b":00000001FF\n"])
+
+
+class Large(Place):
+    def test_takes_back_a_segment_of_all_pages(self):
+        """A HEX text whose records fall, over a whole flash, in one segment; read back whole, and taken back."""
+        dice = random.Random(512)
+        before, image = dice.randbytes(PAGES * PAGE), dice.randbytes(PAGES * PAGE)
+        self.store("table", LARGE)
+        self.store("flash", before)
+        self.store("image", hex_of(image, BASE))
+        said = self.use("write", "-v", "image", device="sim:0470:flash")
+        self.assertTold(said, f"segment 1: {PAGES} pages written\nverified {PAGES * PAGE} bytes\n")
+        self.assertFile("flash", image)
+        self.assertSilent(self.use("read", "out", device="sim:0470:flash"))
+        self.assertFile("out", image)
+        self.assertTold(self.use("undo", device="sim:0470:flash"), "undone 1\n")
+        self.assertFile("flash", before)
+
+    def test_finds_the_last_of_many_chips(self):
+        chips = (f'[[chip]]\nid = {n}\nbase = 0x08000000\npages = [[{n}, 256]]\nerase = "page"\n' for n in range(1, CHIPS + 1))
+        self.store("table", "".join(chips).encode())
+        said = self.use("info", device=f"sim:{CHIPS:04X}:flash")
+        self.assertEqual((said.status, said.err), (0, b""))
+        self.assertIn(b"id %04X\n" % CHIPS, said.out)
