@@ -1,0 +1,100 @@
+"""A served simulator in a folder of its own, and the program on it with what goes over the line taped."""
+
+import os
+import socket
+import subprocess
+import sys
+import time
+
+TOP = os.path.dirname(os.path.dirname(os.path.dirname(os.path.abspath(__file__))))
+sys.path.insert(0, os.path.join(TOP, "tools"))
+
+from line import Figures, Plain, carry, connect
+
+PATIENCE = 60
+
+
+class Tape(Plain):
+    """The turns of a line: what the host sent, and what it was answered to that."""
+
+    def __init__(self):
+        self.turns = []
+
+    def to_device(self, data):
+        if not self.turns or self.turns[-1][1]:
+            self.turns.append([b"", b""])
+        self.turns[-1][0] += data
+        return data, b""
+
+    def to_host(self, data):
+        if not self.turns:
+            self.turns.append([b"", b""])
+        self.turns[-1][1] += data
+        return data
+
+
+class Board:
+    """`stmflash sim` with a flash of these bytes."""
+
+    def __init__(self, program, folder, chip, flash):
+        self.program, self.folder = os.path.abspath(program), folder
+        self.store("flash", flash)
+        words = [self.program, "sim", "--table", os.path.join(TOP, "chips.toml"), "--id", chip, "--flash", "flash", "--socket", "board",
+                 "--clients", "1000"]
+        self.simulator = subprocess.Popen(words, cwd=folder)
+        self.wait_for(self.answers)
+
+    def __enter__(self):
+        return self
+
+    def __exit__(self, *_):
+        self.simulator.terminate()
+        self.simulator.wait()
+
+    def path(self, name):
+        return os.path.join(self.folder, name)
+
+    def store(self, name, data):
+        with open(self.path(name), "wb") as file:
+            file.write(data)
+
+    def held(self, name):
+        with open(self.path(name), "rb") as file:
+            return file.read()
+
+    def wait_for(self, done):
+        end = time.monotonic() + PATIENCE
+        while not done():
+            if time.monotonic() > end or self.simulator.poll() is not None:
+                sys.exit("the simulator doesn't do what was awaited")
+            time.sleep(0.01)
+
+    def answers(self):
+        """Whether it takes a client, which goes again."""
+        try:
+            with connect(self.path("board")) as client:
+                client.shutdown(socket.SHUT_WR)
+                return client.recv(1) == b""
+        except (FileNotFoundError, ConnectionRefusedError):
+            return False
+
+    def use(self, name, *words, cut=None):
+        """Runs a subcommand over a line that ends after `cut` bytes of the host, and answers its turns and what was said."""
+        tape = Tape()
+        listener = socket.socket(socket.AF_UNIX, socket.SOCK_STREAM)
+        listener.bind(self.path("line"))
+        listener.listen()
+        files = ["--table", os.path.join(TOP, "chips.toml"), "--journal", "journal", "--device", "line", "--wait", "200"]
+        host = subprocess.Popen([self.program, name, *files, *words], cwd=self.folder, stdout=subprocess.PIPE,
+                                stderr=subprocess.STDOUT, text=True)
+        ended, end = os.pipe()
+        near, _ = listener.accept()
+        with listener, near, connect(self.path("board")) as device:
+            carry(near.fileno(), device.fileno(), ended, Figures(), between=tape, cut=cut)
+        os.close(ended)
+        os.close(end)
+        os.remove(self.path("line"))
+        said = host.communicate(timeout=PATIENCE)[0]
+        # the next client is served once this one's flash was stored
+        self.wait_for(self.answers)
+        return tape.turns, said.strip()
