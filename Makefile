@@ -13,7 +13,7 @@
 #               it proves and builds nothing, so that it needs no `rt`, also under sudo
 #   make deb    a Debian package of the proved program, in bin/ (dpkg-deb, binutils); of another one: STMFLASH_BINARY=
 #   make pictures
-#               draws docs/pictures/ from runs of the program (python3)
+#               draws docs/pictures/ from runs of the program and from the figures that `make bench` left (python3)
 #   make bench  builds what is measured, measures it beside its peers, and prints ratios (needs python3; Debian's binutils
 #               and srecord for the peers of HEX)
 #   make beside lets the real stm32flash drive our simulator (docs/BESIDE.md); skipped with a word where it isn't installed
@@ -93,6 +93,12 @@ install:
 deb: $(STMFLASH_BINARY)
 	@mkdir -p bin
 	@packaging/deb $(STMFLASH_BINARY) bin
+
+pictures:
+	@test -x bin/stmflash || test -x bin/stmflash-unproved || sh tools/demo.sh
+	python3 tools/pictures/stopped-write $(SOAKED) docs/pictures/stopped-write.svg
+	python3 tools/pictures/session $(SOAKED) docs/pictures/session.cast docs/pictures/session.svg
+	python3 tools/pictures/ratios bench/figures.json docs/pictures/ratios.svg
 
 bench: all
 	cd crates/hex_bench && rt run > /dev/null

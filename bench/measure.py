@@ -5,12 +5,16 @@ or for another program isn't counted. Each figure is the least of some runs of a
 """
 
 import ctypes
+import datetime
+import json
 import os
 import shutil
 import subprocess
 import sys
 
 TOP = os.path.join(os.path.dirname(os.path.abspath(__file__)), "..")
+# the ratios of the last runs, from which `make pictures` draws docs/pictures/ratios.svg
+FIGURES = os.path.join(TOP, "bench", "figures.json")
 PACKAGES = {"objcopy": "binutils", "srec_cat": "srecord", "stm32flash": "stm32flash", "strace": "strace"}
 
 # of ptrace(2), on Linux
@@ -93,6 +97,22 @@ def beyond(whole, start):
     if whole <= start * 1.02:
         sys.exit(f"{whole:.4f} s is not beyond the {start:.4f} s that the program takes for nothing: nothing was measured")
     return whole - start
+
+
+def leave(script, rows):
+    """Leaves a script's ratios for the picture: of each what was measured, the peer, and our time as a share of the peer's."""
+    try:
+        with open(FIGURES, encoding="utf-8") as file:
+            figures = json.load(file)
+    except FileNotFoundError:
+        figures = {}
+    figures[script] = {
+        "on": datetime.date.today().isoformat(),
+        "ratios": [{"what": what, "peer": peer, "ratio": round(ratio, 3)} for what, peer, ratio in rows],
+    }
+    with open(FIGURES, "w", encoding="utf-8") as file:
+        json.dump(figures, file, indent=1)
+        file.write("\n")
 
 
 def made_apart(make):

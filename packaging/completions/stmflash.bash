@@ -21,7 +21,7 @@ _stmflash() {
             _stmflash_files "$word"
             [[ sim: == "$word"* ]] && COMPREPLY+=(sim:)
             return ;;
-        --wait | --stop | --give-up | --id | --clients | -S) return ;;
+        --wait | --stop | --give-up | --id | --clients | --mode | -S) return ;;
     esac
     if [[ $word != -* ]]; then
         case $subcommand in
@@ -41,7 +41,7 @@ _stmflash() {
         erase) _stmflash_words "$word" "$device --all -h" ;;
         undo | go | protect) _stmflash_words "$word" "$device -h" ;;
         log | keep) _stmflash_words "$word" "--journal --help -h" ;;
-        sim) _stmflash_words "$word" "--table --id --flash --socket --clients --help -h" ;;
+        sim) _stmflash_words "$word" "--table --id --flash --socket --clients --mode --help -h" ;;
     esac
 }
 

@@ -1,0 +1,105 @@
+"""The completions of the shells name every subcommand, option and protection that the program and stmflash-line tell in their help."""
+
+import os
+import re
+import shutil
+import subprocess
+import sys
+
+from place import PATIENCE, TOP, Place
+
+FOLDER = os.path.join(TOP, "packaging", "completions")
+LINE = os.path.join(TOP, "line", "stmflash-line")
+KINDS = {"write-unprotect", "readout-protect", "readout-unprotect"}
+# runs the completion of the words after the second, and prints what it offers
+BASH = '''. "$1"; shift; function=$1; shift
+COMP_WORDS=("$@"); COMP_CWORD=$(($# - 1)); "$function"; printf '%s\\n' "${COMPREPLY[@]}"'''
+
+
+def options(text):
+    """The options of a help text: each line of one begins with it."""
+    found = set()
+    for line in re.findall(r"^ {2,6}(-.*)$", text, re.M):
+        found |= set(re.findall(r"(?<![\w-])(-\w|--[a-z][a-z-]*)", line.split("  ")[0]))
+    return found
+
+
+class Completions(Place):
+    def help_of(self, *words):
+        said = self.call(*words, "--help")
+        self.assertEqual((said.status, said.err), (0, b""))
+        return said.out.decode()
+
+    def subcommands(self):
+        told = self.help_of().split("Commands:\n")[1].split("\n\n")[0]
+        return set(re.findall(r"^  ([a-z]+) ", told, re.M))
+
+    def line_options(self):
+        ran = subprocess.run([sys.executable, LINE, "--help"], capture_output=True, text=True, timeout=PATIENCE)
+        if ran.returncode:
+            self.skipTest(f"stmflash-line doesn't run here: {ran.stderr.strip()}")
+        return options(ran.stdout)
+
+    def shell(self, name, *words):
+        """What a shell prints; the test is left out where it isn't installed."""
+        if not shutil.which(name):
+            self.skipTest(f"{name} isn't installed")
+        ran = subprocess.run([name, *words], cwd=self.folder, capture_output=True, text=True, timeout=PATIENCE)
+        self.assertEqual((ran.returncode, ran.stderr), (0, ""), words)
+        return set(ran.stdout.split("\n")) - {""}
+
+    def bash(self, *words, function="_stmflash"):
+        return self.shell("bash", "-c", BASH, "bash", os.path.join(FOLDER, "stmflash.bash"), function, *words)
+
+    def fish(self, words, name="stmflash.fish"):
+        offered = self.shell("fish", "--no-config", "-c", 'source $argv[1]; complete -C $argv[2]', os.path.join(FOLDER, name), words)
+        return {line.split("\t")[0] for line in offered}
+
+    def test_bash_offers_what_the_program_takes(self):
+        subcommands = self.subcommands()
+        self.assertEqual(self.bash("stmflash", ""), subcommands)
+        self.assertEqual(self.bash("stmflash", "-"), options(self.help_of()))
+        for name in subcommands - {"help"}:
+            with self.subTest(subcommand=name):
+                self.assertEqual(self.bash("stmflash", name, "-"), options(self.help_of(name)))
+        self.assertEqual(self.bash("stmflash", "protect", ""), KINDS)
+
+    def test_bash_offers_files_with_blanks(self):
+        self.store("an image.hex", b"")
+        self.assertEqual(self.bash("stmflash", "write", "--table", "table", "an"), {"an image.hex"})
+        self.assertEqual(self.bash("stmflash", "info", "--device", "si"), {"sim:"})
+
+    def test_bash_offers_what_the_line_takes(self):
+        taken = self.line_options()
+        self.assertEqual(self.bash("stmflash-line", "-", function="_stmflash_line") - {"--"}, taken)
+        offered = self.bash("stmflash-line", "/dev/ttyUSB0", "--", "stmflash", "ver", function="_stmflash_line")
+        self.assertEqual(offered, {"verify"})
+
+    def test_fish_offers_what_the_program_takes(self):
+        subcommands = self.subcommands()
+        self.assertEqual(self.fish("stmflash "), subcommands)
+        for name in subcommands - {"help"}:
+            with self.subTest(subcommand=name):
+                self.assertEqual(self.fish(f"stmflash {name} -"), options(self.help_of(name)))
+        self.assertEqual(self.fish("stmflash protect "), KINDS)
+
+    def test_fish_offers_what_the_line_takes(self):
+        taken = self.line_options()
+        self.assertEqual(self.fish("stmflash-line -", "stmflash-line.fish"), taken)
+
+    def test_zsh_names_what_the_program_takes(self):
+        self.shell("zsh", "-n", os.path.join(FOLDER, "_stmflash"))
+        with open(os.path.join(FOLDER, "_stmflash"), encoding="utf-8") as file:
+            text = file.read()
+        lines = dict(re.findall(r"^        ([a-z]+)\) _arguments ((?:.*\\\n)*.*);;$", text, re.M))
+        shared = {name: set(re.findall(r"(?<![\w-])(-\w|--[a-z][a-z-]*)(?=[\[,}])", body)) for name, body in
+                  re.findall(r"^    (help|journal|device|range)=\((.*?)\)$", text, re.M | re.S)}
+        shared["device"] |= shared["help"] | shared["journal"]
+        subcommands = self.subcommands()
+        self.assertEqual(set(re.findall(r"^        '([a-z]+):", text, re.M)), subcommands)
+        for name in subcommands - {"help"}:
+            with self.subTest(subcommand=name):
+                offered = set(re.findall(r"['\"](-\w|--[a-z][a-z-]*)\[", lines[name]))
+                for group in re.findall(r"\$(help|journal|device|range)\b", lines[name]):
+                    offered |= shared[group]
+                self.assertEqual(offered, options(self.help_of(name)))
