@@ -6,6 +6,8 @@ mod asking;
 #[cfg(test)]
 mod bad_devices;
 #[cfg(test)]
+mod bad_line_rig;
+#[cfg(test)]
 mod bad_lines;
 #[cfg(test)]
 mod beginnings;
@@ -51,6 +53,10 @@ mod stories;
 mod taking_back;
 #[cfg(test)]
 mod three_stops;
+#[cfg(test)]
+mod troubled_bytes;
+#[cfg(test)]
+mod troubled_runs;
 #[cfg(test)]
 mod two_stops;
 #[cfg(test)]

@@ -63,7 +63,7 @@ pub struct Start {
     pub journal: Vec<u8>,
 }
 
-fn command_of(rt: &HostRuntime, change: Change) -> Result<[Command; 1], Fail> {
+pub fn command_of(rt: &HostRuntime, change: Change) -> Result<[Command; 1], Fail> {
     match change {
         Change::Write(place, bytes) => write_of(rt, bytes, place.saturating_add(0x0800_0000)),
         Change::Erase(pages) => erase_of(rt, pages),
