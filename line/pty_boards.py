@@ -1,11 +1,14 @@
 #!/usr/bin/python3
 """Stand-in boards: `stmflash sim` behind pseudo-terminals, for trying what needs a serial port.
 
-    line/pty_boards.py PROGRAM FOLDER [COUNT] [--id ID] [--table FILE]
+    line/pty_boards.py PROGRAM FOLDER [COUNT] [--id ID] [--table FILE] [--baud N] [--hold MS]
 
 Makes FOLDER/ttyUSB0, ttyUSB1.. (COUNT of them, 1 without it), each a name of a pseudo-terminal with a simulator of PROGRAM
 behind it, whose flash is FOLDER/ttyUSB0.flash and so on, and serves them until it is ended. A pseudo-terminal hands bytes on
 as they are, and has neither speed nor parity nor RTS and DTR.
+
+--baud N    bytes take as long as on a line of this speed: 11 bits each, a start, a parity and a stop bit among them
+--hold MS   what the board sends is held back so long, as adapters do
 """
 
 import argparse
@@ -28,8 +31,9 @@ PATIENCE = 120
 class PtyBoard:
     """One board: a pseudo-terminal at `name`, joined to a simulator whose flash is `name`.flash."""
 
-    def __init__(self, program, name, chip="0412", table=None):
+    def __init__(self, program, name, chip="0412", table=None, baud=None, hold=0.0):
         self.name = name
+        self.byte_time, self.hold = 11 / baud if baud else 0.0, hold
         self.behind = name + ".board"
         files = ["--table", table or os.path.join(TOP, "chips.toml"), "--id", chip, "--flash", name + ".flash"]
         words = [program, "sim", *files, "--socket", self.behind, "--clients", "1000000"]
@@ -106,6 +110,7 @@ class PtyBoard:
             return
         if self.device is None:
             self.device = self.connect()
+        self.wait(len(data) * self.byte_time)
         with contextlib.suppress(OSError):
             self.device.sendall(data)
 
@@ -119,11 +124,17 @@ class PtyBoard:
                 self.device = None
             device.close()
             return
+        self.wait(len(data) * self.byte_time + self.hold)
         while data:
             try:
                 data = data[os.write(master, data):]
             except OSError:
                 return
+
+    @staticmethod
+    def wait(seconds):
+        if seconds:
+            time.sleep(seconds)
 
     def pull(self):
         """The board goes, as an adapter that is pulled."""
@@ -151,6 +162,8 @@ def main():
     words.add_argument("count", nargs="?", type=int, default=1)
     words.add_argument("--id", default="0412")
     words.add_argument("--table")
+    words.add_argument("--baud", type=int)
+    words.add_argument("--hold", type=float, default=0, metavar="MS")
     given = words.parse_args()
     signal.signal(signal.SIGTERM, lambda *_: sys.exit(0))
     os.makedirs(given.folder, exist_ok=True)
@@ -158,7 +171,8 @@ def main():
     boards = []
     try:
         for number in range(given.count):
-            boards.append(PtyBoard(program, os.path.join(given.folder, f"ttyUSB{number}"), given.id, given.table))
+            name = os.path.join(given.folder, f"ttyUSB{number}")
+            boards.append(PtyBoard(program, name, given.id, given.table, given.baud, given.hold / 1000))
         print(f"{given.count} boards in {given.folder}", flush=True)
         while True:
             signal.pause()

@@ -10,13 +10,15 @@ import itertools
 import os
 import signal
 import socket
+import termios
 import time
 import unittest
 
 from boards import LINE, LinePlace, load
-from place import PATIENCE
+from place import ERASED, PATIENCE
 
 line = load("stmflash-line")
+LATENCY = "LAT  low"
 STAND_INS = os.path.dirname(os.path.abspath(__file__))
 # runs the companion where pyserial knows the ports of tests/stand_ins
 RUNNER = "import runpy, serial, sys; sys.path.insert(0, sys.argv.pop(1)); sys.dont_write_bytecode = True; " \
@@ -56,9 +58,10 @@ class Played(LinePlace):
         return self.start(STAND_INS, LINE, self.wired, *words, line=("-c", RUNNER))
 
     def calls(self, name="calls"):
-        """The calls, and when each was made, in seconds."""
+        """The calls that move something on the line, and when each was made, in seconds."""
         lines = [text.split(" ", 1) for text in self.held(name).decode().splitlines()]
-        return [" ".join(call.split()) for _, call in lines], [float(when) for when, _ in lines]
+        lines = [(when, " ".join(call.split())) for when, call in lines if call != LATENCY]
+        return [call for _, call in lines], [float(when) for when, _ in lines]
 
     def test_before_and_after(self):
         """The calls and delays in this order, and no byte on the line before."""
@@ -78,8 +81,32 @@ class Played(LinePlace):
         self.assertEqual(self.calls()[0], ["BRK send_break 0.25s", "RTS inactive", "DTR inactive"])
 
     def test_without_an_option(self):
+        """Nothing is moved; the driver is asked to hand bytes on at once."""
         self.assertSilent(self.play("--", "true"))
         self.assertEqual(self.calls()[0], [])
+        self.assertIn(LATENCY, self.held("calls").decode())
+
+    def test_mode(self):
+        """What comes is marked where it is bad, and not changed; RTS and DTR stay when the port is closed."""
+        for words in (("ttyUSB0",), (self.wired, "--baud", "9600")):
+            mode = self.mode_during(*words)
+            marks = termios.INPCK | termios.PARMRK
+            changes = termios.IGNPAR | termios.IGNBRK | termios.BRKINT | termios.ISTRIP | termios.INLCR | termios.IGNCR | \
+                termios.ICRNL | termios.IXON | termios.IXOFF
+            self.assertEqual(mode[0] & (marks | changes), marks)
+            self.assertEqual(mode[1] & termios.OPOST, 0)
+            form = termios.CSIZE | termios.CSTOPB | termios.HUPCL | termios.CREAD | termios.CLOCAL
+            self.assertEqual(mode[2] & form, termios.CS8 | termios.CREAD | termios.CLOCAL)
+            self.assertEqual(mode[3] & (termios.ECHO | termios.ICANON | termios.ISIG | termios.IEXTEN), 0)
+            self.assertEqual(mode[5], termios.B9600 if "--baud" in words else termios.B115200)
+
+    def mode_during(self, *words):
+        started = self.start(STAND_INS, LINE, *words, "--", "sh", "-c", "echo; exec sleep 1000", line=("-c", RUNNER))
+        self.assertEqual(started.stdout.readline(), b"\n")
+        mode = termios.tcgetattr(self.master)
+        started.terminate()
+        self.ended(started)
+        return mode
 
     def test_the_board_is_left_whatever_came(self):
         """After a command that failed, and after a signal, also in the midst of --boot."""
@@ -100,6 +127,28 @@ class Played(LinePlace):
             with self.subTest(boot=boot):
                 said = self.play("--boot", boot, "--", "sh", "-c", "echo ${STMFLASH_FRESH-no}")
                 self.assertTold(said, fresh + "\n")
+
+
+class Fresh(LinePlace):
+    def test_a_board_that_was_reset(self):
+        """The session settles with 7F alone, and without the quiet waits of one that knows nothing."""
+        board = self.board()
+        self.assertEqual(board.store(), ERASED)
+        wired = f"wired://{self.path('ttyUSB0')}?file={self.path('calls')}"
+        words = (STAND_INS, LINE, wired, "--boot", "rts,-dtr", "--", *self.stmflash("info"))
+        said = self.ended(self.start(*words, line=("-c", RUNNER)))
+        self.assertEqual((said.status, said.out.split(b"\n")[0], said.err), (0, b"id 0412", b""))
+
+
+class Modes(unittest.TestCase):
+    def test_a_driver_that_keeps_another_mode(self):
+        """A pseudo-terminal knows no parity: as a port it would be refused."""
+        master, slave = os.openpty()
+        self.addCleanup(os.close, master)
+        self.addCleanup(os.close, slave)
+        with self.assertRaises(ValueError):
+            line.set_mode(slave, is_pty=False)
+        line.set_mode(slave, is_pty=True)
 
 
 class Unmarking(unittest.TestCase):

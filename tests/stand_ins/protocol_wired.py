@@ -13,3 +13,6 @@ class Serial(protocol_spy.Serial):
 
     def _update_dtr_state(self):
         pass
+
+    def set_low_latency_mode(self, low_latency_settings):
+        self.formatter.control("LAT", "low" if low_latency_settings else "as it was")
