@@ -5,3 +5,4 @@ pub mod Starts
 pub mod Resets
 pub mod Stops
 pub mod Histories
+pub mod Powers

@@ -1,14 +1,18 @@
 //! What a caller of the public contracts can prove: sessions that only read, one after another, on any Rig that follows the
 //! model, and on one that was stopped and reset between them; a write that leaves its image and nothing else; and commands that
-//! are stopped anywhere, a reset, and an undo that leaves the flash as it was.
+//! are stopped anywhere, a reset or a loss of power, and an undo that leaves the flash as it was.
 #![tactic(auto)]
 
+mod power;
 mod reading;
 mod starting;
 mod stopping;
 mod taking_back;
+mod unpowered;
 
+pub use power::lose_power;
 pub use reading::{a_safe_device_can_begin, read, read_flash, read_twice, tell};
 pub use starting::read_new;
 pub use stopping::{a_stopped_session_can_go_on, read_again};
 pub use taking_back::{take_back_stopped, write_whole};
+pub use unpowered::take_back_unpowered;

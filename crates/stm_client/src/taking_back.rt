@@ -1,14 +1,15 @@
-// Sessions that change the flash, on a device that nothing was begun on: written, and stopped and taken back.
-ghost use Rattle.std.specs.Prelude.{◌≡◌, IfOk};
+// Sessions that change the flash, from any state that can be taken back: written, and stopped and taken back.
+ghost use Rattle.std.specs.Prelude.{◌≡◌, ℕ, List, IfOk};
 ghost use Rattle.stm_image.specs.Lay.{lay};
 ghost use Rattle.stm_wire.specs.Memory.{rig_state};
-ghost use Rattle.stm_session.specs.Headline.{IsStart, now_of};
+ghost use Rattle.stm_session.specs.Events.{Knows, now_of};
+ghost use Rattle.stm_session.specs.Headline.{IsStart, oldest_start};
 
 use std::alloc::Global;
 use stm_chip::Table;
 use stm_image::Image;
 use stm_session::{
-    Command, Fault, Report, a_ready_device_can_begin, a_session_can_be_taken_back, run, undo,
+    Command, Fault, Report, a_run_is_known_by_its_outcomes, a_session_can_be_taken_back, run, undo,
 };
 use stm_wire::{MemoryRig, Rig};
 
@@ -20,10 +21,12 @@ pub fn write_whole<R: Rig>(
     image: Image,
 ) -> Result<Report, Fault>
     ensures whole { let old = R.view rig.old in let new = R.view rig.new in
-        old.is_honest → IsStart table.now (now_of old)
+        (starts : List (List ℕ)) → old.is_honest → IsStart starts (now_of old)
+        → Knows table.now (now_of old)
         → IfOk result (λ _. new.device.flash ≡ lay image old.device.chip.base old.device.flash) }
 {
     a_session_can_be_taken_back::<R>();
+    a_run_is_known_by_its_outcomes::<R, Report>();
     let commands = [Command::Write(image)];
     let report = run(alloc, rig, table, &commands)?;
     Ok(report)
@@ -38,11 +41,12 @@ pub fn take_back_stopped(
     steps: u64,
 ) -> Result<u32, Fault>
     ensures back { let old = rig_state rig.old in
-        old.is_honest → IsStart table.now (now_of old)
-        → IfOk result (λ _. rig.new.device.flash ≡ rig.old.device.flash) }
+        (starts : List (List ℕ)) → old.is_honest → IsStart starts (now_of old)
+        → Knows table.now (now_of old)
+        → IfOk result (λ _. rig.new.device.flash ≡ oldest_start starts (now_of old)) }
 {
     a_session_can_be_taken_back::<MemoryRig>();
-    a_ready_device_can_begin();
+    a_run_is_known_by_its_outcomes::<MemoryRig, Report>();
     rig.stop_after(steps);
     let _stopped = run(alloc, rig, table, commands);
     rig.reset();

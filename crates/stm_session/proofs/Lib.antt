@@ -15,6 +15,8 @@ pub mod Undoing
 mod Unrefused
 mod PowerLosses
 pub mod RunHistories
+pub mod UndoHistories
+pub mod ToldRuns
 pub mod Histories
 pub mod Whole
 pub mod Differences

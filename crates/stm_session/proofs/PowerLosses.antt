@@ -1,5 +1,5 @@
--- What can be taken back still can after a loss of power.
-use Rattle.std.proofs.Common.{◌≡◌, ◌⊎◌, inl, inr, ℕ, ◌+◌, ◌<◌, ◌≤◌, Bool, true, not, List, [], ◌∷◌, ◌++◌, length, take, drop, map, if◌then◌else◌, Some, refl, sym, ◌∙◌, ap, subst, lit≤}
+-- What can be taken back still can after a loss of power, and where owed bytes are lost.
+use Rattle.std.proofs.Common.{◌≡◌, ◌⊎◌, inl, inr, ℕ, ◌+◌, ◌<◌, ◌≤◌, Bool, true, not, List, [], ◌∷◌, ◌++◌, length, take, drop, map, if◌then◌else◌, Some, refl, sym, ◌∙◌, ap, subst, lit≤, arith, length-drop}
 use Rattle.std.proofs.lemmas.List.Elements.{All-take, All-append, All-drop}
 use Rattle.std.specs.Prelude.{Contains}
 use Rattle.stm_wire.specs.declared.intent.Intent.{Intent}
@@ -9,17 +9,30 @@ use Rattle.stm_wire.specs.Device.{Device}
 use Rattle.stm_wire.specs.Harmless.{SameOutside}
 use Rattle.stm_wire.specs.Intents.{settling_byte}
 use Rattle.stm_wire.specs.PageLaws.{length-with_page, page_put-other}
-use Rattle.stm_wire.specs.Stopped.{FreshIsHarmless, SameOutsideNoneIsSame}
+use Rattle.stm_wire.specs.Stopped.{FreshIsHarmless, LossStaysHarmless, SameOutsideNoneIsSame}
 use Rattle.stm_journal.specs.declared.stage.Stage.{Stage}
 use Rattle.stm_journal.specs.declared.stage.Stage.TheVariants.{Open, Ended, Returning}
 use Rattle.stm_journal.specs.States.{StateData, SegmentData, IsSound, intent_at, intent_of, intent_page, is_ended_stage, names_other, newest_has, newest_intent}
 use Rattle.stm_journal.specs.Journals.{journal_of, good}
 use Rattle.stm_journal.specs.FlashLaws.{ChangesKeepFlashes}
 use Rattle.stm_journal.specs.Flashes.{flashes_before_segments}
-use Rattle.stm_session.specs.PowerLoss.{AnyBytesAreLeft, FinishedLosesNothing, IntentIsAtRisk, LosesPower, PowerLossKeepsFlashes}
-use Rattle.stm_session.specs.Undoable.{IsJournalOf, newest_kept, risked_pages, state_at}
+use Rattle.stm_session.specs.PowerLoss.{AnyBytesAreLeft, FinishedLosesNothing, IntentIsAtRisk, LosesPower, OwedLossKeepsFlashes, PowerLossKeepsFlashes}
+use Rattle.stm_session.specs.Undoable.{IsJournalOf, Undoable, newest_kept, risked_pages, state_at}
 use Rattle.stm_session.proofs.Keeping.{is_risked, risked_is}
 use Rattle.stm_session.proofs.Standing.{intended_kept}
+
+pub owed-keeps : LossStaysHarmless → OwedLossKeepsFlashes
+owed-keeps law flashes d e journal u (n, lost) =
+    let less : Device = record d { owed = drop n d.owed } in
+    let U : Device → Type 0 = λ x. Undoable flashes x journal in
+    subst U (sym lost) (record {
+      good_journal = u.good_journal;
+      own = u.own;
+      fits = u.fits;
+      keeps = u.keeps;
+      harmless = law d less (settling_byte (intent_of (state_at journal))) (risked_pages (state_at journal)) u.harmless (n, refl);
+      owed = omega (arith, u.owed, length-drop n d.owed);
+    })
 
 -- the flash that there was has the chip's size
 old_size : (journal : List ℕ) (old new : Device) → LosesPower journal old new → length old.flash ≡ flash_size old.chip

@@ -1,15 +1,13 @@
 -- What a run leaves, wherever it is stopped, follows from its contract.
-use Rattle.std.proofs.Common.{◌≡◌, ◌≤◌, ◌+◌, ◌==◌, ◌||◌, nat_lt, ℕ, suc, Bool, true, false, not, List, [], ◌∷◌, ◌++◌, length, take, drop, reverse, Option, Some, None, Result, Ok, refl, sym, ◌∙◌, ap, subst, arith, ⊎_elim, length-append, if◌then◌else◌, length-take, length-drop}
+use Rattle.std.proofs.Common.{◌≡◌, ◌≤◌, ◌+◌, ◌==◌, ◌||◌, ◌⊎◌, nat_lt, ℕ, suc, Bool, true, false, not, List, [], ◌∷◌, ◌++◌, length, take, reverse, Option, Some, None, Result, Ok, refl, sym, ◌∙◌, ap, subst, arith, ⊎_elim, length-append, if◌then◌else◌, length-take}
 use Rattle.std.proofs.lemmas.List.{length-reverse}
 use Rattle.std.proofs.lemmas.Bool.{cases_Bool}
 use Rattle.stm_wire.specs.Chip.{ChipData}
-use Rattle.stm_wire.specs.Device.{Device, IsDevice, IsReady, LosesOwed, reset}
-use Rattle.stm_wire.specs.Intents.{settling_byte}
+use Rattle.stm_wire.specs.Device.{Device, LosesOwed, reset}
 use Rattle.stm_wire.specs.Rig.{RigState}
-use Rattle.stm_wire.specs.Stopped.{LossStaysHarmless}
-use Rattle.stm_chip.specs.Document.{IsChipWith}
-use Rattle.stm_journal.specs.States.{SegmentData, intent_of}
-use Rattle.stm_journal.specs.Journals.{good, journal_of}
+use Rattle.stm_chip.specs.Document.{IsChipWith, IsNewId}
+use Rattle.stm_journal.specs.States.{IsSound, SegmentData, StateData}
+use Rattle.stm_journal.specs.Journals.{JournalData, good, journal_of}
 use Rattle.stm_journal.specs.Flashes.{flashes_before_segments, with_kept_pages}
 use Rattle.stm_journal.specs.Calls.{IsUntouched}
 use Rattle.stm_session.specs.declared.fault.Fault.{Fault}
@@ -17,16 +15,17 @@ use Rattle.stm_session.specs.declared.fault.Fault.TheVariants as faults
 use Rattle.stm_session.specs.Moments.{IsSafe, IsUnbegun, SameMake}
 use Rattle.stm_session.specs.PowerLoss.{FinishedLosesNothing, PowerLossKeepsFlashes}
 use Rattle.stm_session.specs.Refusal.{unsent_refusal, refused_unless}
-use Rattle.stm_session.specs.Undoable.{Undoable, is_unfinished_at, state_at, risked_pages}
-use Rattle.stm_session.specs.declared.outcome.Report.{Report}
+use Rattle.stm_session.specs.Undoable.{Undoable, is_unfinished_at, state_at}
 use Rattle.stm_session.specs.Meaning.{CommandData, flash_after, flash_after_all, flashes_before, changes_of, is_change, before_if}
-use Rattle.stm_session.specs.Answers.{outcomes_in}
+use Rattle.stm_session.specs.Answers.{OutcomeData}
 use Rattle.stm_session.specs.Lines.{depth_at}
 use Rattle.stm_session.specs.Refusals.{run_refusal}
 use Rattle.stm_session.specs.Runs.{AmidRun, standing}
 use Rattle.stm_session.specs.Undoes.{taken_count}
 use Rattle.stm_session.specs.Promises.{RunContract}
-use Rattle.stm_session.specs.Headline.{World, now_of, Stops, standing_in, grown, starts_of_run, RunHolds, RunLeaves}
+use Rattle.stm_session.specs.Events.{World, now_of, Knows, Stops, themselves}
+use Rattle.stm_session.specs.Headline.{standing_in, grown, starts_of_run, RunHolds, RunLeaves}
+use Rattle.stm_session.proofs.Openings.{lacks_chip}
 
 length-flashes : (chip : ChipData) (stack : List SegmentData) (flash : List ℕ) → length (flashes_before_segments chip stack flash) ≡ length stack
 length-flashes chip [] flash = refl
@@ -60,33 +59,26 @@ taken-within count below = chosen (count == 0) (nat_lt below count) refl
 
 -- what the layers below promise
 pub record Laws : Type 0 where
-  pub loses : LossStaysHarmless
+  pub loses : (flashes : List (List ℕ)) (d e : Device) (journal : List ℕ) → Undoable flashes d journal → LosesOwed d e → Undoable flashes e journal
   pub resets : (flashes : List (List ℕ)) (d : Device) (journal : List ℕ) → Undoable flashes d journal → Undoable flashes (reset d) journal
   pub loses_power : PowerLossKeepsFlashes
   pub loses_nothing : FinishedLosesNothing
   pub safe : (flashes : List (List ℕ)) (d : Device) (journal : List ℕ) → Undoable flashes d journal → is_unfinished_at journal ≡ false → IsSafe d
   pub unbegun : (flashes : List (List ℕ)) (old d : Device) (journal : List ℕ) → Undoable flashes old journal → is_unfinished_at journal ≡ false
       → SameMake old d → d.flash ≡ old.flash → IsSafe d → Undoable flashes d journal
-  pub begins : (d : Device) → IsDevice d → IsReady d → Undoable [] d []
+  pub empties : (d : Device) → IsSafe d → Undoable [] d []
+  pub sound : (bytes : List ℕ) (s : StateData) → journal_of bytes ≡ good s → IsSound s
+
+-- a device that lost owed bytes is of the same make
+pub lost-make : (d e : Device) → LosesOwed d e → SameMake d e
+lost-make d e (n, lost) =
+    record { chip = ap (λ (x : Device). x.chip) lost; version = ap (λ (x : Device). x.version) lost; codes = ap (λ (x : Device). x.codes) lost }
 
 module _ (laws : Laws) where
-  lost-keeps : (flashes : List (List ℕ)) (d e : Device) (journal : List ℕ) → Undoable flashes d journal → LosesOwed d e → Undoable flashes e journal
-  lost-keeps flashes d e journal u (n, lost) =
-      let less : Device = record d { owed = drop n d.owed } in
-      let U : Device → Type 0 = λ x. Undoable flashes x journal in
-      subst U (sym lost) (record {
-        good_journal = u.good_journal;
-        own = u.own;
-        fits = u.fits;
-        keeps = u.keeps;
-        harmless = laws.loses d less (settling_byte (intent_of (state_at journal))) (risked_pages (state_at journal)) u.harmless (n, refl);
-        owed = omega (arith, u.owed, length-drop n d.owed);
-      })
-
   pub untouched-keeps : (flashes : List (List ℕ)) (old : RigState) (d : Device) (journal : List ℕ) → Undoable flashes old.device old.journal → IsUntouched old d journal → Undoable flashes d journal
   untouched-keeps flashes old d journal u left =
       let U : List ℕ → Type 0 = λ j. Undoable flashes d j in
-      subst U (sym left.0) (lost-keeps flashes old.device d old.journal u left.1)
+      subst U (sym left.0) (laws.loses flashes old.device d old.journal u left.1)
 
   pub unbegun-keeps : (flashes : List (List ℕ)) (old : RigState) (d : Device) (journal : List ℕ) → is_unfinished_at old.journal ≡ false → Undoable flashes old.device old.journal → IsUnbegun old d journal → Undoable flashes d journal
   unbegun-keeps flashes old d journal over u b =
@@ -100,31 +92,42 @@ module _ (laws : Laws) where
   pub record RunLeft (commands : List CommandData) (flashes : List (List ℕ)) (s t : World) : Type 0 where
     pub begun : ℕ
     pub within : begun ≤ length (changes_of (standing_in s commands))
-    pub same_chip : t.device.chip ≡ s.device.chip
+    pub make : SameMake s.device t.device
     pub undoable : Undoable (reverse (take begun (flashes_before s.device.chip s.device.flash (standing_in s commands))) ++ flashes) t.device t.journal
     pub finished : is_unfinished_at t.journal ≡ false → t.device.flash ≡ flash_after_all s.device.chip s.device.flash (take begun (changes_of (standing_in s commands)))
 
-  run-unbegun : (commands : List CommandData) (flashes : List (List ℕ)) (s t : World) → t.device.chip ≡ s.device.chip → Undoable flashes t.device t.journal → (is_unfinished_at t.journal ≡ false → t.device.flash ≡ s.device.flash) → RunLeft commands flashes s t
-  run-unbegun commands flashes s t chip u flash = record { begun = 0; within = omega arith; same_chip = chip; undoable = u; finished = flash }
+  run-unbegun : (commands : List CommandData) (flashes : List (List ℕ)) (s t : World) → SameMake s.device t.device → Undoable flashes t.device t.journal → (is_unfinished_at t.journal ≡ false → t.device.flash ≡ s.device.flash) → RunLeft commands flashes s t
+  run-unbegun commands flashes s t make u flash = record { begun = 0; within = omega arith; make = make; undoable = u; finished = flash }
 
   amid-left : (commands : List CommandData) (flashes : List (List ℕ)) (old : RigState) (t : World) → AmidRun (standing old commands) flashes old t.device t.journal → RunLeft commands flashes (now_of old) t
-  amid-left commands flashes old t amid = record { begun = amid.begun; within = amid.within; same_chip = amid.make.chip; undoable = amid.undoable; finished = amid.finished }
+  amid-left commands flashes old t amid = record { begun = amid.begun; within = amid.within; make = amid.make; undoable = amid.undoable; finished = amid.finished }
 
   untouched-left : (commands : List CommandData) (flashes : List (List ℕ)) (old : RigState) (t : World) → Undoable flashes old.device old.journal → IsUntouched old t.device t.journal → RunLeft commands flashes (now_of old) t
   untouched-left commands flashes old t u same =
-      run-unbegun commands flashes (now_of old) t (ap (λ (d : Device). d.chip) same.1.1) (untouched-keeps flashes old t.device t.journal u same) (λ e. ap (λ (d : Device). d.flash) same.1.1)
+      run-unbegun commands flashes (now_of old) t (lost-make old.device t.device same.1) (untouched-keeps flashes old t.device t.journal u same) (λ e. ap (λ (d : Device). d.flash) same.1.1)
 
   unbegun-left : (commands : List CommandData) (flashes : List (List ℕ)) (old : RigState) (t : World) → is_unfinished_at old.journal ≡ false → Undoable flashes old.device old.journal → IsUnbegun old t.device t.journal → RunLeft commands flashes (now_of old) t
-  unbegun-left commands flashes old t over u b = run-unbegun commands flashes (now_of old) t b.make.chip (unbegun-keeps flashes old t.device t.journal over u b) (λ e. b.flash)
+  unbegun-left commands flashes old t over u b = run-unbegun commands flashes (now_of old) t b.make (unbegun-keeps flashes old t.device t.journal over u b) (λ e. b.flash)
+
+  -- where a run is refused nothing, the table holds the device's chip
+  held-chip : (table : List ChipData) (commands : List CommandData) (flashes : List (List ℕ)) (d : Device) (journal : List ℕ) → Undoable flashes d journal → is_unfinished_at journal ≡ false
+      → IsNewId table d.chip.id ⊎ IsChipWith table d.chip.id d.chip → run_refusal (journal_of journal) d table commands ≡ None → IsChipWith table d.chip.id d.chip
+  held-chip table commands flashes d journal u finished knows none =
+      ⊎_elim
+      (λ new_id.
+      let said : run_refusal (journal_of journal) d table commands ≡ Some (faults.UnknownChip d.chip.id) =
+          ap (λ (j : JournalData). run_refusal j d table commands) u.good_journal ∙ rw (finished, u.own, lacks_chip table d.chip.id new_id) refl in
+      absurd (let h : None ≡ Some (faults.UnknownChip d.chip.id) = sym none ∙ said in cc))
+      (λ is. is) knows
 
   module _ (table : List ChipData) where
-    module _ (commands : List CommandData) (flashes : List (List ℕ)) (old new : RigState) (result : Result Report Fault) (honest : old.is_honest)
-        (u : Undoable flashes old.device old.journal) (tabled : IsChipWith table old.device.chip.id old.device.chip) (contract : RunContract table commands old new result outcomes_in) where
+    module _ (commands : List CommandData) (flashes : List (List ℕ)) (old new : RigState) (result : Result (List OutcomeData) Fault) (honest : old.is_honest)
+        (u : Undoable flashes old.device old.journal) (knows : Knows table (now_of old)) (contract : RunContract table commands old new result themselves) where
       -- what a stop leaves, and what the return leaves
       run-checked : is_unfinished_at old.journal ≡ false → (o : Option Fault) → run_refusal (journal_of old.journal) old.device table commands ≡ o
           → ((t : World) → Stops old new t → RunLeft commands flashes (now_of old) t) × RunLeft commands flashes (now_of old) (now_of new)
       run-checked over None is =
-          let runs = contract.runs honest flashes u tabled is in
+          let runs = contract.runs honest flashes u (held-chip table commands flashes old.device old.journal u over knows is) is in
           (λ t left. amid-left commands flashes old t (runs.moments.each t.device t.journal left), amid-left commands flashes old (now_of new) runs.left)
       run-checked over (Some r) is =
           let refused = contract.refused honest (laws.safe flashes old.device old.journal u over) r is in
@@ -139,11 +142,24 @@ module _ (laws : Laws) where
           (λ over. run-checked over (run_refusal (journal_of old.journal) old.device table commands) refl)
           (cases_Bool (is_unfinished_at old.journal))
 
-    run-succeeds : (commands : List CommandData) (flashes : List (List ℕ)) (old new : RigState) (report : Report) → old.is_honest → Undoable flashes old.device old.journal → IsChipWith table old.device.chip.id old.device.chip
-        → RunContract table commands old new (Ok report) outcomes_in → is_unfinished_at old.journal ≡ false
+    module _ (commands : List CommandData) (flashes : List (List ℕ)) (old new : RigState) (result : Result (List OutcomeData) Fault) (honest : old.is_honest)
+        (u : Undoable flashes old.device old.journal) (knows : Knows table (now_of old)) (contract : RunContract table commands old new result themselves) where
+      honest-checked : is_unfinished_at old.journal ≡ false → (o : Option Fault) → run_refusal (journal_of old.journal) old.device table commands ≡ o → new.is_honest
+      honest-checked over None is = (contract.runs honest flashes u (held-chip table commands flashes old.device old.journal u over knows is) is).honest
+      honest-checked over (Some r) is = (contract.refused honest (laws.safe flashes old.device old.journal u over) r is).honest
+
+      -- another call can begin on the Rig
+      pub run-honest : new.is_honest
+      run-honest =
+          ⊎_elim (λ still_open. (contract.unsent honest faults.Unfinished (waits old u.good_journal still_open)).honest)
+          (λ over. honest-checked over (run_refusal (journal_of old.journal) old.device table commands) refl)
+          (cases_Bool (is_unfinished_at old.journal))
+
+    run-succeeds : (commands : List CommandData) (flashes : List (List ℕ)) (old new : RigState) (outcomes : List OutcomeData) → old.is_honest → Undoable flashes old.device old.journal → Knows table (now_of old)
+        → RunContract table commands old new (Ok outcomes) themselves → is_unfinished_at old.journal ≡ false
         → (o : Option Fault) → run_refusal (journal_of old.journal) old.device table commands ≡ o → RunHolds commands (now_of old) (now_of new)
-    run-succeeds commands flashes old new report honest u tabled contract over None is =
-        let done = (contract.runs honest flashes u tabled is).done in
+    run-succeeds commands flashes old new outcomes honest u knows contract over None is =
+        let done = (contract.runs honest flashes u (held-chip table commands flashes old.device old.journal u over knows is) is).done in
         record {
           flash = done.flash;
           finished = done.finished;
@@ -156,15 +172,15 @@ module _ (laws : Laws) where
                 length-before old.device.chip old.device.flash commands,
               );
         }
-    run-succeeds commands flashes old new report honest u tabled contract over (Some r) is =
+    run-succeeds commands flashes old new outcomes honest u knows contract over (Some r) is =
         absurd (contract.refused honest (laws.safe flashes old.device old.journal u over) r is).answers
 
-    pub run-holds : (commands : List CommandData) (flashes : List (List ℕ)) (old new : RigState) (report : Report) → old.is_honest → Undoable flashes old.device old.journal → IsChipWith table old.device.chip.id old.device.chip
-        → RunContract table commands old new (Ok report) outcomes_in → RunHolds commands (now_of old) (now_of new)
-    run-holds commands flashes old new report honest u tabled contract =
+    pub run-holds : (commands : List CommandData) (flashes : List (List ℕ)) (old new : RigState) (outcomes : List OutcomeData) → old.is_honest → Undoable flashes old.device old.journal → Knows table (now_of old)
+        → RunContract table commands old new (Ok outcomes) themselves → RunHolds commands (now_of old) (now_of new)
+    run-holds commands flashes old new outcomes honest u knows contract =
         ⊎_elim
         (λ still_open. absurd (contract.unsent honest faults.Unfinished (waits old u.good_journal still_open)).answers)
-        (λ over. run-succeeds commands flashes old new report honest u tabled contract over (run_refusal (journal_of old.journal) old.device table commands) refl)
+        (λ over. run-succeeds commands flashes old new outcomes honest u knows contract over (run_refusal (journal_of old.journal) old.device table commands) refl)
         (cases_Bool (is_unfinished_at old.journal))
 
     pub run-begun : (commands : List CommandData) (flashes : List (List ℕ)) (s t : World) → Undoable flashes s.device s.journal → (left : RunLeft commands flashes s t) → grown s t ≡ left.begun

@@ -3,14 +3,14 @@ use Rattle.std.proofs.Common.{◌≡◌, ◌≤◌, ℕ, zero, suc, Bool, true, 
 use Rattle.std.proofs.lemmas.List.{reverse-append}
 use Rattle.stm_wire.specs.Chip.{ChipData}
 use Rattle.stm_wire.specs.Rig.{RigState}
-use Rattle.stm_journal.specs.States.{SegmentData, StateData, is_unfinished}
-use Rattle.stm_session.specs.Undoable.{Undoable, is_unfinished_at, state_at}
+use Rattle.stm_session.specs.Undoable.{Undoable}
 use Rattle.stm_session.specs.Meaning.{CommandData, writes, erases, verifies, reads, flash_after, flash_after_all, flashes_before, changes_of, is_change, before_if}
-use Rattle.stm_session.specs.Lines.{depth_at}
-use Rattle.stm_session.specs.Undoes.{taken_count, flash_taken_back, AmidUndo}
-use Rattle.stm_session.specs.Headline.{World, now_of, Event, ran, run_stopped, informed, info_stopped, undid, undo_stopped, was_reset, lost_power, Leads, standing_in, grown, starts_of_run, starts_after, Happening, AllLead, end_of, AllIsTakenBack, WritesWhole}
-use Rattle.stm_session.proofs.RunHistories.{Laws, RunLeft, depth-is, length-before, taken-within, run-left, run-begun}
-use Rattle.stm_session.proofs.Histories.{undo-undone, gives, still-tabled, start-undoable, IsTabled}
+use Rattle.stm_session.specs.Undoes.{flash_taken_back}
+use Rattle.stm_session.specs.Events.{World, now_of, Event, Happening, AllLead, Knows, Leads, end_of, ran, run_stopped, informed, info_stopped, undid, undo_stopped, left_refused, refusal_stopped, kept, was_reset, lost_owed, lost_power}
+use Rattle.stm_session.specs.Headline.{standing_in, grown, starts_of_run, starts_after, oldest_after, oldest_of, oldest_start, AllIsTakenBack, WritesWhole}
+use Rattle.stm_session.proofs.RunHistories.{Laws, RunLeft, depth-is, length-before, run-left, run-begun}
+use Rattle.stm_session.proofs.UndoHistories.{UndoLeft, none-finished, undo-left, undo-undone}
+use Rattle.stm_session.proofs.Histories.{gives}
 
 -- the flash at the start of the oldest segment, and with none the flash itself
 abbrev pub oldest : List (List ℕ) → List ℕ → List ℕ
@@ -78,21 +78,10 @@ oldest-drop n flashes old new within same = by_length n flashes old within same
     by_length (suc n) [] old within same = absurd (no_more n within)
     by_length (suc n) (f ∷ fs) old within same = by_length n fs f (omega (arith, within)) (λ e. same (ap suc e) ∙ next n old f fs)
 
--- a journal without a segment isn't unfinished
-empty-finished : (stack : List SegmentData) (s : StateData) → s.stack ≡ stack → length stack ≡ 0 → is_unfinished s ≡ false
-empty-finished [] s e none = let F : List SegmentData → Type 0 = λ k. is_unfinished (record { header = s.header; stack = k }) ≡ false in subst F (sym e) refl
-empty-finished (segment ∷ below) s e none = absurd (no_segment none)
-  where
-    no_segment : suc (length below) ≡ 0 → ⊥
-    no_segment h = omega (arith, h)
-
-none-finished : (journal : List ℕ) → depth_at journal ≡ 0 → is_unfinished_at journal ≡ false
-none-finished journal none = empty-finished (state_at journal).stack (state_at journal) refl none
-
-module _ (laws : Laws) {R : Type 0} (view : R → RigState) (table : List ChipData) where
-  run-oldest : (commands : List CommandData) (starts : List (List ℕ)) (s t : World) → Undoable starts s.device s.journal → RunLeft laws commands starts s t
+module _ (laws : Laws) {R : Type 0} (view : R → RigState) where
+  run-oldest : (table : List ChipData) (commands : List CommandData) (starts : List (List ℕ)) (s t : World) → Undoable starts s.device s.journal → RunLeft laws commands starts s t
       → oldest (starts_of_run commands s t starts) t.device.flash ≡ oldest starts s.device.flash
-  run-oldest commands starts s t u left =
+  run-oldest table commands starts s t u left =
       let hs = flashes_before s.device.chip s.device.flash (standing_in s commands) in
       let O : ℕ → Type 0 = λ n. oldest (reverse (take n hs) ++ starts) t.device.flash ≡ oldest starts s.device.flash in
       subst O (sym (run-begun laws table commands starts s t u left))
@@ -105,38 +94,42 @@ module _ (laws : Laws) {R : Type 0} (view : R → RigState) (table : List ChipDa
       left.finished (none-finished t.journal (depth-is (reverse (take left.begun hs) ++ starts) t.device t.journal left.undoable ∙ ap length there))
       ∙ ap (λ n. flash_after_all s.device.chip s.device.flash (take n (changes_of (standing_in s commands)))) unbegun)))
 
-  undo-oldest : (starts : List (List ℕ)) (taken : ℕ) (old : RigState) (t : World) → taken ≤ length starts → Undoable starts old.device old.journal → AmidUndo taken starts old t.device t.journal
-      → oldest (drop (grown t (now_of old)) starts) t.device.flash ≡ oldest starts old.device.flash
-  undo-oldest starts taken old t within u amid =
-      let O : ℕ → Type 0 = λ n. oldest (drop n starts) t.device.flash ≡ oldest starts old.device.flash in
-      subst O (sym (undo-undone laws view table starts taken old t within u amid))
-      (oldest-drop amid.undone starts old.device.flash t.device.flash (omega (arith, within, amid.within))
-      (λ all. amid.finished (none-finished t.journal (depth-is (drop amid.undone starts) t.device t.journal amid.undoable ∙ length-drop amid.undone starts ∙ omega (arith, all)))))
+  undo-oldest : (starts : List (List ℕ)) (s t : World) → Undoable starts s.device s.journal → UndoLeft laws starts s t
+      → oldest (drop (grown t s) starts) t.device.flash ≡ oldest starts s.device.flash
+  undo-oldest starts s t u left =
+      let O : ℕ → Type 0 = λ n. oldest (drop n starts) t.device.flash ≡ oldest starts s.device.flash in
+      subst O (sym (undo-undone laws starts s t u left))
+      (oldest-drop left.undone starts s.device.flash t.device.flash left.within
+      (λ all. left.finished (none-finished t.journal (depth-is (drop left.undone starts) t.device t.journal left.undoable ∙ length-drop left.undone starts ∙ omega (arith, all)))))
 
-  -- what one event keeps
-  Keeps : Event R → List (List ℕ) → World → World → Type 0
-  Keeps event starts s t = oldest (starts_after event s t starts) t.device.flash ≡ oldest starts s.device.flash
+  -- what leaves the flash alone keeps the oldest
+  alone-oldest : (starts : List (List ℕ)) (s t : World) → t.device.flash ≡ s.device.flash → oldest starts t.device.flash ≡ oldest starts s.device.flash
+  alone-oldest starts s t e = ap (λ (flash : List ℕ). oldest starts flash) e
 
-  keeps : (event : Event R) (starts : List (List ℕ)) (s t : World) → Leads view table event s t → Undoable starts s.device s.journal → IsTabled laws view table s
-      → oldest (starts_after event s t starts) t.device.flash ≡ oldest starts s.device.flash
-  keeps (ran commands old new result) starts s t (begins, contract, returns) =
-      let A : World → Type 0 = λ x. Undoable starts x.device x.journal → IsTabled laws view table x → oldest (starts_of_run commands x t starts) t.device.flash ≡ oldest starts x.device.flash in
+  keeps : (event : Event R) (starts : List (List ℕ)) (s t : World) → Leads view event s t → Undoable starts s.device s.journal
+      → oldest (starts_after event s t starts) t.device.flash ≡ oldest_after event t (oldest starts s.device.flash)
+  keeps (ran table commands old new result) starts s t (begins, knows, contract, returns) =
+      let A : World → Type 0 = λ x. Knows table x → Undoable starts x.device x.journal → oldest (starts_of_run commands x t starts) t.device.flash ≡ oldest starts x.device.flash in
       let B : World → Type 0 = λ y. oldest (starts_of_run commands (now_of (view old)) y starts) y.device.flash ≡ oldest starts (view old).device.flash in
-      subst A begins.1 (λ u tabled. subst B returns (run-oldest commands starts (now_of (view old)) (now_of (view new)) u (run-left laws table commands starts (view old) (view new) result begins.0 u tabled contract).1))
-  keeps (run_stopped commands old new result) starts s t (begins, contract, left) =
-      let A : World → Type 0 = λ x. Undoable starts x.device x.journal → IsTabled laws view table x → oldest (starts_of_run commands x t starts) t.device.flash ≡ oldest starts x.device.flash in
-      subst A begins.1 (λ u tabled. run-oldest commands starts (now_of (view old)) t u ((run-left laws table commands starts (view old) (view new) result begins.0 u tabled contract).0 t left))
-  keeps (informed old new result) starts s t leads = λ u tabled. oldest-other starts t.device.flash s.device.flash (λ none. (gives laws view table (informed old new result) starts s t leads u tabled).2.0)
-  keeps (info_stopped old new result) starts s t leads = λ u tabled. oldest-other starts t.device.flash s.device.flash (λ none. (gives laws view table (info_stopped old new result) starts s t leads u tabled).2.0)
-  keeps (undid count old new result) starts s t (begins, contract, returns) =
-      let A : World → Type 0 = λ x. Undoable starts x.device x.journal → IsTabled laws view table x → oldest (drop (grown t x) starts) t.device.flash ≡ oldest starts x.device.flash in
+      subst A begins.1 (λ known u. subst B returns (run-oldest table commands starts (now_of (view old)) (now_of (view new)) u (run-left laws table commands starts (view old) (view new) result begins.0 u known contract).1)) knows
+  keeps (run_stopped table commands old new result) starts s t (begins, knows, contract, left) =
+      let A : World → Type 0 = λ x. Knows table x → Undoable starts x.device x.journal → oldest (starts_of_run commands x t starts) t.device.flash ≡ oldest starts x.device.flash in
+      subst A begins.1 (λ known u. run-oldest table commands starts (now_of (view old)) t u ((run-left laws table commands starts (view old) (view new) result begins.0 u known contract).0 t left)) knows
+  keeps (informed table old new result) starts s t leads = λ u. alone-oldest starts s t (gives laws view (informed table old new result) starts s t leads u).2.0
+  keeps (info_stopped table old new result) starts s t leads = λ u. alone-oldest starts s t (gives laws view (info_stopped table old new result) starts s t leads u).2.0
+  keeps (undid table count old new result) starts s t (begins, knows, contract, returns) =
+      let A : World → Type 0 = λ x. Knows table x → Undoable starts x.device x.journal → oldest (drop (grown t x) starts) t.device.flash ≡ oldest starts x.device.flash in
       let B : World → Type 0 = λ y. oldest (drop (grown y (now_of (view old))) starts) y.device.flash ≡ oldest starts (view old).device.flash in
-      subst A begins.1 (λ u tabled. subst B returns (undo-oldest starts (taken_count count (length starts)) (view old) (now_of (view new)) (taken-within count (length starts)) u (contract.undoes begins.0 starts u tabled).left))
-  keeps (undo_stopped count old new result) starts s t (begins, contract, left) =
-      let A : World → Type 0 = λ x. Undoable starts x.device x.journal → IsTabled laws view table x → oldest (drop (grown t x) starts) t.device.flash ≡ oldest starts x.device.flash in
-      subst A begins.1 (λ u tabled. undo-oldest starts (taken_count count (length starts)) (view old) t (taken-within count (length starts)) u ((contract.undoes begins.0 starts u tabled).moments.each t.device t.journal left))
-  keeps was_reset starts s t e = λ u tabled. ap (λ (x : World). oldest starts x.device.flash) e
-  keeps lost_power starts s t (lost, e) = λ u tabled.
+      subst A begins.1 (λ known u. subst B returns (undo-oldest starts (now_of (view old)) (now_of (view new)) u (undo-left laws table count starts (view old) (view new) result begins.0 u contract known).1)) knows
+  keeps (undo_stopped table count old new result) starts s t (begins, knows, contract, left) =
+      let A : World → Type 0 = λ x. Knows table x → Undoable starts x.device x.journal → oldest (drop (grown t x) starts) t.device.flash ≡ oldest starts x.device.flash in
+      subst A begins.1 (λ known u. undo-oldest starts (now_of (view old)) t u ((undo-left laws table count starts (view old) (view new) result begins.0 u contract known).0 t left)) knows
+  keeps (left_refused refusal old new result) starts s t leads = λ u. alone-oldest starts s t (gives laws view (left_refused refusal old new result) starts s t leads u).2.0
+  keeps (refusal_stopped refusal old new result) starts s t leads = λ u. alone-oldest starts s t (gives laws view (refusal_stopped refusal old new result) starts s t leads u).2.0
+  keeps kept starts s t leads = λ u. refl
+  keeps was_reset starts s t leads = λ u. alone-oldest starts s t (gives laws view was_reset starts s t leads u).2.0
+  keeps lost_owed starts s t leads = λ u. alone-oldest starts s t (gives laws view lost_owed starts s t leads u).2.0
+  keeps lost_power starts s t (lost, e) = λ u.
       oldest-other starts t.device.flash s.device.flash
       (λ none. laws.loses_nothing s.device t.device s.journal (none-finished s.journal (depth-is starts s.device s.journal u ∙ ap length none)) lost)
 
@@ -144,32 +137,30 @@ module _ (laws : Laws) {R : Type 0} (view : R → RigState) (table : List ChipDa
   record Ends (first : List ℕ) (w : World) : Type 0 where
     starts : List (List ℕ)
     undoable : Undoable starts w.device w.journal
-    tabled : IsTabled laws view table w
     oldest_is : oldest starts w.device.flash ≡ first
 
-  ends : (history : List (Happening R)) (s : World) (starts : List (List ℕ)) (first : List ℕ) → Undoable starts s.device s.journal → IsTabled laws view table s → oldest starts s.device.flash ≡ first → AllLead view table history s
-      → Ends first (end_of history s)
-  ends [] s starts first u tabled is all = record { starts = starts; undoable = u; tabled = tabled; oldest_is = is }
-  ends (x ∷ history) s starts first u tabled is (leads, rest) =
-      let g = gives laws view table x.event starts s x.after leads u tabled in
-      ends history x.after (starts_after x.event s x.after starts) first g.0 (still-tabled laws view table s x.after g.1 tabled) (keeps x.event starts s x.after leads u tabled ∙ is) rest
+  ends : (history : List (Happening R)) (s : World) (starts : List (List ℕ)) (first : List ℕ) → Undoable starts s.device s.journal → oldest starts s.device.flash ≡ first → AllLead view history s
+      → Ends (oldest_of history first) (end_of history s)
+  ends [] s starts first u is all = record { starts = starts; undoable = u; oldest_is = is }
+  ends (x ∷ history) s starts first u is (leads, rest) =
+      let g = gives laws view x.event starts s x.after leads u in
+      ends history x.after (starts_after x.event s x.after starts) (oldest_after x.event x.after first) g.0 (keeps x.event starts s x.after leads u ∙ next x.event) rest
+    where
+      next : (event : Event R) → oldest_after event x.after (oldest starts s.device.flash) ≡ oldest_after event x.after first
+      next event = ap (λ (flash : List ℕ). oldest_after event x.after flash) is
 
-  pub all-taken-back : AllIsTakenBack view table
-  all-taken-back history start is all old new n w2 (begins, contract, returns) =
-      let e = ends history start [] start.device.flash (start-undoable laws view table start is) is.tabled refl all in
+  pub all-taken-back : AllIsTakenBack view
+  all-taken-back history start starts u all table old new n w2 leads =
+      let e = ends history start starts (oldest_start starts start) u (sym (all-oldest start.device.flash starts)) all in
       let w = end_of history start in
-      let C : World → Type 0 = λ x. Undoable e.starts x.device x.journal → IsTabled laws view table x → (w2.device.flash ≡ oldest e.starts x.device.flash) × (depth_at w2.journal ≡ 0) in
-      let D : World → Type 0 = λ y. (y.device.flash ≡ oldest e.starts (view old).device.flash) × (depth_at y.journal ≡ 0) in
-      let last = subst C begins.1 (λ u tabled.
-      let done = (contract.undoes begins.0 e.starts u tabled).done in
-      subst D returns (
-        done.flash ∙ all-oldest (view old).device.flash e.starts,
-        depth-is (drop (length e.starts) e.starts) (view new).device (view new).journal done.undoable ∙ length-drop (length e.starts) e.starts ∙ omega arith,
-      )) in
-      let both = last e.undoable e.tabled in
-      (both.0 ∙ e.oldest_is, both.1)
+      let held = (gives laws view (undid table 0 old new (Ok n)) e.starts w w2 leads e.undoable).2 in
+      let depth = depth-is e.starts w.device w.journal e.undoable in
+      (
+        held.flash ∙ ap (λ k. flash_taken_back k w.device.flash e.starts) (held.answer ∙ depth) ∙ all-oldest w.device.flash e.starts ∙ e.oldest_is,
+        omega (arith, held.segments, held.answer),
+      )
 
-  pub writes-whole : WritesWhole view table
-  writes-whole history start is all image old new report w2 leads =
-      let e = ends history start [] start.device.flash (start-undoable laws view table start is) is.tabled refl all in
-      (gives laws view table (ran (writes image ∷ []) old new (Ok report)) e.starts (end_of history start) w2 leads e.undoable e.tabled).2.flash
+  pub writes-whole : WritesWhole view
+  writes-whole history start starts u all table image old new outcomes w2 leads =
+      let e = ends history start starts (oldest_start starts start) u (sym (all-oldest start.device.flash starts)) all in
+      (gives laws view (ran table (writes image ∷ []) old new (Ok outcomes)) e.starts (end_of history start) w2 leads e.undoable).2.flash

@@ -1,63 +1,18 @@
--- The headline: any list of calls, stops, resets and losses of power.
-use Rattle.std.specs.Prelude.{◌≡◌, ℕ, ◌+◌, ◌-◌, false, List, [], ◌∷◌, ◌++◌, length, take, drop, reverse, Result, Ok, Err}
+-- The headline: any list of calls, stops, resets and losses of power, from any state that can be taken back.
+use Rattle.std.specs.Prelude.{◌≡◌, ℕ, ◌+◌, ◌-◌, false, List, [], ◌∷◌, ◌++◌, length, take, drop, reverse, Ok, Err}
 use Rattle.stm_image.specs.Lay.{lay}
 use Rattle.stm_image.specs.Pairs.{Pairs}
 use Rattle.stm_wire.specs.Chip.{ChipData}
-use Rattle.stm_wire.specs.Device.{Device, IsDevice, IsReady, reset}
 use Rattle.stm_wire.specs.Rig.{RigState}
 use Rattle.stm_chip.specs.Document.{IsChipWith}
-use Rattle.stm_session.specs.declared.information.Info.{Info}
-use Rattle.stm_session.specs.declared.fault.Fault.{Fault}
+use Rattle.stm_session.specs.Events.{World, Event, Happening, AllLead, Leads, end_of, ran, run_stopped, informed, info_stopped, undid, undo_stopped, left_refused, refusal_stopped, kept, was_reset, lost_owed, lost_power}
 use Rattle.stm_session.specs.Fault.{IsOutsideFault}
-use Rattle.stm_session.specs.PowerLoss.{LosesPower}
+use Rattle.stm_session.specs.Moments.{SameMake}
 use Rattle.stm_session.specs.Undoable.{Undoable, is_unfinished_at}
-use Rattle.stm_session.specs.declared.outcome.Report.{Report}
 use Rattle.stm_session.specs.Meaning.{CommandData, writes, flash_after_all, flashes_before, changes_of}
-use Rattle.stm_session.specs.Answers.{outcomes_in, agreeing}
+use Rattle.stm_session.specs.Answers.{OutcomeData, agreeing}
 use Rattle.stm_session.specs.Lines.{depth_at}
 use Rattle.stm_session.specs.Undoes.{taken_count, flash_taken_back}
-use Rattle.stm_session.specs.Promises.{RunContract, InfoContract, UndoContract}
-
--- what a stop leaves and the next call finds
-pub record World : Type 0 where
-  pub device : Device
-  pub journal : List ℕ
-
-abbrev pub now_of : RigState → World
-now_of rig = record { device = rig.device; journal = rig.journal }
-
--- a call that returned, or was stopped at a moment of it; a reset of the device; a loss of its power, also while a command that was
--- stopped was at work; on Rigs of this type
-pub data Event (R : Type 0) : Type 0 where
-  ran : (commands : List CommandData) (old new : R) (result : Result Report Fault) → Event R
-  run_stopped : (commands : List CommandData) (old new : R) (result : Result Report Fault) → Event R
-  informed : (old new : R) (result : Result Info Fault) → Event R
-  info_stopped : (old new : R) (result : Result Info Fault) → Event R
-  undid : (count : ℕ) (old new : R) (result : Result ℕ Fault) → Event R
-  undo_stopped : (count : ℕ) (old new : R) (result : Result ℕ Fault) → Event R
-  was_reset : Event R
-  lost_power : Event R
-
--- a call on an honest Rig that finds this
-abbrev pub Begins : World → RigState → Type 0
-Begins w old = old.is_honest × (now_of old ≡ w)
-
--- a stop at some moment of it leaves this
-abbrev pub Stops : RigState → RigState → World → Type 0
-Stops old new w = new.left_since old.moment w.device w.journal
-
--- the event leads from one to the other; a Rig is seen through its view
-abbrev pub Leads : {R : Type 0} → (R → RigState) → List ChipData → Event R → World → World → Type 0
-Leads view table (ran commands old new result) w w2 =
-    Begins w (view old) × RunContract table commands (view old) (view new) result outcomes_in × (now_of (view new) ≡ w2)
-Leads view table (run_stopped commands old new result) w w2 =
-    Begins w (view old) × RunContract table commands (view old) (view new) result outcomes_in × Stops (view old) (view new) w2
-Leads view table (informed old new result) w w2 = Begins w (view old) × InfoContract table (view old) (view new) result × (now_of (view new) ≡ w2)
-Leads view table (info_stopped old new result) w w2 = Begins w (view old) × InfoContract table (view old) (view new) result × Stops (view old) (view new) w2
-Leads view table (undid count old new result) w w2 = Begins w (view old) × UndoContract table count (view old) (view new) result × (now_of (view new) ≡ w2)
-Leads view table (undo_stopped count old new result) w w2 = Begins w (view old) × UndoContract table count (view old) (view new) result × Stops (view old) (view new) w2
-Leads view table was_reset w w2 = w2 ≡ record { device = reset w.device; journal = w.journal }
-Leads view table lost_power w w2 = LosesPower w.journal w.device w2.device × (w2.journal ≡ w.journal)
 
 -- the commands of a run that can begin: those before the first verify that doesn't agree
 abbrev pub standing_in : World → List CommandData → List CommandData
@@ -68,18 +23,23 @@ abbrev pub grown : World → World → ℕ
 grown w w2 = depth_at w2.journal - depth_at w.journal
 
 -- The flashes at the starts of the segments on the stack, the newest first: a run adds those before the commands whose segments
--- it began, and an undo takes off as many as it took off the stack.
+-- it began, an undo takes off as many as it took off the stack, and where the way back is given up none is left.
 abbrev pub starts_of_run : List CommandData → World → World → List (List ℕ) → List (List ℕ)
-starts_of_run commands w w2 starts = reverse (take (grown w w2) (flashes_before w.device.chip w.device.flash (standing_in w commands))) ++ starts
+starts_of_run commands w w2 starts =
+    reverse (take (grown w w2) (flashes_before w.device.chip w.device.flash (standing_in w commands))) ++ starts
 
 abbrev pub starts_after : {R : Type 0} → Event R → World → World → List (List ℕ) → List (List ℕ)
-starts_after (ran commands old new result) w w2 starts = starts_of_run commands w w2 starts
-starts_after (run_stopped commands old new result) w w2 starts = starts_of_run commands w w2 starts
-starts_after (informed old new result) w w2 starts = starts
-starts_after (info_stopped old new result) w w2 starts = starts
-starts_after (undid count old new result) w w2 starts = drop (grown w2 w) starts
-starts_after (undo_stopped count old new result) w w2 starts = drop (grown w2 w) starts
+starts_after (ran table commands old new result) w w2 starts = starts_of_run commands w w2 starts
+starts_after (run_stopped table commands old new result) w w2 starts = starts_of_run commands w w2 starts
+starts_after (informed table old new result) w w2 starts = starts
+starts_after (info_stopped table old new result) w w2 starts = starts
+starts_after (undid table count old new result) w w2 starts = drop (grown w2 w) starts
+starts_after (undo_stopped table count old new result) w w2 starts = drop (grown w2 w) starts
+starts_after (left_refused refusal old new result) w w2 starts = starts
+starts_after (refusal_stopped refusal old new result) w w2 starts = starts
+starts_after kept w w2 starts = []
 starts_after was_reset w w2 starts = starts
+starts_after lost_owed w w2 starts = starts
 starts_after lost_power w w2 starts = starts
 
 -- a run that reports success leaves what the commands mean, each change as one ended segment
@@ -107,27 +67,27 @@ UndoLeaves w w2 starts = is_unfinished_at w2.journal ≡ false → w2.device.fla
 abbrev pub LeavesAlone : World → World → Type 0
 LeavesAlone w w2 = (w2.device.flash ≡ w.device.flash) × (w2.journal ≡ w.journal)
 
--- what is promised of one event
+-- the flash stands as it is, and no segment is left
+abbrev pub StandsAlone : World → World → Type 0
+StandsAlone w w2 = (w2.device.flash ≡ w.device.flash) × (depth_at w2.journal ≡ 0)
+
+-- What is promised of one event. An undo fails by the line, the journal or memory alone where the table holds the device's chip.
 abbrev pub Holds : {R : Type 0} → Event R → World → World → List (List ℕ) → Type 0
-Holds (ran commands old new (Ok report)) w w2 starts = RunHolds commands w w2
-Holds (ran commands old new (Err e)) w w2 starts = RunLeaves commands w w2
-Holds (run_stopped commands old new result) w w2 starts = RunLeaves commands w w2
-Holds (informed old new result) w w2 starts = LeavesAlone w w2
-Holds (info_stopped old new result) w w2 starts = LeavesAlone w w2
-Holds (undid count old new (Ok n)) w w2 starts = UndoHolds count n w w2 starts
-Holds (undid count old new (Err e)) w w2 starts = IsOutsideFault e × UndoLeaves w w2 starts
-Holds (undo_stopped count old new result) w w2 starts = UndoLeaves w w2 starts
+Holds (ran table commands old new (Ok outcomes)) w w2 starts = RunHolds commands w w2
+Holds (ran table commands old new (Err e)) w w2 starts = RunLeaves commands w w2
+Holds (run_stopped table commands old new result) w w2 starts = RunLeaves commands w w2
+Holds (informed table old new result) w w2 starts = LeavesAlone w w2
+Holds (info_stopped table old new result) w w2 starts = LeavesAlone w w2
+Holds (undid table count old new (Ok n)) w w2 starts = UndoHolds count n w w2 starts
+Holds (undid table count old new (Err e)) w w2 starts =
+    (IsChipWith table w.device.chip.id w.device.chip → IsOutsideFault e) × UndoLeaves w w2 starts
+Holds (undo_stopped table count old new result) w w2 starts = UndoLeaves w w2 starts
+Holds (left_refused refusal old new result) w w2 starts = LeavesAlone w w2
+Holds (refusal_stopped refusal old new result) w w2 starts = LeavesAlone w w2
+Holds kept w w2 starts = StandsAlone w w2
 Holds was_reset w w2 starts = LeavesAlone w w2
+Holds lost_owed w w2 starts = LeavesAlone w w2
 Holds lost_power w w2 starts = is_unfinished_at w.journal ≡ false → LeavesAlone w w2
-
--- an event, and what it led to
-pub record Happening (R : Type 0) : Type 0 where
-  pub event : Event R
-  pub after : World
-
-abbrev pub AllLead : {R : Type 0} → (R → RigState) → List ChipData → List (Happening R) → World → Type 0
-AllLead view table [] w = Unit {0}
-AllLead view table (x ∷ history) w = Leads view table x.event w x.after × AllLead view table history x.after
 
 -- each event holds what is promised of it, and wherever the history ends what was begun can be taken back
 abbrev pub AllHold : {R : Type 0} → List (Happening R) → World → List (List ℕ) → Type 0
@@ -135,34 +95,76 @@ AllHold [] w starts = Undoable starts w.device w.journal
 AllHold (x ∷ history) w starts =
     Undoable starts w.device w.journal × Holds x.event w x.after starts × AllHold history x.after (starts_after x.event w x.after starts)
 
--- a session begins with an empty journal and a ready device, whose chip the table has under its id
-pub record IsStart (table : List ChipData) (w : World) : Type 0 where
-  pub device : IsDevice w.device
-  pub ready : IsReady w.device
-  pub journal : w.journal ≡ []
-  pub tabled : IsChipWith table w.device.chip.id w.device.chip
+-- a session begins wherever what was begun before can be taken back to these flashes
+abbrev pub IsStart : List (List ℕ) → World → Type 0
+IsStart starts w = Undoable starts w.device w.journal
 
 -- The headline: whatever calls, stops, resets and losses of power follow.
-abbrev pub Headline : {R : Type 0} → (R → RigState) → List ChipData → Type 0
-Headline {R} view table =
-    (history : List (Happening R)) (start : World) → IsStart table start → AllLead view table history start → AllHold history start []
+abbrev pub Headline : {R : Type 0} → (R → RigState) → Type 0
+Headline {R} view =
+    (history : List (Happening R)) (start : World) (starts : List (List ℕ)) → IsStart starts start → AllLead view history start
+    → AllHold history start starts
 
--- where a history ends
-abbrev pub end_of : {R : Type 0} → List (Happening R) → World → World
-end_of [] w = w
-end_of (x ∷ history) w = end_of history x.after
+-- the Rig of a call is honest afterwards, so that another call can begin on it
+abbrev pub IsHonestAfter : {R : Type 0} → (R → RigState) → Event R → Type 0
+IsHonestAfter view (ran table commands old new result) = (view new).is_honest
+IsHonestAfter view (run_stopped table commands old new result) = (view new).is_honest
+IsHonestAfter view (informed table old new result) = (view new).is_honest
+IsHonestAfter view (info_stopped table old new result) = (view new).is_honest
+IsHonestAfter view (undid table count old new result) = (view new).is_honest
+IsHonestAfter view (undo_stopped table count old new result) = (view new).is_honest
+IsHonestAfter view (left_refused refusal old new result) = (view new).is_honest
+IsHonestAfter view (refusal_stopped refusal old new result) = (view new).is_honest
+IsHonestAfter view kept = Unit {0}
+IsHonestAfter view was_reset = Unit {0}
+IsHonestAfter view lost_owed = Unit {0}
+IsHonestAfter view lost_power = Unit {0}
 
--- In short: whatever calls, stops, resets and losses of power came before, an undo of everything that reports success leaves every byte of the
--- flash as it was when the session began, and no segment.
-abbrev pub AllIsTakenBack : {R : Type 0} → (R → RigState) → List ChipData → Type 0
-AllIsTakenBack {R} view table =
-    (history : List (Happening R)) (start : World) → IsStart table start → AllLead view table history start
-    → (old new : R) (n : ℕ) (w2 : World) → Leads view table (undid 0 old new (Ok n)) (end_of history start) w2
-    → (w2.device.flash ≡ start.device.flash) × (depth_at w2.journal ≡ 0)
+-- Another event can follow: the device is of the same make, so that a table that knew it does, and the Rig of a call is honest.
+pub record CanFollow {R : Type 0} (view : R → RigState) (event : Event R) (w w2 : World) : Type 0 where
+  pub make : SameMake w.device w2.device
+  pub honest : IsHonestAfter view event
+
+abbrev pub EachCanFollow : {R : Type 0} → (R → RigState) → Type 0
+EachCanFollow {R} view =
+    (event : Event R) (starts : List (List ℕ)) (w w2 : World) → IsStart starts w → Leads view event w w2 → CanFollow view event w w2
+
+-- The flash to which an undo of everything leads: that at the start of the oldest segment which there was when the session began,
+-- and with none the flash as the session found it; or the flash as it was when the way back was last given up.
+abbrev pub oldest_start : List (List ℕ) → World → List ℕ
+oldest_start starts start = flash_taken_back (length starts) start.device.flash starts
+
+abbrev pub oldest_after : {R : Type 0} → Event R → World → List ℕ → List ℕ
+oldest_after (ran table commands old new result) w2 flash = flash
+oldest_after (run_stopped table commands old new result) w2 flash = flash
+oldest_after (informed table old new result) w2 flash = flash
+oldest_after (info_stopped table old new result) w2 flash = flash
+oldest_after (undid table count old new result) w2 flash = flash
+oldest_after (undo_stopped table count old new result) w2 flash = flash
+oldest_after (left_refused refusal old new result) w2 flash = flash
+oldest_after (refusal_stopped refusal old new result) w2 flash = flash
+oldest_after kept w2 flash = w2.device.flash
+oldest_after was_reset w2 flash = flash
+oldest_after lost_owed w2 flash = flash
+oldest_after lost_power w2 flash = flash
+
+abbrev pub oldest_of : {R : Type 0} → List (Happening R) → List ℕ → List ℕ
+oldest_of [] flash = flash
+oldest_of (x ∷ history) flash = oldest_of history (oldest_after x.event x.after flash)
+
+-- In short: whatever calls, stops, resets and losses of power came before, an undo of everything that reports success leaves
+-- every byte of the flash as it was at the start of the oldest segment, which is when the session began, or when the way back
+-- was last given up; and no segment.
+abbrev pub AllIsTakenBack : {R : Type 0} → (R → RigState) → Type 0
+AllIsTakenBack {R} view =
+    (history : List (Happening R)) (start : World) (starts : List (List ℕ)) → IsStart starts start → AllLead view history start
+    → (table : List ChipData) (old new : R) (n : ℕ) (w2 : World) → Leads view (undid table 0 old new (Ok n)) (end_of history start) w2
+    → (w2.device.flash ≡ oldest_of history (oldest_start starts start)) × (depth_at w2.journal ≡ 0)
 
 -- And a write that reports success leaves the image in its places and every other byte as it was.
-abbrev pub WritesWhole : {R : Type 0} → (R → RigState) → List ChipData → Type 0
-WritesWhole {R} view table =
-    (history : List (Happening R)) (start : World) → IsStart table start → AllLead view table history start
-    → (image : Pairs) (old new : R) (report : Report) (w2 : World) → Leads view table (ran (writes image ∷ []) old new (Ok report)) (end_of history start) w2
+abbrev pub WritesWhole : {R : Type 0} → (R → RigState) → Type 0
+WritesWhole {R} view =
+    (history : List (Happening R)) (start : World) (starts : List (List ℕ)) → IsStart starts start → AllLead view history start
+    → (table : List ChipData) (image : Pairs) (old new : R) (outcomes : List OutcomeData) (w2 : World)
+    → Leads view (ran table (writes image ∷ []) old new (Ok outcomes)) (end_of history start) w2
     → w2.device.flash ≡ lay image (end_of history start).device.chip.base (end_of history start).device.flash

@@ -19,6 +19,7 @@ pub mod Lines
 pub mod Runs
 pub mod Undoes
 pub mod Promises
+pub mod Events
 pub mod Headline
 pub mod Rows
 pub mod Steps

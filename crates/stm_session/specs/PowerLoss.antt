@@ -1,8 +1,8 @@
--- What a loss of power leaves, also one inside an erase or a write.
+-- What a loss of power leaves, also one inside an erase or a write, and what a loss of owed bytes does.
 use Rattle.std.specs.Prelude.{◌≡◌, ℕ, ◌<◌, false, List, [], length, All, Contains, Some}
 use Rattle.stm_wire.specs.declared.intent.Intent.{Intent}
 use Rattle.stm_wire.specs.Chip.{page_count, page_size}
-use Rattle.stm_wire.specs.Device.{Device, Fresh, IsDevice}
+use Rattle.stm_wire.specs.Device.{Device, Fresh, IsDevice, LosesOwed}
 use Rattle.stm_wire.specs.Harmless.{SameOutside}
 use Rattle.stm_wire.specs.Intents.{intended_pages}
 use Rattle.stm_wire.specs.PowerLoss.{powered_again}
@@ -19,7 +19,12 @@ pub record LosesPower (journal : List ℕ) (old new : Device) : Type 0 where
   pub owed : new.owed ≡ []
   pub flash : SameOutside old.chip (risked_pages (state_at journal)) old.flash new.flash
 
--- what can be taken back, still can
+-- what can be taken back, still can where bytes that the device owed are lost
+abbrev pub OwedLossKeepsFlashes : Type 0
+OwedLossKeepsFlashes = (flashes : List (List ℕ)) (old new : Device) (journal : List ℕ)
+    → Undoable flashes old journal → LosesOwed old new → Undoable flashes new journal
+
+-- and after a loss of power
 abbrev pub PowerLossKeepsFlashes : Type 0
 PowerLossKeepsFlashes = (flashes : List (List ℕ)) (old new : Device) (journal : List ℕ)
     → Undoable flashes old journal → LosesPower journal old new → Undoable flashes new journal

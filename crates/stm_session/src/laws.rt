@@ -11,12 +11,14 @@ ghost use Rattle.stm_session.specs.declared.command.Command.{Command};
 ghost use Rattle.stm_session.specs.declared.fault.Fault.{Fault};
 ghost use Rattle.stm_session.specs.declared.outcome.Report.{Report};
 ghost use Rattle.stm_session.specs.Answers.{outcomes_in};
+ghost use Rattle.stm_session.specs.Events.{OutcomesAreTheRun};
 ghost use Rattle.stm_session.specs.Meaning.{CommandData, commands_in};
 ghost use Rattle.stm_session.specs.Moments.{IsSafe, SameMake};
 ghost use Rattle.stm_session.specs.PowerLoss.{
   AnyBytesAreLeft,
   FinishedLosesNothing,
   IntentIsAtRisk,
+  OwedLossKeepsFlashes,
   PowerLossKeepsFlashes,
 };
 ghost use Rattle.stm_session.specs.Refusal.{chip_with, misfit_refusal, opening_refusal};
@@ -28,10 +30,11 @@ ghost use Rattle.stm_session.specs.Undoable.{IsJournalOf, Undoable, is_unfinishe
 use stm_journal::{a_journal_is_sound, changes_of_kept_pages_keep_the_flashes};
 use stm_wire::{Rig, harmless_is_kept, pages_are_the_flash, stopped_is_harmless};
 
-/// A ready device is safe, and with an empty journal there is nothing to take back.
+/// A ready device is safe, and on a safe one an empty journal has nothing to take back.
 pub fn a_ready_device_can_begin()
     ensures safe { (d : Device) → IsDevice d → IsReady d → IsSafe d }
     ensures undoable { (d : Device) → IsDevice d → IsReady d → Undoable [] d [] }
+    ensures empty { (d : Device) → IsSafe d → Undoable [] d [] }
 {
     stopped_is_harmless();
 }
@@ -40,6 +43,13 @@ pub fn a_ready_device_can_begin()
 pub fn a_reset_keeps_what_can_be_taken_back()
     ensures { (flashes : List (List ℕ)) (d : Device) (journal : List ℕ)
         → Undoable flashes d journal → Undoable flashes (reset d) journal }
+{
+    harmless_is_kept();
+}
+
+/// What can be taken back, still can when bytes that the device owed are lost.
+pub fn lost_bytes_keep_what_can_be_taken_back()
+    ensures { OwedLossKeepsFlashes }
 {
     harmless_is_kept();
 }
@@ -107,6 +117,11 @@ pub fn a_run_of_reads_begins_no_segment<R: Rig>()
         → Runs (commands_in commands) flashes (R.view old) (R.view new) result outcomes_in
         → RunsReads commands (R.view old) (R.view new) result
         (λ report. report.outcomes.items) }
+{}
+
+/// What a run promises of itself, whatever it answers, it promises of the outcomes that its answer tells.
+pub fn a_run_is_known_by_its_outcomes<R: Rig, T>()
+    ensures { OutcomesAreTheRun R T R.view }
 {}
 
 /// Of reads no more is refused, once a session is opened, than a place outside the flash.

@@ -1,13 +1,14 @@
 // A caller that knows public contracts alone: sessions that only read, one after another, and after
 // a stop and a reset; a write; and commands that are stopped and taken back.
-use crate::devices::{changed, counting, image, is_counting};
+use crate::devices::{changed, counting, image, is_all, is_counting};
 use crate::stories::{Ask, commands_of};
 use std::test::Fail;
 use stm_chip::{Table, read_table};
 use stm_client::{
-    read, read_again, read_flash, read_new, read_twice, take_back_stopped, tell, write_whole,
+    lose_power, read, read_again, read_flash, read_new, read_twice, take_back_stopped, take_back_unpowered, tell,
+    write_whole,
 };
-use stm_session::{Command, Outcome, Report};
+use stm_session::{Command, Outcome, Report, run};
 use stm_wire::MemoryRig;
 
 /// A table of chip 0412.
@@ -178,5 +179,51 @@ fn commands_that_are_stopped_are_taken_back(rt: HostRuntime) -> Result<(), Fail>
     for (steps, taken) in rows {
         assert_eq!(rt; taken_back(&rt, steps)?, (taken, true), "{steps} steps");
     }
+    Ok(())
+}
+
+/// The same where the device loses its power behind the stop, after which the page of the command at
+/// work holds other bytes; and whether that page was spoilt.
+fn taken_back_unpowered(rt: &HostRuntime, steps: u64) -> Result<(u32, bool), Fail> {
+    let table = table(rt)?;
+    let mut rig = fresh_device(rt, &table)?;
+    let commands = commands_of(
+        rt,
+        &[Ask::Write(0x0800_03FF, &[0xA5, 0x5A]), Ask::Erase(&[1, 3])],
+    )?;
+    let page = [0x6B; 1024];
+    let taken = take_back_unpowered(rt.alloc(), &mut rig, &table, &commands, steps, &page)?;
+    Ok((taken, is_counting(rig.flash())))
+}
+
+#[test]
+fn commands_that_lost_their_power_are_taken_back(rt: HostRuntime) -> Result<(), Fail> {
+    let rows = [(10, 0), (4_000, 1), (8_000, 1), (12_000, 2), (1_000_000, 2)];
+    for (steps, taken) in rows {
+        assert_eq!(rt;
+            taken_back_unpowered(&rt, steps)?,
+            (taken, true),
+            "{steps} steps"
+        );
+    }
+    Ok(())
+}
+
+/// Whether a loss of power behind so many steps leaves other bytes in a page.
+fn is_spoilt(rt: &HostRuntime, steps: u64) -> Result<bool, Fail> {
+    let table = table(rt)?;
+    let mut rig = fresh_device(rt, &table)?;
+    let commands = commands_of(rt, &[Ask::Erase(&[1, 3])])?;
+    rig.stop_after(steps);
+    let stopped = run(rt.alloc(), &mut rig, &table, &commands);
+    rig.stop_after(u64::MAX);
+    lose_power(rt.alloc(), &mut rig, &[0x6B; 1024])?;
+    let page = rig.flash().get(1024..2048).unwrap_or(&[]);
+    Ok(stopped.is_err() && is_all(page, 0x6B))
+}
+
+#[test]
+fn a_loss_of_power_leaves_other_bytes_in_the_page_at_work(rt: HostRuntime) -> Result<(), Fail> {
+    assert_eq!(rt; (is_spoilt(&rt, 10)?, is_spoilt(&rt, 4_000)?), (false, true));
     Ok(())
 }
