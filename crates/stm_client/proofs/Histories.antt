@@ -31,6 +31,10 @@ pub record Laws : Type 0 where
   pub back : AllIsTakenBack rig_state
   pub follows : EachCanFollow rig_state
 
+-- the flashes that can be had back behind the run
+abbrev pub starts_then : List ChipData → List CommandData → List (List ℕ) → MemoryData → MemoryData → MemoryData → Result Report Fault → List (List ℕ)
+starts_then table commands starts m m1 m2 result = starts_after (ran table commands m1 m2 (told_by outcomes_in result)) (now_of (rig_state m)) (now_of (rig_state m2)) starts
+
 module _ (laws : Laws) (table : List ChipData) (commands : List CommandData) (starts : List (List ℕ)) (m m1 m2 : MemoryData) (result : Result Report Fault)
     (contract : RunContract table commands (rig_state m1) (rig_state m2) (told_by outcomes_in result) themselves)
     (found : now_of (rig_state m1) ≡ now_of (rig_state m)) (honest : (rig_state m1).is_honest)
@@ -54,7 +58,7 @@ module _ (laws : Laws) (table : List ChipData) (commands : List CommandData) (st
   run_honest = can.honest
 
   -- what was begun can be taken back
-  pub run_start : IsStart (starts_after first start mid starts) mid
+  pub run_start : IsStart (starts_then table commands starts m m1 m2 result) mid
   run_start = (laws.headline (record { event = first; after = mid } ∷ []) start starts is (leads, tt)).2
 
   -- something befalls the device, and everything is taken back

@@ -1,5 +1,5 @@
 -- No refusal says that the device doesn't follow the protocol.
-use Rattle.std.proofs.Common.{◌≡◌, ◌⊎◌, ⊎_elim, ℕ, ◌+◌, ◌||◌, nat_le, length, Bool, true, false, not, List, [], ◌∷◌, ◌++◌, Option, Some, None, option_map, Result, Ok, Err, IfErr, sym, ◌∙◌, subst}
+use Rattle.std.proofs.Common.{◌≡◌, ◌⊎◌, ⊎_elim, ℕ, ◌+◌, ◌||◌, nat_le, length, Bool, true, false, not, List, [], ◌∷◌, Option, Some, None, option_map, Result, Ok, Err, IfErr, sym, ◌∙◌, subst}
 use Rattle.std.specs.List.{list_all, list_any}
 use Rattle.stm_wire.specs.Chip.{ChipData}
 use Rattle.stm_wire.specs.Device.{Device}
@@ -7,7 +7,7 @@ use Rattle.stm_journal.specs.Journals.{JournalData, good, bad}
 use Rattle.stm_journal.specs.States.{StateData, is_unfinished, names_other}
 use Rattle.stm_session.specs.declared.command.Command.{Command}
 use Rattle.stm_session.specs.declared.fault.Fault.{Fault}
-use Rattle.stm_session.specs.declared.fault.Fault.TheVariants.{Unfinished, UnknownChip, OutOfFlash, NoErase, Full, BadJournal, OtherDevice, Device as DeviceFault}
+use Rattle.stm_session.specs.declared.fault.Fault.TheVariants.{Unfinished, OutOfFlash, NoErase, Full, BadJournal, OtherDevice, Device as DeviceFault}
 use Rattle.stm_session.specs.Fault.{IsJournalOrMemory, IsOutsideFault}
 use Rattle.stm_session.specs.Refusal.{AnswersRefusal, AnswersUnsent, chip_with, first_refusal, opening_refusal, refused_unless, table_refusal}
 use Rattle.stm_session.specs.Meaning.{CommandData, changes_of, commands_in, is_change}

@@ -1,13 +1,20 @@
 -- A loss of power on a Rig in memory is one that a session can be taken back after.
-use Rattle.std.proofs.Common.{◌≡◌, ◌<◌, ℕ, zero, suc, List, [], ◌∷◌, refl, sym, ◌∙◌, ap, subst, arith}
+use Rattle.std.proofs.Common.{◌≡◌, ◌<◌, ◌==◌, ℕ, zero, suc, Bool, true, false, if◌then◌else◌, List, [], ◌∷◌, Some, refl, sym, ◌∙◌, ap, subst, arith}
+use Rattle.std.proofs.lemmas.Bool.{eqb-true}
 use Rattle.std.specs.Prelude.{Contains}
 use Rattle.stm_wire.specs.Chip.{ChipData, page_count}
 use Rattle.stm_wire.specs.Device.{Device, reset}
 use Rattle.stm_wire.specs.Harmless.{SameOutside}
+use Rattle.stm_wire.specs.declared.intent.Intent.{Intent}
+use Rattle.stm_wire.specs.declared.intent.Intent.TheVariants.{Erase, Program}
+use Rattle.stm_wire.specs.Intents.{intended_pages}
 use Rattle.stm_wire.specs.Memory.{MemoryData, begins, rig_state}
 use Rattle.stm_wire.specs.PowerLoss.{powered_again}
-use Rattle.stm_session.specs.PowerLoss.{LosesPower}
-use Rattle.stm_session.specs.Undoable.{risked_pages, state_at}
+use Rattle.stm_journal.specs.ForgetLaws.{intent_of-forgets}
+use Rattle.stm_journal.specs.Journals.{IsLoaded, Loaded, good, journal_of}
+use Rattle.stm_journal.specs.States.{StateData, intent_of, intent_page}
+use Rattle.stm_session.specs.PowerLoss.{IntentIsAtRisk, LosesPower}
+use Rattle.stm_session.specs.Undoable.{Undoable, good_state, risked_pages, state_at}
 use Rattle.stm_client.specs.Power.{LosesPage}
 
 -- a flash is the same as itself
@@ -50,3 +57,43 @@ page_is_risked n old new honest lost risked =
             out (subst Has (sym same) risked here));
       };
     }
+
+same_state : (text : StateData) (journal : List ℕ) → journal_of journal ≡ good text → state_at journal ≡ text
+same_state text journal means = ap good_state means
+
+-- the journal in memory tells the intent that the text has
+told_intent : (l : Loaded) (journal : List ℕ) (intent : Intent) → IsLoaded l journal → intent_of l.state ≡ Some intent → intent_of (state_at journal) ≡ Some intent
+told_intent l journal intent loaded told =
+    ap (λ (s : StateData). intent_of s) (same_state loaded.text journal loaded.means) ∙ sym (intent_of-forgets loaded.text) ∙ ap (λ (s : StateData). intent_of s) (sym loaded.state) ∙ told
+
+intends : (intent : Intent) → Contains (intended_pages (Some intent)) (intent_page intent)
+intends (Program n) = (0, omega arith, refl)
+intends (Erase n) = by_page (n == 1) refl
+  where
+    by_page : (b : Bool) → (n == 1) ≡ b → Contains (if b then 1 ∷ 257 ∷ [] else n ∷ []) n
+    by_page true e = (0, omega arith, sym (eqb-true n 1 e))
+    by_page false e = (0, omega arith, refl)
+
+module _ (starts : List (List ℕ)) (m mid new : MemoryData) (device : mid.device ≡ m.device) (journal : mid.journal ≡ m.journal) (honest : (rig_state mid).is_honest) where
+  -- as it was before the journal was read
+  before : LosesPower mid.journal mid.device new.device → new.journal ≡ mid.journal → LosesPower m.journal m.device new.device × (new.journal ≡ m.journal)
+  before lost same =
+      let D : Device → Type 0 = λ d. LosesPower mid.journal d new.device in
+      let J : List ℕ → Type 0 = λ j. LosesPower j m.device new.device in
+      (subst J journal (subst D device lost), same ∙ journal)
+
+  pub intent_lost : IntentIsAtRisk → (l : Loaded) (intent : Intent) (n : ℕ) → Undoable starts m.device m.journal → IsLoaded l m.journal → intent_of l.state ≡ Some intent → n ≡ intent_page intent → LosesPage n mid new
+      → LosesPower m.journal m.device new.device × (new.journal ≡ m.journal)
+  intent_lost law l intent n u loaded told is lost =
+      let R : Device → List ℕ → Type 0 = λ d j. n < page_count d.chip → Contains (risked_pages (state_at j)) n in
+      let RD : Device → Type 0 = λ d. R d m.journal in
+      let RJ : List ℕ → Type 0 = λ j. R mid.device j in
+      let C : ℕ → Type 0 = λ x. Contains (intended_pages (Some intent)) x in
+      let risked : R m.device m.journal = λ here. law starts m.device m.journal intent n u (told_intent l m.journal intent loaded told) here (subst C (sym is) (intends intent)) in
+      before (page_is_risked n mid new honest lost (subst RJ (sym journal) (subst RD (sym device) risked))) lost.journal
+
+  pub nothing_lost : new ≡ begins (reset mid.device) mid → ((rig_state mid).is_honest → (rig_state new).is_honest) → LosesPower m.journal m.device new.device × (new.journal ≡ m.journal)
+  nothing_lost is stays =
+      let n = page_count mid.device.chip in
+      let lost = none_lost n mid new is stays in
+      before (page_is_risked n mid new honest lost (λ here. absurd (omega (arith, here)))) lost.journal

@@ -1,5 +1,5 @@
 -- A session that is stopped, a reset of the device, and what the next session finds.
-use Rattle.std.proofs.Common.{◌≡◌, ℕ, List, Result, refl, sym, ◌∙◌, ap, subst}
+use Rattle.std.proofs.Common.{◌≡◌, ℕ, List, Result, refl, sym, subst}
 use Rattle.stm_wire.specs.Chip.{ChipData}
 use Rattle.stm_wire.specs.Device.{Device, reset}
 use Rattle.stm_wire.specs.Memory.{MemoryData, rig_state}

@@ -1,13 +1,11 @@
 -- The whole flash of a device that was asked what it is.
-use Rattle.std.proofs.Common.{◌≡◌, ◌⊎◌, ⊎_elim, ℕ, ◌-◌, ◌||◌, ◌==◌, Bool, true, false, List, [], ◌∷◌, length, take, drop, map, Some, None, refl, sym, ◌∙◌, ap, ap₂, subst, arith, take_all}
+use Rattle.std.proofs.Common.{◌≡◌, ⊎_elim, ℕ, ◌-◌, ◌||◌, ◌==◌, Bool, true, false, List, [], ◌∷◌, length, take, drop, map, Some, None, refl, ◌∙◌, ap, ap₂, arith, take_all}
 use Rattle.std.proofs.lemmas.Bool.Decides.{nat_tests}
 use Rattle.std.specs.List.{list_all}
-use Rattle.std.specs.Prelude.{Contains}
 use Rattle.stm_wire.specs.Chip.{ChipData, flash_size, fits_inside}
 use Rattle.stm_wire.specs.Device.{Device}
-use Rattle.stm_wire.specs.Rig.{RigState}
-use Rattle.stm_chip.specs.Document.{IsChipWith, IsNewId}
-use Rattle.stm_journal.specs.Journals.{JournalData, journal_of}
+use Rattle.stm_chip.specs.Document.{IsChipWith}
+use Rattle.stm_journal.specs.Journals.{journal_of}
 use Rattle.stm_session.specs.declared.command.Command.{Command}
 use Rattle.stm_session.specs.declared.command.Command.TheVariants.{Read}
 use Rattle.stm_session.specs.declared.information.Info.{Info}
@@ -17,7 +15,7 @@ use Rattle.stm_session.specs.Refusal.{chip_with, opening_refusal}
 use Rattle.stm_session.specs.Meaning.{commands_in}
 use Rattle.stm_session.specs.Refusals.{is_in_flash, run_refusal}
 use Rattle.stm_session.specs.Running.{AreRead, bytes_at, bytes_of, is_read}
-use Rattle.stm_client.specs.Keeping.{HoldsIts, IsKept}
+use Rattle.stm_client.specs.Keeping.{HoldsIts}
 
 whole_inside : (chip : ChipData) → fits_inside chip chip.base (flash_size chip) ≡ true
 whole_inside chip = grind (arith, nat_tests)

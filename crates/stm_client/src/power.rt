@@ -1,6 +1,7 @@
 // A loss of power, wherever a session was stopped: inside an erase or a write too.
 ghost use Rattle.std.specs.Prelude.{◌≡◌, ℕ, List, OnOk};
 ghost use Rattle.stm_wire.specs.Memory.{rig_state};
+ghost use Rattle.stm_journal.specs.States.{intent_page};
 ghost use Rattle.stm_session.specs.Events.{Leads, lost_power, now_of};
 ghost use Rattle.stm_session.specs.Undoable.{Undoable};
 ghost use Rattle.stm_client.specs.Power.{LosesPage};
@@ -9,6 +10,15 @@ use std::alloc::Global;
 use stm_journal::{Intent, Journal};
 use stm_session::{Fault, a_power_loss_keeps_what_can_be_taken_back};
 use stm_wire::MemoryRig;
+
+/// The page that an intent names.
+fn page_of(intent: Intent) -> u16
+    ensures { result ≡ intent_page intent }
+{
+    match intent {
+        Intent::Erase(n) | Intent::Program(n) => n,
+    }
+}
 
 /// Takes the device's power away: page `n` then holds these bytes, where the chip has it and they are as many as it has.
 fn lose_page(rig: &mut MemoryRig, n: u16, bytes: &[u8])
@@ -34,7 +44,7 @@ pub fn lose_power(alloc: Global, rig: &mut MemoryRig, bytes: &[u8]) -> Result<()
     a_power_loss_keeps_what_can_be_taken_back();
     let journal = Journal::load(alloc, rig)?;
     match journal.last_intent() {
-        Some(Intent::Erase(n) | Intent::Program(n)) => lose_page(rig, n, bytes),
+        Some(intent) => lose_page(rig, page_of(intent), bytes),
         None => rig.reset(),
     }
     Ok(())

@@ -116,7 +116,7 @@ module _ (laws : Laws) where
       ⊎_elim
       (λ new_id.
       let said : run_refusal (journal_of journal) d table commands ≡ Some (faults.UnknownChip d.chip.id) =
-          ap (λ (j : JournalData). run_refusal j d table commands) u.good_journal ∙ rw (finished, u.own, lacks_chip table d.chip.id new_id) refl in
+      ap (λ (j : JournalData). run_refusal j d table commands) u.good_journal ∙ rw (finished, u.own, lacks_chip table d.chip.id new_id) refl in
       absurd (let h : None ≡ Some (faults.UnknownChip d.chip.id) = sym none ∙ said in cc))
       (λ is. is) knows
 

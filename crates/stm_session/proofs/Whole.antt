@@ -154,8 +154,7 @@ module _ (laws : Laws) {R : Type 0} (view : R → RigState) where
       let e = ends history start starts (oldest_start starts start) u (sym (all-oldest start.device.flash starts)) all in
       let w = end_of history start in
       let held = (gives laws view (undid table 0 old new (Ok n)) e.starts w w2 leads e.undoable).2 in
-      let depth = depth-is e.starts w.device w.journal e.undoable in
-      (
+      let depth = depth-is e.starts w.device w.journal e.undoable in (
         held.flash ∙ ap (λ k. flash_taken_back k w.device.flash e.starts) (held.answer ∙ depth) ∙ all-oldest w.device.flash e.starts ∙ e.oldest_is,
         omega (arith, held.segments, held.answer),
       )

@@ -5,8 +5,8 @@ use crate::stories::{Ask, commands_of};
 use std::test::Fail;
 use stm_chip::{Table, read_table};
 use stm_client::{
-    lose_power, read, read_again, read_flash, read_new, read_twice, take_back_stopped, take_back_unpowered, tell,
-    write_whole,
+    lose_power, read, read_again, read_flash, read_new, read_twice, take_back_stopped,
+    take_back_unpowered, tell, write_whole,
 };
 use stm_session::{Command, Outcome, Report, run};
 use stm_wire::MemoryRig;
@@ -224,6 +224,9 @@ fn is_spoilt(rt: &HostRuntime, steps: u64) -> Result<bool, Fail> {
 
 #[test]
 fn a_loss_of_power_leaves_other_bytes_in_the_page_at_work(rt: HostRuntime) -> Result<(), Fail> {
-    assert_eq!(rt; (is_spoilt(&rt, 10)?, is_spoilt(&rt, 4_000)?), (false, true));
+    assert_eq!(rt;
+        (is_spoilt(&rt, 10)?, is_spoilt(&rt, 4_000)?),
+        (false, true)
+    );
     Ok(())
 }

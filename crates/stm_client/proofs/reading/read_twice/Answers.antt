@@ -1,4 +1,4 @@
-use Rattle.std.proofs.Common.{List, ℕ, sym, ◌∙◌, ap₂, map}
+use Rattle.std.proofs.Common.{List, ℕ, ◌∙◌, ap₂, map}
 use Rattle.stm_wire.specs.Chip.{ChipData}
 use Rattle.stm_session.specs.Running.{bytes_read}
 use Rattle.stm_client.proofs.Keeping.{begins_again, keeps_failed, keeps_ok, keeps_then}

@@ -1,4 +1,4 @@
-use Rattle.std.proofs.Common.{◌≡◌, [], ◌∷◌, List, Result, Ok, refl, subst}
+use Rattle.std.proofs.Common.{[], ◌∷◌, List, Result, Ok, refl, subst}
 use Rattle.stm_session.specs.declared.fault.Fault.{Fault}
 use Rattle.stm_session.specs.declared.outcome.Report.{Report}
 use Rattle.stm_session.specs.Answers.{OutcomeData, outcomes_in}
