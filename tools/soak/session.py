@@ -265,6 +265,10 @@ def undo(rig, table, count):
         raise Fault(NO_ERASE)
     if wire.get_id(rig) != chip.number:
         raise Fault(OTHER_DEVICE)
+    work = journal.intent()
+    if work is not None:
+        kept = next(kept for kept in journal.stack[-1].kept if kept.page == work[1])
+        rewrite(rig, journal, chip, kept.page, kept.held)
     taken = depth if count == 0 else min(count, depth)
     for _ in range(taken):
         for kept in journal.stack[-1].kept:

@@ -9,6 +9,6 @@ mod table;
 mod touch;
 
 pub use fault::{PlanFault, TableFault};
-pub use plan::{Frame, PagePlan, page_plan};
+pub use plan::{Frame, PagePlan, page_frames, page_plan};
 pub use table::{Table, read_table};
 pub use touch::{is_inside_flash, touched};

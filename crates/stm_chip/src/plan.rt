@@ -1,6 +1,6 @@
 // How a page of flash comes to hold new bytes.
-ghost use Rattle.std.specs.Prelude.{◌≡◌, ◌↔◌, ◌^◌, ◌+◌, ◌*◌, ◌/◌, ◌%◌, ◌<◌, ◌≤◌, ◌++◌, length, IfOk, IsOkUnless, Ok, option_to_list};
-ghost use Rattle.stm_chip.specs.Plan.{AreFrames, IsPlan, frame_of, frames_in, frames_of, planned, used_length};
+ghost use Rattle.std.specs.Prelude.{◌≡◌, ◌↔◌, ◌^◌, ◌+◌, ◌*◌, ◌/◌, ◌%◌, ◌<◌, ◌≤◌, ◌++◌, length, replicate, IfOk, IsOkUnless, Ok, option_to_list};
+ghost use Rattle.stm_chip.specs.Plan.{AreFrames, IsPlan, frame_of, frames_in, frames_of, planned, used_length, written};
 
 use crate::PlanFault;
 use std::alloc::{AllocError, Global};
@@ -55,12 +55,19 @@ fn frame_of(offset: u32, block: &[u8], erased: u8) -> Option<Frame>
     })
 }
 
-/// The frames of a page's blocks.
-fn frames_of(alloc: Global, page: &[u8], erased: u8) -> Result<Vec<Frame>, AllocError>
+/// The frames that give an erased page these bytes, where an erased place holds `erased`: of each block of 256 bytes, from the
+/// page's start, one, cut after its last byte that isn't `erased` and rounded up to a multiple of 4 bytes; of a block of erased
+/// bytes alone none.
+pub fn page_frames(alloc: Global, page: &[u8], erased: u8) -> Result<Vec<Frame>, AllocError>
     requires blocks { length page.now % 256 ≡ 0 }
     requires size { length page.now ≤ 2 ^ 32 }
-    ensures { IfOk result (λ frames. frames.items
+    ensures frames { IfOk result (λ frames. frames.items
         ≡ frames_of erased page.now (length page.now / 256)) }
+    // The frames, written over an erased page, give the page.
+    ensures gives { IfOk result (λ frames.
+        written page.now frames.items (replicate (length page.now) erased) ≡ page.now) }
+    // They may be sent one after another: each fits one command, and lies where no earlier one wrote.
+    ensures fits { IfOk result (λ frames. AreFrames 0 (length page.now) frames.items) }
 {
     let mut frames = Vec::new(alloc);
     for n in 0..page.len() / BLOCK {
@@ -74,8 +81,7 @@ fn frames_of(alloc: Global, page: &[u8], erased: u8) -> Result<Vec<Frame>, Alloc
 
 /// The plan that makes a page of bytes `old` one of bytes `new`, where an erased place holds `erased`.
 ///
-/// Each block of 256 bytes, from the page's start, has a frame, cut after its last byte that isn't `erased` and rounded
-/// up to a multiple of 4 bytes; a block of erased bytes alone has none, since the page was erased.
+/// The page is erased, and its frames are those of `page_frames`.
 pub fn page_plan(alloc: Global, old: &[u8], new: &[u8], erased: u8) -> Result<PagePlan, PlanFault>
     requires lengths { length old.now ≡ length new.now }
     requires blocks { length new.now % 256 ≡ 0 }
@@ -91,6 +97,6 @@ pub fn page_plan(alloc: Global, old: &[u8], new: &[u8], erased: u8) -> Result<Pa
     if old == new {
         return Ok(PagePlan::Same);
     }
-    let frames = frames_of(alloc, new, erased)?;
+    let frames = page_frames(alloc, new, erased)?;
     Ok(PagePlan::Erase(frames))
 }

@@ -19,7 +19,7 @@ use Rattle.stm_journal.specs.States.{StateData, SegmentData}
 use Rattle.stm_session.specs.declared.fault.Fault.{Fault}
 use Rattle.stm_session.specs.Fault.{IsOutsideFault}
 use Rattle.stm_session.specs.GoingBack.{AmidBack, GoesBack, going_lines}
-use Rattle.stm_session.specs.Lines.{is_torn_at, text_added, undo_entries}
+use Rattle.stm_session.specs.Lines.{is_torn_at, text_added, taken_entries}
 use Rattle.stm_session.specs.Order.{Follows, AreTakenBack}
 use Rattle.stm_session.specs.Sending.{most_of_command}
 use Rattle.stm_session.specs.StepLaws.{StepLaws}
@@ -93,7 +93,7 @@ shifted zero flash first flashes = refl
 shifted (suc i) flash first flashes = refl
 
 undo_next : (chip : ChipData) (i : ℕ) (stack : List SegmentData) (flash : List ℕ) → i < length stack
-    → undo_entries chip (suc i) stack flash ≡ undo_entries chip i stack flash ++ lines_at chip (drop i stack) (flash_taken_back i flash (flashes_before_segments chip stack flash))
+    → taken_entries chip (suc i) stack flash ≡ taken_entries chip i stack flash ++ lines_at chip (drop i stack) (flash_taken_back i flash (flashes_before_segments chip stack flash))
 unfolding lines_at
 undo_next chip i [] flash lt = absurd (omega (arith, lt))
 undo_next chip zero (segment ∷ below) flash lt =
@@ -103,14 +103,14 @@ undo_next chip (suc i) (segment ∷ below) flash lt =
     let front = return_lines chip flash segment.pages in
     let first = with_kept_pages chip segment flash in
     let head = Undoes (length below + 1) in
-    let before = undo_entries chip i below first in
+    let before = taken_entries chip i below first in
     let next = undo_next chip i below first (omega (arith, lt)) in
     let L : List ℕ → List Entry = λ f. lines_at chip (drop i below) f in
     ap (λ (es : List Entry). front ++ head ∷ es) (next ∙ ap (λ (f : List ℕ). before ++ L f) (shifted i flash first (flashes_before_segments chip below first)))
     ∙ sym (append_assoc front (head ∷ before) (L (flash_taken_back (suc i) flash (first ∷ flashes_before_segments chip below first))))
 
-undo_more : (chip : ChipData) (n m : ℕ) (stack : List SegmentData) (flash : List ℕ) → n ≤ m → (rest : List Entry) × (undo_entries chip m stack flash ≡ undo_entries chip n stack flash ++ rest)
-undo_more chip zero m stack flash le = (undo_entries chip m stack flash, refl)
+undo_more : (chip : ChipData) (n m : ℕ) (stack : List SegmentData) (flash : List ℕ) → n ≤ m → (rest : List Entry) × (taken_entries chip m stack flash ≡ taken_entries chip n stack flash ++ rest)
+undo_more chip zero m stack flash le = (taken_entries chip m stack flash, refl)
 undo_more chip (suc n) zero stack flash le = absurd (omega (arith, le))
 undo_more chip (suc n) (suc m) [] flash le = ([], refl)
 undo_more chip (suc n) (suc m) (segment ∷ below) flash le =
@@ -118,10 +118,10 @@ undo_more chip (suc n) (suc m) (segment ∷ below) flash le =
     let first = with_kept_pages chip segment flash in
     let head = Undoes (length below + 1) in
     let more = undo_more chip n m below first (omega (arith, le)) in
-    (more.0, ap (λ (es : List Entry). front ++ head ∷ es) more.1 ∙ sym (append_assoc front (head ∷ undo_entries chip n below first) more.0))
+    (more.0, ap (λ (es : List Entry). front ++ head ∷ es) more.1 ∙ sym (append_assoc front (head ∷ taken_entries chip n below first) more.0))
 
 -- a beginning of some lines is one of those and more
-lines_more : (xs ys : List Entry) (a journal : List ℕ) (written : ℕ) → journal ≡ a ++ take written (text_added (is_torn_at a) xs)
+pub lines_more : (xs ys : List Entry) (a journal : List ℕ) (written : ℕ) → journal ≡ a ++ take written (text_added (is_torn_at a) xs)
     → (m : ℕ) × (journal ≡ a ++ take m (text_added (is_torn_at a) (xs ++ ys)))
 lines_more xs ys a journal written lines =
     let torn = is_torn_at a in

@@ -36,6 +36,8 @@ pub mod Fetchings
 pub mod Returns
 pub mod TakingBack
 pub mod GoingBack
+pub mod GoingAll
+pub mod Work
 pub mod Straying
 pub mod Misfitting
 pub mod Unread

@@ -159,7 +159,7 @@ pages_next chip (x ∷ pages) flash zero k is =
     ap (λ (y : Kept). with_page chip y.page y.bytes flash) same
 pages_next chip (x ∷ pages) flash (suc i) k is = pages_next chip pages (with_page chip x.page x.bytes flash) i k is
 
-any_at : (pages : List Kept) (i : ℕ) (k : Kept) → slice_get pages i ≡ Some k → list_any (λ x. x.page == k.page) pages ≡ true
+pub any_at : (pages : List Kept) (i : ℕ) (k : Kept) → slice_get pages i ≡ Some k → list_any (λ x. x.page == k.page) pages ≡ true
 any_at [] i k is = absurd (let h : None ≡ Some k = is in cc)
 any_at (x ∷ pages) zero k is =
     let some : Some x ≡ Some k = is in

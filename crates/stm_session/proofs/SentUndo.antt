@@ -1,15 +1,15 @@
 -- What an undo puts on any line.
-use Rattle.std.proofs.Common.{◌≡◌, ℕ, ◌*◌, ◌<◌, ◌≤◌, true, List, Some, None, Result, Ok, Err, IsErrAnd, refl, sym, ◌∙◌, subst, arith}
+use Rattle.std.proofs.Common.{◌≡◌, ℕ, ◌+◌, ◌<◌, ◌≤◌, true, List, Some, None, Result, Ok, Err, IsErrAnd, refl, sym, ◌∙◌, subst, arith}
 use Rattle.std.specs.Prelude.{IfOk}
 use Rattle.stm_wire.specs.Chip.{ChipData}
 use Rattle.stm_wire.specs.Dialogue.{GoesOn}
 use Rattle.stm_wire.specs.Parts.{IsPart, IsSession}
-use Rattle.stm_wire.specs.PartLaws.{session_joins, session_of_any, silent_is_session, silent_then_session}
+use Rattle.stm_wire.specs.PartLaws.{session_joins, session_longer, session_of_any, silent_is_session, silent_then_session}
 use Rattle.stm_wire.specs.Rig.{RigState}
 use Rattle.stm_chip.specs.Document.{IsChipWith}
 use Rattle.stm_journal.specs.Calls.{AreFetches}
 use Rattle.stm_session.specs.declared.fault.Fault.{Fault}
-use Rattle.stm_session.specs.Sending.{SendsAsUndo, is_whole, most_calls, most_of_command}
+use Rattle.stm_session.specs.Sending.{SendsAsUndo, is_whole, most_calls, most_of_undo}
 use Rattle.stm_session.proofs.Sending.{fetches_get, fetches_put}
 
 -- a fault that is passed on
@@ -33,7 +33,7 @@ module _ (table : List ChipData) (count : ℕ) (old : RigState) where
         limit = omega arith;
         asked = λ some. omega arith;
         told = none;
-        calls = silent_is_session None 0x7F 131072 (is_whole result) (most_calls 0) AreFetches old.calls new.calls fetches_put fetches_get fetches;
+        calls = silent_is_session None 0x7F 131072 (is_whole result) (most_calls 0 + most_of_undo 0) AreFetches old.calls new.calls fetches_put fetches_get fetches;
       }
 
   -- a device was met, or not
@@ -48,13 +48,14 @@ module _ (table : List ChipData) (count : ℕ) (old : RigState) where
         limit = omega arith;
         asked = λ some. omega arith;
         told = tt;
-        calls = silent_then_session None byte 131072 (is_whole {T = ℕ} (Err e)) (most_calls 0) AreFetches old.calls mid.calls new.calls fetches_put fetches_get fetches meets;
+        calls = session_longer None byte 131072 (is_whole {T = ℕ} (Err e)) (most_calls 0) (most_calls 0 + most_of_undo 0) old.calls new.calls (omega arith)
+            (silent_then_session None byte 131072 (is_whole {T = ℕ} (Err e)) (most_calls 0) AreFetches old.calls mid.calls new.calls fetches_put fetches_get fetches meets);
       }
 
   -- and segments were taken back
   pub sends_back : (byte id taken : ℕ) (chip : ChipData) (mid met new : RigState) (result : Result ℕ Fault) → IsChipWith table id chip → taken ≤ 65535 → (0 < count → taken ≤ count) → IfOk result (λ n. n ≡ taken)
       → GoesOn AreFetches old.calls mid.calls → GoesOn (IsSession None byte 131072 true (most_calls 0)) mid.calls met.calls
-      → GoesOn (IsPart (Some chip) (is_whole result) (taken * most_of_command)) met.calls new.calls → SendsAsUndo table count old new result
+      → GoesOn (IsPart (Some chip) (is_whole result) (most_of_undo taken)) met.calls new.calls → SendsAsUndo table count old new result
   sends_back byte id taken chip mid met new result is limit asked told fetches meets back =
       record {
         chip = Some chip;
@@ -64,6 +65,6 @@ module _ (table : List ChipData) (count : ℕ) (old : RigState) where
         limit = limit;
         asked = asked;
         told = told;
-        calls = session_joins (Some chip) byte 131072 (is_whole result) (most_calls 0) (taken * most_of_command) old.calls met.calls new.calls
+        calls = session_joins (Some chip) byte 131072 (is_whole result) (most_calls 0) (most_of_undo taken) old.calls met.calls new.calls
             (session_of_any (Some chip) byte 131072 true (most_calls 0) old.calls met.calls (silent_then_session None byte 131072 true (most_calls 0) AreFetches old.calls mid.calls met.calls fetches_put fetches_get fetches meets)) back;
       }

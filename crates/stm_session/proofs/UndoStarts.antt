@@ -1,8 +1,10 @@
 -- An undo of which the journal was read: one without a segment, and one whose chip isn't in the table.
-use Rattle.std.proofs.Common.{◌≡◌, ⊎_elim, inl, ℕ, zero, suc, ◌≤◌, Bool, true, false, not, ◌==◌, ◌||◌, nat_lt, if◌then◌else◌, List, [], ◌∷◌, length, Option, Some, None, option_map, Result, Ok, Err, IsErrAnd, refl, sym, ◌∙◌, ap, subst, arith, append-nil}
+use Rattle.std.proofs.Common.{◌≡◌, ⊎_elim, inl, ℕ, zero, suc, ◌≤◌, Bool, true, false, not, ◌==◌, ◌||◌, nat_lt, if◌then◌else◌, List, [], ◌∷◌, ◌++◌, length, Option, Some, None, option_map, Result, Ok, Err, IsErrAnd, refl, sym, ◌∙◌, ap, subst, arith, append-nil}
 use Rattle.std.proofs.lemmas.Bool.{cases_eq, eq-eqb, ne_eqb, true≢false}
 use Rattle.std.proofs.lemmas.Bool.Decides.{nat_tests}
 use Rattle.stm_wire.specs.Chip.{ChipData}
+use Rattle.stm_journal.specs.declared.entry.Entry.{Entry}
+use Rattle.stm_session.specs.Lines.{is_torn_at, text_added, undo_entries}
 use Rattle.stm_wire.specs.Device.{Device}
 use Rattle.stm_wire.specs.Dialogue.{GoesOn}
 use Rattle.stm_wire.specs.MomentLaws.{weaker}
@@ -127,7 +129,8 @@ module _ (table : List ChipData) (l : Loaded) (old a : RigState) (loads : Loads 
                 undoable = undoable_then flashes u;
                 settled = old.device.flash;
                 is_settled = same_flash old old.device.flash refl;
-                lines = loads.journal ∙ sym (append-nil old.journal);
+                lines = loads.journal ∙ sym (append-nil old.journal)
+                    ∙ ap (λ (es : List Entry). old.journal ++ text_added (is_torn_at old.journal) es) (sym (nothing_said old.device.chip (state_at old.journal).stack old.device.flash (sym depth_is ∙ none)));
               };
               settled = λ one. absurd (omega (arith, one));
               fails = tt;
@@ -135,6 +138,10 @@ module _ (table : List ChipData) (l : Loaded) (old a : RigState) (loads : Loads 
         spared = λ h empty. tt;
       }
     where
+      nothing_said : (chip : ChipData) (stack : List SegmentData) (flash : List ℕ) → length stack ≡ 0 → undo_entries chip 0 stack flash ≡ []
+      nothing_said chip [] flash none = refl
+      nothing_said chip (segment ∷ below) flash none = absurd (omega (arith, none))
+
       none_taken : (count : ℕ) → taken_count count 0 ≡ 0
       none_taken zero = refl
       none_taken (suc n) =

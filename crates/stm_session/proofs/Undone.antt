@@ -1,5 +1,5 @@
 -- An undo whose chip is in the table, exit by exit.
-use Rattle.std.proofs.Common.{◌≡◌, ⊎_elim, inl, inr, ℕ, zero, suc, ◌≤◌, List, [], ◌++◌, length, take, drop, Option, Some, None, option_map, Result, Ok, Err, IsErrAnd, refl, sym, ◌∙◌, ap, ap₂, subst, arith, append-nil}
+use Rattle.std.proofs.Common.{◌≡◌, ⊎_elim, inl, inr, ℕ, ◌≤◌, List, [], ◌++◌, length, take, drop, Option, Some, None, option_map, Result, Ok, Err, IsErrAnd, refl, sym, ◌∙◌, ap, ap₂, subst, arith, append-nil}
 use Rattle.std.proofs.Math.Seq.{take-nil}
 use Rattle.stm_chip.specs.Document.{IsChipWith}
 use Rattle.stm_wire.specs.Chip.{ChipData}
@@ -13,7 +13,7 @@ use Rattle.stm_journal.specs.Calls.{IsUntouched, Loads}
 use Rattle.stm_journal.specs.Journals.{Loaded, journal_of}
 use Rattle.stm_session.specs.declared.fault.Fault.{Fault}
 use Rattle.stm_session.specs.Fault.{IsOutsideFault}
-use Rattle.stm_session.specs.GoingBack.{AmidBack, GoesBack}
+use Rattle.stm_session.specs.GoingBack.{AmidBackBy, GoesBackBy, undo_lines}
 use Rattle.stm_session.specs.Lines.{is_torn_at, text_added}
 use Rattle.stm_session.specs.Meeting.{Meets}
 use Rattle.stm_session.specs.Moments.{SameMake}
@@ -23,8 +23,9 @@ use Rattle.stm_session.specs.Refusals.{undo_misfit, undo_refusal}
 use Rattle.stm_session.specs.StepLaws.{StepLaws}
 use Rattle.stm_session.specs.Steps.{Stands, Goes}
 use Rattle.stm_session.specs.Undoable.{Undoable, state_at}
-use Rattle.stm_session.specs.Undoes.{AmidUndo, IsElsewhere, IsFlashSettled, Undoes, byte_at_journal, flash_taken_back, risked_at, taken_count, undo_text}
+use Rattle.stm_session.specs.Undoes.{AmidUndo, IsElsewhere, IsFlashSettled, Undoes, byte_at_journal, risked_at, taken_count, undo_text}
 use Rattle.stm_session.proofs.Going.{at_exit}
+use Rattle.stm_session.proofs.GoingAll.{flash_at}
 use Rattle.stm_session.proofs.Keeping.{good_at}
 use Rattle.stm_session.proofs.Standing.{makes_then, settled_undoable}
 use Rattle.stm_session.proofs.Unread.{same_flash, untouched_amid, untouched_stray, none_some}
@@ -56,10 +57,6 @@ module _ (table : List ChipData) (l : Loaded) (old a : RigState) (loads : Loads 
           lines = s.lines ∙ ap₂ (λ (j t : List ℕ). j ++ t) loads.journal (take-nil s.written);
         }
 
-    flash_at : (n : ℕ) (x y : List ℕ) (flashes : List (List ℕ)) → (n ≡ 0 → x ≡ y) → flash_taken_back n x flashes ≡ flash_taken_back n y flashes
-    flash_at zero x y flashes h = h refl
-    flash_at (suc n) x y flashes h = refl
-
     module _ (taken : ℕ) (flashes : List (List ℕ)) (u : Undoable flashes old.device old.journal) (b : RigState) where
       first_moments : LeavesOnly (Stands [] flashes a) a b → LeavesOnly (AmidUndo taken flashes old) old b
       first_moments moments =
@@ -84,7 +81,7 @@ module _ (table : List ChipData) (l : Loaded) (old a : RigState) (loads : Loads 
         text_b : undo_text b taken b.device.flash ≡ undo_text old taken b.device.flash
         text_b = ap₂ (λ (j : List ℕ) (p : ChipData). text_added (is_torn_at j) (Rattle.stm_session.specs.Lines.undo_entries p taken (state_at j).stack b.device.flash)) journal_b chip_as
 
-        back_amid : (d : Device) (journal : List ℕ) → AmidBack taken flashes b d journal → AmidUndo taken flashes old d journal
+        back_amid : (d : Device) (journal : List ℕ) → AmidBackBy (undo_lines taken b) taken flashes b d journal → AmidUndo taken flashes old d journal
         back_amid d journal amid =
             let M : Device → Type 0 = λ x. SameMake x b.device in
             record {
@@ -102,16 +99,16 @@ module _ (table : List ChipData) (l : Loaded) (old a : RigState) (loads : Loads 
               lines = amid.lines ∙ ap₂ (λ (j bytes : List ℕ). j ++ take amid.written bytes) journal_b text_b;
             }
 
-        back_moments : LeavesOnly (AmidBack taken flashes b) b c → LeavesOnly (AmidUndo taken flashes old) old c
+        back_moments : LeavesOnly (AmidBackBy (undo_lines taken b) taken flashes b) b c → LeavesOnly (AmidUndo taken flashes old) old c
         back_moments moments =
-            joined (AmidUndo taken flashes old) (AmidBack taken flashes b) (AmidUndo taken flashes old) old b c (first_moments goes.moments) moments (λ d journal m. m) back_amid
+            joined (AmidUndo taken flashes old) (AmidBackBy (undo_lines taken b) taken flashes b) (AmidUndo taken flashes old) old b c (first_moments goes.moments) moments (λ d journal m. m) back_amid
 
-        pub undoes_stopped : {T : Type 0} (e x : Fault) → IsModel c → GoesBack {T = T} taken flashes l2 b c (Err e) → x ≡ e → Undoes taken flashes old c (Err x)
+        pub undoes_stopped : {T : Type 0} (e x : Fault) → IsModel c → GoesBackBy {T = T} (undo_lines taken b) taken flashes l2 b c (Err e) → x ≡ e → Undoes taken flashes old c (Err x)
         undoes_stopped e x model back is =
             let moments = back_moments back.moments in
             record { moments = moments; honest = back.honest; left = at_exit (AmidUndo taken flashes old) old c model moments; answer = tt; done = tt; settled = tt; fails = subst IsOutsideFault (sym is) back.fails }
 
-        pub undoes_all : (n : ℕ) → n ≡ taken → 1 ≤ taken → IsModel c → GoesBack {T = Unit {0}} taken flashes l2 b c (Ok tt) → Undoes taken flashes old c (Ok n)
+        pub undoes_all : (n : ℕ) → n ≡ taken → 1 ≤ taken → IsModel c → GoesBackBy {T = Unit {0}} (undo_lines taken b) taken flashes l2 b c (Ok tt) → Undoes taken flashes old c (Ok n)
         undoes_all n is one model back =
             let moments = back_moments back.moments in
             let left = at_exit (AmidUndo taken flashes old) old c model moments in

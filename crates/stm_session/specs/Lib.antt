@@ -15,6 +15,7 @@ pub mod Leaving
 pub mod Meaning
 pub mod Answers
 pub mod Refusals
+pub mod Work
 pub mod Lines
 pub mod Runs
 pub mod Undoes

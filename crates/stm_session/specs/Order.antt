@@ -1,6 +1,7 @@
 -- In which order a session puts frames and appends lines, on any line, where it is answered Ok. Gets and fetches are left out:
 -- they change nothing.
-use Rattle.std.specs.Prelude.{◌≡◌, ℕ, zero, suc, ◌+◌, ◌*◌, ◌/◌, Bool, false, if◌then◌else◌, List, [], ◌∷◌, ◌++◌, length, take, drop, map, bytes_eq}
+use Rattle.std.specs.Prelude.{◌≡◌, ℕ, zero, suc, ◌+◌, ◌*◌, ◌/◌, Bool, false, if◌then◌else◌, List, [], ◌∷◌, ◌++◌, length, take, drop, map, bytes_eq, Option, Some, None}
+use Rattle.stm_wire.specs.declared.intent.Intent.{Intent}
 use Rattle.stm_wire.specs.declared.rig.RigCall.{RigCall}
 use Rattle.stm_wire.specs.declared.rig.RigCall.TheVariants.{Put, Get, Append, Fetch}
 use Rattle.stm_wire.specs.Chip.{ChipData, erased_byte, page_offset, page_size}
@@ -17,7 +18,7 @@ use Rattle.stm_journal.specs.declared.entry.Entry.TheVariants.{Erases, Programs,
 use Rattle.stm_journal.specs.declared.kept.Kept.{Kept}
 use Rattle.stm_journal.specs.Journals.{Loaded, IsLoaded, added_bytes}
 use Rattle.stm_journal.specs.Newest.{pages_of_segments}
-use Rattle.stm_journal.specs.States.{intent_of}
+use Rattle.stm_journal.specs.States.{intent_of, intent_page}
 
 -- what the host does on purpose: it appends lines, or it puts a frame
 pub data Step : Type 0 where
@@ -121,6 +122,25 @@ AreTakenBack chip (suc taken) [] steps = ⊥
 AreTakenBack chip (suc taken) (pages ∷ below) steps =
     (first : List Step) × (rest : List Step) × (steps ≡ first ++ rest) × IsTakenBack chip pages (length below + 1) first × AreTakenBack chip taken below rest
 
+-- a page is given the bytes that the journal keeps, unread
+pub record IsRewritten (chip : ChipData) (n : ℕ) (steps : List Step) : Type 0 where
+  pub page : List ℕ
+  pub size : length page ≡ page_size chip n
+  pub is : steps ≡ rewrite_steps chip n page (frames_of (erased_byte chip) page (length page / 256))
+
+-- the page of an intent is
+abbrev pub IsWorkRewritten : ChipData → Option Intent → List Step → Type 0
+IsWorkRewritten chip None steps = steps ≡ []
+IsWorkRewritten chip (Some intent) steps = IsRewritten chip (intent_page intent) steps
+
+-- the page of the newest segment's intent first, and then so many segments are taken back
+pub record AreAllTakenBack (chip : ChipData) (intent : Option Intent) (taken : ℕ) (segments : List (List Kept)) (steps : List Step) : Type 0 where
+  pub first : List Step
+  pub is_first : IsWorkRewritten chip intent first
+  pub back : List Step
+  pub are_back : AreTakenBack chip taken segments back
+  pub is : steps ≡ first ++ back
+
 -- a settling run, and then these steps
 abbrev pub SettlesFirst : ℕ → Bool → List Step → List RigCall → Type 0
 SettlesFirst byte torn steps calls = (settling : List ℕ) × IsSettlingRun byte 131072 settling × (acts_of calls ≡ puts settling ++ acts_of_steps torn steps)
@@ -129,12 +149,13 @@ SettlesFirst byte torn steps calls = (settling : List ℕ) × IsSettlingRun byte
 abbrev pub asking_steps : List Step
 asking_steps = Sends (command 0x00) ∷ Sends (command 0x02) ∷ []
 
--- An undo of so many segments: settling by the intent of the journal that was loaded, Get, Get ID, and then its segments.
+-- An undo of so many segments: settling by the intent of the journal that was loaded, Get, Get ID, the page of that intent, and
+-- then the segments.
 pub record UndoesInOrder (table : List ChipData) (taken : ℕ) (old new : RigState) : Type 0 where
   pub journal : Loaded
   pub loaded : old.is_honest → IsLoaded journal old.journal
   pub chip : ChipData
   pub listed : IsChipWith table chip.id chip
   pub steps : List Step
-  pub are_steps : AreTakenBack chip taken (pages_of_segments journal.state.stack) steps
+  pub are_steps : AreAllTakenBack chip (intent_of journal.state) taken (pages_of_segments journal.state.stack) steps
   pub calls : GoesOn (SettlesFirst (settling_byte (intent_of journal.state)) journal.is_torn (asking_steps ++ steps)) old.calls new.calls

@@ -5,13 +5,13 @@ use Rattle.hex.specs.Hex.{encode_with}
 use Rattle.hex.proofs.OnLiterals.{hex_on_literals}
 use Rattle.stm_image.specs.Lay.{lay}
 use Rattle.stm_wire.specs.declared.chip.EraseKind.TheVariants.{Page, Extended}
-use Rattle.stm_wire.specs.declared.intent.Intent.TheVariants.{Erase}
+use Rattle.stm_wire.specs.declared.intent.Intent.TheVariants.{Erase, Program}
 use Rattle.stm_wire.specs.Chip.{ChipData, chip_of}
 use Rattle.stm_wire.specs.Device.{Device, Fresh}
 use Rattle.stm_chip.specs.Plan.{frames_of, used_length}
 use Rattle.stm_journal.specs.declared.kept.Kept.{Kept}
 use Rattle.stm_journal.specs.declared.header.JournalHeader.{JournalHeader}
-use Rattle.stm_journal.specs.declared.stage.Stage.TheVariants.{Open, Ended}
+use Rattle.stm_journal.specs.declared.stage.Stage.TheVariants.{Open, Ended, Returning}
 use Rattle.stm_journal.specs.declared.entry.Entry.TheVariants.{Names, Opens, Keeps, Erases, Programs, Ends, Undoes}
 use Rattle.stm_journal.specs.States.{StateData}
 use Rattle.stm_journal.specs.Journals.{JournalData, good, bad, journal_of}
@@ -99,6 +99,24 @@ taken_back : undo_entries one 1 (record { pages = kept_one ∷ kept_none ∷ [];
     ≡ Erases 1 ∷ Programs 1 ∷ Undoes 1 ∷ []
 unfolding frames_of used_length
 taken_back = refl
+
+-- the page of the intent is written before any other, also where it reads as it was; without an intent it is left
+abbrev both_kept : List Kept
+both_kept = kept_none ∷ kept_one ∷ []
+
+work_first : undo_entries one 1 (record { pages = both_kept; stage = Open (Some (Erase 1)) } ∷ []) (replicate 512 0)
+    ≡ Erases 1 ∷ Programs 1 ∷ Erases 0 ∷ Undoes 1 ∷ []
+unfolding frames_of used_length
+work_first = refl
+
+work_that_reads_right : undo_entries one 1 (record { pages = both_kept; stage = Returning (Program 1) } ∷ []) (replicate 256 0xFF ++ replicate 256 0)
+    ≡ Erases 1 ∷ Programs 1 ∷ Undoes 1 ∷ []
+unfolding frames_of used_length
+work_that_reads_right = refl
+
+no_work : undo_entries one 1 (record { pages = both_kept; stage = Ended } ∷ []) (replicate 256 0xFF ++ replicate 256 0) ≡ Undoes 1 ∷ []
+unfolding frames_of used_length
+no_work = refl
 
 -- what is refused
 abbrev device : Device

@@ -20,6 +20,10 @@ most_of_command = 13 * 2097152
 abbrev pub most_calls : ℕ → ℕ
 most_calls n = 4100 * 131076 + 268 + n * most_of_command
 
+-- of an undo of so many segments: a page is written first, and none is larger than the greatest flash
+abbrev pub most_of_undo : ℕ → ℕ
+most_of_undo taken = 3 * 2097152 + taken * most_of_command
+
 -- of keeping the page that has to be kept with page 1: it is read, and no chip has more pages than its flash
 abbrev pub most_of_companion : ChipData → ℕ → ℕ
 most_of_companion chip n = if n == 1 then 3 * flash_size chip else 0
@@ -66,7 +70,7 @@ pub record SendsAsUndo (table : List ChipData) (count : ℕ) (old new : RigState
   pub limit : taken ≤ 65535
   pub asked : 0 < count → taken ≤ count
   pub told : IfOk result (λ n. n ≡ taken)
-  pub calls : GoesOn (IsSession chip byte 131072 (is_whole result) (most_calls taken)) old.calls new.calls
+  pub calls : GoesOn (IsSession chip byte 131072 (is_whole result) (most_calls 0 + most_of_undo taken)) old.calls new.calls
 
 -- nothing of a dialogue, or all of it, or it was broken off
 abbrev pub IsBegun : List Turn → List RigCall → Type 0

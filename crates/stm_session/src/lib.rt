@@ -27,6 +27,7 @@ mod listing;
 mod meeting;
 mod opening;
 mod outcome;
+mod page_at_work;
 mod programming;
 mod reading;
 mod restoring;

@@ -10,7 +10,7 @@ ghost use Rattle.stm_session.specs.Undoes.{taken_count};
 
 use crate::Fault;
 use crate::finding::find_named;
-use crate::going_back::take_back_newest;
+use crate::going_back::go_back;
 use crate::laws_of_steps::step_laws;
 use crate::meeting::meet;
 use std::alloc::Global;
@@ -33,7 +33,7 @@ fn taken_count(count: u32, depth: u32) -> u32
 }
 
 /// Takes back the newest segments of the journal, from wherever a session was stopped: so many, or all where the count is 0 or
-/// more than there are. Answers how many; where there is none it is 0, and no byte is sent. A bad journal, a chip that the table
+/// more than there are. The page of the journal's intent isn't believed: it is written before any other is read. Answers how many; where there is none it is 0, and no byte is sent. A bad journal, a chip that the table
 /// hasn't, and a page or header that isn't one of that chip are refused before a byte is sent; a device that lists no command to
 /// erase pages, or isn't the journal's, once it has answered Get and Get ID (AN3155, 3.1 and 3.3).
 pub fn undo<R: Rig>(alloc: Global, rig: &mut R, table: &Table, count: u32) -> Result<u32, Fault>
@@ -58,6 +58,6 @@ pub fn undo<R: Rig>(alloc: Global, rig: &mut R, table: &Table, count: u32) -> Re
     let chip = find_named(&journal, table, id)?;
     meet(rig, &journal, chip)?;
     let taken = taken_count(count, depth);
-    take_back_newest(alloc, rig, &mut journal, chip, taken)?;
+    go_back(alloc, rig, &mut journal, chip, taken)?;
     Ok(taken)
 }

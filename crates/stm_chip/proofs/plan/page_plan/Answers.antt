@@ -6,7 +6,7 @@ use Rattle.stm_chip.proofs.plan.page_plan.Goals as goal
 
 pub returns-clause-gives_new : goal.returns-clause-gives_new
 returns-clause-gives_new c =
-    rw c.in_ok-frames.ensures (written_all c.args.erased c.args.new.now (length c.args.old.now) c.requires.blocks c.requires.lengths)
+    rw c.in_ok-frames.ensures.frames (written_all c.args.erased c.args.new.now (length c.args.old.now) c.requires.blocks c.requires.lengths)
 
 pub returns-clause-fits : goal.returns-clause-fits
-returns-clause-fits c = rw c.in_ok-frames.ensures (frames_fit c.args.erased c.args.new.now c.requires.blocks)
+returns-clause-fits c = rw c.in_ok-frames.ensures.frames (frames_fit c.args.erased c.args.new.now c.requires.blocks)

@@ -54,16 +54,16 @@ returns-in_err-meet-clause-promised g c =
     let goes = c.in_err-meet.ensures.honest loads.honest flashes (loaded_then c.args.table.now c.in_ok-journal.journal (V c.args.rig.now) (V c.load.new.rig) loads) (undoable_then c.args.table.now c.in_ok-journal.journal (V c.args.rig.now) (V c.load.new.rig) loads flashes u) (own_chip c.args.table.now c.in_ok-journal.journal (V c.args.rig.now) (V c.load.new.rig) loads some c.in-Some.id named c.step_laws.ensures c.in_ok-chip.chip.now c.in_ok-chip.ensures.chip c.in_ok-chip.ensures.accepted flashes u listed) in
     undoes_unmet c.args.table.now c.in_ok-journal.journal (V c.args.rig.now) (V c.load.new.rig) loads some c.in-Some.id named c.step_laws.ensures c.in_ok-chip.chip.now c.in_ok-chip.ensures.chip c.in_ok-chip.ensures.accepted (taken_count c.args.count (length flashes)) flashes u (V c.meet.new.rig) c.in_ok-journal.journal _ x (g.met.R.Rig.model c.meet.new.rig goes.honest) goes is)))
 
-pub returns-in_err-take_back_newest-clause-promised : goal.returns-in_err-take_back_newest-clause-promised
-returns-in_err-take_back_newest-clause-promised g c =
+pub returns-in_err-go_back-clause-promised : goal.returns-in_err-go_back-clause-promised
+returns-in_err-go_back-clause-promised g c =
     let V = g.R.Rig.view in
     let some : 1 ≤ length c.in_ok-journal.journal.state.stack = omega (arith, c.if-depth-eq0.false, c.depth-depth.ensures.value) in
     let named : option_map (λ h. h.id) c.in_ok-journal.journal.state.header ≡ Some c.in-Some.id = sym c.in-Some.ensures in
-    contract_when c.args.table.now c.args.count (V c.args.rig.now) (V c.take_back_newest.new.rig) c.from_residual-in_err-take_back_newest.result (λ h.
+    contract_when c.args.table.now c.args.count (V c.args.rig.now) (V c.go_back.new.rig) c.from_residual-in_err-go_back.result (λ h.
     let loads = c.in_ok-journal.ensures.honest h in
-    let P : Result ℕ Fault → Type 0 = λ r. UndoContract c.args.table.now c.args.count (V c.args.rig.now) (V c.take_back_newest.new.rig) r in
-    err_as P c.from_residual-in_err-take_back_newest.result _ c.from_residual-in_err-take_back_newest.ensures.1 (λ x is.
-    contract_after c.args.table.now c.in_ok-journal.journal (V c.args.rig.now) (V c.load.new.rig) loads some c.in-Some.id named c.step_laws.ensures c.in_ok-chip.chip.now c.in_ok-chip.ensures.chip c.in_ok-chip.ensures.accepted c.args.count (V c.take_back_newest.new.rig) (Err x)
+    let P : Result ℕ Fault → Type 0 = λ r. UndoContract c.args.table.now c.args.count (V c.args.rig.now) (V c.go_back.new.rig) r in
+    err_as P c.from_residual-in_err-go_back.result _ c.from_residual-in_err-go_back.ensures.1 (λ x is.
+    contract_after c.args.table.now c.in_ok-journal.journal (V c.args.rig.now) (V c.load.new.rig) loads some c.in-Some.id named c.step_laws.ensures c.in_ok-chip.chip.now c.in_ok-chip.ensures.chip c.in_ok-chip.ensures.accepted c.args.count (V c.go_back.new.rig) (Err x)
     (λ refusal harmless owed misfit.
     let meets = c.in_ok-meet.ensures.elsewhere loads.honest (loaded_then c.args.table.now c.in_ok-journal.journal (V c.args.rig.now) (V c.load.new.rig) loads) (harmless_then c.args.table.now c.in_ok-journal.journal (V c.args.rig.now) (V c.load.new.rig) loads some c.in-Some.id named c.step_laws.ensures c.in_ok-chip.chip.now c.in_ok-chip.ensures.chip c.in_ok-chip.ensures.accepted harmless) (owed_then c.args.table.now c.in_ok-journal.journal (V c.args.rig.now) (V c.load.new.rig) loads some c.in-Some.id named c.step_laws.ensures c.in_ok-chip.chip.now c.in_ok-chip.ensures.chip c.in_ok-chip.ensures.accepted owed) in
     none_some _ refusal meets.accepted misfit)
@@ -75,19 +75,19 @@ returns-in_err-take_back_newest-clause-promised g c =
     let chip_b = (at_exit _ (V c.load.new.rig) (V c.meet.new.rig) model_b goes.moments).make.chip ∙ own_chip c.args.table.now c.in_ok-journal.journal (V c.args.rig.now) (V c.load.new.rig) loads some c.in-Some.id named c.step_laws.ensures c.in_ok-chip.chip.now c.in_ok-chip.ensures.chip c.in_ok-chip.ensures.accepted flashes u listed in
     let depth = flashes_depth c.args.table.now c.in_ok-journal.journal (V c.args.rig.now) (V c.load.new.rig) loads flashes u in
     let count_is : c.taken_count-taken.result ≡ taken_count c.args.count (length flashes) = c.taken_count-taken.ensures.value ∙ ap (λ (n : ℕ). taken_count c.args.count n) (c.depth-depth.ensures.value ∙ sym depth) in
-    let back = c.in_err-take_back_newest.ensures.honest flashes goes.steady chip_b in
-    let U : ℕ → Type 0 = λ n. Undoes n flashes (V c.args.rig.now) (V c.take_back_newest.new.rig) (Err x) in
+    let back = c.in_err-go_back.ensures.honest flashes goes.steady chip_b in
+    let U : ℕ → Type 0 = λ n. Undoes n flashes (V c.args.rig.now) (V c.go_back.new.rig) (Err x) in
     subst U count_is
-    (undoes_stopped c.args.table.now c.in_ok-journal.journal (V c.args.rig.now) (V c.load.new.rig) loads some c.in-Some.id named c.step_laws.ensures c.in_ok-chip.chip.now c.in_ok-chip.ensures.chip c.in_ok-chip.ensures.accepted c.taken_count-taken.result flashes u (V c.meet.new.rig) model_b goes settled (V c.take_back_newest.new.rig) c.take_back_newest.new.journal _ x (g.met.R.Rig.model c.take_back_newest.new.rig back.honest) back is))))
+    (undoes_stopped c.args.table.now c.in_ok-journal.journal (V c.args.rig.now) (V c.load.new.rig) loads some c.in-Some.id named c.step_laws.ensures c.in_ok-chip.chip.now c.in_ok-chip.ensures.chip c.in_ok-chip.ensures.accepted c.taken_count-taken.result flashes u (V c.meet.new.rig) model_b goes settled (V c.go_back.new.rig) c.go_back.new.journal _ x (g.met.R.Rig.model c.go_back.new.rig back.honest) back is))))
 
 pub returns-clause-promised : goal.returns-clause-promised
 returns-clause-promised g c =
     let V = g.R.Rig.view in
     let some : 1 ≤ length c.in_ok-journal.journal.state.stack = omega (arith, c.if-depth-eq0.false, c.depth-depth.ensures.value) in
     let named : option_map (λ h. h.id) c.in_ok-journal.journal.state.header ≡ Some c.in-Some.id = sym c.in-Some.ensures in
-    contract_when c.args.table.now c.args.count (V c.args.rig.now) (V c.take_back_newest.new.rig) _ (λ h.
+    contract_when c.args.table.now c.args.count (V c.args.rig.now) (V c.go_back.new.rig) _ (λ h.
     let loads = c.in_ok-journal.ensures.honest h in
-    contract_after c.args.table.now c.in_ok-journal.journal (V c.args.rig.now) (V c.load.new.rig) loads some c.in-Some.id named c.step_laws.ensures c.in_ok-chip.chip.now c.in_ok-chip.ensures.chip c.in_ok-chip.ensures.accepted c.args.count (V c.take_back_newest.new.rig) _
+    contract_after c.args.table.now c.in_ok-journal.journal (V c.args.rig.now) (V c.load.new.rig) loads some c.in-Some.id named c.step_laws.ensures c.in_ok-chip.chip.now c.in_ok-chip.ensures.chip c.in_ok-chip.ensures.accepted c.args.count (V c.go_back.new.rig) _
     (λ refusal harmless owed misfit.
     let meets = c.in_ok-meet.ensures.elsewhere loads.honest (loaded_then c.args.table.now c.in_ok-journal.journal (V c.args.rig.now) (V c.load.new.rig) loads) (harmless_then c.args.table.now c.in_ok-journal.journal (V c.args.rig.now) (V c.load.new.rig) loads some c.in-Some.id named c.step_laws.ensures c.in_ok-chip.chip.now c.in_ok-chip.ensures.chip c.in_ok-chip.ensures.accepted harmless) (owed_then c.args.table.now c.in_ok-journal.journal (V c.args.rig.now) (V c.load.new.rig) loads some c.in-Some.id named c.step_laws.ensures c.in_ok-chip.chip.now c.in_ok-chip.ensures.chip c.in_ok-chip.ensures.accepted owed) in
     none_some _ refusal meets.accepted misfit)
@@ -99,11 +99,11 @@ returns-clause-promised g c =
     let chip_b = (at_exit _ (V c.load.new.rig) (V c.meet.new.rig) model_b goes.moments).make.chip ∙ own_chip c.args.table.now c.in_ok-journal.journal (V c.args.rig.now) (V c.load.new.rig) loads some c.in-Some.id named c.step_laws.ensures c.in_ok-chip.chip.now c.in_ok-chip.ensures.chip c.in_ok-chip.ensures.accepted flashes u listed in
     let depth = flashes_depth c.args.table.now c.in_ok-journal.journal (V c.args.rig.now) (V c.load.new.rig) loads flashes u in
     let count_is : c.taken_count-taken.result ≡ taken_count c.args.count (length flashes) = c.taken_count-taken.ensures.value ∙ ap (λ (n : ℕ). taken_count c.args.count n) (c.depth-depth.ensures.value ∙ sym depth) in
-    let back = c.in_ok-take_back_newest.ensures.honest flashes goes.steady chip_b in
+    let back = c.in_ok-go_back.ensures.honest flashes goes.steady chip_b in
     let one : 1 ≤ c.taken_count-taken.result = c.taken_count-taken.ensures.some (omega (arith, some, c.depth-depth.ensures.value)) in
-    let U : ℕ → Type 0 = λ n. Undoes n flashes (V c.args.rig.now) (V c.take_back_newest.new.rig) (Ok c.taken_count-taken.result) in
+    let U : ℕ → Type 0 = λ n. Undoes n flashes (V c.args.rig.now) (V c.go_back.new.rig) (Ok c.taken_count-taken.result) in
     subst U count_is
-    (undoes_all c.args.table.now c.in_ok-journal.journal (V c.args.rig.now) (V c.load.new.rig) loads some c.in-Some.id named c.step_laws.ensures c.in_ok-chip.chip.now c.in_ok-chip.ensures.chip c.in_ok-chip.ensures.accepted c.taken_count-taken.result flashes u (V c.meet.new.rig) model_b goes settled (V c.take_back_newest.new.rig) c.take_back_newest.new.journal c.taken_count-taken.result refl one (g.met.R.Rig.model c.take_back_newest.new.rig back.honest) back)))
+    (undoes_all c.args.table.now c.in_ok-journal.journal (V c.args.rig.now) (V c.load.new.rig) loads some c.in-Some.id named c.step_laws.ensures c.in_ok-chip.chip.now c.in_ok-chip.ensures.chip c.in_ok-chip.ensures.accepted c.taken_count-taken.result flashes u (V c.meet.new.rig) model_b goes settled (V c.go_back.new.rig) c.go_back.new.journal c.taken_count-taken.result refl one (g.met.R.Rig.model c.go_back.new.rig back.honest) back)))
 
 pub returns-in_err-journal-clause-puts : goal.returns-in_err-journal-clause-puts
 returns-in_err-journal-clause-puts g c =
@@ -133,28 +133,28 @@ returns-in_err-meet-clause-puts g c =
     sends_failed c.args.table.now c.args.count a d _ c.from_residual-in_err-meet.result c.from_residual-in_err-meet.ensures.1
     (sends_met c.args.table.now c.args.count a byte (V c.load.new.rig) d _ c.in_ok-journal.ensures.calls c.in_err-meet.ensures.puts)
 
-pub returns-in_err-take_back_newest-clause-puts : goal.returns-in_err-take_back_newest-clause-puts
-returns-in_err-take_back_newest-clause-puts g c =
+pub returns-in_err-go_back-clause-puts : goal.returns-in_err-go_back-clause-puts
+returns-in_err-go_back-clause-puts g c =
     let V = g.R.Rig.view in
     let a = V c.args.rig.now in
-    let d = V c.take_back_newest.new.rig in
+    let d = V c.go_back.new.rig in
     let byte = settling_byte (intent_of c.in_ok-journal.journal.state) in
     let taken = c.taken_count-taken in
     let limit : taken.result ≤ 65535 = omega (arith, taken.ensures.most, c.depth-depth.ensures.value, c.depth-depth.ensures.sound.depth) in
-    sends_failed c.args.table.now c.args.count a d _ c.from_residual-in_err-take_back_newest.result c.from_residual-in_err-take_back_newest.ensures.1
+    sends_failed c.args.table.now c.args.count a d _ c.from_residual-in_err-go_back.result c.from_residual-in_err-go_back.ensures.1
     (sends_back c.args.table.now c.args.count a byte c.in-Some.id taken.result c.in_ok-chip.chip.now (V c.load.new.rig) (V c.meet.new.rig) d _ c.in_ok-chip.ensures.chip limit taken.ensures.asked tt
-    c.in_ok-journal.ensures.calls c.in_ok-meet.ensures.puts c.in_err-take_back_newest.ensures.puts)
+    c.in_ok-journal.ensures.calls c.in_ok-meet.ensures.puts c.in_err-go_back.ensures.puts)
 
 pub returns-clause-puts : goal.returns-clause-puts
 returns-clause-puts g c =
     let V = g.R.Rig.view in
     let a = V c.args.rig.now in
-    let d = V c.take_back_newest.new.rig in
+    let d = V c.go_back.new.rig in
     let byte = settling_byte (intent_of c.in_ok-journal.journal.state) in
     let taken = c.taken_count-taken in
     let limit : taken.result ≤ 65535 = omega (arith, taken.ensures.most, c.depth-depth.ensures.value, c.depth-depth.ensures.sound.depth) in
     sends_back c.args.table.now c.args.count a byte c.in-Some.id taken.result c.in_ok-chip.chip.now (V c.load.new.rig) (V c.meet.new.rig) d _ c.in_ok-chip.ensures.chip limit taken.ensures.asked refl
-    c.in_ok-journal.ensures.calls c.in_ok-meet.ensures.puts c.in_ok-take_back_newest.ensures.puts
+    c.in_ok-journal.ensures.calls c.in_ok-meet.ensures.puts c.in_ok-go_back.ensures.puts
 
 pub returns-then-depth-eq0-clause-order : goal.returns-then-depth-eq0-clause-order
 returns-then-depth-eq0-clause-order g c some = absurd (omega (arith, some))
@@ -167,8 +167,8 @@ returns-clause-order g c some =
     let a = (V c.args.rig.now).calls in
     let b = (V c.load.new.rig).calls in
     let d = (V c.meet.new.rig).calls in
-    let e = (V c.take_back_newest.new.rig).calls in
-    let back = c.in_ok-take_back_newest.ensures.order in
+    let e = (V c.go_back.new.rig).calls in
+    let back = c.in_ok-go_back.ensures.order in
     record {
       journal = l;
       loaded = λ h. (c.in_ok-journal.ensures.honest h).loaded;

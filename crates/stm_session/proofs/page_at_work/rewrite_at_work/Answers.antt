@@ -1,0 +1,121 @@
+use Rattle.std.proofs.Common.{◌≡◌, ◌∙◌, ◌*◌, ◌≤◌, ◌++◌, [], ℕ, Option, Some, None, Ok, true, refl, sym, subst, append-nil, arith, IsTrue}
+use Rattle.stm_wire.specs.Chip.{page_size}
+use Rattle.stm_wire.specs.PageLaws.{page_within}
+use Rattle.stm_wire.specs.PartLaws.{part_longer}
+use Rattle.stm_journal.specs.declared.kept.Kept.{Kept}
+use Rattle.stm_journal.specs.NewestLaws.{KeepsSame-refl}
+use Rattle.stm_journal.specs.States.{intent_of, newest_keeps}
+use Rattle.stm_session.specs.Lines.{rewrite_entries, work_entries}
+use Rattle.stm_session.specs.Steps.{Goes}
+use Rattle.stm_session.specs.Undoable.{state_at}
+use Rattle.stm_session.specs.Work.{with_work}
+use Rattle.stm_session.proofs.Going.{goes_as, goes_failed, goes_nowhere, goes_ok}
+use Rattle.stm_session.proofs.Keeping.{depth_text, good_at}
+use Rattle.stm_session.proofs.Returns.{kept_in_text, number_exists, place_fits}
+use Rattle.stm_session.proofs.SentParts.{part_fails}
+use Rattle.stm_session.proofs.Settlings.{intent_text}
+use Rattle.stm_session.proofs.Work.{no_work, stands_at, work_is}
+use Rattle.stm_session.proofs.page_at_work.rewrite_at_work.Goals as goal
+
+pub returns-in_default-clause-honest : goal.returns-in_default-clause-honest
+returns-in_default-clause-honest g c flashes steady chip =
+    let V = g.R.Rig.view in
+    let l = c.args.journal.now in
+    let a = V c.args.rig.now in
+    let none : intent_of l.state ≡ None = sym c.last_intent.ensures ∙ c.in_default.is in
+    let nothing = no_work (state_at a.journal) (sym (intent_text l a.journal steady.loaded) ∙ none) in
+    let P : Option Kept → Type 0 = λ o. Goes {T = Unit {0}} flashes (work_entries c.args.chip.now o) l a a (Ok tt) (λ x. a.device.flash ≡ with_work c.args.chip.now o a.device.flash) in
+    subst P (sym nothing) (goes_nowhere c.step_laws.ensures flashes l a (tt {0}) (λ x. a.device.flash ≡ a.device.flash) (g.met.R.Rig.model c.args.rig.now steady.honest) steady refl)
+
+pub unreachable-requires : goal.unreachable-requires
+unreachable-requires g c =
+    let s = c.args.journal.now.state in
+    let K : ℕ → Type 0 = λ n. IsTrue (newest_keeps n s) in
+    let kept = subst K (sym c.intent_page-n.ensures) (c.depth-newest.ensures.sound.intended c.in-Some.intent (sym c.in-Some.ensures)) in
+    (stands_at s c.depth-newest.result c.intent_page-n.result c.depth-newest.ensures.value kept).somewhere c.in_default-page.ensures.place
+
+pub rewrite_line-requires-clause-exists : goal.rewrite_line-requires-clause-exists
+rewrite_line-requires-clause-exists g c =
+    let s = c.args.journal.now.state in
+    let K : ℕ → Type 0 = λ n. IsTrue (newest_keeps n s) in
+    let kept = subst K (sym c.intent_page-n.ensures) (c.depth-newest.ensures.sound.intended c.in-Some.intent (sym c.in-Some.ensures)) in
+    let newest = c.depth-newest.result in
+    let n = c.intent_page-n.result in
+    let is = c.depth-newest.ensures.value in
+    let stands = stands_at s newest n is kept in
+    number_exists s s newest stands.i (KeepsSame-refl s) is stands.within c.args.chip.now n _ c.requires.fits stands.number
+
+pub rewrite_line-requires-clause-size : goal.rewrite_line-requires-clause-size
+rewrite_line-requires-clause-size g c =
+    let s = c.args.journal.now.state in
+    let K : ℕ → Type 0 = λ n. IsTrue (newest_keeps n s) in
+    let kept = subst K (sym c.intent_page-n.ensures) (c.depth-newest.ensures.sound.intended c.in-Some.intent (sym c.in-Some.ensures)) in
+    let newest = c.depth-newest.result in
+    let n = c.intent_page-n.result in
+    let is = c.depth-newest.ensures.value in
+    let stands = stands_at s newest n is kept in
+    place_fits s s newest stands.i (KeepsSame-refl s) is stands.within c.args.chip.now n _ c.requires.fits stands.number
+    c.in-Some-page.place (stands.place c.in-Some-page.place c.in-Some-page.ensures.place)
+
+pub returns-in_err-rewrite_line-clause-puts : goal.returns-in_err-rewrite_line-clause-puts
+returns-in_err-rewrite_line-clause-puts g c =
+    let V = g.R.Rig.view in
+    let chip = c.args.chip.now in
+    let size = page_size chip c.intent_page-n.result in
+    let most : 3 * size ≤ 6291456 = omega (arith, page_within chip.sizes c.intent_page-n.result, c.keeps_limits.ensures.chip.size) in
+    part_fails (Some chip) (3 * size) 6291456 (V c.args.rig.now).calls (V c.rewrite_line.new.rig).calls _ c.from_residual.result most c.from_residual.ensures.1 c.in_err-rewrite_line.ensures.puts
+
+pub returns-clause-puts : goal.returns-clause-puts
+returns-clause-puts g c =
+    let V = g.R.Rig.view in
+    let chip = c.args.chip.now in
+    let size = page_size chip c.intent_page-n.result in
+    let most : 3 * size ≤ 6291456 = omega (arith, page_within chip.sizes c.intent_page-n.result, c.keeps_limits.ensures.chip.size) in
+    part_longer (Some chip) true (3 * size) 6291456 (V c.args.rig.now).calls (V c.rewrite_line.new.rig).calls most c.in_ok-rewrite_line.ensures.puts
+
+pub returns-in_err-rewrite_line-clause-honest : goal.returns-in_err-rewrite_line-clause-honest
+returns-in_err-rewrite_line-clause-honest g c flashes steady chip =
+    let V = g.R.Rig.view in
+    let l = c.args.journal.now in
+    let l2 = c.rewrite_line.new.journal in
+    let s = l.state in
+    let a = V c.args.rig.now in
+    let b = V c.rewrite_line.new.rig in
+    let K : ℕ → Type 0 = λ n. IsTrue (newest_keeps n s) in
+    let kept = subst K (sym c.intent_page-n.ensures) (c.depth-newest.ensures.sound.intended c.in-Some.intent (sym c.in-Some.ensures)) in
+    let newest = c.depth-newest.result in
+    let n = c.intent_page-n.result in
+    let is = c.depth-newest.ensures.value in
+    let stands = stands_at s newest n is kept in
+    let i = stands.i in
+    let there = kept_in_text l a.journal newest i n _ c.in-Some-page.place steady.loaded (stands.place c.in-Some-page.place c.in-Some-page.ensures.place) stands.number in
+    let once = (c.step_laws.ensures.sound a.journal (state_at a.journal) (good_at l a.journal steady.loaded)).once in
+    let found = work_is (state_at a.journal) newest i c.in-Some.intent there.0 (is ∙ depth_text l a.journal steady.loaded) once (sym (intent_text l a.journal steady.loaded) ∙ sym c.in-Some.ensures) there.1 (there.3 ∙ c.intent_page-n.ensures) in
+    let P : Option Kept → Type 0 = λ o. Goes {T = Unit {0}} flashes (work_entries c.args.chip.now o) l2 a b c.from_residual.result (λ x. b.device.flash ≡ with_work c.args.chip.now o a.device.flash) in
+    let own = rewrite_entries c.args.chip.now there.0.page there.0.bytes in
+    subst P (sym found)
+    (goes_as flashes (own ++ []) own l2 a b _ (append-nil own)
+    (goes_failed flashes own [] l2 l2 a b _ c.from_residual.result (c.in_err-rewrite_line.ensures.honest flashes newest i there.0 steady chip there.1 there.2 there.3) c.from_residual.ensures.1))
+
+pub returns-clause-honest : goal.returns-clause-honest
+returns-clause-honest g c flashes steady chip =
+    let V = g.R.Rig.view in
+    let l = c.args.journal.now in
+    let l2 = c.rewrite_line.new.journal in
+    let s = l.state in
+    let a = V c.args.rig.now in
+    let b = V c.rewrite_line.new.rig in
+    let K : ℕ → Type 0 = λ n. IsTrue (newest_keeps n s) in
+    let kept = subst K (sym c.intent_page-n.ensures) (c.depth-newest.ensures.sound.intended c.in-Some.intent (sym c.in-Some.ensures)) in
+    let newest = c.depth-newest.result in
+    let n = c.intent_page-n.result in
+    let is = c.depth-newest.ensures.value in
+    let stands = stands_at s newest n is kept in
+    let i = stands.i in
+    let there = kept_in_text l a.journal newest i n _ c.in-Some-page.place steady.loaded (stands.place c.in-Some-page.place c.in-Some-page.ensures.place) stands.number in
+    let once = (c.step_laws.ensures.sound a.journal (state_at a.journal) (good_at l a.journal steady.loaded)).once in
+    let found = work_is (state_at a.journal) newest i c.in-Some.intent there.0 (is ∙ depth_text l a.journal steady.loaded) once (sym (intent_text l a.journal steady.loaded) ∙ sym c.in-Some.ensures) there.1 (there.3 ∙ c.intent_page-n.ensures) in
+    let P : Option Kept → Type 0 = λ o. Goes {T = Unit {0}} flashes (work_entries c.args.chip.now o) l2 a b (Ok tt) (λ x. b.device.flash ≡ with_work c.args.chip.now o a.device.flash) in
+    let own = rewrite_entries c.args.chip.now there.0.page there.0.bytes in
+    subst P (sym found)
+    (goes_ok flashes own l2 a b _ (tt {0}) (c.in_ok-rewrite_line.ensures.honest flashes newest i there.0 steady chip there.1 there.2 there.3) (λ p. p))

@@ -1,0 +1,109 @@
+// The page at work, which isn't believed: it is written before any other.
+ghost use Rattle.std.specs.Prelude.{◌≡◌, ◌<◌, ◌+◌, ◌*◌, List, ℕ, Some, OnOk, IsTrue};
+ghost use Rattle.stm_wire.specs.Chip.{page_count, page_size, with_page};
+ghost use Rattle.stm_wire.specs.Dialogue.{GoesOn};
+ghost use Rattle.stm_wire.specs.Parts.{IsPart};
+ghost use Rattle.stm_journal.specs.declared.kept.Kept.{Kept};
+ghost use Rattle.stm_journal.specs.Fits.{AllFit};
+ghost use Rattle.stm_journal.specs.States.{intent_of, intent_page, newest_keeps};
+ghost use Rattle.stm_journal.specs.KeptPlaces.{IsPlaceIn, kept_entry, place_of};
+ghost use Rattle.stm_journal.specs.Newest.{KeepsSame};
+ghost use Rattle.stm_session.specs.Fault.{HasSessionCause};
+ghost use Rattle.stm_session.specs.Lines.{rewrite_entries, work_entries};
+ghost use Rattle.stm_session.specs.Order.{Follows, IsRewritten, IsWorkRewritten};
+ghost use Rattle.stm_session.specs.Sending.{is_whole};
+ghost use Rattle.stm_session.specs.Steps.{IsSteady, Goes};
+ghost use Rattle.stm_session.specs.Undoable.{state_at};
+ghost use Rattle.stm_session.specs.Work.{page_at_work, with_work};
+
+use crate::Fault;
+use crate::laws_of_steps::step_laws;
+use crate::rewriting::rewrite_kept;
+use std::alloc::Global;
+use stm_chip::page_frames;
+use stm_journal::{Journal, PagePlace};
+use stm_wire::{Chip, Intent, Rig};
+
+/// The page that an intent is about.
+fn intent_page(intent: Intent) -> u16
+    ensures { result ≡ intent_page intent }
+{
+    match intent {
+        Intent::Erase(n) => n,
+        Intent::Program(n) => n,
+    }
+}
+
+/// Gives page `n` what the newest segment keeps of it, whose digits stand at this place of the journal. It isn't read: what it
+/// holds now isn't asked.
+fn rewrite_line<R: Rig>(
+    alloc: Global,
+    rig: &mut R,
+    journal: &mut Journal,
+    chip: &Chip,
+    n: u16,
+    place: PagePlace,
+) -> Result<(), Fault>
+    requires exists { n < page_count chip.now }
+    requires kept { IsTrue (newest_keeps n journal.old.state) }
+    requires placed { IsPlaceIn journal.old.state place }
+    requires size { place.length ≡ page_size chip.now n }
+    ensures same { OnOk result (KeepsSame journal.old.state journal.new.state) }
+    ensures cause { HasSessionCause (R.view rig.old) (R.view rig.new) result }
+    ensures puts { let old = R.view rig.old in let new = R.view rig.new in
+        GoesOn (IsPart (Some chip.now) (is_whole result) (3 * page_size chip.now n))
+        old.calls new.calls }
+    ensures order { let old = R.view rig.old in let new = R.view rig.new in
+        OnOk result (Follows (IsRewritten chip.now n) journal.old journal.new old new) }
+    ensures honest { let old = R.view rig.old in let new = R.view rig.new in
+        (flashes : List (List ℕ)) (k i : ℕ) (kept : Kept) → IsSteady flashes journal.old old
+        → old.device.chip ≡ chip.now → kept_entry (state_at old.journal) k i ≡ Some kept
+        → place_of kept ≡ place → kept.page ≡ n
+        → Goes flashes (rewrite_entries chip.now kept.page kept.bytes) journal.new old new result
+        (λ _. new.device.flash ≡ with_page chip.now kept.page kept.bytes old.device.flash) }
+{
+    step_laws();
+    chip.keeps_limits();
+    let size = chip.page_size(n);
+    let mut page = Vec::from_elem(alloc, 0, size as usize)?;
+    journal.fetch_page(rig, place, &mut page)?;
+    let frames = page_frames(alloc, &page, chip.erased())?;
+    rewrite_kept(rig, journal, chip, n, &page, &frames)?;
+    Ok(())
+}
+
+/// Gives the page of the journal's intent what the newest segment keeps of it, whatever it holds: its erase or its frames may
+/// have been cut, and such a page can read right once and wrong later. Without an intent nothing is done.
+pub fn rewrite_at_work<R: Rig>(
+    alloc: Global,
+    rig: &mut R,
+    journal: &mut Journal,
+    chip: &Chip,
+) -> Result<(), Fault>
+    requires fits { AllFit chip.now journal.old.state.stack }
+    ensures same { OnOk result (KeepsSame journal.old.state journal.new.state) }
+    ensures cause { HasSessionCause (R.view rig.old) (R.view rig.new) result }
+    ensures puts { let old = R.view rig.old in let new = R.view rig.new in
+        GoesOn (IsPart (Some chip.now) (is_whole result) (3 * 2097152)) old.calls new.calls }
+    ensures order { let old = R.view rig.old in let new = R.view rig.new in
+        let Rewritten = IsWorkRewritten chip.now (intent_of journal.old.state) in
+        OnOk result (Follows Rewritten journal.old journal.new old new) }
+    ensures honest { let old = R.view rig.old in let new = R.view rig.new in
+        (flashes : List (List ℕ)) → IsSteady flashes journal.old old → old.device.chip ≡ chip.now
+        → let kept = page_at_work (state_at old.journal).stack in
+        Goes flashes (work_entries chip.now kept) journal.new old new result
+        (λ _. new.device.flash ≡ with_work chip.now kept old.device.flash) }
+{
+    step_laws();
+    chip.keeps_limits();
+    let newest = journal.depth();
+    let Some(intent) = journal.last_intent() else {
+        return Ok(());
+    };
+    let n = intent_page(intent);
+    let Some(place) = journal.page(newest, n) else {
+        unreachable!()
+    };
+    rewrite_line(alloc, rig, journal, chip, n, place)?;
+    Ok(())
+}
