@@ -5,7 +5,8 @@ use crate::stories::first_wrong_of;
 use std::test::Fail;
 
 // 44 BB 00, completed by bytes 01, names page 257 alone with a right check: the count 0001, pages
-// 0101 and 0101, check 01.
+// 0101 and 0101, check 01. Page 1, whose erase was about to be sent, holds what it held, and is
+// written all the same, before page 257.
 #[test]
 fn page_257_comes_back_with_page_1(rt: HostRuntime) -> Result<(), Fail> {
     let acts = [
@@ -13,7 +14,7 @@ fn page_257_comes_back_with_page_1(rt: HostRuntime) -> Result<(), Fail> {
         Undo(0, Ok(1)),
         Begins(&[(0x01, 258), (0x00, 1), (0xFF, 1)]),
         Flash(&[(b"\0", 131_072)]),
-        Ends(b"\nerase 1\nerase 257\nprogram 257\nundone 1\n"),
+        Ends(b"\nerase 1\nerase 1\nprogram 1\nerase 257\nprogram 257\nundone 1\n"),
     ];
     assert_eq!(rt;
         first_wrong_of(
@@ -35,6 +36,7 @@ fn page_257_comes_back_with_page_1(rt: HostRuntime) -> Result<(), Fail> {
 }
 
 // The count 0202 announces 515 pages: five batches are taken for them, and their check is refused.
+// Page 256 holds what it held, and isn't believed.
 #[test]
 fn an_erase_of_page_256_is_settled_with_02(rt: HostRuntime) -> Result<(), Fail> {
     let acts = [
@@ -42,7 +44,7 @@ fn an_erase_of_page_256_is_settled_with_02(rt: HostRuntime) -> Result<(), Fail> 
         Undo(0, Ok(1)),
         Begins(&[(0x02, 1281), (0x00, 1), (0xFF, 1)]),
         Flash(&[(b"\0", 131_072)]),
-        Ends(b"\nerase 256\nundone 1\n"),
+        Ends(b"\nerase 256\nerase 256\nprogram 256\nundone 1\n"),
     ];
     assert_eq!(rt;
         first_wrong_of(
