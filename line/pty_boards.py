@@ -78,6 +78,7 @@ class PtyBoard:
         device, self.device = self.device, None
         if device is not None:
             device.shutdown(socket.SHUT_RDWR)
+            device.close()
         with self.connect() as waiting:
             waiting.settimeout(PATIENCE)
             waiting.shutdown(socket.SHUT_WR)

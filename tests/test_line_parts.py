@@ -88,11 +88,16 @@ class Played(LinePlace):
 
     def test_mode(self):
         """What comes is marked where it is bad, and not changed; RTS and DTR stay when the port is closed."""
+        marks = termios.INPCK | termios.PARMRK
+        changes = termios.IGNPAR | termios.IGNBRK | termios.BRKINT | termios.ISTRIP | termios.INLCR | termios.IGNCR | \
+            termios.ICRNL | termios.IXON | termios.IXOFF
         for words in (("ttyUSB0",), (self.wired, "--baud", "9600")):
+            # another program has left it so
+            mode = termios.tcgetattr(self.master)
+            mode[0] |= changes
+            mode[2] |= termios.HUPCL
+            termios.tcsetattr(self.master, termios.TCSANOW, mode)
             mode = self.mode_during(*words)
-            marks = termios.INPCK | termios.PARMRK
-            changes = termios.IGNPAR | termios.IGNBRK | termios.BRKINT | termios.ISTRIP | termios.INLCR | termios.IGNCR | \
-                termios.ICRNL | termios.IXON | termios.IXOFF
             self.assertEqual(mode[0] & (marks | changes), marks)
             self.assertEqual(mode[1] & termios.OPOST, 0)
             form = termios.CSIZE | termios.CSTOPB | termios.HUPCL | termios.CREAD | termios.CLOCAL
