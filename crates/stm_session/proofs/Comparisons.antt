@@ -1,5 +1,6 @@
 -- Comparing an image with the flash, block by block.
 use Rattle.std.proofs.Common.{◌≡◌, ℕ, zero, suc, ◌+◌, ◌-◌, ◌*◌, ◌<◌, ◌≤◌, Bool, true, false, IsTrue, List, [], ◌∷◌, length, take, drop, Option, Some, None, is_some, MatchOption, Result, Ok, refl, sym, ◌∙◌, ap, ap₂, arith, if◌then◌else◌}
+use Rattle.std.specs.List.{AllByRecursion}
 use Rattle.std.proofs.lemmas.Bool.{true≢false}
 use Rattle.std.proofs.lemmas.List.{drop-drop, length-take}
 use Rattle.stm_image.specs.Lay.{AgreesWith, IsFirstDifference}
@@ -7,7 +8,6 @@ use Rattle.stm_image.specs.Pairs.{Pairs, IsNext, byte_at}
 use Rattle.stm_wire.specs.Chip.{ChipData, flash_size, fits_inside}
 use Rattle.stm_wire.specs.Device.{IsSettled}
 use Rattle.stm_wire.specs.Dialogue.{GoesOn}
-use Rattle.stm_wire.specs.Frames.{read_frame}
 use Rattle.stm_wire.specs.Intents.{InPage}
 use Rattle.stm_wire.specs.Parts.{IsPart}
 use Rattle.stm_wire.specs.PartLaws.{part_longer, parts_join}
@@ -17,12 +17,13 @@ use Rattle.stm_session.specs.declared.reading.Block.{Block}
 use Rattle.stm_session.specs.Answers.{first_difference, has_byte}
 use Rattle.stm_session.specs.Asking.{Asks}
 use Rattle.stm_session.specs.Reading.{IsNextBlock}
-use Rattle.stm_session.specs.Order.{IsInOrder, Sends}
-use Rattle.stm_session.specs.RunOrder.{OnlyReads}
+use Rattle.stm_session.specs.Fault.{Cause}
+use Rattle.stm_session.specs.Order.{Begin, IsReadOf, ReadsBlock, StopsBy}
+use Rattle.stm_session.specs.RunOrder.{IsReading, OnlyReads}
 use Rattle.stm_session.specs.Running.{bytes_at}
 use Rattle.stm_session.proofs.Asking.{asks_then, settled_still}
 use Rattle.stm_session.proofs.Differences.{first-difference-is-first, no-difference-agrees}
-use Rattle.stm_session.proofs.Ranges.{block_read, end-fits}
+use Rattle.stm_session.proofs.Ranges.{block_read, block_stop, end-fits}
 use Rattle.stm_session.proofs.Sending.{block_in_page}
 
 -- where all agree, no difference is told
@@ -118,8 +119,11 @@ module _ (chip : ChipData) (image : Pairs) (done : ℕ) (block : Block) (old mid
       part_longer (Some chip) whole (13 * done + (12 + block.size)) (13 * (offset + block.size)) old.calls new.calls (omega (arith, low, is.inside, is.size.cut, is.size.is_rest.some))
       (parts_join (Some chip) whole (13 * done) (12 + block.size) old.calls mid.calls new.calls so_far.parts (puts page within))
 
-  pub compared_reads : ((torn : Bool) → GoesOn (IsInOrder torn (Sends (read_frame block.address block.size) ∷ [])) mid.calls new.calls) → OnlyReads chip old new
-  compared_reads reads = block_read chip block.address (flash_size chip - offset) block.size old mid new (omega (arith, low, is.inside)) is.size so_far.reads reads
+  pub compared_reads : (answer : List ℕ) → ReadsBlock block.address block.size answer mid new → OnlyReads chip old new
+  compared_reads answer reads = block_read chip block.address (flash_size chip - offset) block.size answer old mid new (omega (arith, low, is.inside)) is.size so_far.reads reads
+
+  pub compared_stop : (cause : Cause) → ((torn : Bool) → StopsBy (Begin (IsReadOf block.address block.size)) cause torn mid new) → (torn : Bool) → StopsBy (AllByRecursion (IsReading chip)) cause torn old new
+  compared_stop cause stops = block_stop chip block.address (flash_size chip - offset) block.size cause old mid new (omega (arith, low, is.inside)) is.size so_far.reads stops
 
   module _ (law : AgreesBefore) (honest : old.is_honest) (settled : IsSettled old.device) (chip_is : old.device.chip ≡ chip) where
     past : Asks {T = Unit {0}} old mid (Ok tt) (λ x. first_difference image chip.base old.device.flash ≡ first_difference image (chip.base + done) (drop done old.device.flash))

@@ -29,6 +29,9 @@ pub mod Frames
 pub mod Programmings
 pub mod SentParts
 pub mod Orders
+pub mod CutShort
+pub mod Reaching
+pub mod UndoOrders
 pub mod PageSums
 pub mod Settlings
 pub mod Restorings

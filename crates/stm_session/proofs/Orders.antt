@@ -1,18 +1,20 @@
 -- Orders join.
-use Rattle.std.proofs.Common.{◌≡◌, ◌≢◌, ℕ, zero, suc, ◌+◌, ◌*◌, ◌/◌, ◌<◌, Bool, false, if◌then◌else◌, List, [], ◌∷◌, ◌++◌, length, get_or, take, drop, Option, Some, None, Ok, refl, sym, ◌∙◌, ap, ap₂, ⊎_elim, subst, arith, append_assoc, append-nil}
+use Rattle.std.proofs.Common.{◌≡◌, ◌≢◌, ℕ, zero, suc, ◌+◌, ◌*◌, ◌/◌, ◌<◌, ◌≤◌, Bool, false, if◌then◌else◌, List, [], ◌∷◌, ◌++◌, length, get_or, take, drop, Option, Some, None, Ok, refl, sym, ◌∙◌, ap, ap₂, ⊎_elim, subst, arith, append_assoc, append-nil}
 use Rattle.std.specs.Prelude.{slice_get, bytes_eq}
 use Rattle.std.proofs.lemmas.Bool.{cases_Bool}
 use Rattle.std.proofs.lemmas.Slice.Eq.{bytes_eq-Decides}
-use Rattle.std.proofs.lemmas.List.{length-map, map-append, take_more}
+use Rattle.std.proofs.lemmas.List.{drop-append-le, length-drop, length-map, map-append, take-append-le, take_all, take_more}
+use Rattle.std.proofs.Math.Seq.{drop-append_seam}
 use Rattle.stm_wire.specs.declared.chip.EraseKind.{EraseKind}
 use Rattle.stm_wire.specs.declared.rig.RigCall.{RigCall}
 use Rattle.stm_wire.specs.declared.rig.RigCall.TheVariants.{Put, Get, Append, Fetch}
 use Rattle.stm_wire.specs.Chip.{ChipData, erased_byte}
-use Rattle.stm_wire.specs.Dialogue.{Turn, Says, Acknowledged, Expects, Learns, Adds as AddsCalls, AreLineCalls, GoesOn, calls_of, puts_of, sent_bytes}
-use Rattle.stm_wire.specs.DialogueLaws.{GoesOn-adds, GoesOn-append, GoesOn-nothing, GoesOn-weaker, erase_sends, get_id_sends, get_sends, read_sends, write_sends}
-use Rattle.stm_wire.specs.Frames.{command, get_id_turns, get_turns, erase_frame, erase_turns, read_frame, read_turns, write_frame, write_turns}
+use Rattle.stm_wire.specs.Dialogue.{Turn, Says, Acknowledged, Expects, Learns, Adds as AddsCalls, AreLineCalls, GoesOn, calls_of}
+use Rattle.stm_wire.specs.DialogueLaws.{GoesOn-adds, GoesOn-append, GoesOn-nothing, GoesOn-weaker, calls_of-are_line}
+use Rattle.stm_wire.specs.Frames.{erase_turns, read_turns, write_turns}
 use Rattle.stm_wire.specs.Rig.{RigState}
 use Rattle.stm_wire.specs.Settling.{SettlesWithin}
+use Rattle.stm_wire.specs.SettlingCalls.{EndsSettled}
 use Rattle.stm_chip.specs.declared.plan.Frame.{Frame}
 use Rattle.stm_chip.specs.Plan.{frames_of}
 use Rattle.stm_journal.specs.declared.entry.Entry.{Entry}
@@ -22,25 +24,25 @@ use Rattle.stm_journal.specs.Calls.{AppendsOnce, AreFetches}
 use Rattle.stm_journal.specs.Journals.{Loaded, added_bytes}
 use Rattle.stm_journal.specs.Newest.{pages_of_segments}
 use Rattle.stm_journal.specs.States.{SegmentData}
-use Rattle.stm_session.specs.Order.{Step, Adds, Sends, AreReturned, AreTakenBack, DoesSteps, IsInOrder, IsReturned, IsTakenBack, SettlesFirst, acts_of, acts_of_steps, page_address, program_steps, puts, read_steps, restore_steps, rewrite_steps, torn_behind, write_step, write_steps}
+use Rattle.stm_session.specs.Order.{Step, Adds, Sends, AreReturned, AreTakenBack, DoesSteps, IsInOrder, IsReturned, IsTakenBack, SettlesFirst, SettlesThen, acts_of, acts_of_steps, page_address, program_steps, read_steps, restore_steps, rewrite_steps, torn_behind, write_step, write_steps}
 use Rattle.stm_session.specs.Undoable.{newest_kept}
 
-acts-append : (xs ys : List RigCall) → acts_of (xs ++ ys) ≡ acts_of xs ++ acts_of ys
+pub acts-append : (xs ys : List RigCall) → acts_of (xs ++ ys) ≡ acts_of xs ++ acts_of ys
 acts-append [] ys = refl
 acts-append (Put byte ∷ xs) ys = ap (λ (l : List RigCall). Put byte ∷ l) (acts-append xs ys)
-acts-append (Get answer ∷ xs) ys = acts-append xs ys
+acts-append (Get answer ∷ xs) ys = ap (λ (l : List RigCall). Get answer ∷ l) (acts-append xs ys)
 acts-append (Append n ∷ xs) ys = ap (λ (l : List RigCall). Append n ∷ l) (acts-append xs ys)
 acts-append (Fetch ∷ xs) ys = acts-append xs ys
 
-steps-append : (torn : Bool) (xs ys : List Step) → acts_of_steps torn (xs ++ ys) ≡ acts_of_steps torn xs ++ acts_of_steps (torn_behind torn xs) ys
+pub steps-append : (torn : Bool) (xs ys : List Step) → acts_of_steps torn (xs ++ ys) ≡ acts_of_steps torn xs ++ acts_of_steps (torn_behind torn xs) ys
 steps-append torn [] ys = refl
 steps-append torn (Adds entries ∷ xs) ys = ap (λ (l : List RigCall). Append (length (added_bytes torn entries)) ∷ l) (steps-append false xs ys)
-steps-append torn (Sends frame ∷ xs) ys = ap (λ (l : List RigCall). puts frame ++ l) (steps-append torn xs ys) ∙ sym (append_assoc (puts frame) (acts_of_steps torn xs) (acts_of_steps (torn_behind torn xs) ys))
+steps-append torn (Sends turns ∷ xs) ys = ap (λ (l : List RigCall). calls_of turns ++ l) (steps-append torn xs ys) ∙ sym (append_assoc (calls_of turns) (acts_of_steps torn xs) (acts_of_steps (torn_behind torn xs) ys))
 
-torn-append : (torn : Bool) (xs ys : List Step) → torn_behind torn (xs ++ ys) ≡ torn_behind (torn_behind torn xs) ys
+pub torn-append : (torn : Bool) (xs ys : List Step) → torn_behind torn (xs ++ ys) ≡ torn_behind (torn_behind torn xs) ys
 torn-append torn [] ys = refl
 torn-append torn (Adds entries ∷ xs) ys = torn-append false xs ys
-torn-append torn (Sends frame ∷ xs) ys = torn-append torn xs ys
+torn-append torn (Sends turns ∷ xs) ys = torn-append torn xs ys
 
 -- steps after others
 pub order_then : (torn : Bool) (xs ys : List Step) (a b c : Option (List RigCall)) → GoesOn (IsInOrder torn xs) a b → GoesOn (IsInOrder (torn_behind torn xs) ys) b c → GoesOn (IsInOrder torn (xs ++ ys)) a c
@@ -65,7 +67,7 @@ pub does_nothing : (l : Loaded) (a : RigState) → DoesSteps [] l l a a
 does_nothing l a = record { acts = GoesOn-nothing (IsInOrder l.is_torn []) a.calls refl; torn = refl }
 
 -- fetches
-fetches-act : (calls : List RigCall) → AreFetches calls → acts_of calls ≡ []
+pub fetches-act : (calls : List RigCall) → AreFetches calls → acts_of calls ≡ []
 fetches-act [] is = refl
 fetches-act (Put byte ∷ calls) is = absurd is
 fetches-act (Get answer ∷ calls) is = absurd is
@@ -84,33 +86,36 @@ does_add x entries l l2 a b p torn =
       torn = torn;
     }
 
+-- calls of the line are acts
+pub acts-line : (calls : List RigCall) → AreLineCalls calls → acts_of calls ≡ calls
+acts-line [] is = refl
+acts-line (Put byte ∷ calls) is = ap (λ (l : List RigCall). Put byte ∷ l) (acts-line calls is)
+acts-line (Get answer ∷ calls) is = ap (λ (l : List RigCall). Get answer ∷ l) (acts-line calls is)
+acts-line (Append n ∷ calls) is = absurd is
+acts-line (Fetch ∷ calls) is = absurd is
+
 -- a dialogue
-acts-calls : (turns : List Turn) → acts_of (calls_of turns) ≡ puts (sent_bytes turns)
-acts-calls [] = refl
-acts-calls (Says byte ∷ turns) = ap (λ (l : List RigCall). Put byte ∷ l) (acts-calls turns)
-acts-calls (Acknowledged ∷ turns) = acts-calls turns
-acts-calls (Expects byte ∷ turns) = acts-calls turns
-acts-calls (Learns byte ∷ turns) = acts-calls turns
+acts-calls : (turns : List Turn) → acts_of (calls_of turns) ≡ calls_of turns
+acts-calls turns = acts-line (calls_of turns) (calls_of-are_line turns)
 
-pub order_sent : (torn : Bool) (frame : List ℕ) (turns : List Turn) (a b : Option (List RigCall)) → sent_bytes turns ≡ frame → AddsCalls (calls_of turns) a b → GoesOn (IsInOrder torn (Sends frame ∷ [])) a b
-order_sent torn frame turns a b sends adds =
-    GoesOn-adds (IsInOrder torn (Sends frame ∷ [])) (calls_of turns) a b adds (acts-calls turns ∙ ap (λ (bytes : List ℕ). puts bytes) sends ∙ sym (append-nil (puts frame)))
+pub order_sent : (torn : Bool) (turns : List Turn) (a b : Option (List RigCall)) → AddsCalls (calls_of turns) a b → GoesOn (IsInOrder torn (Sends turns ∷ [])) a b
+order_sent torn turns a b adds = GoesOn-adds (IsInOrder torn (Sends turns ∷ [])) (calls_of turns) a b adds (acts-calls turns ∙ sym (append-nil (calls_of turns)))
 
-pub does_erase : (chip : ChipData) (n : ℕ) (kind : EraseKind) (l : Loaded) (a b : RigState) → kind ≡ chip.kind → AddsCalls (calls_of (erase_turns kind n)) a.calls b.calls → DoesSteps (Sends (erase_frame chip.kind n) ∷ []) l l a b
+pub does_erase : (chip : ChipData) (n : ℕ) (kind : EraseKind) (l : Loaded) (a b : RigState) → kind ≡ chip.kind → AddsCalls (calls_of (erase_turns kind n)) a.calls b.calls → DoesSteps (Sends (erase_turns chip.kind n) ∷ []) l l a b
 does_erase chip n kind l a b is adds =
     let P : EraseKind → Type 0 = λ k. AddsCalls (calls_of (erase_turns k n)) a.calls b.calls in
-    record { acts = order_sent l.is_torn (erase_frame chip.kind n) (erase_turns chip.kind n) a.calls b.calls (erase_sends chip.kind n) (subst P is adds); torn = refl }
+    record { acts = order_sent l.is_torn (erase_turns chip.kind n) a.calls b.calls (subst P is adds); torn = refl }
 
 -- reads leave a torn tail
-pub torn-reads : (torn : Bool) (address blocks : ℕ) → torn_behind torn (read_steps address blocks) ≡ torn
-torn-reads torn address zero = refl
-torn-reads torn address (suc blocks) = torn-append torn (read_steps address blocks) (Sends _ ∷ []) ∙ torn-reads torn address blocks
+pub torn-reads : (torn : Bool) (address blocks : ℕ) (bytes : List ℕ) → torn_behind torn (read_steps address blocks bytes) ≡ torn
+torn-reads torn address zero bytes = refl
+torn-reads torn address (suc blocks) bytes = torn-append torn (read_steps address blocks bytes) (Sends _ ∷ []) ∙ torn-reads torn address blocks bytes
 
-pub does_reads : (l : Loaded) (address blocks : ℕ) (a b : RigState) → GoesOn (IsInOrder l.is_torn (read_steps address blocks)) a.calls b.calls → DoesSteps (read_steps address blocks) l l a b
-does_reads l address blocks a b p = record { acts = p; torn = sym (torn-reads l.is_torn address blocks) }
+pub does_reads : (l : Loaded) (address blocks : ℕ) (bytes : List ℕ) (a b : RigState) → GoesOn (IsInOrder l.is_torn (read_steps address blocks bytes)) a.calls b.calls → DoesSteps (read_steps address blocks bytes) l l a b
+does_reads l address blocks bytes a b p = record { acts = p; torn = sym (torn-reads l.is_torn address blocks bytes) }
 
 -- writes too
-torn-writes : (chip : ChipData) (n : ℕ) (page : List ℕ) (torn : Bool) (frames : List Frame) → torn_behind torn (write_steps chip n page frames) ≡ torn
+pub torn-writes : (chip : ChipData) (n : ℕ) (page : List ℕ) (torn : Bool) (frames : List Frame) → torn_behind torn (write_steps chip n page frames) ≡ torn
 torn-writes chip n page torn [] = refl
 torn-writes chip n page torn (f ∷ frames) = torn-writes chip n page torn frames
 
@@ -166,46 +171,60 @@ taken_next chip segments i pages below xs ys at are is =
     next (x ∷ segments) (suc i) xs at (first, rest, e, one, more) = (first, rest ++ ys, ap (λ (zs : List Step). zs ++ ys) e ∙ append_assoc first rest ys, one, next segments i rest at more)
 
 -- settling, and then steps
-acts-line : (calls : List RigCall) → AreLineCalls calls → acts_of calls ≡ puts (puts_of calls)
-acts-line [] is = refl
-acts-line (Put byte ∷ calls) is = ap (λ (l : List RigCall). Put byte ∷ l) (acts-line calls is)
-acts-line (Get answer ∷ calls) is = acts-line calls is
-acts-line (Append n ∷ calls) is = absurd is
-acts-line (Fetch ∷ calls) is = absurd is
+same_calls : (past xs ys : List RigCall) → past ++ xs ≡ past ++ ys → xs ≡ ys
+same_calls [] xs ys is = is
+same_calls (call ∷ past) xs ys is = same_calls past xs ys (ap (λ (l : List RigCall). drop 1 l) is)
 
-pub settles_then : (byte : ℕ) (torn : Bool) (steps : List Step) (a b c : Option (List RigCall)) → GoesOn (SettlesWithin byte 131072) a b → GoesOn (IsInOrder torn steps) b c → GoesOn (SettlesFirst byte torn steps) a c
-settles_then byte torn steps a b c p q =
-    GoesOn-append (SettlesWithin byte 131072) (IsInOrder torn steps) (SettlesFirst byte torn steps) a b c p q
-    (λ xs ys x y.
-    (puts_of xs, x.puts, acts-append xs ys ∙ ap (λ (l : List RigCall). l ++ acts_of ys) (acts-line xs x.line) ∙ ap (λ (l : List RigCall). puts (puts_of xs) ++ l) y))
+-- calls of which both are said
+pub GoesOn-both : (P Q : List RigCall → Type 0) (a b : Option (List RigCall)) → GoesOn P a b → GoesOn Q a b → GoesOn (λ xs. P xs × Q xs) a b
+GoesOn-both P Q None b p q = p
+GoesOn-both P Q (Some past) b p q =
+    let same : p.0 ≡ q.0 = same_calls past p.0 q.0 (ap (λ (o : Option (List RigCall)). list_in o) (sym p.1 ∙ q.1)) in
+    (p.0, p.1, (p.2, subst Q (sym same) q.2))
+  where
+    list_in : Option (List RigCall) → List RigCall
+    list_in None = []
+    list_in (Some l) = l
+
+pub settles_and : (byte : ℕ) (P Then : List RigCall → Type 0) (a b c : Option (List RigCall)) → GoesOn (SettlesWithin byte 131072) a b → GoesOn (EndsSettled byte 131072) a b → GoesOn P b c → ((xs : List RigCall) → P xs → Then (acts_of xs))
+    → GoesOn (SettlesThen byte Then) a c
+settles_and byte P Then a b c p e q f =
+    GoesOn-append (λ xs. SettlesWithin byte 131072 xs × EndsSettled byte 131072 xs) P (SettlesThen byte Then) a b c (GoesOn-both (SettlesWithin byte 131072) (EndsSettled byte 131072) a b p e) q
+    (λ xs ys x y. (xs, acts_of ys, x.0, x.1, acts-append xs ys ∙ ap (λ (l : List RigCall). l ++ acts_of ys) (acts-line xs x.0.line), f ys y))
+
+pub settles_then : (byte : ℕ) (torn : Bool) (steps : List Step) (a b c : Option (List RigCall)) → GoesOn (SettlesWithin byte 131072) a b → GoesOn (EndsSettled byte 131072) a b → GoesOn (IsInOrder torn steps) b c
+    → GoesOn (SettlesFirst byte torn steps) a c
+settles_then byte torn steps a b c p e q = settles_and byte (IsInOrder torn steps) (λ rest. rest ≡ acts_of_steps torn steps) a b c p e q (λ xs x. x)
+
+-- and then further calls
+pub settled_and : (byte : ℕ) (Then P Now : List RigCall → Type 0) (a b c : Option (List RigCall)) → GoesOn (SettlesThen byte Then) a b → GoesOn P b c → ((xs ys : List RigCall) → Then xs → P ys → Now (xs ++ acts_of ys))
+    → GoesOn (SettlesThen byte Now) a c
+settled_and byte Then P Now a b c p q f =
+    GoesOn-append (SettlesThen byte Then) P (SettlesThen byte Now) a b c p q
+    (λ cs ds x y. (x.0, x.1 ++ acts_of ds, x.2, x.3, acts-append cs ds ∙ ap (λ (l : List RigCall). l ++ acts_of ds) x.4 ∙ append_assoc x.0 x.1 (acts_of ds), f x.1 ds x.5 y))
 
 pub settled_then : (byte : ℕ) (torn : Bool) (xs ys : List Step) (a b c : Option (List RigCall)) → torn_behind torn xs ≡ torn → GoesOn (SettlesFirst byte torn xs) a b → GoesOn (IsInOrder torn ys) b c
     → GoesOn (SettlesFirst byte torn (xs ++ ys)) a c
 settled_then byte torn xs ys a b c still p q =
-    GoesOn-append (SettlesFirst byte torn xs) (IsInOrder torn ys) (SettlesFirst byte torn (xs ++ ys)) a b c p q
-    (λ cs ds x y. (
-      x.0,
-      x.1,
-      acts-append cs ds ∙ ap (λ (l : List RigCall). l ++ acts_of ds) x.2 ∙ append_assoc (puts x.0) (acts_of_steps torn xs) (acts_of ds)
-          ∙ ap (λ (l : List RigCall). puts x.0 ++ (acts_of_steps torn xs ++ l)) (y ∙ ap (λ (t : Bool). acts_of_steps t ys) (sym still)) ∙ ap (λ (l : List RigCall). puts x.0 ++ l) (sym (steps-append torn xs ys)),
-    ))
+    settled_and byte (λ rest. rest ≡ acts_of_steps torn xs) (IsInOrder torn ys) (λ rest. rest ≡ acts_of_steps torn (xs ++ ys)) a b c p q
+    (λ cs ds x y.
+    ap (λ (l : List RigCall). l ++ acts_of ds) x ∙ ap (λ (l : List RigCall). acts_of_steps torn xs ++ l) (y ∙ ap (λ (t : Bool). acts_of_steps t ys) (sym still)) ∙ sym (steps-append torn xs ys))
+
+pub fetched_and : (byte : ℕ) (Then : List RigCall → Type 0) (a b c : Option (List RigCall)) → GoesOn AreFetches a b → GoesOn (SettlesThen byte Then) b c → GoesOn (SettlesThen byte Then) a c
+fetched_and byte Then a b c p q =
+    GoesOn-append AreFetches (SettlesThen byte Then) (SettlesThen byte Then) a b c p q
+    (λ cs ds x y. (y.0, y.1, y.2, y.3, acts-append cs ds ∙ ap (λ (l : List RigCall). l ++ acts_of ds) (fetches-act cs x) ∙ y.4, y.5))
 
 pub fetched_then : (byte : ℕ) (torn : Bool) (steps : List Step) (a b c : Option (List RigCall)) → GoesOn AreFetches a b → GoesOn (SettlesFirst byte torn steps) b c → GoesOn (SettlesFirst byte torn steps) a c
-fetched_then byte torn steps a b c p q =
-    GoesOn-append AreFetches (SettlesFirst byte torn steps) (SettlesFirst byte torn steps) a b c p q
-    (λ cs ds x y. (y.0, y.1, acts-append cs ds ∙ ap (λ (l : List RigCall). l ++ acts_of ds) (fetches-act cs x) ∙ y.2))
+fetched_then byte torn steps a b c p q = fetched_and byte (λ rest. rest ≡ acts_of_steps torn steps) a b c p q
 
 -- the frame that writes a part of a page
 pub order_written : (chip : ChipData) (n : ℕ) (page : List ℕ) (f : Frame) (torn : Bool) (address : ℕ) → address ≡ page_address chip n + f.offset → (bytes : List ℕ) → bytes ≡ take f.length (drop f.offset page) → (a b : Option (List RigCall))
     → AddsCalls (calls_of (write_turns address bytes)) a b → GoesOn (IsInOrder torn (write_step chip n page f ∷ [])) a b
 order_written chip n page f torn address at bytes part a b adds =
-    order_sent torn (write_frame (page_address chip n + f.offset) (take f.length (drop f.offset page))) (write_turns address bytes) a b (write_sends address bytes ∙ ap₂ (λ (k : ℕ) (xs : List ℕ). write_frame k xs) at part) adds
-
--- and the frame that reads a block
-pub order_read : (torn : Bool) (address size : ℕ) (answer : List ℕ) (a b : Option (List RigCall)) → length answer ≡ size → AddsCalls (calls_of (read_turns address answer)) a b
-    → GoesOn (IsInOrder torn (Sends (read_frame address size) ∷ [])) a b
-order_read torn address size answer a b same adds =
-    order_sent torn (read_frame address size) (read_turns address answer) a b (read_sends address answer ∙ ap (λ (k : ℕ). read_frame address k) same) adds
+    let P : ℕ → Type 0 = λ k. AddsCalls (calls_of (write_turns k bytes)) a b in
+    let Q : List ℕ → Type 0 = λ xs. AddsCalls (calls_of (write_turns (page_address chip n + f.offset) xs)) a b in
+    order_sent torn (write_turns (page_address chip n + f.offset) (take f.length (drop f.offset page))) a b (subst Q part (subst P at adds))
 
 -- a page has frames to be written, or none
 pub some_program : (chip : ChipData) (n : ℕ) (page : List ℕ) (frames : List Frame) → (length frames ≡ 0 → ⊥) → Adds (Programs n ∷ []) ∷ write_steps chip n page frames ≡ program_steps chip n page frames
@@ -222,13 +241,32 @@ some_steps chip n held page frames other is =
     ∙ sym (ap (λ (b : Bool). if b then [] else rewrite_steps chip n page (frames_of (erased_byte chip) page (length page / 256)))
     (⊎_elim (λ yes. absurd (other ((bytes_eq-Decides held page).0 yes))) (λ none. none) (cases_Bool (bytes_eq held page))))
 
+-- blocks that were read don't change by what is read behind them
+block_before : (n : ℕ) (bytes more : List ℕ) → n + 256 ≤ length bytes → take 256 (drop n (bytes ++ more)) ≡ take 256 (drop n bytes)
+block_before n bytes more within =
+    ap (λ (l : List ℕ). take 256 l) (drop-append-le n bytes more (omega (arith, within)))
+    ∙ take-append-le 256 (drop n bytes) more (omega (arith, length-drop n bytes, within))
+
+pub reads_before : (address blocks : ℕ) (bytes more : List ℕ) → 256 * blocks ≤ length bytes → read_steps address blocks (bytes ++ more) ≡ read_steps address blocks bytes
+reads_before address zero bytes more within = refl
+reads_before address (suc blocks) bytes more within =
+    ap₂ (λ (xs : List Step) (ys : List ℕ). xs ++ Sends (read_turns (address + 256 * blocks) ys) ∷ []) (reads_before address blocks bytes more (omega (arith, within))) (block_before (256 * blocks) bytes more (omega (arith, within)))
+
+pub reads_next : (start blocks : ℕ) (bytes answer : List ℕ) → length bytes ≡ 256 * blocks → length answer ≡ 256
+    → read_steps start (suc blocks) (bytes ++ answer) ≡ read_steps start blocks bytes ++ Sends (read_turns (start + 256 * blocks) answer) ∷ []
+reads_next start blocks bytes answer many whole =
+    let last : drop (256 * blocks) (bytes ++ answer) ≡ answer = ap (λ (n : ℕ). drop n (bytes ++ answer)) (sym many) ∙ drop-append_seam bytes answer in
+    ap₂ (λ (xs : List Step) (ys : List ℕ). xs ++ Sends (read_turns (start + 256 * blocks) ys) ∷ []) (reads_before start blocks bytes answer (omega (arith, many)))
+    (ap (λ (l : List ℕ). take 256 l) last ∙ take_all 256 answer (omega (arith, whole)))
+
 -- one block of a page more is read
-pub blocks_next : (torn : Bool) (start blocks : ℕ) (a b c : Option (List RigCall)) → GoesOn (IsInOrder torn (read_steps start blocks)) a b → GoesOn (IsInOrder torn (Sends (read_frame (start + 256 * blocks) 256) ∷ [])) b c
-    → GoesOn (IsInOrder torn (read_steps start (suc blocks))) a c
-blocks_next torn start blocks a b c p q =
-    let own = Sends (read_frame (start + 256 * blocks) 256) ∷ [] in
+pub blocks_next : (torn : Bool) (start blocks : ℕ) (bytes answer : List ℕ) (a b c : Option (List RigCall)) → length bytes ≡ 256 * blocks → length answer ≡ 256 → GoesOn (IsInOrder torn (read_steps start blocks bytes)) a b
+    → GoesOn (IsInOrder torn (Sends (read_turns (start + 256 * blocks) answer) ∷ [])) b c → GoesOn (IsInOrder torn (read_steps start (suc blocks) (bytes ++ answer))) a c
+blocks_next torn start blocks bytes answer a b c many whole p q =
+    let own = Sends (read_turns (start + 256 * blocks) answer) ∷ [] in
     let Q : Bool → Type 0 = λ t. GoesOn (IsInOrder t own) b c in
-    order_then torn (read_steps start blocks) own a b c p (subst Q (sym (torn-reads torn start blocks)) q)
+    let P : List Step → Type 0 = λ steps. GoesOn (IsInOrder torn steps) a c in
+    subst P (sym (reads_next start blocks bytes answer many whole)) (order_then torn (read_steps start blocks bytes) own a b c p (subst Q (sym (torn-reads torn start blocks bytes)) q))
 
 -- the newest of the segments, and those below it
 pub segments_split : (stack : List SegmentData) → 0 < length stack → pages_of_segments stack ≡ newest_kept stack ∷ pages_of_segments (drop 1 stack)
@@ -238,9 +276,3 @@ segments_split (segment ∷ below) some = refl
 pub segments_count : (stack : List SegmentData) → 0 < length stack → length stack ≡ length (pages_of_segments (drop 1 stack)) + 1
 segments_count [] some = absurd (omega (arith, some))
 segments_count (segment ∷ below) some = let h : length (pages_of_segments below) ≡ length below = length-map below (λ (s : SegmentData). s.pages) in omega (arith, h)
-
-pub order_get : (torn : Bool) (version : ℕ) (codes : List ℕ) (a b : Option (List RigCall)) → AddsCalls (calls_of (get_turns version codes)) a b → GoesOn (IsInOrder torn (Sends (command 0x00) ∷ [])) a b
-order_get torn version codes a b adds = order_sent torn (command 0x00) (get_turns version codes) a b (get_sends version codes) adds
-
-pub order_get_id : (torn : Bool) (high low : ℕ) (a b : Option (List RigCall)) → AddsCalls (calls_of (get_id_turns high low)) a b → GoesOn (IsInOrder torn (Sends (command 0x02) ∷ [])) a b
-order_get_id torn high low a b adds = order_sent torn (command 0x02) (get_id_turns high low) a b (get_id_sends high low) adds

@@ -1,5 +1,6 @@
 -- Parts of a flash: that they lie inside it, and how a part grows by the block after it.
-use Rattle.std.proofs.Common.{◌≡◌, ℕ, zero, suc, Bool, ◌+◌, ◌-◌, ◌%◌, ◌/◌, ◌<◌, ◌≤◌, ◌||◌, ◌==◌, ◌⊎◌, inl, inr, IsTrue, List, [], ◌∷◌, ◌++◌, take, drop, subst, Result, Ok, Some, true, ◌*◌, sym, ◌∙◌, ap, ap₂, arith}
+use Rattle.std.proofs.Common.{◌≡◌, ℕ, zero, suc, Bool, ◌+◌, ◌-◌, ◌%◌, ◌/◌, ◌<◌, ◌≤◌, ◌||◌, ◌==◌, ◌⊎◌, inl, inr, IsTrue, List, [], ◌∷◌, ◌++◌, length, length-append, take, drop, subst, Result, Ok, Some, true, ◌*◌, sym, ◌∙◌, ap, ap₂, arith}
+use Rattle.std.specs.List.{AllByRecursion}
 use Rattle.std.proofs.lemmas.Bool.{cases_order}
 use Rattle.std.proofs.lemmas.Bool.Decides.{nat_tests}
 use Rattle.std.proofs.lemmas.List.{drop-drop}
@@ -7,7 +8,7 @@ use Rattle.std.proofs.Math.Seq.{take-add}
 use Rattle.stm_wire.specs.Chip.{ChipData, flash_size, fits_inside, page_count, page_offset, page_size, IsChip}
 use Rattle.stm_wire.specs.Device.{IsSettled}
 use Rattle.stm_wire.specs.Dialogue.{GoesOn}
-use Rattle.stm_wire.specs.Frames.{read_frame}
+use Rattle.stm_wire.specs.Frames.{read_turns}
 use Rattle.stm_wire.specs.Intents.{InPage}
 use Rattle.stm_wire.specs.PageLaws.{page_end}
 use Rattle.stm_wire.specs.Parts.{IsPart}
@@ -16,12 +17,14 @@ use Rattle.stm_wire.specs.Rig.{RigState}
 use Rattle.stm_session.specs.declared.fault.Fault.{Fault}
 use Rattle.stm_session.specs.Asking.{Asks}
 use Rattle.stm_session.specs.Reading.{IsBlock, IsPageRest}
-use Rattle.stm_session.specs.Order.{IsInOrder, Sends, read_steps}
-use Rattle.stm_session.specs.RunOrder.{OnlyReads}
+use Rattle.stm_session.specs.Fault.{Cause}
+use Rattle.stm_session.specs.Order.{Step, AreReadsOf, Begin, IsInOrder, IsReadOf, ReadsBlock, Sends, StopsBy, read_steps}
+use Rattle.stm_session.specs.RunOrder.{IsReading, OnlyReads}
 use Rattle.stm_session.specs.Running.{bytes_at}
 use Rattle.stm_session.proofs.Asking.{asks_then, settled_still}
-use Rattle.stm_session.proofs.Orders.{blocks_next}
-use Rattle.stm_session.proofs.RunOrders.{reads_more}
+use Rattle.stm_session.proofs.CutShort.{order_stops, reads_begun}
+use Rattle.stm_session.proofs.Orders.{blocks_next, torn-reads}
+use Rattle.stm_session.proofs.RunOrders.{reads_more, reads_stop}
 use Rattle.stm_session.proofs.Sending.{block_in_page}
 
 -- bytes within the flash, where there are any
@@ -46,10 +49,11 @@ pub record IsReadInPage (chip : ChipData) (size done : ℕ) (old new : RigState)
   pub parts : GoesOn (IsPart (Some chip) true most) old.calls new.calls
 
 -- those blocks are read, rising
-pub record AreBlocksRead (start done : ℕ) (torn : Bool) (old new : RigState) : Type 0 where
+pub record AreBlocksRead (start done : ℕ) (bytes : List ℕ) (torn : Bool) (old new : RigState) : Type 0 where
   pub blocks : ℕ
   pub is : done ≡ 256 * blocks
-  pub steps : GoesOn (IsInOrder torn (read_steps start blocks)) old.calls new.calls
+  pub many : length bytes ≡ done
+  pub steps : GoesOn (IsInOrder torn (read_steps start blocks bytes)) old.calls new.calls
 
 -- how far the bytes of a range are read
 pub record IsReadSoFar (chip : ChipData) (start size done : ℕ) (bytes : List ℕ) (old new : RigState) : Type 0 where
@@ -59,7 +63,7 @@ pub record IsReadSoFar (chip : ChipData) (start size done : ℕ) (bytes : List �
   pub parts : GoesOn (IsPart (Some chip) true (13 * done)) old.calls new.calls
   pub few : (page : ℕ) → InPage chip page start size → IsReadInPage chip size done old new
   pub reads : OnlyReads chip old new
-  pub order : (page : ℕ) → InPage chip page start size → size % 256 ≡ 0 → (torn : Bool) → AreBlocksRead start done torn old new
+  pub order : (page : ℕ) → InPage chip page start size → size % 256 ≡ 0 → (torn : Bool) → AreBlocksRead start done bytes torn old new
   pub honest : old.is_honest → IsSettled old.device → old.device.chip ≡ chip
       → Asks {T = Unit {0}} old new (Ok tt) (λ x. bytes ≡ bytes_at chip old.device.flash start done)
 
@@ -131,8 +135,8 @@ module _ (chip : ChipData) (start size done block page : ℕ) (old mid new : Rig
       }
 
 -- one block of 256 bytes more
-module _ (chip : ChipData) (start size done block page : ℕ) (torn : Bool) (old mid new : RigState) (more : done < size) (so_far : AreBlocksRead start done torn old mid) (is : IsBlock chip (start + done) (size - done) block)
-    (within : InPage chip page start size) (even : size % 256 ≡ 0) (reads : GoesOn (IsInOrder torn (Sends (read_frame (start + done) block) ∷ [])) mid.calls new.calls) where
+module _ (chip : ChipData) (start size done block page : ℕ) (torn : Bool) (bytes : List ℕ) (old mid new : RigState) (more : done < size) (so_far : AreBlocksRead start done bytes torn old mid) (is : IsBlock chip (start + done) (size - done) block)
+    (within : InPage chip page start size) (even : size % 256 ≡ 0) where
   rest_is : start + done + is.rest ≡ chip.base + page_offset chip page + page_size chip page
   rest_is = rest_of_page chip page (start + done) is.rest within.exists (omega (arith, within.begins)) (omega (arith, within.ends, more)) is.is_rest
 
@@ -142,27 +146,49 @@ module _ (chip : ChipData) (start size done block page : ℕ) (torn : Bool) (old
   whole_block : block ≡ 256
   whole_block = omega (arith, left_is, is.cut, rest_is, within.ends)
 
-  pub blocks_more : AreBlocksRead start (done + block) torn old new
-  blocks_more =
-      let at : start + done ≡ start + 256 * so_far.blocks = omega (arith, so_far.is) in
-      let P : ℕ → Type 0 = λ k. GoesOn (IsInOrder torn (Sends (read_frame k 256) ∷ [])) mid.calls new.calls in
-      let Q : ℕ → Type 0 = λ z. GoesOn (IsInOrder torn (Sends (read_frame (start + done) z) ∷ [])) mid.calls new.calls in
+  at : start + done ≡ start + 256 * so_far.blocks
+  at = omega (arith, so_far.is)
+
+  pub blocks_more : (after answer : List ℕ) → after ≡ bytes ++ answer → ReadsBlock (start + done) block answer mid new → AreBlocksRead start (done + block) after torn old new
+  blocks_more after answer longer reads =
+      let P : ℕ → Type 0 = λ k. GoesOn (IsInOrder torn (Sends (read_turns k answer) ∷ [])) mid.calls new.calls in
+      let Q : List ℕ → Type 0 = λ xs. GoesOn (IsInOrder torn (read_steps start (suc so_far.blocks) xs)) old.calls new.calls in
       record {
         blocks = suc so_far.blocks;
         is = omega (arith, so_far.is, whole_block);
-        steps = blocks_next torn start so_far.blocks old.calls mid.calls new.calls so_far.steps (subst P at (subst Q whole_block reads));
+        many = ap length longer ∙ length-append bytes answer ∙ omega (arith, so_far.many, reads.size);
+        steps = subst Q (sym longer) (blocks_next torn start so_far.blocks bytes answer old.calls mid.calls new.calls (so_far.many ∙ so_far.is) (reads.size ∙ whole_block) so_far.steps (subst P at (reads.sent torn)));
       }
 
+  -- or a block that is begun
+  pub blocks_stop : (cause : Cause) → StopsBy (Begin (IsReadOf (start + done) block)) cause torn mid new → StopsBy (Begin (AreReadsOf start size)) cause torn old new
+  blocks_stop cause stops =
+      let reads = read_steps start so_far.blocks bytes in
+      let P : Bool → Type 0 = λ t. StopsBy (Begin (IsReadOf (start + done) block)) cause t mid new in
+      let Q : ℕ → Type 0 = λ k. (ys : List Step) → Begin (IsReadOf k 256) ys → Begin (AreReadsOf start size) (reads ++ ys) in
+      let R : ℕ → Type 0 = λ z. (ys : List Step) → Begin (IsReadOf (start + done) z) ys → Begin (AreReadsOf start size) (reads ++ ys) in
+      let room : 256 * suc so_far.blocks ≤ size = omega (arith, left_is, so_far.is) in
+      order_stops (Begin (IsReadOf (start + done) block)) (Begin (AreReadsOf start size)) cause torn reads
+      (subst R (sym whole_block) (subst Q (sym at) (λ ys begun. reads_begun start so_far.blocks size bytes ys (so_far.many ∙ so_far.is) room even begun))) old mid new so_far.steps (subst P (sym (torn-reads torn start so_far.blocks bytes)) stops)
+
 -- all of them
-pub blocks_all : (start size done : ℕ) (torn : Bool) (old new : RigState) → done ≡ size → AreBlocksRead start done torn old new → GoesOn (IsInOrder torn (read_steps start (size / 256))) old.calls new.calls
-blocks_all start size done torn old new all read =
+pub blocks_all : (start size done : ℕ) (bytes : List ℕ) (torn : Bool) (old new : RigState) → done ≡ size → AreBlocksRead start done bytes torn old new → GoesOn (IsInOrder torn (read_steps start (size / 256) bytes)) old.calls new.calls
+blocks_all start size done bytes torn old new all read =
     let is : read.blocks ≡ size / 256 = omega (arith, read.is, all) in
-    let P : ℕ → Type 0 = λ k. GoesOn (IsInOrder torn (read_steps start k)) old.calls new.calls in
+    let P : ℕ → Type 0 = λ k. GoesOn (IsInOrder torn (read_steps start k bytes)) old.calls new.calls in
     subst P is read.steps
 
 -- the next block is read, which lies in one page
-pub block_read : (chip : ChipData) (address left size : ℕ) (a b c : RigState) → 1 ≤ left → IsBlock chip address left size → OnlyReads chip a b
-    → ((torn : Bool) → GoesOn (IsInOrder torn (Sends (read_frame address size) ∷ [])) b.calls c.calls) → OnlyReads chip a c
-block_read chip address left size a b c some is before reads =
+pub block_read : (chip : ChipData) (address left size : ℕ) (answer : List ℕ) (a b c : RigState) → 1 ≤ left → IsBlock chip address left size → OnlyReads chip a b → ReadsBlock address size answer b c → OnlyReads chip a c
+block_read chip address left size answer a b c some is before reads =
     let (page, within) = block_in_page chip address left size is in
-    reads_more chip page address size a b c (omega (arith, some, is.cut, is.is_rest.some)) (omega (arith, is.cut)) within before reads
+    let P : ℕ → Type 0 = λ n. (1 ≤ n) × (n ≤ 256) × InPage chip page address n in
+    let fits = subst P (sym reads.size) (omega (arith, some, is.cut, is.is_rest.some), omega (arith, is.cut), within) in
+    reads_more chip page address answer a b c fits.0 fits.1 fits.2 before reads.sent
+
+-- or begun
+pub block_stop : (chip : ChipData) (address left size : ℕ) (cause : Cause) (a b c : RigState) → 1 ≤ left → IsBlock chip address left size → OnlyReads chip a b
+    → ((torn : Bool) → StopsBy (Begin (IsReadOf address size)) cause torn b c) → (torn : Bool) → StopsBy (AllByRecursion (IsReading chip)) cause torn a c
+block_stop chip address left size cause a b c some is before stops =
+    let (page, within) = block_in_page chip address left size is in
+    reads_stop chip page address size cause a b c (omega (arith, some, is.cut, is.is_rest.some)) (omega (arith, is.cut)) within before stops

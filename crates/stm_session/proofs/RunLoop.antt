@@ -43,6 +43,12 @@ module _ (commands : List Command) (i : ℕ) (d : Command) (lt : i < length comm
       ap commands_in (take_more commands i d lt) ∙ map-append command_data (take i commands) (get_or commands i d ∷ [])
       ∙ ap (λ (c : Command). commands_in (take i commands) ++ command_data c ∷ []) (sym is)
 
+  pub commands_split : commands_in commands ≡ commands_in (take i commands) ++ (command_data d ∷ commands_in (drop (i + 1) commands))
+  commands_split =
+      ap commands_in (sym (take-append-drop (i + 1) commands)) ∙ map-append command_data (take (i + 1) commands) (drop (i + 1) commands)
+      ∙ ap (λ (l : List CommandData). l ++ commands_in (drop (i + 1) commands)) taken_next
+      ∙ append_assoc (commands_in (take i commands)) (command_data d ∷ []) (commands_in (drop (i + 1) commands))
+
   pub whole_list : commands_in (take i commands) ++ command_data d ∷ commands_in (drop (i + 1) commands) ≡ commands_in commands
   whole_list =
       let front = commands_in (take i commands) in

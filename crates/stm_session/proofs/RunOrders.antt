@@ -1,17 +1,19 @@
 -- The order of what a run puts and appends.
-use Rattle.std.proofs.Common.{◌≡◌, ℕ, ◌≤◌, Bool, List, [], ◌∷◌, ◌++◌, Result, Ok, Err, refl, sym, subst}
+use Rattle.std.proofs.Common.{◌≡◌, ℕ, ◌≤◌, Bool, List, [], ◌∷◌, ◌++◌, length, Result, Ok, Err, refl, sym, subst}
 use Rattle.std.specs.Prelude.{OnOk}
 use Rattle.std.specs.List.{AllByRecursion}
 use Rattle.stm_wire.specs.Chip.{ChipData}
 use Rattle.stm_wire.specs.Dialogue.{GoesOn}
 use Rattle.stm_wire.specs.DialogueLaws.{GoesOn-nothing}
-use Rattle.stm_wire.specs.Frames.{read_frame}
+use Rattle.stm_wire.specs.Frames.{read_turns}
 use Rattle.stm_wire.specs.Intents.{InPage}
 use Rattle.stm_wire.specs.Rig.{RigState}
 use Rattle.stm_journal.specs.Journals.{Loaded}
 use Rattle.stm_session.specs.declared.fault.Fault.{Fault}
-use Rattle.stm_session.specs.Order.{Step, Sends, Follows, IsInOrder, torn_behind}
+use Rattle.stm_session.specs.Fault.{Cause}
+use Rattle.stm_session.specs.Order.{Step, Sends, Begin, Follows, IsInOrder, IsReadOf, StopsBy, torn_behind}
 use Rattle.stm_session.specs.RunOrder.{IsReading, OnlyReads}
+use Rattle.stm_session.proofs.CutShort.{order_stops}
 use Rattle.stm_session.proofs.Orders.{order_then}
 
 reads-torn : (chip : ChipData) (torn : Bool) (steps : List Step) → AllByRecursion (IsReading chip) steps → torn_behind torn steps ≡ torn
@@ -26,14 +28,35 @@ pub reads_nothing : (chip : ChipData) (a : RigState) → OnlyReads chip a a
 reads_nothing chip a torn = ([], tt, GoesOn-nothing (IsInOrder torn []) a.calls refl)
 
 -- one block more
-pub reads_more : (chip : ChipData) (page address size : ℕ) (a b c : RigState) → 1 ≤ size → size ≤ 256 → InPage chip page address size → OnlyReads chip a b
-    → ((torn : Bool) → GoesOn (IsInOrder torn (Sends (read_frame address size) ∷ [])) b.calls c.calls) → OnlyReads chip a c
-reads_more chip page address size a b c some limit within before reads torn =
+pub reading_step : (chip : ChipData) (page address : ℕ) (answer : List ℕ) → 1 ≤ length answer → length answer ≤ 256 → InPage chip page address (length answer) → IsReading chip (Sends (read_turns address answer))
+reading_step chip page address answer some limit within = record { page = page; address = address; answer = answer; some = some; limit = limit; within = within; is = refl }
+
+pub reads_more : (chip : ChipData) (page address : ℕ) (answer : List ℕ) (a b c : RigState) → 1 ≤ length answer → length answer ≤ 256 → InPage chip page address (length answer) → OnlyReads chip a b
+    → ((torn : Bool) → GoesOn (IsInOrder torn (Sends (read_turns address answer) ∷ [])) b.calls c.calls) → OnlyReads chip a c
+reads_more chip page address answer a b c some limit within before reads torn =
     let p = before torn in
-    let step : Step = Sends (read_frame address size) in
-    let reading : IsReading chip step = record { page = page; address = address; size = size; some = some; limit = limit; within = within; is = refl } in
+    let step : Step = Sends (read_turns address answer) in
     let P : Bool → Type 0 = λ t. GoesOn (IsInOrder t (step ∷ [])) b.calls c.calls in
-    (p.0 ++ step ∷ [], reads-append chip p.0 (step ∷ []) p.1 (reading, tt), order_then torn p.0 (step ∷ []) a.calls b.calls c.calls p.2 (subst P (sym (reads-torn chip torn p.0 p.1)) (reads torn)))
+    (p.0 ++ step ∷ [], reads-append chip p.0 (step ∷ []) p.1 (reading_step chip page address answer some limit within, tt), order_then torn p.0 (step ∷ []) a.calls b.calls c.calls p.2 (subst P (sym (reads-torn chip torn p.0 p.1)) (reads torn)))
+
+-- or one that is begun
+pub reads_stop : (chip : ChipData) (page address size : ℕ) (cause : Cause) (a b c : RigState) → 1 ≤ size → size ≤ 256 → InPage chip page address size → OnlyReads chip a b
+    → ((torn : Bool) → StopsBy (Begin (IsReadOf address size)) cause torn b c) → (torn : Bool) → StopsBy (AllByRecursion (IsReading chip)) cause torn a c
+reads_stop chip page address size cause a b c some limit within before stops torn =
+    let p = before torn in
+    order_stops (Begin (IsReadOf address size)) (AllByRecursion (IsReading chip)) cause torn p.0 (λ ys begun. reads-append chip p.0 ys p.1 (begun_reads ys begun)) a b c p.2 (stops (torn_behind torn p.0))
+  where
+    begun_reads : (ys : List Step) → Begin (IsReadOf address size) ys → AllByRecursion (IsReading chip) ys
+    begun_reads [] begun = tt
+    begun_reads (y ∷ ys) (rest, read) =
+        let P : ℕ → Type 0 = λ n. (1 ≤ n) × (n ≤ 256) × InPage chip page address n in
+        let fits = subst P (sym read.size) (some, limit, within) in
+        let all : AllByRecursion (IsReading chip) ((y ∷ ys) ++ rest) = subst (λ (l : List Step). AllByRecursion (IsReading chip) l) (sym read.is) (reading_step chip page address read.answer fits.0 fits.1 fits.2, tt) in
+        (all.0, reads_front ys rest all.1)
+      where
+        reads_front : (xs zs : List Step) → AllByRecursion (IsReading chip) (xs ++ zs) → AllByRecursion (IsReading chip) xs
+        reads_front [] zs are = tt
+        reads_front (x ∷ xs) zs (first, are) = (first, reads_front xs zs are)
 
 -- the journal in memory is as it was
 pub reads_follow : (chip : ChipData) (l : Loaded) (a b : RigState) → OnlyReads chip a b → Follows (λ steps. AllByRecursion (IsReading chip) steps) l l a b

@@ -1,5 +1,5 @@
--- In which order a command that changes the flash puts frames and appends lines, on any line, where it is answered Ok.
-use Rattle.std.specs.Prelude.{◌≡◌, ◌⊎◌, ℕ, ◌+◌, ◌/◌, ◌==◌, ◌&&◌, not, Bool, true, false, if◌then◌else◌, List, [], ◌∷◌, ◌++◌, length, bytes_eq}
+-- In which order a command that changes the flash puts frames and appends lines, on any line.
+use Rattle.std.specs.Prelude.{◌≡◌, ◌⊎◌, ℕ, ◌+◌, ◌/◌, ◌<◌, ◌==◌, ◌&&◌, not, Bool, true, false, if◌then◌else◌, List, [], ◌∷◌, ◌++◌, length, bytes_eq}
 use Rattle.stm_wire.specs.Chip.{ChipData, erased_byte, page_count, page_size}
 use Rattle.stm_chip.specs.Plan.{frames_of}
 use Rattle.stm_journal.specs.declared.entry.Entry.TheVariants.{Keeps, Ends}
@@ -7,14 +7,14 @@ use Rattle.stm_journal.specs.Journals.{begin_entries}
 use Rattle.stm_journal.specs.States.{StateData}
 use Rattle.stm_session.specs.declared.change.Change.{Change}
 use Rattle.stm_session.specs.Contents.{MayTouch, content}
-use Rattle.stm_session.specs.Order.{Step, Adds, page_reads, rewrite_steps}
+use Rattle.stm_session.specs.Order.{Step, Adds, Are, Begin, page_reads, rewrite_steps}
 use Rattle.stm_session.specs.Undoable.{has_companion}
 
 -- page 257 is read and kept
 pub record IsCompanionSaved (chip : ChipData) (steps : List Step) : Type 0 where
   pub other : List ℕ
   pub size : length other ≡ page_size chip 257
-  pub is : steps ≡ page_reads chip 257 ++ Adds (Keeps 257 other ∷ []) ∷ []
+  pub is : steps ≡ page_reads chip 257 other ++ Adds (Keeps 257 other ∷ []) ∷ []
 
 -- and then a page that was read is kept
 pub record AreBothSaved (chip : ChipData) (n : ℕ) (held : List ℕ) (steps : List Step) : Type 0 where
@@ -53,7 +53,7 @@ pub record IsReadAndChanged (kept : Bool) (chip : ChipData) (c : Change) (n : �
   pub counts : changed ≡ not (bytes_eq held (content chip c n held))
   pub later : List Step
   pub is_changed : IsChanged kept chip n held (content chip c n held) later
-  pub is : steps ≡ page_reads chip n ++ later
+  pub is : steps ≡ page_reads chip n held ++ later
 
 -- any other page is left alone
 pub record IsLeft (chip : ChipData) (c : Change) (n : ℕ) (changed : Bool) (steps : List Step) : Type 0 where
@@ -78,3 +78,27 @@ pub record IsOneSegment (chip : ChipData) (c : Change) (s : StateData) (steps : 
   pub turned : List Step
   pub are_turned : AreAllTurned chip c turned
   pub is : steps ≡ Adds (begin_entries chip.id s) ∷ (turned ++ Adds (Ends (length s.stack + 1) ∷ []) ∷ [])
+
+-- At a fault:
+
+-- page n, whatever comes of it
+abbrev pub IsTurn : Bool → ChipData → Change → ℕ → List Step → Type 0
+IsTurn kept chip c n steps = (changed : Bool) × IsTurnOf kept chip c n changed steps
+
+-- the pages below one, and then a beginning of that page
+pub record AreBegunTurns (chip : ChipData) (c : Change) (steps : List Step) : Type 0 where
+  pub page : ℕ
+  pub exists : page < page_count chip
+  pub first : Bool
+  pub before : List Step
+  pub are_turned : AreTurned chip c page first before
+  pub own : List Step
+  pub is_begun : Begin (IsTurn (page == 257 && first) chip c page) own
+  pub is : steps ≡ before ++ own
+
+-- A beginning of a command's segment: of its first lines; or those, and a beginning of its pages; or those, all its pages, and a
+-- beginning of its last line.
+pub data IsSegmentBegun (chip : ChipData) (c : Change) (s : StateData) (steps : List Step) : Type 0 where
+  begins : Begin (Are (Adds (begin_entries chip.id s) ∷ [])) steps → IsSegmentBegun chip c s steps
+  turns : (pages : List Step) → AreBegunTurns chip c pages → steps ≡ Adds (begin_entries chip.id s) ∷ pages → IsSegmentBegun chip c s steps
+  ends : Begin (IsOneSegment chip c s) steps → IsSegmentBegun chip c s steps

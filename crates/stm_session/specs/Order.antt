@@ -1,55 +1,58 @@
--- In which order a session puts frames and appends lines, on any line, where it is answered Ok. Gets and fetches are left out:
--- they change nothing.
-use Rattle.std.specs.Prelude.{◌≡◌, ℕ, zero, suc, ◌+◌, ◌*◌, ◌/◌, Bool, false, if◌then◌else◌, List, [], ◌∷◌, ◌++◌, length, take, drop, map, bytes_eq, Option, Some, None}
+-- In which order a session sends frames and appends lines, on any line: at Ok all of it, at a fault a beginning. Fetches are left
+-- out: they change nothing.
+use Rattle.std.specs.Prelude.{◌≡◌, ◌≢◌, ◌⊎◌, ℕ, zero, suc, ◌+◌, ◌*◌, ◌/◌, ◌%◌, ◌<◌, ◌≤◌, Bool, false, if◌then◌else◌, List, [], ◌∷◌, ◌++◌, length, take, drop, map, bytes_eq, Option, Some, None, Result, IfErr}
 use Rattle.stm_wire.specs.declared.intent.Intent.{Intent}
+use Rattle.stm_wire.specs.declared.fault.WireFault.{WireFault}
+use Rattle.stm_wire.specs.declared.fault.WireFault.TheVariants.{Line}
 use Rattle.stm_wire.specs.declared.rig.RigCall.{RigCall}
 use Rattle.stm_wire.specs.declared.rig.RigCall.TheVariants.{Put, Get, Append, Fetch}
 use Rattle.stm_wire.specs.Chip.{ChipData, erased_byte, page_offset, page_size}
-use Rattle.stm_wire.specs.Dialogue.{GoesOn}
-use Rattle.stm_wire.specs.Frames.{command, read_frame, write_frame, erase_frame}
+use Rattle.stm_wire.specs.Dialogue.{Turn, GoesOn, IsBrokenOff, calls_of}
+use Rattle.stm_wire.specs.Frames.{erase_turns, get_id_turns, get_turns, read_turns, write_turns}
 use Rattle.stm_wire.specs.Intents.{settling_byte}
 use Rattle.stm_wire.specs.Rig.{RigState}
-use Rattle.stm_wire.specs.SentList.{IsSettlingRun}
+use Rattle.stm_wire.specs.Settling.{SettlesWithin}
+use Rattle.stm_wire.specs.SettlingCalls.{EndsSettled}
 use Rattle.stm_chip.specs.declared.plan.Frame.{Frame}
 use Rattle.stm_chip.specs.Document.{IsChipWith}
 use Rattle.stm_chip.specs.Plan.{frames_of}
 use Rattle.stm_journal.specs.declared.entry.Entry.{Entry}
 use Rattle.stm_journal.specs.declared.entry.Entry.TheVariants.{Erases, Programs, Undoes}
 use Rattle.stm_journal.specs.declared.kept.Kept.{Kept}
+use Rattle.stm_journal.specs.Calls.{AreFetches}
 use Rattle.stm_journal.specs.Journals.{Loaded, IsLoaded, added_bytes}
 use Rattle.stm_journal.specs.Newest.{pages_of_segments}
 use Rattle.stm_journal.specs.States.{intent_of, intent_page}
+use Rattle.stm_session.specs.declared.fault.Fault.{Fault}
+use Rattle.stm_session.specs.Fault.{Cause, IsHeard, of_file, of_line, of_memory, of_protocol, of_refusal, of_session, cause_of}
 
--- what the host does on purpose: it appends lines, or it puts a frame
+-- What the host does on purpose: it appends lines, in one call; or it sends a frame, whose dialogue is held to its end, with each
+-- acknowledgement and each byte of the reply.
 pub data Step : Type 0 where
   Adds : List Entry → Step
-  Sends : List ℕ → Step
+  Sends : List Turn → Step
 
--- the puts and appends among some calls
+-- the calls but for fetches
 abbrev pub acts_of : List RigCall → List RigCall
 acts_of [] = []
 acts_of (Put byte ∷ calls) = Put byte ∷ acts_of calls
-acts_of (Get answer ∷ calls) = acts_of calls
+acts_of (Get answer ∷ calls) = Get answer ∷ acts_of calls
 acts_of (Append n ∷ calls) = Append n ∷ acts_of calls
 acts_of (Fetch ∷ calls) = acts_of calls
 
-abbrev pub puts : List ℕ → List RigCall
-puts [] = []
-puts (byte ∷ bytes) = Put byte ∷ puts bytes
-
--- the puts and appends that steps are, where a torn tail stands at first or not: that is ended with the next line
+-- the calls that steps are, where a torn tail stands at first or not: that is ended with the next line
 abbrev pub acts_of_steps : Bool → List Step → List RigCall
 acts_of_steps torn [] = []
 acts_of_steps torn (Adds entries ∷ steps) = Append (length (added_bytes torn entries)) ∷ acts_of_steps false steps
-acts_of_steps torn (Sends frame ∷ steps) = puts frame ++ acts_of_steps torn steps
+acts_of_steps torn (Sends turns ∷ steps) = calls_of turns ++ acts_of_steps torn steps
 
 -- a torn tail still stands behind the steps
 abbrev pub torn_behind : Bool → List Step → Bool
 torn_behind torn [] = torn
 torn_behind torn (Adds entries ∷ steps) = torn_behind false steps
-torn_behind torn (Sends frame ∷ steps) = torn_behind torn steps
+torn_behind torn (Sends turns ∷ steps) = torn_behind torn steps
 
--- the calls put and append just what these steps are
+-- the calls are just these steps
 abbrev pub IsInOrder : Bool → List Step → List RigCall → Type 0
 IsInOrder torn steps calls = acts_of calls ≡ acts_of_steps torn steps
 
@@ -62,21 +65,89 @@ pub record DoesSteps (steps : List Step) (l l2 : Loaded) (old new : RigState) : 
 abbrev pub Follows : (List Step → Type 0) → Loaded → Loaded → RigState → RigState → Type 0
 Follows P l l2 old new = (steps : List Step) × P steps × DoesSteps steps l l2 old new
 
--- so many blocks of 256 bytes are read from an address on, rising
-abbrev pub read_steps : ℕ → ℕ → List Step
-read_steps address zero = []
-read_steps address (suc blocks) = read_steps address blocks ++ Sends (read_frame (address + 256 * blocks) 256) ∷ []
+-- At a fault:
+
+-- the step that failed, if one did
+abbrev pub step_in : Option Step → List Step
+step_in None = []
+step_in (Some step) = step ∷ []
+
+-- The calls of a step that failed, by what the fault comes of: its frame's dialogue was broken off, by the line, or by another
+-- byte than is due, a refusal or silence; or the file took its lines only in part. Where something is refused, or memory fails,
+-- no step failed; nor where the journal can't be read.
+abbrev pub FailsBy : Cause → Bool → Option Step → List RigCall → Type 0
+FailsBy of_line torn (Some (Sends turns)) calls = IsBrokenOff Line turns calls
+FailsBy of_protocol torn (Some (Sends turns)) calls = (fault : WireFault) × (fault ≢ Line) × IsBrokenOff fault turns calls
+FailsBy of_file torn (Some (Adds entries)) calls = (calls ≡ []) ⊎ (calls ≡ Append (length (added_bytes torn entries)) ∷ [])
+FailsBy of_file torn None calls = calls ≡ []
+FailsBy of_memory torn None calls = calls ≡ []
+FailsBy of_session torn None calls = calls ≡ []
+FailsBy of_refusal torn None calls = calls ≡ []
+FailsBy _ torn step calls = ⊥
+
+-- Calls that end with a fault: some steps were done whole, and perhaps one more was begun, which failed; all these are allowed.
+pub record AreCutShort (Allowed : List Step → Type 0) (cause : Cause) (torn : Bool) (acts : List RigCall) : Type 0 where
+  pub done : List Step
+  pub failed : Option Step
+  pub allowed : Allowed (done ++ step_in failed)
+  pub last : List RigCall
+  pub fails : FailsBy cause (torn_behind torn done) failed last
+  pub is : acts ≡ acts_of_steps torn done ++ last
+
+abbrev pub StopsBy : (List Step → Type 0) → Cause → Bool → RigState → RigState → Type 0
+StopsBy Allowed cause torn old new = GoesOn (λ calls. AreCutShort Allowed cause torn (acts_of calls)) old.calls new.calls
+
+-- where a fault is answered, it ends such steps
+abbrev pub Stops : {T : Type 0} → (List Step → Type 0) → Bool → RigState → RigState → Result T Fault → Type 0
+Stops Allowed torn old new result = IfErr result (λ fault. StopsBy Allowed (cause_of fault) torn old new)
+
+-- just these steps
+abbrev pub Are : List Step → List Step → Type 0
+Are these steps = steps ≡ these
+
+-- these steps, and then such
+abbrev pub IsAfter : List Step → (List Step → Type 0) → List Step → Type 0
+IsAfter these P steps = (own : List Step) × (steps ≡ these ++ own) × P own
+
+-- steps that can go on to be such
+abbrev pub Begin : (List Step → Type 0) → List Step → Type 0
+Begin P steps = (rest : List Step) × P (steps ++ rest)
+
+-- Frames and lines:
+
+-- so many blocks of 256 bytes are read from an address on, rising, and these bytes come
+abbrev pub read_steps : ℕ → ℕ → List ℕ → List Step
+read_steps address zero bytes = []
+read_steps address (suc blocks) bytes =
+    read_steps address blocks bytes ++ Sends (read_turns (address + 256 * blocks) (take 256 (drop (256 * blocks) bytes))) ∷ []
+
+-- one frame reads so many bytes, whatever comes
+pub record IsReadOf (address count : ℕ) (steps : List Step) : Type 0 where
+  pub answer : List ℕ
+  pub size : length answer ≡ count
+  pub is : steps ≡ Sends (read_turns address answer) ∷ []
+
+-- and so do blocks
+pub record AreReadsOf (address count : ℕ) (steps : List Step) : Type 0 where
+  pub held : List ℕ
+  pub size : length held ≡ count
+  pub is : steps ≡ read_steps address (count / 256) held
+
+-- a block was read, and these bytes came
+pub record ReadsBlock (address count : ℕ) (answer : List ℕ) (old new : RigState) : Type 0 where
+  pub size : length answer ≡ count
+  pub sent : (torn : Bool) → GoesOn (IsInOrder torn (Sends (read_turns address answer) ∷ [])) old.calls new.calls
 
 abbrev pub page_address : ChipData → ℕ → ℕ
 page_address chip n = chip.base + page_offset chip n
 
--- a page is read whole
-abbrev pub page_reads : ChipData → ℕ → List Step
-page_reads chip n = read_steps (page_address chip n) (page_size chip n / 256)
+-- a page is read whole, and holds these bytes
+abbrev pub page_reads : ChipData → ℕ → List ℕ → List Step
+page_reads chip n held = read_steps (page_address chip n) (page_size chip n / 256) held
 
 -- these frames of a page's new bytes are written
 abbrev pub write_step : ChipData → ℕ → List ℕ → Frame → Step
-write_step chip n page f = Sends (write_frame (page_address chip n + f.offset) (take f.length (drop f.offset page)))
+write_step chip n page f = Sends (write_turns (page_address chip n + f.offset) (take f.length (drop f.offset page)))
 
 abbrev pub write_steps : ChipData → ℕ → List ℕ → List Frame → List Step
 write_steps chip n page frames = map (write_step chip n page) frames
@@ -88,7 +159,7 @@ program_steps chip n page (f ∷ frames) = Adds (Programs n ∷ []) ∷ write_st
 
 -- a page is erased, its intent's line first, and written
 abbrev pub erase_steps : ChipData → ℕ → List Step
-erase_steps chip n = Adds (Erases n ∷ []) ∷ Sends (erase_frame chip.kind n) ∷ []
+erase_steps chip n = Adds (Erases n ∷ []) ∷ Sends (erase_turns chip.kind n) ∷ []
 
 abbrev pub rewrite_steps : ChipData → ℕ → List ℕ → List Frame → List Step
 rewrite_steps chip n page frames = erase_steps chip n ++ program_steps chip n page frames
@@ -100,9 +171,10 @@ restore_steps chip n held page = if bytes_eq held page then [] else rewrite_step
 -- a page is read, and given the bytes that the journal keeps
 pub record IsReturned (chip : ChipData) (n : ℕ) (steps : List Step) : Type 0 where
   pub held : List ℕ
+  pub held_size : length held ≡ page_size chip n
   pub page : List ℕ
   pub size : length page ≡ page_size chip n
-  pub is : steps ≡ page_reads chip n ++ restore_steps chip n held page
+  pub is : steps ≡ page_reads chip n held ++ restore_steps chip n held page
 
 -- each of the pages, in the order of their lines
 abbrev pub AreReturned : ChipData → List Kept → List Step → Type 0
@@ -141,21 +213,88 @@ pub record AreAllTakenBack (chip : ChipData) (intent : Option Intent) (taken : �
   pub are_back : AreTakenBack chip taken segments back
   pub is : steps ≡ first ++ back
 
--- a settling run, and then these steps
+-- a device was settled, and it showed that it is; and then came such calls
+abbrev pub SettlesThen : ℕ → (List RigCall → Type 0) → List RigCall → Type 0
+SettlesThen byte Then calls =
+    (settling rest : List RigCall) × SettlesWithin byte 131072 settling × EndsSettled byte 131072 settling × (acts_of calls ≡ settling ++ rest) × Then rest
+
+-- and then these steps
 abbrev pub SettlesFirst : ℕ → Bool → List Step → List RigCall → Type 0
-SettlesFirst byte torn steps calls = (settling : List ℕ) × IsSettlingRun byte 131072 settling × (acts_of calls ≡ puts settling ++ acts_of_steps torn steps)
+SettlesFirst byte torn steps calls = SettlesThen byte (λ rest. rest ≡ acts_of_steps torn steps) calls
 
--- who the device is
-abbrev pub asking_steps : List Step
-asking_steps = Sends (command 0x00) ∷ Sends (command 0x02) ∷ []
+-- which commands the device has: Get, and what it answers
+pub record IsGet (steps : List Step) : Type 0 where
+  pub version : ℕ
+  pub codes : List ℕ
+  pub is : steps ≡ Sends (get_turns version codes) ∷ []
 
--- An undo of so many segments: settling by the intent of the journal that was loaded, Get, Get ID, the page of that intent, and
--- then the segments.
+-- what it is: Get ID, and what it answers
+pub record IsGetId (steps : List Step) : Type 0 where
+  pub high : ℕ
+  pub low : ℕ
+  pub is : steps ≡ Sends (get_id_turns high low) ∷ []
+
+-- both
+pub record IsAsking (steps : List Step) : Type 0 where
+  pub first : List Step
+  pub is_get : IsGet first
+  pub second : List Step
+  pub is_get_id : IsGetId second
+  pub is : steps ≡ first ++ second
+
+-- where it answers this number
+abbrev pub id_turns : ℕ → List Turn
+id_turns id = get_id_turns (id / 256) (id % 256)
+
+abbrev pub asking_steps : ℕ → List ℕ → ℕ → List Step
+asking_steps version codes id = Sends (get_turns version codes) ∷ Sends (id_turns id) ∷ []
+
+abbrev pub AsksInOrder : ℕ → Bool → RigState → RigState → Type 0
+AsksInOrder id torn old new = (version : ℕ) × (codes : List ℕ) × GoesOn (IsInOrder torn (asking_steps version codes id)) old.calls new.calls
+
+-- the device was settled by this byte, and answered this number
+abbrev pub ReachesInOrder : ℕ → ℕ → Bool → RigState → RigState → Type 0
+ReachesInOrder byte id torn old new = (version : ℕ) × (codes : List ℕ) × GoesOn (SettlesFirst byte torn (asking_steps version codes id)) old.calls new.calls
+
+-- Of a session that reached no device, or was told that it is another, this was done: nothing; or it was settled in part, which
+-- the line or the device ended; or it was settled, and then asked, or asked in part.
+abbrev pub ReachesInPart : ℕ → Cause → Bool → List RigCall → Type 0
+ReachesInPart byte cause torn calls =
+    (acts_of calls ≡ []) ⊎ ((IsHeard cause × SettlesWithin byte 131072 (acts_of calls)) ⊎ SettlesThen byte (AreCutShort (Begin IsAsking) cause torn) calls)
+
+abbrev pub StopsShort : {T : Type 0} → ℕ → Bool → RigState → RigState → Result T Fault → Type 0
+StopsShort byte torn old new result = IfErr result (λ fault. GoesOn (ReachesInPart byte (cause_of fault) torn) old.calls new.calls)
+
+-- An undo of so many segments: settling by the intent of the journal that was loaded, Get, Get ID, by which the device is the
+-- journal's chip, the page of that intent, and then the segments.
 pub record UndoesInOrder (table : List ChipData) (taken : ℕ) (old new : RigState) : Type 0 where
   pub journal : Loaded
   pub loaded : old.is_honest → IsLoaded journal old.journal
   pub chip : ChipData
   pub listed : IsChipWith table chip.id chip
+  pub version : ℕ
+  pub codes : List ℕ
   pub steps : List Step
   pub are_steps : AreAllTakenBack chip (intent_of journal.state) taken (pages_of_segments journal.state.stack) steps
-  pub calls : GoesOn (SettlesFirst (settling_byte (intent_of journal.state)) journal.is_torn (asking_steps ++ steps)) old.calls new.calls
+  pub calls : GoesOn (SettlesFirst (settling_byte (intent_of journal.state)) journal.is_torn (asking_steps version codes chip.id ++ steps)) old.calls new.calls
+
+-- At a fault: settling by the intent of the journal that was loaded, Get and Get ID, or a part of these; or all of these, by which
+-- the device is the journal's chip, and then a beginning of taking so many segments back, no more than the journal has, nor than
+-- are asked for where that is a number.
+pub record UndoIsCutShort (table : List ChipData) (count : ℕ) (cause : Cause) (old new : RigState) : Type 0 where
+  pub journal : Loaded
+  pub loaded : old.is_honest → IsLoaded journal old.journal
+  pub chip : ChipData
+  pub listed : IsChipWith table chip.id chip
+  pub taken : ℕ
+  pub within : taken ≤ length journal.state.stack
+  pub asked : 0 < count → taken ≤ count
+  pub version : ℕ
+  pub codes : List ℕ
+  pub calls : GoesOn (λ calls. ReachesInPart (settling_byte (intent_of journal.state)) cause journal.is_torn calls
+      ⊎ SettlesThen (settling_byte (intent_of journal.state))
+      (AreCutShort (IsAfter (asking_steps version codes chip.id) (Begin (AreAllTakenBack chip (intent_of journal.state) taken (pages_of_segments journal.state.stack)))) cause journal.is_torn) calls) old.calls new.calls
+
+-- An undo that is broken off: nothing was done but reading the journal; or so.
+abbrev pub UndoStops : List ChipData → ℕ → RigState → RigState → Fault → Type 0
+UndoStops table count old new fault = GoesOn AreFetches old.calls new.calls ⊎ UndoIsCutShort table count (cause_of fault) old new

@@ -1,30 +1,32 @@
--- In which order a run puts frames and appends lines, on any line, where it is answered Ok.
-use Rattle.std.specs.Prelude.{◌≡◌, ℕ, ◌+◌, ◌≤◌, Bool, true, false, List, [], ◌∷◌, ◌++◌, length}
+-- In which order a run puts frames and appends lines, on any line.
+use Rattle.std.specs.Prelude.{◌≡◌, ◌⊎◌, ℕ, ◌+◌, ◌≤◌, Bool, true, false, List, [], ◌∷◌, ◌++◌, length}
 use Rattle.std.specs.List.{AllByRecursion}
 use Rattle.stm_wire.specs.Chip.{ChipData}
 use Rattle.stm_wire.specs.Dialogue.{GoesOn}
-use Rattle.stm_wire.specs.Frames.{read_frame}
+use Rattle.stm_wire.specs.Frames.{read_turns}
 use Rattle.stm_wire.specs.Intents.{InPage}
 use Rattle.stm_wire.specs.Rig.{RigState}
 use Rattle.stm_chip.specs.Document.{IsChipWith}
 use Rattle.stm_journal.specs.Journals.{Loaded, IsLoaded}
 use Rattle.stm_journal.specs.States.{StateData}
 use Rattle.stm_session.specs.declared.change.Change.{Change}
+use Rattle.stm_session.specs.declared.fault.Fault.{Fault}
+use Rattle.stm_session.specs.Fault.{Cause, cause_of}
 use Rattle.stm_session.specs.Answers.{segments_of}
-use Rattle.stm_session.specs.ChangeOrder.{IsOneSegment}
+use Rattle.stm_session.specs.ChangeOrder.{IsOneSegment, IsSegmentBegun}
 use Rattle.stm_session.specs.Contents.{command_of}
 use Rattle.stm_session.specs.Meaning.{CommandData, is_change}
-use Rattle.stm_session.specs.Order.{Step, Sends, IsInOrder, SettlesFirst, asking_steps}
+use Rattle.stm_session.specs.Order.{Step, Sends, AreCutShort, IsAfter, IsInOrder, ReachesInPart, SettlesFirst, SettlesThen, asking_steps}
 
 -- bytes of one page are read
 pub record IsReading (chip : ChipData) (step : Step) : Type 0 where
   pub page : ℕ
   pub address : ℕ
-  pub size : ℕ
-  pub some : 1 ≤ size
-  pub limit : size ≤ 256
-  pub within : InPage chip page address size
-  pub is : step ≡ Sends (read_frame address size)
+  pub answer : List ℕ
+  pub some : 1 ≤ length answer
+  pub limit : length answer ≤ 256
+  pub within : InPage chip page address (length answer)
+  pub is : step ≡ Sends (read_turns address answer)
 
 -- nothing else was put, and nothing appended
 abbrev pub OnlyReads : ChipData → RigState → RigState → Type 0
@@ -44,13 +46,58 @@ pub data AreDone (chip : ChipData) : List CommandData → StateData → StateDat
   more : (commands : List CommandData) (c : CommandData) (s mid last : StateData) (before own : List Step) → AreDone chip commands s mid before → IsDoneBy chip c mid own
       → length last.stack ≡ length mid.stack + segments_of c → AreDone chip (commands ++ c ∷ []) s last (before ++ own)
 
--- A run: settling by 7F, Get, Get ID, and then its commands.
+-- A run: settling by 7F, Get, Get ID, by which the device is the chip, and then its commands.
 pub record RunsInOrder (table : List ChipData) (commands : List CommandData) (old new : RigState) : Type 0 where
   pub journal : Loaded
   pub loaded : old.is_honest → IsLoaded journal old.journal
   pub chip : ChipData
   pub listed : IsChipWith table chip.id chip
+  pub version : ℕ
+  pub codes : List ℕ
   pub last : StateData
   pub steps : List Step
   pub are_steps : AreDone chip commands journal.state last steps
-  pub calls : GoesOn (SettlesFirst 0x7F journal.is_torn (asking_steps ++ steps)) old.calls new.calls
+  pub calls : GoesOn (SettlesFirst 0x7F journal.is_torn (asking_steps version codes chip.id ++ steps)) old.calls new.calls
+
+-- At a fault:
+
+-- a beginning of a write or an erase; or frames that read
+abbrev pub IsBegunIf : Bool → ChipData → CommandData → StateData → List Step → Type 0
+IsBegunIf true chip c s steps = (change : Change) × (command_of change ≡ c) × IsSegmentBegun chip change s steps
+IsBegunIf false chip c s steps = AllByRecursion (IsReading chip) steps
+
+abbrev pub IsBegunBy : ChipData → CommandData → StateData → List Step → Type 0
+IsBegunBy chip c s steps = IsBegunIf (is_change c) chip c s steps
+
+-- the commands before one are done, and then that one is begun
+pub record AreBegunAt (chip : ChipData) (commands : List CommandData) (s : StateData) (steps : List Step) : Type 0 where
+  pub earlier : List CommandData
+  pub command : CommandData
+  pub later : List CommandData
+  pub split : commands ≡ earlier ++ command ∷ later
+  pub mid : StateData
+  pub before : List Step
+  pub are_done : AreDone chip earlier s mid before
+  pub own : List Step
+  pub is_begun : IsBegunBy chip command mid own
+  pub is : steps ≡ before ++ own
+
+-- or none is
+abbrev pub AreBegun : ChipData → List CommandData → StateData → List Step → Type 0
+AreBegun chip commands s steps = (steps ≡ []) ⊎ AreBegunAt chip commands s steps
+
+-- A run that is broken off once its device is known: settling by 7F, Get, Get ID, by which the device is the chip, and then a
+-- beginning of its commands.
+pub record RunIsCutShort (table : List ChipData) (commands : List CommandData) (cause : Cause) (old new : RigState) : Type 0 where
+  pub journal : Loaded
+  pub loaded : old.is_honest → IsLoaded journal old.journal
+  pub chip : ChipData
+  pub listed : IsChipWith table chip.id chip
+  pub version : ℕ
+  pub codes : List ℕ
+  pub calls : GoesOn (SettlesThen 0x7F (AreCutShort (IsAfter (asking_steps version codes chip.id) (AreBegun chip commands journal.state)) cause journal.is_torn)) old.calls new.calls
+
+-- A run that is broken off: its device isn't reached, or isn't one for it; or its commands are cut short.
+abbrev pub RunStops : List ChipData → List CommandData → RigState → RigState → Fault → Type 0
+RunStops table commands old new fault =
+    ((torn : Bool) → GoesOn (ReachesInPart 0x7F (cause_of fault) torn) old.calls new.calls) ⊎ RunIsCutShort table commands (cause_of fault) old new

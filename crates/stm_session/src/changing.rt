@@ -6,7 +6,7 @@ ghost use Rattle.stm_wire.specs.Parts.{IsPart};
 ghost use Rattle.stm_journal.specs.States.{newest_keeps, newest_may_keep};
 ghost use Rattle.stm_session.specs.Fault.{HasSessionCause};
 ghost use Rattle.stm_session.specs.ChangeOrder.{IsChanged};
-ghost use Rattle.stm_session.specs.Order.{Follows};
+ghost use Rattle.stm_session.specs.Order.{Begin, Follows, Stops};
 ghost use Rattle.stm_session.specs.Sending.{is_whole, most_of_companion};
 ghost use Rattle.stm_session.specs.Undoable.{has_companion};
 ghost use Rattle.stm_session.specs.Steps.{IsSteady, Goes};
@@ -51,6 +51,9 @@ pub fn change_page<R: Rig>(
     ensures order { let old = R.view rig.old in let new = R.view rig.new in
         let Made = IsChanged kept chip.now n held.now page.now in
         OnOk result (Follows Made journal.old journal.new old new) }
+    ensures stops { let old = R.view rig.old in let new = R.view rig.new in
+        let Made = IsChanged kept chip.now n held.now page.now in
+        Stops (Begin Made) journal.old.is_torn old new result }
     ensures honest { let old = R.view rig.old in let new = R.view rig.new in
         (flashes : List (List ℕ)) → IsSteady flashes journal.old old → old.device.chip ≡ chip.now
         → held.now ≡ page_of chip.now old.device.flash n

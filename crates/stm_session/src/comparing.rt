@@ -1,10 +1,10 @@
 // Comparing an image with the flash.
 ghost use Rattle.std.specs.Prelude.{◌≡◌, ℕ, Bool, List, ◌∷◌, [], OnOk, ◌+◌, ◌≤◌, true, length, IsTrue, IfErr, Some, None, MatchOption};
+ghost use Rattle.std.specs.List.{AllByRecursion};
 ghost use Rattle.stm_image.specs.Pairs.{Pairs, HasNone, IsNext};
 ghost use Rattle.stm_wire.specs.Chip.{fits_inside, flash_size};
 ghost use Rattle.stm_wire.specs.Device.{IsSettled};
 ghost use Rattle.stm_wire.specs.Dialogue.{GoesOn};
-ghost use Rattle.stm_wire.specs.Frames.{read_frame};
 ghost use Rattle.stm_wire.specs.Intents.{InPage};
 ghost use Rattle.stm_wire.specs.Parts.{IsPart};
 ghost use Rattle.stm_session.specs.Answers.{first_difference};
@@ -13,8 +13,8 @@ ghost use Rattle.stm_session.specs.Fault.{HasSessionCause, IsRefusal};
 ghost use Rattle.stm_session.specs.Reading.{IsNextBlock, IsNotBehind};
 ghost use Rattle.stm_session.specs.Refusals.{image_fits};
 ghost use Rattle.stm_session.specs.Running.{bytes_at};
-ghost use Rattle.stm_session.specs.Order.{IsInOrder, Sends};
-ghost use Rattle.stm_session.specs.RunOrder.{OnlyReads};
+ghost use Rattle.stm_session.specs.Order.{Begin, IsReadOf, ReadsBlock, Stops};
+ghost use Rattle.stm_session.specs.RunOrder.{IsReading, OnlyReads};
 ghost use Rattle.stm_session.specs.Sending.{is_whole, most_of_command};
 
 use crate::Fault;
@@ -56,8 +56,9 @@ fn compare_block<R: Rig>(
         (page : ℕ) → InPage chip.now page address size
         → GoesOn (IsPart (Some chip.now) (is_whole result) (12 + size)) old.calls new.calls }
     ensures order { let old = R.view rig.old in let new = R.view rig.new in
-        (torn : Bool) → let steps = Sends (read_frame address size) ∷ [] in
-        OnOk result (GoesOn (IsInOrder torn steps) old.calls new.calls) }
+        OnOk result ((answer : List ℕ) × ReadsBlock address size answer old new) }
+    ensures stops { let old = R.view rig.old in let new = R.view rig.new in
+        (torn : Bool) → Stops (Begin (IsReadOf address size)) torn old new result }
     ensures sent { IfErr result (λ fault. IsRefusal fault → ⊥) }
     ensures honest { let old = R.view rig.old in let new = R.view rig.new in
         old.is_honest → IsSettled old.device → old.device.chip ≡ chip.now
@@ -108,6 +109,8 @@ pub fn find_difference<R: Rig>(
     ensures puts { let old = R.view rig.old in let new = R.view rig.new in
         GoesOn (IsPart (Some chip.now) (is_whole result) most_of_command) old.calls new.calls }
     ensures reads { OnOk result (OnlyReads chip.now (R.view rig.old) (R.view rig.new)) }
+    ensures reads_stop { let old = R.view rig.old in let new = R.view rig.new in
+        (torn : Bool) → Stops (AllByRecursion (IsReading chip.now)) torn old new result }
     ensures cause { HasSessionCause (R.view rig.old) (R.view rig.new) result }
     ensures sent { IfErr result (λ fault. IsRefusal fault → ⊥) }
     ensures honest { let old = R.view rig.old in let new = R.view rig.new in

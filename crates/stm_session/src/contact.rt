@@ -1,16 +1,17 @@
 // How a session reaches a device: whatever it was sent before is ended, and it is asked who it is.
-ghost use Rattle.std.specs.Prelude.{◌≡◌, ⊤, Bool, ◌∷◌, [], IfErr, OnOk, None};
+ghost use Rattle.std.specs.Prelude.{◌≡◌, ⊤, Bool, ℕ, List, ◌∷◌, [], IfErr, IfOk, OnOk, None};
 ghost use Rattle.stm_wire.specs.Device.{IsSettled};
 ghost use Rattle.stm_wire.specs.Dialogue.{GoesOn};
-ghost use Rattle.stm_wire.specs.Frames.{command};
+ghost use Rattle.stm_wire.specs.Frames.{get_turns};
 ghost use Rattle.stm_wire.specs.Parts.{IsPart};
 ghost use Rattle.stm_wire.specs.Settling.{SettlesWithin};
+ghost use Rattle.stm_wire.specs.SettlingCalls.{EndsSettled};
 ghost use Rattle.stm_session.specs.Unwritten.{AppendsNothing};
 ghost use Rattle.stm_session.specs.Fault.{HasSessionCause, IsOfLine};
 ghost use Rattle.stm_session.specs.Asking.{Asks};
 ghost use Rattle.stm_session.specs.Moments.{BeginsNothing, IsSafe};
 ghost use Rattle.stm_session.specs.Opening.{AreCommandsOf, Tells};
-ghost use Rattle.stm_session.specs.Order.{IsInOrder, Sends, asking_steps};
+ghost use Rattle.stm_session.specs.Order.{AsksInOrder, Begin, IsAsking, IsGet, IsGetId, IsInOrder, Sends, Stops, id_turns};
 ghost use Rattle.stm_session.specs.Sending.{is_whole};
 
 use crate::Fault;
@@ -31,6 +32,8 @@ pub fn settle_safe<R: Rig>(rig: &mut R) -> Result<(), Fault>
         HasSessionCause old new result }
     ensures calls { let old = R.view rig.old in let new = R.view rig.new in
         GoesOn (SettlesWithin 0x7F 131072) old.calls new.calls }
+    ensures settled { let old = R.view rig.old in let new = R.view rig.new in
+        OnOk result (GoesOn (EndsSettled 0x7F 131072) old.calls new.calls) }
     ensures sent { IfErr result IsOfLine }
     ensures honest { let old = R.view rig.old in let new = R.view rig.new in
         old.is_honest → IsSafe old.device → BeginsNothing old new result (λ _. ⊤) }
@@ -49,8 +52,10 @@ pub fn ask_commands<R: Rig>(rig: &mut R) -> Result<Commands, Fault>
     ensures puts { let old = R.view rig.old in let new = R.view rig.new in
         GoesOn (IsPart None (is_whole result) 261) old.calls new.calls }
     ensures order { let old = R.view rig.old in let new = R.view rig.new in
-        (torn : Bool) → let steps = Sends (command 0x00) ∷ [] in
-        OnOk result (GoesOn (IsInOrder torn steps) old.calls new.calls) }
+        (torn : Bool) → OnOk result ((version : ℕ) × (codes : List ℕ)
+        × GoesOn (IsInOrder torn (Sends (get_turns version codes) ∷ [])) old.calls new.calls) }
+    ensures stops { let old = R.view rig.old in let new = R.view rig.new in
+        (torn : Bool) → Stops (Begin IsGet) torn old new result }
     ensures sent { IfErr result IsOfLine }
     ensures honest { let old = R.view rig.old in let new = R.view rig.new in
         old.is_honest → IsSettled old.device → Asks old new result (AreCommandsOf old.device) }
@@ -69,8 +74,10 @@ pub fn ask_id<R: Rig>(rig: &mut R) -> Result<u16, Fault>
     ensures puts { let old = R.view rig.old in let new = R.view rig.new in
         GoesOn (IsPart None (is_whole result) 7) old.calls new.calls }
     ensures order { let old = R.view rig.old in let new = R.view rig.new in
-        (torn : Bool) → let steps = Sends (command 0x02) ∷ [] in
-        OnOk result (GoesOn (IsInOrder torn steps) old.calls new.calls) }
+        (torn : Bool) → IfOk result (λ id. let steps = Sends (id_turns id) ∷ [] in
+        GoesOn (IsInOrder torn steps) old.calls new.calls) }
+    ensures stops { let old = R.view rig.old in let new = R.view rig.new in
+        (torn : Bool) → Stops (Begin IsGetId) torn old new result }
     ensures sent { IfErr result IsOfLine }
     ensures honest { let old = R.view rig.old in let new = R.view rig.new in
         old.is_honest → IsSettled old.device
@@ -97,7 +104,9 @@ pub fn ask<R: Rig>(rig: &mut R) -> Result<Told, Fault>
     ensures puts { let old = R.view rig.old in let new = R.view rig.new in
         GoesOn (IsPart None (is_whole result) 268) old.calls new.calls }
     ensures order { let old = R.view rig.old in let new = R.view rig.new in
-        (torn : Bool) → OnOk result (GoesOn (IsInOrder torn asking_steps) old.calls new.calls) }
+        (torn : Bool) → IfOk result (λ told. AsksInOrder told.id torn old new) }
+    ensures stops { let old = R.view rig.old in let new = R.view rig.new in
+        (torn : Bool) → Stops (Begin IsAsking) torn old new result }
     ensures sent { IfErr result IsOfLine }
     ensures honest { let old = R.view rig.old in let new = R.view rig.new in
         old.is_honest → IsSettled old.device → Asks old new result (Tells old.device) }

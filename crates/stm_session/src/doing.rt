@@ -11,8 +11,8 @@ ghost use Rattle.stm_session.specs.Fault.{HasSessionCause};
 ghost use Rattle.stm_session.specs.Meaning.{command_data, erases, is_change, reads, verifies, writes};
 ghost use Rattle.stm_session.specs.Refusals.{image_fits, lies_in_flash};
 ghost use Rattle.stm_session.specs.Running.{IsKindOf};
-ghost use Rattle.stm_session.specs.Order.{Follows};
-ghost use Rattle.stm_session.specs.RunOrder.{IsDoneBy};
+ghost use Rattle.stm_session.specs.Order.{Follows, Stops};
+ghost use Rattle.stm_session.specs.RunOrder.{IsBegunBy, IsDoneBy};
 ghost use Rattle.stm_session.specs.Sending.{is_whole, most_of_command};
 ghost use Rattle.stm_session.specs.Steps.{IsSteady};
 
@@ -48,6 +48,9 @@ fn write_image<R: Rig>(
     ensures order { let old = R.view rig.old in let new = R.view rig.new in
         let Done = IsDoneBy chip.now (writes image.now) journal.old.state in
         OnOk result (Follows Done journal.old journal.new old new) }
+    ensures stops { let old = R.view rig.old in let new = R.view rig.new in
+        let Begun = IsBegunBy chip.now (writes image.now) journal.old.state in
+        Stops Begun journal.old.is_torn old new result }
     ensures honest { let old = R.view rig.old in let new = R.view rig.new in
         (flashes : List (List ℕ)) → IsSteady flashes journal.old old → old.device.chip ≡ chip.now
         → Does flashes (writes image.now) journal.new old new result outcome_data }
@@ -77,6 +80,9 @@ fn erase_pages<R: Rig>(
     ensures order { let old = R.view rig.old in let new = R.view rig.new in
         let Done = IsDoneBy chip.now (erases pages.now.items) journal.old.state in
         OnOk result (Follows Done journal.old journal.new old new) }
+    ensures stops { let old = R.view rig.old in let new = R.view rig.new in
+        let Begun = IsBegunBy chip.now (erases pages.now.items) journal.old.state in
+        Stops Begun journal.old.is_torn old new result }
     ensures honest { let old = R.view rig.old in let new = R.view rig.new in
         (flashes : List (List ℕ)) → IsSteady flashes journal.old old → old.device.chip ≡ chip.now
         → Does flashes (erases pages.now.items) journal.new old new result outcome_data }
@@ -97,6 +103,9 @@ fn verify_image<R: Rig>(rig: &mut R, chip: &Chip, image: &Image) -> Result<Outco
     ensures order { let old = R.view rig.old in let new = R.view rig.new in
         (l : Loaded) → let Done = IsDoneBy chip.now (verifies image.now) l.state in
         OnOk result (Follows Done l l old new) }
+    ensures stops { let old = R.view rig.old in let new = R.view rig.new in
+        (l : Loaded) → let Begun = IsBegunBy chip.now (verifies image.now) l.state in
+        Stops Begun l.is_torn old new result }
     ensures honest { let old = R.view rig.old in let new = R.view rig.new in
         (flashes : List (List ℕ)) (l : Loaded) → IsSteady flashes l old
         → old.device.chip ≡ chip.now
@@ -127,6 +136,9 @@ fn read_part_of<R: Rig>(
     ensures order { let old = R.view rig.old in let new = R.view rig.new in
         (l : Loaded) → let Done = IsDoneBy chip.now (reads start length) l.state in
         OnOk result (Follows Done l l old new) }
+    ensures stops { let old = R.view rig.old in let new = R.view rig.new in
+        (l : Loaded) → let Begun = IsBegunBy chip.now (reads start length) l.state in
+        Stops Begun l.is_torn old new result }
     ensures honest { let old = R.view rig.old in let new = R.view rig.new in
         (flashes : List (List ℕ)) (l : Loaded) → IsSteady flashes l old
         → old.device.chip ≡ chip.now
@@ -160,6 +172,9 @@ pub fn run_command<R: Rig>(
     ensures order { let old = R.view rig.old in let new = R.view rig.new in
         let Done = IsDoneBy chip.now (command_data command.now) journal.old.state in
         OnOk result (Follows Done journal.old journal.new old new) }
+    ensures stops { let old = R.view rig.old in let new = R.view rig.new in
+        let Begun = IsBegunBy chip.now (command_data command.now) journal.old.state in
+        Stops Begun journal.old.is_torn old new result }
     ensures honest { let old = R.view rig.old in let new = R.view rig.new in
         (flashes : List (List ℕ)) → IsSteady flashes journal.old old → old.device.chip ≡ chip.now
         → let c = command_data command.now in

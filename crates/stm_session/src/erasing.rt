@@ -7,7 +7,7 @@ ghost use Rattle.stm_journal.specs.declared.entry.Entry.TheVariants.{Erases};
 ghost use Rattle.stm_journal.specs.States.{newest_keeps};
 ghost use Rattle.stm_journal.specs.Newest.{HasIntended};
 ghost use Rattle.stm_session.specs.Fault.{HasSessionCause};
-ghost use Rattle.stm_session.specs.Order.{DoesSteps, erase_steps};
+ghost use Rattle.stm_session.specs.Order.{Are, Begin, DoesSteps, Stops, erase_steps};
 ghost use Rattle.stm_session.specs.Sending.{is_whole};
 ghost use Rattle.stm_session.specs.Steps.{IsSteady, Goes};
 
@@ -33,6 +33,8 @@ pub fn erase_kept<R: Rig>(
         GoesOn (IsPart (Some chip.now) (is_whole result) 9) old.calls new.calls }
     ensures order { let old = R.view rig.old in let new = R.view rig.new in
         OnOk result (DoesSteps (erase_steps chip.now n) journal.old journal.new old new) }
+    ensures stops { let old = R.view rig.old in let new = R.view rig.new in
+        Stops (Begin (Are (erase_steps chip.now n))) journal.old.is_torn old new result }
     ensures honest { let old = R.view rig.old in let new = R.view rig.new in
         (flashes : List (List ℕ)) → IsSteady flashes journal.old old → old.device.chip ≡ chip.now
         → Goes flashes (Erases n ∷ []) journal.new old new result

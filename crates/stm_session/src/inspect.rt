@@ -1,10 +1,11 @@
 // Asking a device what it is.
-ghost use Rattle.std.specs.Prelude.{◌≡◌, IfErr, IfOk, None};
+ghost use Rattle.std.specs.Prelude.{◌≡◌, Bool, IfErr, IfOk, None};
 ghost use Rattle.stm_wire.specs.Dialogue.{GoesOn};
 ghost use Rattle.stm_wire.specs.Parts.{IsSession};
 ghost use Rattle.stm_journal.specs.Calls.{AreFetches};
 ghost use Rattle.stm_session.specs.Unwritten.{AppendsNothing};
 ghost use Rattle.stm_session.specs.Fault.{HasSessionCause};
+ghost use Rattle.stm_session.specs.Order.{ReachesInOrder, StopsShort};
 ghost use Rattle.stm_session.specs.Sending.{is_whole, most_calls};
 ghost use Rattle.stm_session.specs.Information.{Describes};
 ghost use Rattle.stm_session.specs.Promises.{InfoContract};
@@ -23,6 +24,10 @@ pub fn info<R: Rig>(alloc: Global, rig: &mut R, table: &Table) -> Result<Info, F
         HasSessionCause old new result }
     ensures puts { let old = R.view rig.old in let new = R.view rig.new in
         GoesOn (IsSession None 0x7F 131072 (is_whole result) (most_calls 0)) old.calls new.calls }
+    ensures order { let old = R.view rig.old in let new = R.view rig.new in
+        (torn : Bool) → IfOk result (λ info. ReachesInOrder 0x7F info.id torn old new) }
+    ensures stops { let old = R.view rig.old in let new = R.view rig.new in
+        (torn : Bool) → StopsShort 0x7F torn old new result }
     ensures told { IfOk result (Describes table.now) }
     ensures silent { let old = R.view rig.old in let new = R.view rig.new in
         IfErr result (λ fault. fault ≡ Fault.Unfinished → GoesOn AreFetches old.calls new.calls) }

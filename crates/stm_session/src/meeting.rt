@@ -2,17 +2,17 @@
 ghost use Rattle.std.specs.Prelude.{◌≡◌, ◌≤◌, [], List, ℕ, ⊤, Bool, ◌∷◌, length, None, OnOk, IfOk, IfErr, IfSome};
 ghost use Rattle.stm_wire.specs.Device.{IsSettled};
 ghost use Rattle.stm_wire.specs.Dialogue.{GoesOn};
-ghost use Rattle.stm_wire.specs.Frames.{command};
+ghost use Rattle.stm_wire.specs.Frames.{get_turns};
 ghost use Rattle.stm_wire.specs.Harmless.{Harmless};
 ghost use Rattle.stm_wire.specs.Intents.{settling_byte};
 ghost use Rattle.stm_wire.specs.Parts.{IsPart, IsSession};
 ghost use Rattle.stm_journal.specs.Journals.{IsLoaded};
 ghost use Rattle.stm_journal.specs.States.{intent_of};
 ghost use Rattle.stm_session.specs.Asking.{Asks};
-ghost use Rattle.stm_session.specs.Fault.{HasSessionCause, IsLaterRefusal};
+ghost use Rattle.stm_session.specs.Fault.{HasSessionCause, IsLaterRefusal, cause_of};
 ghost use Rattle.stm_session.specs.Meeting.{Meets};
 ghost use Rattle.stm_session.specs.Refusals.{can_erase, undo_misfit};
-ghost use Rattle.stm_session.specs.Order.{IsInOrder, Sends, SettlesFirst, asking_steps};
+ghost use Rattle.stm_session.specs.Order.{AsksInOrder, Begin, IsAsking, IsGet, IsInOrder, ReachesInOrder, Sends, Stops, StopsBy, StopsShort};
 ghost use Rattle.stm_session.specs.Sending.{is_whole, most_calls};
 ghost use Rattle.stm_session.specs.Steps.{Goes};
 ghost use Rattle.stm_session.specs.Undoable.{Undoable};
@@ -32,8 +32,10 @@ fn ask_erase<R: Rig>(rig: &mut R, chip: &Chip) -> Result<bool, Fault>
     ensures puts { let old = R.view rig.old in let new = R.view rig.new in
         GoesOn (IsPart None (is_whole result) 261) old.calls new.calls }
     ensures order { let old = R.view rig.old in let new = R.view rig.new in
-        (torn : Bool) → let steps = Sends (command 0x00) ∷ [] in
-        OnOk result (GoesOn (IsInOrder torn steps) old.calls new.calls) }
+        (torn : Bool) → OnOk result ((version : ℕ) × (codes : List ℕ)
+        × GoesOn (IsInOrder torn (Sends (get_turns version codes) ∷ [])) old.calls new.calls) }
+    ensures stops { let old = R.view rig.old in let new = R.view rig.new in
+        (torn : Bool) → Stops (Begin IsGet) torn old new result }
     ensures honest { let old = R.view rig.old in let new = R.view rig.new in
         old.is_honest → IsSettled old.device
         → Asks old new result (λ can. can ≡ can_erase chip.now old.device) }
@@ -50,7 +52,12 @@ fn ask_misfit<R: Rig>(rig: &mut R, chip: &Chip) -> Result<Option<Fault>, Fault>
     ensures named { IfOk result (λ misfit. IfSome misfit IsLaterRefusal) }
     ensures order { let old = R.view rig.old in let new = R.view rig.new in
         (torn : Bool) → IfOk result (λ misfit. misfit ≡ None
-        → GoesOn (IsInOrder torn asking_steps) old.calls new.calls) }
+        → AsksInOrder chip.now.id torn old new) }
+    ensures stops { let old = R.view rig.old in let new = R.view rig.new in
+        (torn : Bool) → Stops (Begin IsAsking) torn old new result }
+    ensures refuses { let old = R.view rig.old in let new = R.view rig.new in
+        (torn : Bool) → IfOk result (λ misfit. IfSome misfit
+        (λ fault. StopsBy (Begin IsAsking) (cause_of fault) torn old new)) }
     ensures honest { let old = R.view rig.old in let new = R.view rig.new in
         old.is_honest → IsSettled old.device
         → Asks old new result (λ misfit. misfit ≡ undo_misfit chip.now chip.now.id old.device) }
@@ -74,8 +81,10 @@ pub fn meet<R: Rig>(rig: &mut R, journal: &Journal, chip: &Chip) -> Result<(), F
         GoesOn (IsSession None byte 131072 (is_whole result) (most_calls 0)) old.calls new.calls }
     ensures order { let old = R.view rig.old in let new = R.view rig.new in
         let byte = settling_byte (intent_of journal.now.state) in
-        (torn : Bool)
-        → OnOk result (GoesOn (SettlesFirst byte torn asking_steps) old.calls new.calls) }
+        (torn : Bool) → OnOk result (ReachesInOrder byte chip.now.id torn old new) }
+    ensures stops { let old = R.view rig.old in let new = R.view rig.new in
+        let byte = settling_byte (intent_of journal.now.state) in
+        (torn : Bool) → StopsShort byte torn old new result }
     ensures honest { let old = R.view rig.old in let new = R.view rig.new in
         old.is_honest → (flashes : List (List ℕ)) → IsLoaded journal.now old.journal
         → Undoable flashes old.device old.journal → old.device.chip ≡ chip.now

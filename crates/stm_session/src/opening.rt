@@ -10,7 +10,7 @@ ghost use Rattle.stm_session.specs.Unwritten.{AppendsNothing};
 ghost use Rattle.stm_session.specs.Fault.{HasSessionCause, IsOfLine, IsLaterRefusal};
 ghost use Rattle.stm_session.specs.Moments.{BeginsNothing, IsSafe};
 ghost use Rattle.stm_session.specs.Refusal.{RefusesUnsent, device_refusals, first_refusal, misfit_refusal, unsent_refusal};
-ghost use Rattle.stm_session.specs.Order.{SettlesFirst, asking_steps};
+ghost use Rattle.stm_session.specs.Order.{ReachesInOrder, StopsShort};
 ghost use Rattle.stm_session.specs.Sending.{is_whole, most_calls};
 ghost use Rattle.stm_session.specs.Opening.{IsCoherent, LoadsUnless, Opens, Tells};
 
@@ -60,8 +60,9 @@ fn reach<R: Rig>(rig: &mut R) -> Result<Told, Fault>
     ensures puts { let old = R.view rig.old in let new = R.view rig.new in
         GoesOn (IsSession None 0x7F 131072 (is_whole result) (most_calls 0)) old.calls new.calls }
     ensures order { let old = R.view rig.old in let new = R.view rig.new in
-        (torn : Bool)
-        → OnOk result (GoesOn (SettlesFirst 0x7F torn asking_steps) old.calls new.calls) }
+        (torn : Bool) → IfOk result (λ told. ReachesInOrder 0x7F told.id torn old new) }
+    ensures stops { let old = R.view rig.old in let new = R.view rig.new in
+        (torn : Bool) → StopsShort 0x7F torn old new result }
     ensures sent { IfErr result IsOfLine }
     ensures honest { let old = R.view rig.old in let new = R.view rig.new in
         old.is_honest → IsSafe old.device → BeginsNothing old new result (Tells old.device) }
@@ -113,7 +114,9 @@ pub fn open<'t, R: Rig>(alloc: Global, rig: &mut R, table: &'t Table) -> Result<
         GoesOn (IsSession None 0x7F 131072 (is_whole result) (most_calls 0)) old.calls new.calls }
     ensures order { let old = R.view rig.old in let new = R.view rig.new in
         (torn : Bool)
-        → OnOk result (GoesOn (SettlesFirst 0x7F torn asking_steps) old.calls new.calls) }
+        → IfOk result (λ opened. ReachesInOrder 0x7F opened.chip.now.id torn old new) }
+    ensures stops { let old = R.view rig.old in let new = R.view rig.new in
+        (torn : Bool) → StopsShort 0x7F torn old new result }
     ensures loaded { let old = R.view rig.old in
         old.is_honest → IfOk result (λ opened. IsLoaded opened.journal old.journal) }
     ensures coherent { IfOk result (IsCoherent table.now) }

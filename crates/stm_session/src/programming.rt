@@ -9,7 +9,7 @@ ghost use Rattle.stm_journal.specs.States.{newest_keeps};
 ghost use Rattle.stm_journal.specs.Newest.{HasIntended};
 ghost use Rattle.stm_journal.specs.Journals.{Loaded};
 ghost use Rattle.stm_session.specs.Fault.{HasSessionCause};
-ghost use Rattle.stm_session.specs.Order.{Adds, DoesSteps, IsInOrder, write_step, write_steps};
+ghost use Rattle.stm_session.specs.Order.{Adds, Are, Begin, DoesSteps, IsInOrder, Stops, write_step, write_steps};
 ghost use Rattle.stm_session.specs.Sending.{is_whole};
 ghost use Rattle.stm_wire.specs.FlashLaws.{IsErasedAt};
 ghost use Rattle.stm_session.specs.Undoable.{state_at};
@@ -39,6 +39,9 @@ fn program_frame<R: Rig>(
     ensures order { let old = R.view rig.old in let new = R.view rig.new in
         (torn : Bool) → let steps = write_step chip.now n page.now frame ∷ [] in
         OnOk result (GoesOn (IsInOrder torn steps) old.calls new.calls) }
+    ensures stops { let old = R.view rig.old in let new = R.view rig.new in
+        (torn : Bool) → let steps = write_step chip.now n page.now frame ∷ [] in
+        Stops (Begin (Are steps)) torn old new result }
     ensures honest { let old = R.view rig.old in let new = R.view rig.new in
         (flashes : List (List ℕ)) (l : Loaded) → IsSteady flashes l old → old.device.chip ≡ chip.now
         → IsUnder n (Intent.Program n) (state_at old.journal)
@@ -74,6 +77,9 @@ fn program_frames<R: Rig>(
     ensures order { let old = R.view rig.old in let new = R.view rig.new in
         (torn : Bool) → let steps = write_steps chip.now n page.now frames.now in
         OnOk result (GoesOn (IsInOrder torn steps) old.calls new.calls) }
+    ensures stops { let old = R.view rig.old in let new = R.view rig.new in
+        (torn : Bool) → let steps = write_steps chip.now n page.now frames.now in
+        Stops (Begin (Are steps)) torn old new result }
     ensures honest { let old = R.view rig.old in let new = R.view rig.new in
         (flashes : List (List ℕ)) (l : Loaded) (base : List ℕ) → IsSteady flashes l old
         → old.device.chip ≡ chip.now → IsUnder n (Intent.Program n) (state_at old.journal)
@@ -113,6 +119,9 @@ pub fn program_kept<R: Rig>(
     ensures order { let old = R.view rig.old in let new = R.view rig.new in
         let steps = Adds (Programs n ∷ []) ∷ write_steps chip.now n page.now frames.now in
         OnOk result (DoesSteps steps journal.old journal.new old new) }
+    ensures stops { let old = R.view rig.old in let new = R.view rig.new in
+        let steps = Adds (Programs n ∷ []) ∷ write_steps chip.now n page.now frames.now in
+        Stops (Begin (Are steps)) journal.old.is_torn old new result }
     ensures honest { let old = R.view rig.old in let new = R.view rig.new in
         (flashes : List (List ℕ)) (base : List ℕ) → IsSteady flashes journal.old old
         → old.device.chip ≡ chip.now → length base ≡ flash_size chip.now

@@ -1,16 +1,16 @@
 // Reads any part of the flash, in calls that the bootloader takes.
-ghost use Rattle.std.specs.Prelude.{◌≡◌, ℕ, Bool, ◌+◌, ◌-◌, ◌*◌, ◌/◌, ◌%◌, ◌∷◌, [], ◌<◌, ◌≤◌, ◌||◌, ◌==◌, ◌++◌, IsTrue, IfErr, IfOk, OnOk, length, vec_len, Some};
+ghost use Rattle.std.specs.Prelude.{◌≡◌, ℕ, Bool, ◌+◌, ◌-◌, ◌*◌, ◌/◌, ◌%◌, ◌∷◌, [], ◌<◌, ◌≤◌, ◌||◌, ◌==◌, ◌++◌, IsTrue, IfErr, IfOk, OnOk, length, vec_len, Some, List};
+ghost use Rattle.std.specs.List.{AllByRecursion};
 ghost use Rattle.stm_wire.specs.Chip.{fits_inside, is_inside};
 ghost use Rattle.stm_wire.specs.Device.{IsSettled};
 ghost use Rattle.stm_wire.specs.Dialogue.{GoesOn};
-ghost use Rattle.stm_wire.specs.Frames.{read_frame};
 ghost use Rattle.stm_wire.specs.Intents.{InPage};
 ghost use Rattle.stm_wire.specs.Parts.{IsPart};
 ghost use Rattle.stm_session.specs.Fault.{HasSessionCause, IsRefusal};
 ghost use Rattle.stm_session.specs.Asking.{Asks};
 ghost use Rattle.stm_session.specs.Reading.{HoldsAddress, IsBlock, IsNotBehind};
-ghost use Rattle.stm_session.specs.Order.{IsInOrder, Sends, read_steps};
-ghost use Rattle.stm_session.specs.RunOrder.{OnlyReads};
+ghost use Rattle.stm_session.specs.Order.{AreReadsOf, Begin, IsInOrder, IsReadOf, ReadsBlock, Stops, read_steps};
+ghost use Rattle.stm_session.specs.RunOrder.{IsReading, OnlyReads};
 ghost use Rattle.stm_session.specs.Sending.{is_whole, most_of_command};
 ghost use Rattle.stm_session.specs.Running.{bytes_at};
 
@@ -90,8 +90,9 @@ pub fn read_part<R: Rig>(
         → GoesOn (IsPart (Some chip.now) (is_whole result) (12 + length buf.old))
         old.calls new.calls }
     ensures order { let old = R.view rig.old in let new = R.view rig.new in
-        (torn : Bool) → let steps = Sends (read_frame address (length buf.old)) ∷ [] in
-        OnOk result (GoesOn (IsInOrder torn steps) old.calls new.calls) }
+        OnOk result (ReadsBlock address (length buf.old) buf.new old new) }
+    ensures stops { let old = R.view rig.old in let new = R.view rig.new in
+        (torn : Bool) → Stops (Begin (IsReadOf address (length buf.old))) torn old new result }
     ensures sent { IfErr result (λ fault. IsRefusal fault → ⊥) }
     ensures honest { let old = R.view rig.old in let new = R.view rig.new in
         old.is_honest → IsSettled old.device → old.device.chip ≡ chip.now
@@ -121,8 +122,10 @@ fn read_block<R: Rig>(
         (page : ℕ) → InPage chip.now page address size
         → GoesOn (IsPart (Some chip.now) (is_whole result) (12 + size)) old.calls new.calls }
     ensures order { let old = R.view rig.old in let new = R.view rig.new in
-        (torn : Bool) → let steps = Sends (read_frame address size) ∷ [] in
-        OnOk result (GoesOn (IsInOrder torn steps) old.calls new.calls) }
+        OnOk result ((answer : List ℕ) × (bytes.new.items ≡ bytes.old.items ++ answer)
+        × ReadsBlock address size answer old new) }
+    ensures stops { let old = R.view rig.old in let new = R.view rig.new in
+        (torn : Bool) → Stops (Begin (IsReadOf address size)) torn old new result }
     ensures sent { IfErr result (λ fault. IsRefusal fault → ⊥) }
     ensures honest { let old = R.view rig.old in let new = R.view rig.new in
         old.is_honest → IsSettled old.device → old.device.chip ≡ chip.now
@@ -156,9 +159,14 @@ pub fn read_range<R: Rig>(
         → GoesOn (IsPart (Some chip.now) (is_whole result) (12 + 2 * size)) old.calls new.calls }
     ensures order { let old = R.view rig.old in let new = R.view rig.new in
         (page : ℕ) → InPage chip.now page start size → size % 256 ≡ 0 → (torn : Bool)
-        → let steps = read_steps start (size / 256) in
-        OnOk result (GoesOn (IsInOrder torn steps) old.calls new.calls) }
+        → IfOk result (λ bytes. let steps = read_steps start (size / 256) bytes.items in
+        GoesOn (IsInOrder torn steps) old.calls new.calls) }
+    ensures order_stops { let old = R.view rig.old in let new = R.view rig.new in
+        (page : ℕ) → InPage chip.now page start size → size % 256 ≡ 0 → (torn : Bool)
+        → Stops (Begin (AreReadsOf start size)) torn old new result }
     ensures reads { OnOk result (OnlyReads chip.now (R.view rig.old) (R.view rig.new)) }
+    ensures reads_stop { let old = R.view rig.old in let new = R.view rig.new in
+        (torn : Bool) → Stops (AllByRecursion (IsReading chip.now)) torn old new result }
     ensures cause { let old = R.view rig.old in let new = R.view rig.new in
         HasSessionCause old new result }
     ensures sent { IfErr result (λ fault. IsRefusal fault → ⊥) }

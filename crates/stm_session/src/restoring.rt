@@ -7,7 +7,7 @@ ghost use Rattle.stm_journal.specs.States.{newest_keeps};
 ghost use Rattle.stm_journal.specs.Newest.{KeepsSame};
 ghost use Rattle.stm_session.specs.Fault.{HasSessionCause};
 ghost use Rattle.stm_session.specs.Lines.{rewrite_entries};
-ghost use Rattle.stm_session.specs.Order.{DoesSteps, restore_steps};
+ghost use Rattle.stm_session.specs.Order.{Are, Begin, DoesSteps, Stops, restore_steps};
 ghost use Rattle.stm_session.specs.Sending.{is_whole};
 ghost use Rattle.stm_session.specs.Steps.{IsSteady, Goes};
 
@@ -41,6 +41,9 @@ pub fn restore_page<R: Rig>(
     ensures order { let old = R.view rig.old in let new = R.view rig.new in
         let steps = restore_steps chip.now n held.now page.now in
         OnOk result (DoesSteps steps journal.old journal.new old new) }
+    ensures stops { let old = R.view rig.old in let new = R.view rig.new in
+        let steps = restore_steps chip.now n held.now page.now in
+        Stops (Begin (Are steps)) journal.old.is_torn old new result }
     ensures honest { let old = R.view rig.old in let new = R.view rig.new in
         (flashes : List (List ℕ)) → IsSteady flashes journal.old old → old.device.chip ≡ chip.now
         → held.now ≡ page_of chip.now old.device.flash n

@@ -9,7 +9,7 @@ ghost use Rattle.stm_journal.specs.KeptPlaces.{IsPlaceIn, kept_entry, place_of};
 ghost use Rattle.stm_journal.specs.Newest.{KeepsSame};
 ghost use Rattle.stm_session.specs.Fault.{HasSessionCause};
 ghost use Rattle.stm_session.specs.Lines.{return_entries};
-ghost use Rattle.stm_session.specs.Order.{Follows, IsReturned};
+ghost use Rattle.stm_session.specs.Order.{Begin, Follows, IsReturned, Stops};
 ghost use Rattle.stm_session.specs.Sending.{is_whole};
 ghost use Rattle.stm_session.specs.Steps.{IsSteady, Goes};
 ghost use Rattle.stm_session.specs.Undoable.{state_at};
@@ -42,6 +42,8 @@ pub fn restore_line<R: Rig>(
         old.calls new.calls }
     ensures order { let old = R.view rig.old in let new = R.view rig.new in
         OnOk result (Follows (IsReturned chip.now n) journal.old journal.new old new) }
+    ensures stops { let old = R.view rig.old in let new = R.view rig.new in
+        Stops (Begin (IsReturned chip.now n)) journal.old.is_torn old new result }
     ensures honest { let old = R.view rig.old in let new = R.view rig.new in
         (flashes : List (List ℕ)) (k i : ℕ) (kept : Kept) → IsSteady flashes journal.old old
         → old.device.chip ≡ chip.now → kept_entry (state_at old.journal) k i ≡ Some kept

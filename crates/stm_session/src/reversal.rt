@@ -1,10 +1,10 @@
 // Taking a session back, wherever it was stopped.
-ghost use Rattle.std.specs.Prelude.{◌≡◌, ◌<◌, ◌≤◌, Ok, IfOk};
+ghost use Rattle.std.specs.Prelude.{◌≡◌, ◌<◌, ◌≤◌, Ok, IfErr, IfOk};
 ghost use Rattle.stm_wire.specs.Dialogue.{GoesOn};
 ghost use Rattle.stm_journal.specs.Calls.{AreFetches};
 ghost use Rattle.stm_session.specs.Fault.{HasSessionCause};
 ghost use Rattle.stm_session.specs.Promises.{UndoContract};
-ghost use Rattle.stm_session.specs.Order.{UndoesInOrder};
+ghost use Rattle.stm_session.specs.Order.{UndoStops, UndoesInOrder};
 ghost use Rattle.stm_session.specs.Sending.{SendsAsUndo};
 ghost use Rattle.stm_session.specs.Undoes.{taken_count};
 
@@ -44,6 +44,8 @@ pub fn undo<R: Rig>(alloc: Global, rig: &mut R, table: &Table, count: u32) -> Re
         SendsAsUndo table.now count old new result }
     ensures order { let old = R.view rig.old in let new = R.view rig.new in
         IfOk result (λ taken. 1 ≤ taken → UndoesInOrder table.now taken old new) }
+    ensures stops { let old = R.view rig.old in let new = R.view rig.new in
+        IfErr result (UndoStops table.now count old new) }
     ensures promised { UndoContract table.now count (R.view rig.old) (R.view rig.new) result }
 {
     step_laws();

@@ -12,8 +12,8 @@ ghost use Rattle.stm_session.specs.Promises.{RunContract};
 ghost use Rattle.stm_session.specs.Refusals.{lies_in_flash};
 ghost use Rattle.stm_session.specs.Running.{AreKindsOf};
 ghost use Rattle.stm_session.specs.Runs.{Runs};
-ghost use Rattle.stm_session.specs.Order.{Follows};
-ghost use Rattle.stm_session.specs.RunOrder.{AreDone, RunsInOrder};
+ghost use Rattle.stm_session.specs.Order.{Follows, Stops};
+ghost use Rattle.stm_session.specs.RunOrder.{AreBegun, AreDone, RunStops, RunsInOrder};
 ghost use Rattle.stm_session.specs.Sending.{SendsAsRun, is_whole, most_of_command};
 ghost use Rattle.stm_session.specs.Steps.{IsSteady};
 
@@ -47,6 +47,9 @@ fn run_commands<R: Rig>(
         let Done = AreDone chip.now (commands_in commands.now)
         journal.old.state journal.new.state in
         OnOk result (Follows Done journal.old journal.new old new) }
+    ensures stops { let old = R.view rig.old in let new = R.view rig.new in
+        let Begun = AreBegun chip.now (commands_in commands.now) journal.old.state in
+        Stops Begun journal.old.is_torn old new result }
     ensures nothing { commands.now ≡ [] → IfErr result (λ _. ⊥) }
     ensures cause { HasSessionCause (R.view rig.old) (R.view rig.new) result }
     ensures named { IfErr result (λ fault. fault ≢ Fault.Unfinished) }
@@ -81,6 +84,8 @@ pub fn run<R: Rig>(
         IfErr result (λ fault. fault ≡ Fault.Unfinished → GoesOn AreFetches old.calls new.calls) }
     ensures order { let old = R.view rig.old in let new = R.view rig.new in
         OnOk result (RunsInOrder table.now (commands_in commands.now) old new) }
+    ensures stops { let old = R.view rig.old in let new = R.view rig.new in
+        IfErr result (RunStops table.now (commands_in commands.now) old new) }
     ensures promised { let old = R.view rig.old in let new = R.view rig.new in
         RunContract table.now (commands_in commands.now) old new result outcomes_in }
 {

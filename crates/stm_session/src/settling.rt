@@ -1,12 +1,13 @@
 // Settling a device by the journal's intent.
-ghost use Rattle.std.specs.Prelude.{◌≡◌, ◌≤◌, [], List, ℕ, ⊤, length};
+ghost use Rattle.std.specs.Prelude.{◌≡◌, ◌≤◌, [], List, ℕ, ⊤, length, OnOk, IfErr};
 ghost use Rattle.stm_wire.specs.Dialogue.{GoesOn};
 ghost use Rattle.stm_wire.specs.Harmless.{Harmless};
 ghost use Rattle.stm_wire.specs.Intents.{settling_byte};
 ghost use Rattle.stm_wire.specs.Settling.{SettlesWithin};
+ghost use Rattle.stm_wire.specs.SettlingCalls.{EndsSettled};
 ghost use Rattle.stm_journal.specs.Journals.{IsLoaded};
 ghost use Rattle.stm_journal.specs.States.{intent_of};
-ghost use Rattle.stm_session.specs.Fault.{HasSessionCause};
+ghost use Rattle.stm_session.specs.Fault.{HasSessionCause, IsOfLine};
 ghost use Rattle.stm_session.specs.Meeting.{Strays};
 ghost use Rattle.stm_session.specs.Steps.{Goes};
 ghost use Rattle.stm_session.specs.Undoable.{Undoable};
@@ -25,6 +26,10 @@ pub fn settle_intended<R: Rig>(rig: &mut R, journal: &Journal) -> Result<(), Fau
     ensures cause { HasSessionCause (R.view rig.old) (R.view rig.new) result }
     ensures calls { let byte = settling_byte (intent_of journal.now.state) in
         GoesOn (SettlesWithin byte 131072) (R.view rig.old).calls (R.view rig.new).calls }
+    ensures settled { let byte = settling_byte (intent_of journal.now.state) in
+        OnOk result
+        (GoesOn (EndsSettled byte 131072) (R.view rig.old).calls (R.view rig.new).calls) }
+    ensures sent { IfErr result IsOfLine }
     ensures honest { (R.view rig.old).is_honest → (flashes : List (List ℕ))
         → IsLoaded journal.now (R.view rig.old).journal
         → Undoable flashes (R.view rig.old).device (R.view rig.old).journal

@@ -5,7 +5,7 @@ ghost use Rattle.stm_wire.specs.Parts.{IsPart};
 ghost use Rattle.stm_journal.specs.Fits.{AllFit};
 ghost use Rattle.stm_journal.specs.Newest.{KeepsSame, pages_of_segments};
 ghost use Rattle.stm_session.specs.Fault.{HasSessionCause};
-ghost use Rattle.stm_session.specs.Order.{Follows, AreReturned, IsTakenBack};
+ghost use Rattle.stm_session.specs.Order.{Begin, Follows, AreReturned, IsTakenBack, Stops};
 ghost use Rattle.stm_session.specs.Undoable.{newest_kept};
 ghost use Rattle.stm_session.specs.Sending.{is_whole, most_of_command};
 ghost use Rattle.stm_session.specs.Steps.{IsSteady, Goes};
@@ -33,6 +33,9 @@ pub fn restore_lines<R: Rig>(
     ensures order { let old = R.view rig.old in let new = R.view rig.new in
         let pages = newest_kept journal.old.state.stack in
         OnOk result (Follows (AreReturned chip.now pages) journal.old journal.new old new) }
+    ensures stops { let old = R.view rig.old in let new = R.view rig.new in
+        let pages = newest_kept journal.old.state.stack in
+        Stops (Begin (AreReturned chip.now pages)) journal.old.is_torn old new result }
     ensures honest { let old = R.view rig.old in let new = R.view rig.new in
         (flashes : List (List ℕ)) → IsSteady flashes journal.old old → old.device.chip ≡ chip.now
         → let pages = newest_at old.journal in
@@ -73,6 +76,10 @@ pub fn take_back<R: Rig>(
         let stack = journal.old.state.stack in
         let Taken = IsTakenBack chip.now (newest_kept stack) (length stack) in
         OnOk result (Follows Taken journal.old journal.new old new) }
+    ensures stops { let old = R.view rig.old in let new = R.view rig.new in
+        let stack = journal.old.state.stack in
+        let Taken = IsTakenBack chip.now (newest_kept stack) (length stack) in
+        Stops (Begin Taken) journal.old.is_torn old new result }
     ensures honest { let old = R.view rig.old in let new = R.view rig.new in
         (flash : List ℕ) (flashes : List (List ℕ))
         → IsSteady (flash ∷ flashes) journal.old old → old.device.chip ≡ chip.now

@@ -6,8 +6,8 @@ ghost use Rattle.stm_wire.specs.Parts.{IsPart};
 ghost use Rattle.stm_journal.specs.States.{newest_is_open, newest_keeps, newest_may_keep};
 ghost use Rattle.stm_journal.specs.Newest.{next_page};
 ghost use Rattle.stm_session.specs.Fault.{HasSessionCause};
-ghost use Rattle.stm_session.specs.ChangeOrder.{AreAllTurned, IsTurnOf};
-ghost use Rattle.stm_session.specs.Order.{Follows};
+ghost use Rattle.stm_session.specs.ChangeOrder.{AreAllTurned, AreBegunTurns, IsTurn, IsTurnOf};
+ghost use Rattle.stm_session.specs.Order.{Begin, Follows, Stops};
 ghost use Rattle.stm_session.specs.Sending.{is_whole, most_of_command, most_of_page};
 ghost use Rattle.stm_session.specs.Undoable.{has_companion};
 ghost use Rattle.stm_session.specs.Steps.{IsSteady, Goes};
@@ -53,6 +53,9 @@ fn turn_page<R: Rig>(
     ensures order { let old = R.view rig.old in let new = R.view rig.new in
         IfOk result (λ changed. let Turned = IsTurnOf kept chip.now change.now n changed in
         Follows Turned journal.old journal.new old new) }
+    ensures stops { let old = R.view rig.old in let new = R.view rig.new in
+        let Turned = IsTurn kept chip.now change.now n in
+        Stops (Begin Turned) journal.old.is_torn old new result }
     ensures honest { let old = R.view rig.old in let new = R.view rig.new in
         (flashes : List (List ℕ)) → IsSteady flashes journal.old old → old.device.chip ≡ chip.now
         → let made = content chip.now change.now n (page_of chip.now old.device.flash n) in
@@ -107,6 +110,9 @@ pub fn turn_pages<R: Rig>(
     ensures order { let old = R.view rig.old in let new = R.view rig.new in
         let Turned = AreAllTurned chip.now change.now in
         OnOk result (Follows Turned journal.old journal.new old new) }
+    ensures stops { let old = R.view rig.old in let new = R.view rig.new in
+        let Turned = AreBegunTurns chip.now change.now in
+        Stops Turned journal.old.is_torn old new result }
     ensures honest { let old = R.view rig.old in let new = R.view rig.new in
         (flashes : List (List ℕ)) → IsSteady flashes journal.old old → old.device.chip ≡ chip.now
         → let other = flash_after chip.now old.device.flash (command_of change.now) in

@@ -12,6 +12,9 @@ use Rattle.stm_session.proofs.SentParts.{line_part}
 use Rattle.std.proofs.Common.{◌∷◌, []}
 use Rattle.stm_session.specs.Order.{Adds, DoesSteps}
 use Rattle.stm_session.proofs.Orders.{does_add}
+use Rattle.std.proofs.Common.{List, refl}
+use Rattle.stm_session.specs.Order.{Step, Are, Begin, Stops}
+use Rattle.stm_session.proofs.CutShort.{append_stops}
 use Rattle.stm_session.proofs.beginning.begin_segment.Goals as goal
 
 pub returns-in_err-segment-clause-honest : goal.returns-in_err-segment-clause-honest
@@ -65,3 +68,13 @@ returns-clause-order g c =
     let d = V c.begin.new.rig in
     let P : ℕ → Type 0 = λ i. DoesSteps (Adds (begin_entries i l.state) ∷ []) l l2 a d in
     subst P c.id.ensures (does_add c.in_ok-segment.segment (begin_entries c.id.result l.state) l l2 a d c.in_ok-segment.ensures.calls (untorn_begin c.id.result l l2 c.in_ok-segment.ensures.after))
+
+pub returns-in_err-segment-clause-stops : goal.returns-in_err-segment-clause-stops
+returns-in_err-segment-clause-stops g c =
+    let V = g.R.Rig.view in
+    let l = c.args.journal.now in
+    let a = V c.args.rig.now in
+    let d = V c.begin.new.rig in
+    let P : ℕ → Type 0 = λ i. Stops (Begin (Are (Adds (begin_entries i l.state) ∷ []))) l.is_torn a d c.from_residual.result in
+    let all : List Step = Adds (begin_entries c.id.result l.state) ∷ [] in
+    subst P c.id.ensures (append_stops ℕ (Begin (Are all)) l.is_torn (begin_entries c.id.result l.state) _ a d c.from_residual.result c.from_residual.ensures.1 (all, refl) ([], refl) c.in_err-segment.ensures.calls)

@@ -16,6 +16,11 @@ use Rattle.stm_session.proofs.SentParts.{part_after, part_fails, part_fails_afte
 use Rattle.stm_session.specs.Order.{rewrite_steps}
 use Rattle.stm_session.proofs.ChangeOrders.{changed_none, changed_some}
 use Rattle.stm_session.proofs.Orders.{does_nothing, does_then}
+use Rattle.stm_session.specs.ChangeOrder.{IsChanged, IsSaved}
+use Rattle.stm_session.specs.Fault.{of_memory}
+use Rattle.stm_session.specs.Order.{Step, Are, Begin}
+use Rattle.stm_session.proofs.ChangeOrders.{some_changed}
+use Rattle.stm_session.proofs.CutShort.{begin_after, begin_on, halts_first, part_stops, then_stops}
 use Rattle.stm_session.proofs.changing.change_page.Goals as goal
 
 pub returns-in-Same-clause-changed : goal.returns-in-Same-clause-changed
@@ -160,3 +165,42 @@ returns-in_ok-rewrite_kept-in-Erase-clause-order g c =
       changed_some c.args.kept chip c.args.n c.args.held.now c.args.page.now c.deref.result.now saved.0 planned.0 framed saved.1,
       does_then saved.0 own c.args.journal.now c.save_pages.new.journal c.rewrite_kept.new.journal (V c.args.rig.now) (V c.save_pages.new.rig) (V c.rewrite_kept.new.rig) saved.2 c.in_ok-rewrite_kept-in-Erase.ensures.order,
     )
+
+pub returns-in_default-clause-stops : goal.returns-in_default-clause-stops
+returns-in_default-clause-stops g c =
+    halts_first (Begin (IsChanged c.args.kept c.args.chip.now c.args.n c.args.held.now c.args.page.now)) of_memory c.args.journal.now.is_torn (g.R.Rig.view c.args.rig.now) (some_changed c.args.kept c.args.chip.now c.args.n c.args.held.now c.args.page.now) refl
+
+pub returns-in_err-save_pages-in-Erase-clause-stops : goal.returns-in_err-save_pages-in-Erase-clause-stops
+returns-in_err-save_pages-in-Erase-clause-stops g c =
+    let V = g.R.Rig.view in
+    let chip = c.args.chip.now in
+    let n = c.args.n in
+    let held = c.args.held.now in
+    let page = c.args.page.now in
+    let P : PagePlan → Type 0 = λ p. IsPlan c.erased.result held page p in
+    let planned = subst P c.in-Erase.is c.in-Ok.ensures.plan in
+    let framed = planned.1 ∙ ap (λ (e : ℕ). frames_of e page (length page / 256)) c.erased.ensures.byte in
+    let frames = c.in-Erase.frames.items in
+    let own = rewrite_steps chip n page frames in
+    part_stops (Begin (IsSaved c.args.kept chip n held)) (Begin (IsChanged c.args.kept chip n held page)) c.args.journal.now.is_torn (V c.args.rig.now) (V c.save_pages.new.rig) _ c.from_residual.result c.from_residual.ensures.1
+    (begin_on (IsSaved c.args.kept chip n held) (IsChanged c.args.kept chip n held page) (λ xs saved. (own, changed_some c.args.kept chip n held page frames xs planned.0 framed saved))) c.in_err-save_pages-in-Erase.ensures.stops
+
+pub returns-in_err-rewrite_kept-in-Erase-clause-stops : goal.returns-in_err-rewrite_kept-in-Erase-clause-stops
+returns-in_err-rewrite_kept-in-Erase-clause-stops g c =
+    let V = g.R.Rig.view in
+    let chip = c.args.chip.now in
+    let n = c.args.n in
+    let held = c.args.held.now in
+    let page = c.args.page.now in
+    let P : PagePlan → Type 0 = λ p. IsPlan c.erased.result held page p in
+    let planned = subst P c.in-Erase.is c.in-Ok.ensures.plan in
+    let framed = c.deref.ensures.value ∙ planned.1 ∙ ap (λ (e : ℕ). frames_of e page (length page / 256)) c.erased.ensures.byte in
+    let frames = c.deref.result.now in
+    let own = rewrite_steps chip n page frames in
+    let saved = c.in_ok-save_pages-in-Erase.ensures.order in
+    let Made = IsChanged c.args.kept chip n held page in
+    then_stops (Begin (Are own)) (Begin Made) saved.0 c.args.journal.now c.save_pages.new.journal (V c.args.rig.now) (V c.save_pages.new.rig) (V c.rewrite_kept.new.rig) _
+    c.from_residual-in_err-rewrite_kept-in-Erase.result c.from_residual-in_err-rewrite_kept-in-Erase.ensures.1 saved.2 c.in_err-rewrite_kept-in-Erase.ensures.stops
+    (begin_after (Are own) Made saved.0 (λ ys is.
+    let Q : List Step → Type 0 = λ zs. Made (saved.0 ++ zs) in
+    subst Q (sym is) (changed_some c.args.kept chip n held page frames saved.0 planned.0 framed saved.1)))

@@ -8,6 +8,9 @@ use Rattle.stm_session.proofs.SentParts.{line_part}
 use Rattle.std.proofs.Common.{ap}
 use Rattle.stm_journal.specs.Journals.{Loaded}
 use Rattle.stm_session.proofs.Orders.{does_add}
+use Rattle.std.proofs.Common.{List, refl}
+use Rattle.stm_session.specs.Order.{Step, Adds, Are, Begin}
+use Rattle.stm_session.proofs.CutShort.{append_stops}
 use Rattle.stm_session.proofs.closing.end_segment.Goals as goal
 
 pub returns-in_err-end-clause-honest : goal.returns-in_err-end-clause-honest
@@ -45,3 +48,10 @@ returns-clause-order g c =
     let V = g.R.Rig.view in
     let l = c.args.journal.now in
     does_add (tt {0}) (Ends (length l.state.stack) ∷ []) l c.end.new.self (V c.args.rig.now) (V c.end.new.rig) c.in_ok-end.ensures.calls (ap (λ (m : Loaded). m.is_torn) c.in_ok-end.ensures.after)
+
+pub returns-in_err-end-clause-stops : goal.returns-in_err-end-clause-stops
+returns-in_err-end-clause-stops g c =
+    let V = g.R.Rig.view in
+    let l = c.args.journal.now in
+    let all : List Step = Adds (Ends (length l.state.stack) ∷ []) ∷ [] in
+    append_stops (Unit {0}) (Begin (Are all)) l.is_torn (Ends (length l.state.stack) ∷ []) _ (V c.args.rig.now) (V c.end.new.rig) c.from_residual.result c.from_residual.ensures.1 (all, refl) ([], refl) c.in_err-end.ensures.calls

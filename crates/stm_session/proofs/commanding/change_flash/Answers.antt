@@ -15,8 +15,10 @@ use Rattle.stm_session.specs.Sending.{most_of_command}
 use Rattle.stm_session.proofs.SentParts.{part_after, part_fails, part_fails_after}
 use Rattle.std.proofs.Common.{length, refl}
 use Rattle.stm_journal.specs.Journals.{begin_entries}
-use Rattle.stm_session.specs.ChangeOrder.{IsOneSegment}
-use Rattle.stm_session.specs.Order.{Step, Adds, DoesSteps}
+use Rattle.stm_session.specs.ChangeOrder.{AreBegunTurns, IsOneSegment, IsSegmentBegun, begins, ends, turns}
+use Rattle.stm_session.specs.Fault.{cause_of}
+use Rattle.stm_session.specs.Order.{Step, Adds, Are, Begin, DoesSteps, StopsBy}
+use Rattle.stm_session.proofs.CutShort.{begin_after, part_stops, then_stops}
 use Rattle.stm_session.proofs.Orders.{does_then}
 use Rattle.stm_session.proofs.commanding.change_flash.Goals as goal
 
@@ -162,3 +164,46 @@ returns-clause-order g c =
     let all = does_then first (turned.0 ++ last) l l2 l4 a b e c.in_ok-segment.ensures.order (does_then turned.0 last l2 l3 l4 b d e turned.2 (subst E deep c.in_ok-end_segment.ensures.order)) in
     let done : IsOneSegment chip c.args.change.now l.state (first ++ (turned.0 ++ last)) = record { turned = turned.0; are_turned = turned.1; is = refl } in
     (first ++ (turned.0 ++ last), done, all)
+
+pub returns-in_err-segment-clause-stops : goal.returns-in_err-segment-clause-stops
+returns-in_err-segment-clause-stops g c =
+    let V = g.R.Rig.view in
+    let chip = c.args.chip.now in
+    let s = c.args.journal.now.state in
+    let own : List Step = Adds (begin_entries chip.id s) ∷ [] in
+    part_stops (Begin (Are own)) (IsSegmentBegun chip c.args.change.now s) c.args.journal.now.is_torn (V c.args.rig.now) (V c.begin_segment.new.rig) _ c.from_residual.result c.from_residual.ensures.1
+    (λ xs begun. begins begun) c.in_err-segment.ensures.stops
+
+pub returns-in_err-pages-clause-stops : goal.returns-in_err-pages-clause-stops
+returns-in_err-pages-clause-stops g c =
+    let V = g.R.Rig.view in
+    let chip = c.args.chip.now in
+    let change = c.args.change.now in
+    let l = c.args.journal.now in
+    let own : List Step = Adds (begin_entries chip.id l.state) ∷ [] in
+    then_stops (AreBegunTurns chip change) (IsSegmentBegun chip change l.state) own l c.begin_segment.new.journal (V c.args.rig.now) (V c.begin_segment.new.rig) (V c.turn_pages.new.rig) _
+    c.from_residual-in_err-pages.result c.from_residual-in_err-pages.ensures.1 c.in_ok-segment.ensures.order c.in_err-pages.ensures.stops (λ ys begun. turns ys begun refl)
+
+pub returns-in_err-end_segment-clause-stops : goal.returns-in_err-end_segment-clause-stops
+returns-in_err-end_segment-clause-stops g c =
+    let V = g.R.Rig.view in
+    let chip = c.args.chip.now in
+    let change = c.args.change.now in
+    let l = c.args.journal.now in
+    let l2 = c.begin_segment.new.journal in
+    let l3 = c.turn_pages.new.journal in
+    let a = V c.args.rig.now in
+    let b = V c.begin_segment.new.rig in
+    let d = V c.turn_pages.new.rig in
+    let e = V c.end_segment.new.rig in
+    let own : List Step = Adds (begin_entries chip.id l.state) ∷ [] in
+    let turned = c.in_ok-pages.ensures.order in
+    let before : List Step = own ++ turned.0 in
+    let deep : length l3.state.stack ≡ length l.state.stack + 1 = c.in_ok-pages.ensures.depth ∙ c.in_ok-segment.ensures.begun.depth in
+    let line : ℕ → List Step = λ k. Adds (Ends k ∷ []) ∷ [] in
+    let P : ℕ → Type 0 = λ k. StopsBy (Begin (Are (line k))) (cause_of c.in_err-end_segment.field-0.0) l3.is_torn d e in
+    then_stops (Begin (Are (line (length l.state.stack + 1)))) (IsSegmentBegun chip change l.state) before l l3 a d e _ c.from_residual-in_err-end_segment.result c.from_residual-in_err-end_segment.ensures.1
+    (does_then own turned.0 l l2 l3 a b d c.in_ok-segment.ensures.order turned.2) (subst P deep c.in_err-end_segment.ensures.stops)
+    (λ ys begun.
+    ends (begin_after (Are (line (length l.state.stack + 1))) (IsOneSegment chip change l.state) before
+    (λ zs is. record { turned = turned.0; are_turned = turned.1; is = ap (λ (ws : List Step). before ++ ws) is }) ys begun))

@@ -6,7 +6,12 @@ use Rattle.stm_wire.specs.PartLaws.{nothing_is_part, part_longer}
 use Rattle.stm_session.specs.Answers.{first_difference}
 use Rattle.stm_session.specs.Sending.{most_of_command}
 use Rattle.stm_session.proofs.Asking.{asks_failed, asks_ok, nothing_asked}
-use Rattle.stm_session.proofs.Comparisons.{block_agrees, block_differs, block_within, compare_asks, compared_part, compared_reads}
+use Rattle.stm_session.proofs.Comparisons.{block_agrees, block_differs, block_within, compare_asks, compared_part, compared_reads, compared_stop}
+use Rattle.std.specs.List.{AllByRecursion}
+use Rattle.stm_session.specs.Fault.{Cause}
+use Rattle.stm_session.specs.Order.{StopsBy}
+use Rattle.stm_session.specs.RunOrder.{IsReading}
+use Rattle.stm_session.proofs.CutShort.{by_fault}
 use Rattle.stm_session.proofs.RunOrders.{reads_nothing}
 use Rattle.stm_session.proofs.Sending.{same_fault}
 use Rattle.stm_session.proofs.comparing.find_difference.Goals as goal
@@ -46,7 +51,7 @@ loop-block-preserved g c =
         journal = omega (arith, so_far.journal, c.in_ok-found.ensures.cause.journal_later);
         parts = subst (λ (n : ℕ). GoesOn (IsPart (Some chip) true (13 * (block.address - n + block.size))) a.calls d.calls) (sym base)
             (compared_part chip image c.loop-block.done block a b d so_far next true c.in_ok-found.ensures.puts);
-        reads = compared_reads chip image c.loop-block.done block a b d so_far next c.in_ok-found.ensures.order;
+        reads = compared_reads chip image c.loop-block.done block a b d so_far next c.in_ok-found.ensures.order.0 c.in_ok-found.ensures.order.1;
         honest = λ h settled chip_is.
             compare_asks chip image c.loop-block.done block a b d so_far next c.unnamed_places_agree.ensures.before h settled chip_is _ _ _ c.in_ok-found.ensures.honest
             (λ asks. asks_ok b d c.in_ok-found.found (tt {0}) asks
@@ -105,4 +110,12 @@ returns-then-is_some-clause-puts g c =
 pub returns-then-is_some-clause-reads : goal.returns-then-is_some-clause-reads
 returns-then-is_some-clause-reads g c =
     let V = g.R.Rig.view in
-    compared_reads c.args.chip.now c.args.image.now c.loop-block.done c.in-Some.block (V c.args.rig.now) (V c.loop-block.rig) (V c.compare_block.new.rig) c.loop-block.invariant.0 c.in-Some.ensures c.in_ok-found.ensures.order
+    compared_reads c.args.chip.now c.args.image.now c.loop-block.done c.in-Some.block (V c.args.rig.now) (V c.loop-block.rig) (V c.compare_block.new.rig) c.loop-block.invariant.0 c.in-Some.ensures c.in_ok-found.ensures.order.0 c.in_ok-found.ensures.order.1
+
+pub returns-in_err-found-clause-reads_stop : goal.returns-in_err-found-clause-reads_stop
+returns-in_err-found-clause-reads_stop g c torn =
+    let V = g.R.Rig.view in
+    let a = V c.args.rig.now in
+    let d = V c.compare_block.new.rig in
+    by_fault (λ (k : Cause). StopsBy (AllByRecursion (IsReading c.args.chip.now)) k torn a d) _ c.from_residual.result c.from_residual.ensures.1
+    (compared_stop c.args.chip.now c.args.image.now c.loop-block.done c.in-Some.block a (V c.loop-block.rig) d c.loop-block.invariant.0 c.in-Some.ensures _ c.in_err-found.ensures.stops torn)

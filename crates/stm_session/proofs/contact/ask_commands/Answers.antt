@@ -7,7 +7,10 @@ use Rattle.stm_wire.specs.PartLaws.{get_broken, get_held}
 use Rattle.stm_wire.specs.Stopped.{get}
 use Rattle.stm_session.proofs.Asking.{asked, broken_off}
 use Rattle.stm_session.proofs.Sending.{with_fault}
-use Rattle.stm_session.proofs.Orders.{order_get}
+use Rattle.std.proofs.Common.{◌∷◌, []}
+use Rattle.stm_session.specs.Order.{Begin, IsGet, Sends}
+use Rattle.stm_session.proofs.CutShort.{begin_all, command_stops}
+use Rattle.stm_session.proofs.Orders.{order_sent}
 use Rattle.stm_session.proofs.contact.ask_commands.Goals as goal
 
 pub returns-in_err-commands-clause-honest : goal.returns-in_err-commands-clause-honest
@@ -46,7 +49,15 @@ returns-clause-order g c torn =
     let V = g.R.Rig.view in
     let version : ℕ = c.in_ok-commands.commands.version in
     let codes : List ℕ = take c.in_ok-commands.commands.count c.in_ok-commands.commands.codes in
-    order_get torn version codes (V c.args.rig.now).calls (V c.get_commands.new.rig).calls c.in_ok-commands.ensures.held.recorded
+    (version, codes, order_sent torn (get_turns version codes) (V c.args.rig.now).calls (V c.get_commands.new.rig).calls c.in_ok-commands.ensures.held.recorded)
+
+pub returns-in_err-commands-clause-stops : goal.returns-in_err-commands-clause-stops
+returns-in_err-commands-clause-stops g c torn =
+    let V = g.R.Rig.view in
+    let broken = c.in_err-commands.ensures.broken in
+    let turns = get_turns broken.0 broken.1 in
+    let get : IsGet (Sends turns ∷ []) = record { version = broken.0; codes = broken.1; is = refl } in
+    command_stops (Begin IsGet) torn _ turns (V c.args.rig.now) (V c.get_commands.new.rig) c.from_residual.result c.from_residual.ensures.1 (begin_all IsGet (Sends turns ∷ []) get) broken.3.recorded
 
 pub returns-in_err-commands-clause-unwritten : goal.returns-in_err-commands-clause-unwritten
 returns-in_err-commands-clause-unwritten g c =

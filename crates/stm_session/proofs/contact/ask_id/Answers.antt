@@ -7,7 +7,10 @@ use Rattle.stm_wire.specs.PartLaws.{get_id_broken, get_id_held}
 use Rattle.stm_wire.specs.Stopped.{get_id}
 use Rattle.stm_session.proofs.Asking.{asked, broken_off}
 use Rattle.stm_session.proofs.Sending.{with_fault}
-use Rattle.stm_session.proofs.Orders.{order_get_id}
+use Rattle.std.proofs.Common.{◌∷◌, []}
+use Rattle.stm_session.specs.Order.{Begin, IsGetId, Sends, id_turns}
+use Rattle.stm_session.proofs.CutShort.{begin_all, command_stops}
+use Rattle.stm_session.proofs.Orders.{order_sent}
 use Rattle.stm_session.proofs.contact.ask_id.Goals as goal
 
 pub returns-in_err-id-clause-honest : goal.returns-in_err-id-clause-honest
@@ -41,7 +44,15 @@ returns-clause-puts g c =
 pub returns-clause-order : goal.returns-clause-order
 returns-clause-order g c torn =
     let V = g.R.Rig.view in
-    order_get_id torn _ _ (V c.args.rig.now).calls (V c.get_id.new.rig).calls c.in_ok-id.ensures.held.recorded
+    order_sent torn (id_turns c.in_ok-id.id) (V c.args.rig.now).calls (V c.get_id.new.rig).calls c.in_ok-id.ensures.held.recorded
+
+pub returns-in_err-id-clause-stops : goal.returns-in_err-id-clause-stops
+returns-in_err-id-clause-stops g c torn =
+    let V = g.R.Rig.view in
+    let broken = c.in_err-id.ensures.broken in
+    let turns = get_id_turns broken.0 broken.1 in
+    let get_id : IsGetId (Sends turns ∷ []) = record { high = broken.0; low = broken.1; is = refl } in
+    command_stops (Begin IsGetId) torn _ turns (V c.args.rig.now) (V c.get_id.new.rig) c.from_residual.result c.from_residual.ensures.1 (begin_all IsGetId (Sends turns ∷ []) get_id) broken.2.recorded
 
 pub returns-in_err-id-clause-unwritten : goal.returns-in_err-id-clause-unwritten
 returns-in_err-id-clause-unwritten g c =

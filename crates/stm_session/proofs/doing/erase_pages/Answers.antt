@@ -8,6 +8,9 @@ use Rattle.stm_session.specs.declared.change.Change.TheVariants as change
 use Rattle.stm_session.proofs.OneCommands.{change_broken, change_made}
 use Rattle.std.proofs.Common.{ap}
 use Rattle.stm_session.specs.RunOrder.{IsDoneBy}
+use Rattle.stm_session.specs.ChangeOrder.{IsSegmentBegun}
+use Rattle.stm_session.specs.RunOrder.{IsBegunBy}
+use Rattle.stm_session.proofs.CutShort.{part_stops}
 use Rattle.stm_session.proofs.doing.erase_pages.Goals as goal
 
 pub returns-in_err-segment-clause-honest : goal.returns-in_err-segment-clause-honest
@@ -32,3 +35,11 @@ returns-clause-order g c =
     let done = c.in_ok-segment.ensures.order in
     let by : IsDoneBy c.args.chip.now (erases c.args.pages.now.items) c.args.journal.now.state done.0 = (change.Erase c.as_slice.result, ap (λ (ns : List ℕ). erases ns) c.as_slice.ensures.value, done.1) in
     (done.0, by, done.2)
+
+pub returns-in_err-segment-clause-stops : goal.returns-in_err-segment-clause-stops
+returns-in_err-segment-clause-stops g c =
+    let V = g.R.Rig.view in
+    let chip = c.args.chip.now in
+    let s = c.args.journal.now.state in
+    part_stops (IsSegmentBegun chip (change.Erase c.as_slice.result) s) (IsBegunBy chip (erases c.args.pages.now.items) s) c.args.journal.now.is_torn (V c.args.rig.now) (V c.change_flash.new.rig) _ c.from_residual.result
+    c.from_residual.ensures.1 (λ xs begun. (change.Erase c.as_slice.result, ap (λ (ns : List ℕ). erases ns) c.as_slice.ensures.value, begun)) c.in_err-segment.ensures.stops

@@ -5,6 +5,9 @@ use Rattle.stm_session.specs.Meaning.{reads}
 use Rattle.stm_session.specs.Running.{bytes_at}
 use Rattle.stm_session.proofs.Doings.{asks_does, asks_fails}
 use Rattle.stm_session.proofs.RunOrders.{reads_follow}
+use Rattle.std.specs.List.{AllByRecursion}
+use Rattle.stm_session.specs.RunOrder.{IsReading}
+use Rattle.stm_session.proofs.CutShort.{part_stops}
 use Rattle.stm_session.proofs.doing.read_part_of.Goals as goal
 
 pub returns-in_err-bytes-clause-honest : goal.returns-in_err-bytes-clause-honest
@@ -26,3 +29,9 @@ pub returns-clause-order : goal.returns-clause-order
 returns-clause-order g c l =
     let V = g.R.Rig.view in
     reads_follow c.args.chip.now l (V c.args.rig.now) (V c.read_range.new.rig) c.in_ok-bytes.ensures.reads
+
+pub returns-in_err-bytes-clause-stops : goal.returns-in_err-bytes-clause-stops
+returns-in_err-bytes-clause-stops g c l =
+    let V = g.R.Rig.view in
+    let Reads = AllByRecursion (IsReading c.args.chip.now) in
+    part_stops Reads Reads l.is_torn (V c.args.rig.now) (V c.read_range.new.rig) _ c.from_residual.result c.from_residual.ensures.1 (λ xs are. are) (c.in_err-bytes.ensures.reads_stop l.is_torn)

@@ -5,6 +5,10 @@ use Rattle.stm_session.specs.Meaning.{verifies}
 use Rattle.stm_session.proofs.Doings.{asks_fails}
 use Rattle.stm_session.proofs.OneCommands.{verify_agrees, verify_differs}
 use Rattle.stm_session.proofs.RunOrders.{reads_follow}
+use Rattle.std.specs.List.{AllByRecursion}
+use Rattle.stm_session.specs.Fault.{of_refusal}
+use Rattle.stm_session.specs.RunOrder.{IsReading}
+use Rattle.stm_session.proofs.CutShort.{halts, part_stops}
 use Rattle.stm_session.proofs.doing.verify_image.Goals as goal
 
 pub returns-in_err-difference-clause-honest : goal.returns-in_err-difference-clause-honest
@@ -33,3 +37,15 @@ pub returns-in-None-clause-order : goal.returns-in-None-clause-order
 returns-in-None-clause-order g c l =
     let V = g.R.Rig.view in
     reads_follow c.args.chip.now l (V c.args.rig.now) (V c.find_difference.new.rig) c.in_ok-difference.ensures.reads
+
+pub returns-in_err-difference-clause-stops : goal.returns-in_err-difference-clause-stops
+returns-in_err-difference-clause-stops g c l =
+    let V = g.R.Rig.view in
+    let Reads = AllByRecursion (IsReading c.args.chip.now) in
+    part_stops Reads Reads l.is_torn (V c.args.rig.now) (V c.find_difference.new.rig) _ c.from_residual.result c.from_residual.ensures.1 (λ xs are. are) (c.in_err-difference.ensures.reads_stop l.is_torn)
+
+pub returns-in-Some-clause-stops : goal.returns-in-Some-clause-stops
+returns-in-Some-clause-stops g c l =
+    let V = g.R.Rig.view in
+    let read = c.in_ok-difference.ensures.reads l.is_torn in
+    halts (AllByRecursion (IsReading c.args.chip.now)) of_refusal l.is_torn read.0 (V c.args.rig.now) (V c.find_difference.new.rig) read.1 refl read.2

@@ -11,8 +11,13 @@ use Rattle.std.proofs.Common.{Some, true}
 use Rattle.stm_session.specs.Sending.{is_whole}
 use Rattle.stm_session.proofs.SentParts.{command_fails, erase_cut, erase_sent, line_part, part_after}
 use Rattle.stm_journal.specs.Journals.{Loaded}
-use Rattle.stm_wire.specs.Frames.{erase_frame}
-use Rattle.stm_session.specs.Order.{Adds, Sends}
+use Rattle.stm_wire.specs.Frames.{erase_turns}
+use Rattle.std.proofs.Common.{◌++◌, List, refl, subst}
+use Rattle.stm_wire.specs.declared.chip.EraseKind.{EraseKind}
+use Rattle.stm_wire.specs.Dialogue.{GoesOn, IsBrokenOff}
+use Rattle.stm_session.specs.Fault.{Cause}
+use Rattle.stm_session.specs.Order.{Step, Adds, Are, Begin, Sends, StopsBy, erase_steps}
+use Rattle.stm_session.proofs.CutShort.{append_stops, begin_all, by_fault, sent_stops, stop_after}
 use Rattle.stm_session.proofs.Orders.{does_add, does_erase, does_then}
 use Rattle.stm_session.proofs.erasing.erase_kept.Goals as goal
 
@@ -105,6 +110,33 @@ returns-clause-order g c =
     let a = V c.args.rig.now in
     let b = V c.intend_erase.new.rig in
     let d = V c.erase_page.new.rig in
-    does_then (Adds (Erases c.args.n ∷ []) ∷ []) (Sends (erase_frame chip.kind c.args.n) ∷ []) l l2 l2 a b d
+    does_then (Adds (Erases c.args.n ∷ []) ∷ []) (Sends (erase_turns chip.kind c.args.n) ∷ []) l l2 l2 a b d
     (does_add (tt {0}) (Erases c.args.n ∷ []) l l2 a b c.in_ok-intend_erase.ensures.calls (ap (λ (m : Loaded). m.is_torn) c.in_ok-intend_erase.ensures.after))
     (does_erase chip c.args.n c.kind.result l2 b d c.kind.ensures c.in_ok-erase_page.ensures.held.recorded)
+
+pub returns-in_err-intend_erase-clause-stops : goal.returns-in_err-intend_erase-clause-stops
+returns-in_err-intend_erase-clause-stops g c =
+    let V = g.R.Rig.view in
+    let chip = c.args.chip.now in
+    let all = erase_steps chip c.args.n in
+    append_stops (Unit {0}) (Begin (Are all)) c.args.journal.now.is_torn (Erases c.args.n ∷ []) _ (V c.args.rig.now) (V c.intend_erase.new.rig) c.from_residual.result c.from_residual.ensures.1
+    (all, refl) (Sends (erase_turns chip.kind c.args.n) ∷ [], refl) c.in_err-intend_erase.ensures.calls
+
+pub returns-in_err-erase_page-clause-stops : goal.returns-in_err-erase_page-clause-stops
+returns-in_err-erase_page-clause-stops g c =
+    let V = g.R.Rig.view in
+    let chip = c.args.chip.now in
+    let l = c.args.journal.now in
+    let l2 = c.intend_erase.new.self in
+    let a = V c.args.rig.now in
+    let b = V c.intend_erase.new.rig in
+    let d = V c.erase_page.new.rig in
+    let own : List Step = Sends (erase_turns chip.kind c.args.n) ∷ [] in
+    let line : List Step = Adds (Erases c.args.n ∷ []) ∷ [] in
+    let all = erase_steps chip c.args.n in
+    let P : EraseKind → Type 0 = λ k. GoesOn (IsBrokenOff c.in_err-erase_page.field-0.0 (erase_turns k c.args.n)) b.calls d.calls in
+    by_fault (λ (k : Cause). StopsBy (Begin (Are all)) k l.is_torn a d) _ c.from_residual-in_err-erase_page.result c.from_residual-in_err-erase_page.ensures.1
+    (stop_after (Are own) (Begin (Are all)) _ line l l2 a b d
+    (does_add (tt {0}) (Erases c.args.n ∷ []) l l2 a b c.in_ok-intend_erase.ensures.calls (ap (λ (m : Loaded). m.is_torn) c.in_ok-intend_erase.ensures.after))
+    (sent_stops (Are own) l2.is_torn _ (erase_turns chip.kind c.args.n) b d refl (subst P c.kind.ensures c.in_err-erase_page.ensures.broken.recorded))
+    (λ ys is. begin_all (Are all) (line ++ ys) (ap (λ (zs : List Step). line ++ zs) is)))

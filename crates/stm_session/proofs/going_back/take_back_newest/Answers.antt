@@ -13,6 +13,10 @@ use Rattle.stm_journal.specs.Newest.{pages_of_segments}
 use Rattle.stm_session.specs.Order.{Follows, AreTakenBack, IsTakenBack}
 use Rattle.stm_session.specs.Undoable.{newest_kept}
 use Rattle.stm_session.proofs.Orders.{does_nothing, does_then, segments_count, segments_split, taken_next}
+use Rattle.std.proofs.Common.{List}
+use Rattle.stm_session.specs.Order.{Step, Begin}
+use Rattle.stm_session.proofs.CutShort.{then_stops}
+use Rattle.stm_session.proofs.UndoOrders.{back_begun, pages_count}
 use Rattle.stm_session.proofs.going_back.take_back_newest.Goals as goal
 
 pub loop-i-init : goal.loop-i-init
@@ -124,3 +128,25 @@ returns-clause-order g c =
     let all : c.loop-i.i ≡ c.args.taken = omega (arith, c.loop-i-test.false, c.loop-i.auto.i-end) in
     let P : ℕ → Type 0 = λ m. Follows (AreTakenBack c.args.chip.now m (pages_of_segments l.state.stack)) l c.loop-i.journal (V c.args.rig.now) (V c.loop-i.rig) in
     subst P all c.loop-i.invariant.order
+
+pub returns-in_err-take_back-clause-stops : goal.returns-in_err-take_back-clause-stops
+returns-in_err-take_back-clause-stops g c =
+    let V = g.R.Rig.view in
+    let chip = c.args.chip.now in
+    let l = c.args.journal.now in
+    let l2 = c.loop-i.journal in
+    let i = c.loop-i.i in
+    let lt : i < c.args.taken = omega (arith, c.loop-i-test.true) in
+    let within : i < length l.state.stack = omega (arith, lt, c.requires.some) in
+    let depth = rest_depth i l.state l2.state c.loop-i.invariant.rest (omega (arith, within)) in
+    let some : 0 < length l2.state.stack = omega (arith, within, depth) in
+    let all = pages_of_segments l.state.stack in
+    let below = pages_of_segments (drop 1 l2.state.stack) in
+    let before = c.loop-i.invariant.order in
+    let deep : c.args.taken ≤ length all = omega (arith, pages_count l.state.stack, c.requires.some) in
+    let Taken : ℕ → List Step → Type 0 = λ m. Begin (IsTakenBack chip (newest_kept l2.state.stack) m) in
+    then_stops (Taken (length l2.state.stack)) (Begin (AreTakenBack chip c.args.taken all)) before.0 l l2 (V c.args.rig.now) (V c.loop-i.rig) (V c.take_back.new.rig) _ c.from_residual.result c.from_residual.ensures.1
+    before.2 c.in_err-take_back.ensures.stops
+    (λ ys begun.
+    let P : ℕ → Type 0 = λ m. Taken m ys in
+    back_begun chip all c.args.taken i (newest_kept l2.state.stack) below before.0 lt deep (sym c.loop-i.invariant.rest ∙ segments_split l2.state.stack some) before.1 ys (subst P (segments_count l2.state.stack some) begun))

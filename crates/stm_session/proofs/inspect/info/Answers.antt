@@ -4,6 +4,10 @@ use Rattle.stm_wire.specs.Parts.{IsSession}
 use Rattle.stm_session.specs.Sending.{most_calls}
 use Rattle.stm_session.proofs.InfoContracts.{info_opened, info_unopened}
 use Rattle.stm_session.proofs.Sending.{same_fault}
+use Rattle.std.proofs.Common.{ℕ, subst, sym}
+use Rattle.stm_session.specs.Fault.{Cause}
+use Rattle.stm_session.specs.Order.{ReachesInOrder, ReachesInPart}
+use Rattle.stm_session.proofs.CutShort.{by_fault}
 use Rattle.stm_session.proofs.inspect.info.Goals as goal
 
 pub returns-in_err-opened-clause-promised : goal.returns-in_err-opened-clause-promised
@@ -23,3 +27,14 @@ returns-in_err-opened-clause-puts g c =
     let V = g.R.Rig.view in
     let P : Bool → Type 0 = λ w. GoesOn (IsSession None 0x7F 131072 w (most_calls 0)) (V c.args.rig.now).calls (V c.open.new.rig).calls in
     same_fault P _ c.from_residual.result c.from_residual.ensures.1 c.in_err-opened.ensures.puts
+
+pub returns-clause-order : goal.returns-clause-order
+returns-clause-order g c torn =
+    let V = g.R.Rig.view in
+    let P : ℕ → Type 0 = λ id. ReachesInOrder 0x7F id torn (V c.args.rig.now) (V c.open.new.rig) in
+    subst P (sym c.id.ensures) (c.in_ok-opened.ensures.order torn)
+
+pub returns-in_err-opened-clause-stops : goal.returns-in_err-opened-clause-stops
+returns-in_err-opened-clause-stops g c torn =
+    let V = g.R.Rig.view in
+    by_fault (λ (k : Cause). GoesOn (ReachesInPart 0x7F k torn) (V c.args.rig.now).calls (V c.open.new.rig).calls) _ c.from_residual.result c.from_residual.ensures.1 (c.in_err-opened.ensures.stops torn)

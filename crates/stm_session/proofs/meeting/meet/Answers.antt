@@ -12,7 +12,13 @@ use Rattle.stm_wire.specs.PartLaws.{session_joins, session_longer, session_weake
 use Rattle.stm_journal.specs.States.{intent_of}
 use Rattle.stm_session.specs.Sending.{is_whole, most_calls}
 use Rattle.stm_session.proofs.Sending.{same_fault}
-use Rattle.stm_session.specs.Order.{asking_steps}
+use Rattle.std.proofs.Common.{Option, subst}
+use Rattle.std.specs.Prelude.{IfSome}
+use Rattle.stm_session.specs.declared.fault.Fault.{Fault}
+use Rattle.stm_session.specs.Fault.{Cause, cause_of}
+use Rattle.stm_session.specs.Order.{Begin, IsAsking, ReachesInPart, StopsBy, asking_steps}
+use Rattle.stm_session.proofs.CutShort.{by_fault}
+use Rattle.stm_session.proofs.Reaching.{asks_stop, settle_stops}
 use Rattle.stm_session.proofs.Orders.{settles_then}
 use Rattle.stm_session.proofs.meeting.meet.Goals as goal
 
@@ -128,4 +134,33 @@ pub returns-in-None-clause-order : goal.returns-in-None-clause-order
 returns-in-None-clause-order g c torn =
     let V = g.R.Rig.view in
     let byte = settling_byte (intent_of c.args.journal.now.state) in
-    settles_then byte torn asking_steps (V c.args.rig.now).calls (V c.settle_intended.new.rig).calls (V c.ask_misfit.new.rig).calls c.settle_intended.ensures.calls (c.in_ok-misfit.ensures.order torn c.in-None.is)
+    let asked = c.in_ok-misfit.ensures.order torn c.in-None.is in
+    (asked.0, asked.1, settles_then byte torn (asking_steps asked.0 asked.1 c.args.chip.now.id) (V c.args.rig.now).calls (V c.settle_intended.new.rig).calls (V c.ask_misfit.new.rig).calls
+    c.settle_intended.ensures.calls c.in_ok-settle_intended.ensures.settled asked.2)
+
+pub returns-in_err-settle_intended-clause-stops : goal.returns-in_err-settle_intended-clause-stops
+returns-in_err-settle_intended-clause-stops g c torn =
+    let V = g.R.Rig.view in
+    let byte = settling_byte (intent_of c.args.journal.now.state) in
+    let a = (V c.args.rig.now).calls in
+    let b = (V c.settle_intended.new.rig).calls in
+    by_fault (λ (k : Cause). GoesOn (ReachesInPart byte k torn) a b) _ c.from_residual.result c.from_residual.ensures.1 (settle_stops byte _ torn a b c.in_err-settle_intended.ensures.sent c.settle_intended.ensures.calls)
+
+pub returns-in_err-misfit-clause-stops : goal.returns-in_err-misfit-clause-stops
+returns-in_err-misfit-clause-stops g c torn =
+    let V = g.R.Rig.view in
+    let byte = settling_byte (intent_of c.args.journal.now.state) in
+    let a = V c.args.rig.now in
+    let d = V c.ask_misfit.new.rig in
+    by_fault (λ (k : Cause). GoesOn (ReachesInPart byte k torn) a.calls d.calls) _ c.from_residual-in_err-misfit.result c.from_residual-in_err-misfit.ensures.1
+    (asks_stop byte _ torn a (V c.settle_intended.new.rig) d c.settle_intended.ensures.calls c.in_ok-settle_intended.ensures.settled (c.in_err-misfit.ensures.stops torn))
+
+pub returns-in-Some-clause-stops : goal.returns-in-Some-clause-stops
+returns-in-Some-clause-stops g c torn =
+    let V = g.R.Rig.view in
+    let byte = settling_byte (intent_of c.args.journal.now.state) in
+    let a = V c.args.rig.now in
+    let b = V c.settle_intended.new.rig in
+    let d = V c.ask_misfit.new.rig in
+    let P : Option Fault → Type 0 = λ o. IfSome o (λ fault. StopsBy (Begin IsAsking) (cause_of fault) torn b d) in
+    asks_stop byte _ torn a b d c.settle_intended.ensures.calls c.in_ok-settle_intended.ensures.settled (subst P c.in-Some.is (c.in_ok-misfit.ensures.refuses torn))

@@ -15,6 +15,11 @@ use Rattle.stm_session.proofs.Returns.{kept_in_text, number_exists, place_fits}
 use Rattle.stm_session.proofs.SentParts.{part_fails}
 use Rattle.stm_session.proofs.Settlings.{intent_text}
 use Rattle.stm_session.proofs.Work.{no_work, stands_at, work_is}
+use Rattle.std.proofs.Common.{List}
+use Rattle.stm_wire.specs.declared.intent.Intent.{Intent}
+use Rattle.stm_journal.specs.States.{intent_of}
+use Rattle.stm_session.specs.Order.{Step, Begin, IsRewritten, IsWorkRewritten}
+use Rattle.stm_session.proofs.CutShort.{begin_as, part_stops}
 use Rattle.stm_session.proofs.page_at_work.rewrite_at_work.Goals as goal
 
 pub returns-in_default-clause-honest : goal.returns-in_default-clause-honest
@@ -119,3 +124,16 @@ returns-clause-honest g c flashes steady chip =
     let own = rewrite_entries c.args.chip.now there.0.page there.0.bytes in
     subst P (sym found)
     (goes_ok flashes own l2 a b _ (tt {0}) (c.in_ok-rewrite_line.ensures.honest flashes newest i there.0 steady chip there.1 there.2 there.3) (λ p. p))
+
+pub returns-in_err-rewrite_line-clause-stops : goal.returns-in_err-rewrite_line-clause-stops
+returns-in_err-rewrite_line-clause-stops g c =
+    let V = g.R.Rig.view in
+    let chip = c.args.chip.now in
+    let s = c.args.journal.now.state in
+    let One : ℕ → List Step → Type 0 = λ n. IsRewritten chip n in
+    let Work : Option Intent → List Step → Type 0 = λ o. IsWorkRewritten chip o in
+    part_stops (Begin (One c.intent_page-n.result)) (Begin (Work (intent_of s))) c.args.journal.now.is_torn (V c.args.rig.now) (V c.rewrite_line.new.rig) _ c.from_residual.result c.from_residual.ensures.1
+    (begin_as (One c.intent_page-n.result) (Work (intent_of s)) (λ xs one.
+    let P : ℕ → Type 0 = λ n. One n xs in
+    let Q : Option Intent → Type 0 = λ o. Work o xs in
+    subst Q c.in-Some.ensures (subst P c.intent_page-n.ensures one))) c.in_err-rewrite_line.ensures.stops

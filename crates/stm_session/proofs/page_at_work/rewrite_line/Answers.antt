@@ -14,6 +14,10 @@ use Rattle.stm_session.proofs.Going.{goes_as, goes_failed, goes_nowhere, goes_ok
 use Rattle.stm_session.proofs.Keeping.{good_at}
 use Rattle.stm_session.proofs.Orders.{does_fetch, does_then}
 use Rattle.stm_session.proofs.SentParts.{fetch_part, part_after, part_fails_after}
+use Rattle.stm_session.specs.Order.{Are, Begin}
+use Rattle.stm_session.proofs.CutShort.{begin_as, memory_stops, then_stops}
+use Rattle.stm_session.proofs.Orders.{does_nothing}
+use Rattle.stm_session.proofs.UndoOrders.{journal_stops, some_rewrite}
 use Rattle.stm_session.proofs.page_at_work.rewrite_line.Goals as goal
 
 pub returns-in_err-page-clause-honest : goal.returns-in_err-page-clause-honest
@@ -153,3 +157,45 @@ returns-clause-order g c =
     let many : length page ≡ page_size chip n = search rules in
     let rewritten : IsRewritten chip n own = record { page = page; size = many; is = ap (λ (fs : List Frame). rewrite_steps chip n page fs) framed } in
     (own, rewritten, does_then [] own l l l2 a b d (does_fetch l a b c.in_ok-fetch_page.ensures.calls) c.in_ok-rewrite_kept.ensures.order)
+
+pub returns-in_err-page-clause-stops : goal.returns-in_err-page-clause-stops
+returns-in_err-page-clause-stops g c =
+    let a = g.R.Rig.view c.args.rig.now in
+    let l = c.args.journal.now in
+    memory_stops (Begin (IsRewritten c.args.chip.now c.args.n)) l.is_torn [] a a c.from_residual.result c.from_residual.ensures.1 (some_rewrite c.args.chip.now c.args.n) (does_nothing l a).acts
+
+pub returns-in_err-fetch_page-clause-stops : goal.returns-in_err-fetch_page-clause-stops
+returns-in_err-fetch_page-clause-stops g c =
+    let V = g.R.Rig.view in
+    let l = c.args.journal.now in
+    let a = V c.args.rig.now in
+    let b = V c.fetch_page.new.rig in
+    journal_stops (Begin (IsRewritten c.args.chip.now c.args.n)) l.is_torn [] _ a b c.from_residual-in_err-fetch_page.result c.from_residual-in_err-fetch_page.ensures.1 (some_rewrite c.args.chip.now c.args.n)
+    (does_fetch l a b c.fetch_page.ensures.calls).acts
+
+pub returns-in_err-frames-clause-stops : goal.returns-in_err-frames-clause-stops
+returns-in_err-frames-clause-stops g c =
+    let V = g.R.Rig.view in
+    let l = c.args.journal.now in
+    let a = V c.args.rig.now in
+    let b = V c.fetch_page.new.rig in
+    memory_stops (Begin (IsRewritten c.args.chip.now c.args.n)) l.is_torn [] a b c.from_residual-in_err-frames.result c.from_residual-in_err-frames.ensures.1 (some_rewrite c.args.chip.now c.args.n) (does_fetch l a b c.fetch_page.ensures.calls).acts
+
+pub returns-in_err-rewrite_kept-clause-stops : goal.returns-in_err-rewrite_kept-clause-stops
+returns-in_err-rewrite_kept-clause-stops g c =
+    let V = g.R.Rig.view in
+    let chip = c.args.chip.now in
+    let n = c.args.n in
+    let l = c.args.journal.now in
+    let a = V c.args.rig.now in
+    let b = V c.fetch_page.new.rig in
+    let d = V c.rewrite_kept.new.rig in
+    let page = c.deref-2.result.now in
+    let own = rewrite_steps chip n page c.deref-3.result.now in
+    let same_page : c.deref.result.now ≡ page = c.deref.ensures.value ∙ sym c.deref-2.ensures.value in
+    let framed : c.deref-3.result.now ≡ frames_of (erased_byte chip) page (length page / 256) =
+    c.deref-3.ensures.value ∙ c.in_ok-frames.ensures.frames ∙ ap₂ (λ (e : ℕ) (bytes : List ℕ). frames_of e bytes (length bytes / 256)) c.erased.ensures.byte same_page in
+    let many : length page ≡ page_size chip n = search rules in
+    then_stops (Begin (Are own)) (Begin (IsRewritten chip n)) [] l l a b d _ c.from_residual-in_err-rewrite_kept.result c.from_residual-in_err-rewrite_kept.ensures.1 (does_fetch l a b c.in_ok-fetch_page.ensures.calls)
+    c.in_err-rewrite_kept.ensures.stops
+    (begin_as (Are own) (IsRewritten chip n) (λ ys is. record { page = page; size = many; is = is ∙ ap (λ (fs : List Frame). rewrite_steps chip n page fs) framed }))

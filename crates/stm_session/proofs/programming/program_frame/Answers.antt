@@ -3,6 +3,7 @@ use Rattle.stm_session.proofs.Programmings.{may_write, write_goes, write_fails}
 use Rattle.std.proofs.Common.{Some, arith}
 use Rattle.stm_session.proofs.SentParts.{command_fails, write_cut, write_sent}
 use Rattle.stm_session.proofs.Orders.{order_written}
+use Rattle.stm_session.proofs.CutShort.{writing_stops}
 use Rattle.stm_session.proofs.programming.program_frame.Goals as goal
 
 pub returns-in_err-program-clause-honest : goal.returns-in_err-program-clause-honest
@@ -49,3 +50,11 @@ returns-clause-order g c torn =
     let b = (V c.program.new.rig).calls in
     let at = ap (λ x. x + c.args.frame.offset) c.page_start.ensures.address in
     order_written c.args.chip.now c.args.n c.args.page.now c.args.frame torn _ at _ (search (rules, c.from.ensures)) a b c.in_ok-program.ensures.held.recorded
+
+pub returns-in_err-program-clause-stops : goal.returns-in_err-program-clause-stops
+returns-in_err-program-clause-stops g c torn =
+    let V = g.R.Rig.view in
+    let a = V c.args.rig.now in
+    let b = V c.program.new.rig in
+    let at = ap (λ x. x + c.args.frame.offset) c.page_start.ensures.address in
+    writing_stops c.args.chip.now c.args.n c.args.page.now c.args.frame torn _ at _ (search (rules, c.from.ensures)) _ a b c.from_residual.result c.from_residual.ensures.1 c.in_err-program.ensures.broken.recorded

@@ -16,6 +16,7 @@ use Rattle.std.proofs.Common.{refl, subst}
 use Rattle.stm_wire.specs.DialogueLaws.{GoesOn-nothing}
 use Rattle.stm_session.specs.Order.{IsInOrder, write_steps}
 use Rattle.stm_session.proofs.Orders.{writes_next}
+use Rattle.stm_session.proofs.CutShort.{writes_stop}
 use Rattle.stm_session.proofs.programming.program_frames.Goals as goal
 
 pub loop-frame-init : goal.loop-frame-init
@@ -111,3 +112,9 @@ returns-clause-order g c torn =
     let all = take_all c.loop-frame.frame-index c.args.frames.now (omega (arith, c.loop-frame-test.false)) in
     let P : List Frame → Type 0 = λ fs. GoesOn (IsInOrder torn (write_steps c.args.chip.now c.args.n c.args.page.now fs)) (V c.args.rig.now).calls (V c.loop-frame.rig).calls in
     subst P all (c.loop-frame.invariant.order torn)
+
+pub returns-in_err-program_frame-clause-stops : goal.returns-in_err-program_frame-clause-stops
+returns-in_err-program_frame-clause-stops g c torn =
+    let V = g.R.Rig.view in
+    writes_stop c.args.chip.now c.args.n c.args.page.now c.args.frames.now (frame_with 0 0) c.loop-frame.frame-index torn (V c.args.rig.now) (V c.loop-frame.rig) (V c.program_frame.new.rig) _ c.from_residual.result c.loop-frame-test.true
+    c.from_residual.ensures.1 (c.loop-frame.invariant.order torn) (c.in_err-program_frame.ensures.stops torn)

@@ -12,6 +12,9 @@ use Rattle.stm_session.proofs.SentParts.{line_part, part_after, part_fails_after
 use Rattle.stm_journal.specs.Journals.{Loaded}
 use Rattle.stm_session.specs.Order.{Adds, write_steps}
 use Rattle.stm_session.proofs.Orders.{does_add, does_then, does_writes}
+use Rattle.std.proofs.Common.{◌++◌, List, refl}
+use Rattle.stm_session.specs.Order.{Step, Are, Begin}
+use Rattle.stm_session.proofs.CutShort.{append_stops, begin_after, then_stops}
 use Rattle.stm_session.proofs.programming.program_kept.Goals as goal
 
 pub returns-in_err-intend_program-clause-honest : goal.returns-in_err-intend_program-clause-honest
@@ -104,3 +107,26 @@ returns-clause-order g c =
     does_then (Adds (Programs c.args.n ∷ []) ∷ []) (write_steps chip c.args.n c.args.page.now c.args.frames.now) l l2 l2 a b d
     (does_add (tt {0}) (Programs c.args.n ∷ []) l l2 a b c.in_ok-intend_program.ensures.calls (ap (λ (m : Loaded). m.is_torn) c.in_ok-intend_program.ensures.after))
     (does_writes chip c.args.n c.args.page.now l2 c.args.frames.now b d (c.in_ok-program_frames.ensures.order l2.is_torn))
+
+pub returns-in_err-intend_program-clause-stops : goal.returns-in_err-intend_program-clause-stops
+returns-in_err-intend_program-clause-stops g c =
+    let V = g.R.Rig.view in
+    let writes = write_steps c.args.chip.now c.args.n c.args.page.now c.args.frames.now in
+    let all : List Step = Adds (Programs c.args.n ∷ []) ∷ writes in
+    append_stops (Unit {0}) (Begin (Are all)) c.args.journal.now.is_torn (Programs c.args.n ∷ []) _ (V c.args.rig.now) (V c.intend_program.new.rig) c.from_residual.result c.from_residual.ensures.1
+    (all, refl) (writes, refl) c.in_err-intend_program.ensures.calls
+
+pub returns-in_err-program_frames-clause-stops : goal.returns-in_err-program_frames-clause-stops
+returns-in_err-program_frames-clause-stops g c =
+    let V = g.R.Rig.view in
+    let l = c.args.journal.now in
+    let l2 = c.intend_program.new.self in
+    let a = V c.args.rig.now in
+    let b = V c.intend_program.new.rig in
+    let d = V c.program_frames.new.rig in
+    let writes = write_steps c.args.chip.now c.args.n c.args.page.now c.args.frames.now in
+    let line : List Step = Adds (Programs c.args.n ∷ []) ∷ [] in
+    let all : List Step = line ++ writes in
+    then_stops (Begin (Are writes)) (Begin (Are all)) line l l2 a b d _ c.from_residual-in_err-program_frames.result c.from_residual-in_err-program_frames.ensures.1
+    (does_add (tt {0}) (Programs c.args.n ∷ []) l l2 a b c.in_ok-intend_program.ensures.calls (ap (λ (m : Loaded). m.is_torn) c.in_ok-intend_program.ensures.after))
+    (c.in_err-program_frames.ensures.stops l2.is_torn) (begin_after (Are writes) (Are all) line (λ ys is. ap (λ (zs : List Step). line ++ zs) is))

@@ -6,7 +6,11 @@ use Rattle.stm_wire.specs.Dialogue.{GoesOn}
 use Rattle.stm_wire.specs.Parts.{IsPart}
 use Rattle.stm_wire.specs.PartLaws.{read_broken, read_held}
 use Rattle.stm_session.proofs.Sending.{with_fault}
-use Rattle.stm_session.proofs.Orders.{order_read}
+use Rattle.std.proofs.Common.{◌∷◌, []}
+use Rattle.stm_wire.specs.Frames.{read_turns}
+use Rattle.stm_session.specs.Order.{Begin, IsReadOf, Sends}
+use Rattle.stm_session.proofs.CutShort.{begin_all, command_stops}
+use Rattle.stm_session.proofs.Orders.{order_sent}
 use Rattle.stm_session.proofs.reading.read_part.Goals as goal
 
 pub returns-in_err-read-clause-honest : goal.returns-in_err-read-clause-honest
@@ -50,7 +54,16 @@ returns-clause-puts g c page within =
     read_held c.args.chip.now page c.args.address (length c.args.buf.now) c.requires.some c.requires.limit within c.read.new.buf a b size c.in_ok-read.ensures.held.recorded
 
 pub returns-clause-order : goal.returns-clause-order
-returns-clause-order g c torn =
+returns-clause-order g c =
     let V = g.R.Rig.view in
     let size : length c.read.new.buf ≡ length c.args.buf.now = search rules in
-    order_read torn c.args.address (length c.args.buf.now) c.read.new.buf (V c.args.rig.now).calls (V c.read.new.rig).calls size c.in_ok-read.ensures.held.recorded
+    record { size = size; sent = λ torn. order_sent torn (read_turns c.args.address c.read.new.buf) (V c.args.rig.now).calls (V c.read.new.rig).calls c.in_ok-read.ensures.held.recorded }
+
+pub returns-in_err-read-clause-stops : goal.returns-in_err-read-clause-stops
+returns-in_err-read-clause-stops g c torn =
+    let V = g.R.Rig.view in
+    let n = length c.args.buf.now in
+    let broken = c.in_err-read.ensures.broken in
+    let turns = read_turns c.args.address broken.0 in
+    let read : IsReadOf c.args.address n (Sends turns ∷ []) = record { answer = broken.0; size = broken.1; is = refl } in
+    command_stops (Begin (IsReadOf c.args.address n)) torn _ turns (V c.args.rig.now) (V c.read.new.rig) c.from_residual.result c.from_residual.ensures.1 (begin_all (IsReadOf c.args.address n) (Sends turns ∷ []) read) broken.2.recorded

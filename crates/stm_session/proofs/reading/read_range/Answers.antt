@@ -5,12 +5,16 @@ use Rattle.stm_session.proofs.Asking.{asks_failed, asks_ok, memory_refused, noth
 use Rattle.stm_session.proofs.Ranges.{block_adds, block_asks, size-limit}
 use Rattle.stm_wire.specs.Dialogue.{GoesOn}
 use Rattle.stm_wire.specs.DialogueLaws.{GoesOn-nothing}
-use Rattle.stm_session.specs.Order.{IsInOrder}
+use Rattle.std.specs.List.{AllByRecursion}
+use Rattle.stm_session.specs.Fault.{Cause}
+use Rattle.stm_session.specs.Order.{AreReadsOf, Begin, IsInOrder, StopsBy}
+use Rattle.stm_session.specs.RunOrder.{IsReading}
+use Rattle.stm_session.proofs.CutShort.{by_fault, memory_stops, reads_begin}
 use Rattle.stm_wire.specs.Parts.{IsPart}
 use Rattle.stm_wire.specs.PartLaws.{nothing_is_part, part_longer}
 use Rattle.stm_session.specs.Sending.{is_whole, most_of_command}
 use Rattle.stm_session.proofs.Sending.{block_in_page, same_fault}
-use Rattle.stm_session.proofs.Ranges.{block_in_few, block_part, block_read, blocks_all, blocks_more}
+use Rattle.stm_session.proofs.Ranges.{block_in_few, block_part, block_read, block_stop, blocks_all, blocks_more, blocks_stop}
 use Rattle.stm_session.proofs.RunOrders.{reads_nothing}
 use Rattle.stm_session.proofs.SentParts.{part_fails_after}
 use Rattle.stm_session.proofs.reading.read_range.Goals as goal
@@ -32,7 +36,7 @@ loop-done-init g c =
         parts = nothing_is_part (Some c.args.chip.now) true 0 (V c.args.rig.now).calls;
         few = λ page within. record { most = 0; within = omega arith; blocks = λ lt. omega arith; parts = nothing_is_part (Some c.args.chip.now) true 0 (V c.args.rig.now).calls };
         reads = reads_nothing c.args.chip.now (V c.args.rig.now);
-        order = λ page within even torn. record { blocks = 0; is = refl; steps = GoesOn-nothing (IsInOrder torn []) (V c.args.rig.now).calls refl };
+        order = λ page within even torn. record { blocks = 0; is = refl; many = omega (arith, c.in_ok-bytes.ensures.len); steps = GoesOn-nothing (IsInOrder torn []) (V c.args.rig.now).calls refl };
         honest = λ h settled chip. nothing_asked c.sending_is_harmless.ensures.asking (V c.args.rig.now) (tt {0}) _ h (g.met.R.Rig.model c.args.rig.now h) settled c.in_ok-bytes.ensures.items;
       },
       record { exists = omega arith; before = refl; begins = omega arith },
@@ -52,11 +56,11 @@ loop-done-preserved g c =
         few = λ page within.
             block_in_few c.args.chip.now c.args.start c.args.size c.loop-done.done c.block_size-block.result page (V c.args.rig.now) (V c.loop-done.rig) (V c.read_block.new.rig)
             c.loop-done-test.true (so_far.few page within) c.block_size-block.ensures within c.in_ok-read_block.ensures.puts;
-        reads = block_read c.args.chip.now (c.args.start + c.loop-done.done) (c.args.size - c.loop-done.done) c.block_size-block.result (V c.args.rig.now) (V c.loop-done.rig) (V c.read_block.new.rig)
-            (omega (arith, c.loop-done-test.true)) c.block_size-block.ensures so_far.reads c.in_ok-read_block.ensures.order;
+        reads = block_read c.args.chip.now (c.args.start + c.loop-done.done) (c.args.size - c.loop-done.done) c.block_size-block.result c.in_ok-read_block.ensures.order.0 (V c.args.rig.now) (V c.loop-done.rig) (V c.read_block.new.rig)
+            (omega (arith, c.loop-done-test.true)) c.block_size-block.ensures so_far.reads c.in_ok-read_block.ensures.order.2;
         order = λ page within even torn.
-            blocks_more c.args.chip.now c.args.start c.args.size c.loop-done.done c.block_size-block.result page torn (V c.args.rig.now) (V c.loop-done.rig) (V c.read_block.new.rig)
-            c.loop-done-test.true (so_far.order page within even torn) c.block_size-block.ensures within even (c.in_ok-read_block.ensures.order torn);
+            blocks_more c.args.chip.now c.args.start c.args.size c.loop-done.done c.block_size-block.result page torn c.loop-done.bytes.items (V c.args.rig.now) (V c.loop-done.rig) (V c.read_block.new.rig)
+            c.loop-done-test.true (so_far.order page within even torn) c.block_size-block.ensures within even c.read_block.new.bytes.items c.in_ok-read_block.ensures.order.0 c.in_ok-read_block.ensures.order.1 c.in_ok-read_block.ensures.order.2;
         honest = λ h settled chip.
             block_asks c.args.chip.now c.args.start c.args.size c.loop-done.done c.block_size-block.result c.loop-done.bytes.items
             (V c.args.rig.now) (V c.loop-done.rig) (V c.read_block.new.rig) so_far c.loop-done-test.true c.requires c.block_size-block.ensures h settled chip
@@ -132,7 +136,35 @@ returns-clause-order g c page within even torn =
     let V = g.R.Rig.view in
     let so_far = c.loop-done.invariant.1 in
     let all : c.loop-done.done ≡ c.args.size = omega (arith, so_far.within, c.loop-done-test.false) in
-    blocks_all c.args.start c.args.size c.loop-done.done torn (V c.args.rig.now) (V c.loop-done.rig) all (so_far.order page within even torn)
+    blocks_all c.args.start c.args.size c.loop-done.done c.loop-done.bytes.items torn (V c.args.rig.now) (V c.loop-done.rig) all (so_far.order page within even torn)
 
 pub returns-clause-reads : goal.returns-clause-reads
 returns-clause-reads g c = c.loop-done.invariant.1.reads
+
+pub returns-in_err-bytes-clause-order_stops : goal.returns-in_err-bytes-clause-order_stops
+returns-in_err-bytes-clause-order_stops g c page within even torn =
+    let a = g.R.Rig.view c.args.rig.now in
+    memory_stops (Begin (AreReadsOf c.args.start c.args.size)) torn [] a a c.from_residual.result c.from_residual.ensures.1 (reads_begin c.args.start c.args.size) (GoesOn-nothing (IsInOrder torn []) a.calls refl)
+
+pub returns-in_err-read_block-clause-order_stops : goal.returns-in_err-read_block-clause-order_stops
+returns-in_err-read_block-clause-order_stops g c page within even torn =
+    let V = g.R.Rig.view in
+    let a = V c.args.rig.now in
+    let d = V c.read_block.new.rig in
+    by_fault (λ (k : Cause). StopsBy (Begin (AreReadsOf c.args.start c.args.size)) k torn a d) _ c.from_residual-in_err-read_block.result c.from_residual-in_err-read_block.ensures.1
+    (blocks_stop c.args.chip.now c.args.start c.args.size c.loop-done.done c.block_size-block.result page torn c.loop-done.bytes.items a (V c.loop-done.rig) d c.loop-done-test.true
+    (c.loop-done.invariant.1.order page within even torn) c.block_size-block.ensures within even _ (c.in_err-read_block.ensures.stops torn))
+
+pub returns-in_err-bytes-clause-reads_stop : goal.returns-in_err-bytes-clause-reads_stop
+returns-in_err-bytes-clause-reads_stop g c torn =
+    let a = g.R.Rig.view c.args.rig.now in
+    memory_stops (AllByRecursion (IsReading c.args.chip.now)) torn [] a a c.from_residual.result c.from_residual.ensures.1 tt (GoesOn-nothing (IsInOrder torn []) a.calls refl)
+
+pub returns-in_err-read_block-clause-reads_stop : goal.returns-in_err-read_block-clause-reads_stop
+returns-in_err-read_block-clause-reads_stop g c torn =
+    let V = g.R.Rig.view in
+    let a = V c.args.rig.now in
+    let d = V c.read_block.new.rig in
+    by_fault (λ (k : Cause). StopsBy (AllByRecursion (IsReading c.args.chip.now)) k torn a d) _ c.from_residual-in_err-read_block.result c.from_residual-in_err-read_block.ensures.1
+    (block_stop c.args.chip.now (c.args.start + c.loop-done.done) (c.args.size - c.loop-done.done) c.block_size-block.result _ a (V c.loop-done.rig) d (omega (arith, c.loop-done-test.true)) c.block_size-block.ensures
+    c.loop-done.invariant.1.reads c.in_err-read_block.ensures.stops torn)

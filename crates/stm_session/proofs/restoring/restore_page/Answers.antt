@@ -11,6 +11,10 @@ use Rattle.stm_wire.specs.PartLaws.{nothing_is_part}
 use Rattle.stm_session.proofs.SentParts.{part_fails}
 use Rattle.stm_session.specs.Order.{restore_steps, rewrite_steps}
 use Rattle.stm_session.proofs.Orders.{does_as, does_nothing, no_steps, some_steps}
+use Rattle.std.proofs.Common.{refl}
+use Rattle.stm_session.specs.Fault.{of_memory}
+use Rattle.stm_session.specs.Order.{Are, Begin}
+use Rattle.stm_session.proofs.CutShort.{begin_as, halts_first, part_stops}
 use Rattle.stm_session.proofs.restoring.restore_page.Goals as goal
 
 pub returns-in_default-clause-honest : goal.returns-in_default-clause-honest
@@ -83,3 +87,23 @@ returns-in_ok-rewrite_kept-in-Erase-clause-order g c =
     let framed = c.deref.ensures.value ∙ planned.1 ∙ ap (λ (e : ℕ). frames_of e c.args.page.now (length c.args.page.now / 256)) c.erased.ensures.byte in
     does_as (rewrite_steps chip c.args.n c.args.page.now c.deref.result.now) (restore_steps chip c.args.n c.args.held.now c.args.page.now) c.args.journal.now c.rewrite_kept.new.journal (V c.args.rig.now) (V c.rewrite_kept.new.rig)
     (some_steps chip c.args.n c.args.held.now c.args.page.now c.deref.result.now planned.0 framed) c.in_ok-rewrite_kept-in-Erase.ensures.order
+
+pub returns-in_default-clause-stops : goal.returns-in_default-clause-stops
+returns-in_default-clause-stops g c =
+    let all = restore_steps c.args.chip.now c.args.n c.args.held.now c.args.page.now in
+    halts_first (Begin (Are all)) of_memory c.args.journal.now.is_torn (g.R.Rig.view c.args.rig.now) (all, refl) refl
+
+pub returns-in_err-rewrite_kept-in-Erase-clause-stops : goal.returns-in_err-rewrite_kept-in-Erase-clause-stops
+returns-in_err-rewrite_kept-in-Erase-clause-stops g c =
+    let V = g.R.Rig.view in
+    let chip = c.args.chip.now in
+    let n = c.args.n in
+    let held = c.args.held.now in
+    let page = c.args.page.now in
+    let P : PagePlan → Type 0 = λ p. IsPlan c.erased.result held page p in
+    let planned = subst P c.in-Erase.is c.in-Ok.ensures.plan in
+    let framed = c.deref.ensures.value ∙ planned.1 ∙ ap (λ (e : ℕ). frames_of e page (length page / 256)) c.erased.ensures.byte in
+    let own = rewrite_steps chip n page c.deref.result.now in
+    let all = restore_steps chip n held page in
+    part_stops (Begin (Are own)) (Begin (Are all)) c.args.journal.now.is_torn (V c.args.rig.now) (V c.rewrite_kept.new.rig) _ c.from_residual.result c.from_residual.ensures.1
+    (begin_as (Are own) (Are all) (λ xs is. is ∙ some_steps chip n held page c.deref.result.now planned.0 framed)) c.in_err-rewrite_kept-in-Erase.ensures.stops

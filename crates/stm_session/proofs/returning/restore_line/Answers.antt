@@ -16,8 +16,11 @@ use Rattle.stm_wire.specs.PartLaws.{part_weaker}
 use Rattle.stm_session.specs.Sending.{is_whole}
 use Rattle.stm_session.proofs.SentParts.{fetch_part, part_after, part_fails, part_fails_after}
 use Rattle.std.proofs.Common.{◌/◌, ap₂, refl}
-use Rattle.stm_session.specs.Order.{Step, IsReturned, page_reads, read_steps, restore_steps}
-use Rattle.stm_session.proofs.Orders.{does_as, does_fetch, does_reads, does_then}
+use Rattle.stm_session.specs.Fault.{Cause}
+use Rattle.stm_session.specs.Order.{Step, Are, Begin, IsReturned, StopsBy, page_reads, restore_steps}
+use Rattle.stm_session.proofs.CutShort.{begin_after, by_fault, memory_stops, page_stops, page_was_read, then_stops}
+use Rattle.stm_session.proofs.UndoOrders.{journal_stops, some_return}
+use Rattle.stm_session.proofs.Orders.{does_as, does_fetch, does_then}
 use Rattle.stm_session.proofs.returning.restore_line.Goals as goal
 
 pub returns-in_err-held-clause-honest : goal.returns-in_err-held-clause-honest
@@ -201,13 +204,86 @@ returns-clause-order g c =
     let start = c.page_start-start.result in
     let size = c.page_size-size.result in
     let here : InPage chip n start size = record { exists = c.requires.exists; begins = omega (arith, c.page_start-start.ensures.address); ends = omega (arith, c.page_start-start.ensures.address, c.page_size-size.ensures.bytes) } in
-    let reads = read_steps start (size / 256) in
-    let own = restore_steps chip n c.deref.result.now c.deref-2.result.now in
-    let read = does_reads l start (size / 256) a b (c.in_ok-held.ensures.order n here c.page_size-size.ensures.blocks.1 l.is_torn) in
-    let fetched = does_then reads [] l l l a b d read (does_fetch l b d c.in_ok-fetch_page.ensures.calls) in
-    let all = does_then (reads ++ []) own l l l2 a d e fetched c.in_ok-restore_page.ensures.order in
-    let same : (reads ++ []) ++ own ≡ page_reads chip n ++ own =
-    ap (λ (ss : List Step). ss ++ own) (append-nil reads ∙ ap₂ (λ (k z : ℕ). read_steps k (z / 256)) c.page_start-start.ensures.address c.page_size-size.ensures.bytes) in
+    let held = c.deref.result.now in
+    let reads = page_reads chip n held in
+    let own = restore_steps chip n held c.deref-2.result.now in
+    let read = page_was_read chip n l start size c.in_ok-held.held.items held a b c.page_start-start.ensures.address c.page_size-size.ensures.bytes (search rules) (c.in_ok-held.ensures.order n here c.page_size-size.ensures.blocks.1 l.is_torn) in
+    let fetched = does_as (reads ++ []) reads l l a d (append-nil reads) (does_then reads [] l l l a b d read (does_fetch l b d c.in_ok-fetch_page.ensures.calls)) in
+    let held_size : length held ≡ page_size chip n = search rules in
     let many : length c.deref-2.result.now ≡ page_size chip n = search rules in
-    let returned : IsReturned chip n (page_reads chip n ++ own) = record { held = c.deref.result.now; page = c.deref-2.result.now; size = many; is = refl } in
-    (page_reads chip n ++ own, returned, does_as ((reads ++ []) ++ own) (page_reads chip n ++ own) l l2 a e same all)
+    let returned : IsReturned chip n (reads ++ own) = record { held = held; held_size = held_size; page = c.deref-2.result.now; size = many; is = refl } in
+    (reads ++ own, returned, does_then reads own l l l2 a d e fetched c.in_ok-restore_page.ensures.order)
+
+pub returns-in_err-held-clause-stops : goal.returns-in_err-held-clause-stops
+returns-in_err-held-clause-stops g c =
+    let V = g.R.Rig.view in
+    let chip = c.args.chip.now in
+    let n = c.args.n in
+    let l = c.args.journal.now in
+    let a = V c.args.rig.now in
+    let b = V c.read_range.new.rig in
+    let start = c.page_start-start.result in
+    let size = c.page_size-size.result in
+    let here : InPage chip n start size = record { exists = c.requires.exists; begins = omega (arith, c.page_start-start.ensures.address); ends = omega (arith, c.page_start-start.ensures.address, c.page_size-size.ensures.bytes) } in
+    by_fault (λ (k : Cause). StopsBy (Begin (IsReturned chip n)) k l.is_torn a b) _ c.from_residual.result c.from_residual.ensures.1
+    (page_stops (IsReturned chip n) chip n start size _ l.is_torn a b c.page_start-start.ensures.address c.page_size-size.ensures.bytes (some_return chip n) (c.in_err-held.ensures.order_stops n here c.page_size-size.ensures.blocks.1 l.is_torn))
+
+pub returns-in_err-page-clause-stops : goal.returns-in_err-page-clause-stops
+returns-in_err-page-clause-stops g c =
+    let V = g.R.Rig.view in
+    let chip = c.args.chip.now in
+    let n = c.args.n in
+    let l = c.args.journal.now in
+    let a = V c.args.rig.now in
+    let b = V c.read_range.new.rig in
+    let start = c.page_start-start.result in
+    let size = c.page_size-size.result in
+    let here : InPage chip n start size = record { exists = c.requires.exists; begins = omega (arith, c.page_start-start.ensures.address); ends = omega (arith, c.page_start-start.ensures.address, c.page_size-size.ensures.bytes) } in
+    let held = c.in_ok-held.held.items in
+    let reads = page_reads chip n held in
+    let read = page_was_read chip n l start size held held a b c.page_start-start.ensures.address c.page_size-size.ensures.bytes refl (c.in_ok-held.ensures.order n here c.page_size-size.ensures.blocks.1 l.is_torn) in
+    let many : length held ≡ page_size chip n = search rules in
+    memory_stops (Begin (IsReturned chip n)) l.is_torn reads a b c.from_residual-in_err-page.result c.from_residual-in_err-page.ensures.1 (some_return chip n held many) read.acts
+
+pub returns-in_err-fetch_page-clause-stops : goal.returns-in_err-fetch_page-clause-stops
+returns-in_err-fetch_page-clause-stops g c =
+    let V = g.R.Rig.view in
+    let chip = c.args.chip.now in
+    let n = c.args.n in
+    let l = c.args.journal.now in
+    let a = V c.args.rig.now in
+    let b = V c.read_range.new.rig in
+    let start = c.page_start-start.result in
+    let size = c.page_size-size.result in
+    let here : InPage chip n start size = record { exists = c.requires.exists; begins = omega (arith, c.page_start-start.ensures.address); ends = omega (arith, c.page_start-start.ensures.address, c.page_size-size.ensures.bytes) } in
+    let held = c.in_ok-held.held.items in
+    let reads = page_reads chip n held in
+    let read = page_was_read chip n l start size held held a b c.page_start-start.ensures.address c.page_size-size.ensures.bytes refl (c.in_ok-held.ensures.order n here c.page_size-size.ensures.blocks.1 l.is_torn) in
+    let many : length held ≡ page_size chip n = search rules in
+    let d = V c.fetch_page.new.rig in
+    let fetched = does_as (reads ++ []) reads l l a d (append-nil reads) (does_then reads [] l l l a b d read (does_fetch l b d c.fetch_page.ensures.calls)) in
+    journal_stops (Begin (IsReturned chip n)) l.is_torn reads _ a d c.from_residual-in_err-fetch_page.result c.from_residual-in_err-fetch_page.ensures.1 (some_return chip n held many) fetched.acts
+
+pub returns-in_err-restore_page-clause-stops : goal.returns-in_err-restore_page-clause-stops
+returns-in_err-restore_page-clause-stops g c =
+    let V = g.R.Rig.view in
+    let chip = c.args.chip.now in
+    let n = c.args.n in
+    let l = c.args.journal.now in
+    let a = V c.args.rig.now in
+    let b = V c.read_range.new.rig in
+    let start = c.page_start-start.result in
+    let size = c.page_size-size.result in
+    let here : InPage chip n start size = record { exists = c.requires.exists; begins = omega (arith, c.page_start-start.ensures.address); ends = omega (arith, c.page_start-start.ensures.address, c.page_size-size.ensures.bytes) } in
+    let d = V c.fetch_page.new.rig in
+    let e = V c.restore_page.new.rig in
+    let held = c.deref.result.now in
+    let page = c.deref-2.result.now in
+    let reads = page_reads chip n held in
+    let own = restore_steps chip n held page in
+    let read = page_was_read chip n l start size c.in_ok-held.held.items held a b c.page_start-start.ensures.address c.page_size-size.ensures.bytes (search rules) (c.in_ok-held.ensures.order n here c.page_size-size.ensures.blocks.1 l.is_torn) in
+    let fetched = does_as (reads ++ []) reads l l a d (append-nil reads) (does_then reads [] l l l a b d read (does_fetch l b d c.in_ok-fetch_page.ensures.calls)) in
+    let held_size : length held ≡ page_size chip n = search rules in
+    let many : length page ≡ page_size chip n = search rules in
+    then_stops (Begin (Are own)) (Begin (IsReturned chip n)) reads l l a d e _ c.from_residual-in_err-restore_page.result c.from_residual-in_err-restore_page.ensures.1 fetched c.in_err-restore_page.ensures.stops
+    (begin_after (Are own) (IsReturned chip n) reads (λ ys is. record { held = held; held_size = held_size; page = page; size = many; is = ap (λ (zs : List Step). reads ++ zs) is }))

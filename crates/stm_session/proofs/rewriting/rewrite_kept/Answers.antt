@@ -13,6 +13,8 @@ use Rattle.stm_session.proofs.SentParts.{part_after, part_fails, part_fails_afte
 use Rattle.std.proofs.Common.{◌++◌, append-nil}
 use Rattle.stm_session.specs.Order.{Adds, Step, erase_steps, program_steps, rewrite_steps, write_steps}
 use Rattle.stm_session.proofs.Orders.{does_as, does_then, some_program}
+use Rattle.stm_session.specs.Order.{Are, Begin}
+use Rattle.stm_session.proofs.CutShort.{begin_after, begin_on, part_stops, then_stops}
 use Rattle.stm_session.proofs.rewriting.rewrite_kept.Goals as goal
 
 pub returns-in_err-erase_kept-clause-honest : goal.returns-in_err-erase_kept-clause-honest
@@ -111,3 +113,29 @@ returns-clause-order g c =
     let some : more ≡ program_steps chip c.args.n c.args.page.now c.args.frames.now = some_program chip c.args.n c.args.page.now c.args.frames.now (search rules) in
     does_as (own ++ more) (rewrite_steps chip c.args.n c.args.page.now c.args.frames.now) l l3 a d (ap (λ (ss : List Step). own ++ ss) some)
     (does_then own more l l2 l3 a b d c.in_ok-erase_kept.ensures.order c.in_ok-program_kept.ensures.order)
+
+pub returns-in_err-erase_kept-clause-stops : goal.returns-in_err-erase_kept-clause-stops
+returns-in_err-erase_kept-clause-stops g c =
+    let V = g.R.Rig.view in
+    let chip = c.args.chip.now in
+    let own = erase_steps chip c.args.n in
+    let more = program_steps chip c.args.n c.args.page.now c.args.frames.now in
+    let all = rewrite_steps chip c.args.n c.args.page.now c.args.frames.now in
+    part_stops (Begin (Are own)) (Begin (Are all)) c.args.journal.now.is_torn (V c.args.rig.now) (V c.erase_kept.new.rig) _ c.from_residual.result c.from_residual.ensures.1
+    (begin_on (Are own) (Are all) (λ xs is. (more, ap (λ (l : List Step). l ++ more) is))) c.in_err-erase_kept.ensures.stops
+
+pub returns-in_err-program_kept-clause-stops : goal.returns-in_err-program_kept-clause-stops
+returns-in_err-program_kept-clause-stops g c =
+    let V = g.R.Rig.view in
+    let chip = c.args.chip.now in
+    let l = c.args.journal.now in
+    let l2 = c.erase_kept.new.journal in
+    let a = V c.args.rig.now in
+    let b = V c.erase_kept.new.rig in
+    let d = V c.program_kept.new.rig in
+    let own = erase_steps chip c.args.n in
+    let more : List Step = Adds (Programs c.args.n ∷ []) ∷ write_steps chip c.args.n c.args.page.now c.args.frames.now in
+    let all = rewrite_steps chip c.args.n c.args.page.now c.args.frames.now in
+    let some : more ≡ program_steps chip c.args.n c.args.page.now c.args.frames.now = some_program chip c.args.n c.args.page.now c.args.frames.now (search rules) in
+    then_stops (Begin (Are more)) (Begin (Are all)) own l l2 a b d _ c.from_residual-in_err-program_kept.result c.from_residual-in_err-program_kept.ensures.1
+    c.in_ok-erase_kept.ensures.order c.in_err-program_kept.ensures.stops (begin_after (Are more) (Are all) own (λ ys is. ap (λ (zs : List Step). own ++ zs) (is ∙ some)))

@@ -11,6 +11,10 @@ use Rattle.stm_session.proofs.Sending.{same_fault}
 use Rattle.std.proofs.Common.{refl}
 use Rattle.stm_session.specs.Order.{asking_steps}
 use Rattle.stm_session.proofs.Orders.{settled_then}
+use Rattle.std.proofs.Common.{inl, inr}
+use Rattle.stm_session.specs.declared.fault.Fault.{Fault}
+use Rattle.stm_session.specs.RunOrder.{AreBegun, RunStops}
+use Rattle.stm_session.proofs.Reaching.{at_fault, reached_stops, told_stops}
 use Rattle.stm_session.proofs.running.run.Goals as goal
 
 no_commands : (commands : List Command) → commands_in commands ≡ [] → commands ≡ []
@@ -97,16 +101,58 @@ returns-clause-order g c =
     let b = (V c.open.new.rig).calls in
     let d = (V c.run_commands.new.rig).calls in
     let done = c.in_ok-outcomes.ensures.order in
+    let reached = c.in_ok-opened.ensures.order l.is_torn in
     record {
       journal = l;
       loaded = c.in_ok-opened.ensures.loaded;
       chip = c.in_ok-opened.opened.chip.now;
       listed = c.in_ok-opened.ensures.coherent.chip;
+      version = reached.0;
+      codes = reached.1;
       last = c.run_commands.new.journal.state;
       steps = done.0;
       are_steps = done.1;
-      calls = settled_then 0x7F l.is_torn asking_steps done.0 a b d refl (c.in_ok-opened.ensures.order l.is_torn) done.2.acts;
+      calls = settled_then 0x7F l.is_torn (asking_steps reached.0 reached.1 _) done.0 a b d refl reached.2 done.2.acts;
     }
+
+pub returns-in_err-opened-clause-stops : goal.returns-in_err-opened-clause-stops
+returns-in_err-opened-clause-stops g c =
+    let V = g.R.Rig.view in
+    let cs = commands_in c.args.commands.now in
+    let P : Fault → Type 0 = λ e. RunStops c.args.table.now cs (V c.args.rig.now) (V c.open.new.rig) e in
+    at_fault P _ c.from_residual.result c.from_residual.ensures.1 (inl (λ torn. c.in_err-opened.ensures.stops torn))
+
+pub returns-in_err-check_commands-clause-stops : goal.returns-in_err-check_commands-clause-stops
+returns-in_err-check_commands-clause-stops g c =
+    let V = g.R.Rig.view in
+    let a = V c.args.rig.now in
+    let b = V c.open.new.rig in
+    let cs = commands_in c.args.commands.now in
+    let P : Fault → Type 0 = λ e. RunStops c.args.table.now cs a b e in
+    at_fault P _ c.from_residual-in_err-check_commands.result c.from_residual-in_err-check_commands.ensures.1
+    (inl (λ torn. told_stops 0x7F _ torn _ a b c.in_err-check_commands.ensures.named (c.in_ok-opened.ensures.order torn)))
+
+pub returns-in_err-outcomes-clause-stops : goal.returns-in_err-outcomes-clause-stops
+returns-in_err-outcomes-clause-stops g c =
+    let V = g.R.Rig.view in
+    let l = c.in_ok-opened.opened.journal in
+    let a = V c.args.rig.now in
+    let b = V c.open.new.rig in
+    let d = V c.run_commands.new.rig in
+    let chip = c.in_ok-opened.opened.chip.now in
+    let cs = commands_in c.args.commands.now in
+    let reached = c.in_ok-opened.ensures.order l.is_torn in
+    let P : Fault → Type 0 = λ e. RunStops c.args.table.now cs a d e in
+    at_fault P _ c.from_residual-in_err-outcomes.result c.from_residual-in_err-outcomes.ensures.1
+    (inr (record {
+      journal = l;
+      loaded = c.in_ok-opened.ensures.loaded;
+      chip = chip;
+      listed = c.in_ok-opened.ensures.coherent.chip;
+      version = reached.0;
+      codes = reached.1;
+      calls = reached_stops 0x7F chip.id reached.0 reached.1 (AreBegun chip cs l.state) _ l.is_torn a b d reached.2 c.in_err-outcomes.ensures.stops;
+    }))
 
 pub returns-in_err-opened-clause-puts : goal.returns-in_err-opened-clause-puts
 returns-in_err-opened-clause-puts g c =

@@ -20,6 +20,10 @@ use Rattle.stm_session.proofs.SentParts.{commands_next, commands_within}
 use Rattle.stm_session.specs.Order.{Follows}
 use Rattle.stm_session.specs.RunOrder.{AreDone, none as none_done, more}
 use Rattle.stm_session.proofs.Orders.{does_nothing, does_then}
+use Rattle.std.proofs.Common.{drop, inl, inr}
+use Rattle.stm_session.specs.RunOrder.{AreBegun, IsBegunBy}
+use Rattle.stm_session.proofs.CutShort.{memory_stops, then_stops}
+use Rattle.stm_session.proofs.RunLoop.{commands_split}
 use Rattle.stm_session.proofs.running.run_commands.Goals as goal
 
 pub returns-in_err-reserve_exact-clause-honest : goal.returns-in_err-reserve_exact-clause-honest
@@ -173,3 +177,38 @@ returns-clause-order g c =
     let all : commands_in (take i cs) ≡ commands_in cs = ap commands_in (take_all i cs (omega (arith, c.loop-command-test.false))) in
     let P : List CommandData → Type 0 = λ ys. Follows (AreDone c.args.chip.now ys l.state l2.state) l l2 (V c.args.rig.now) (V c.loop-command.rig) in
     subst P all c.loop-command.invariant.order
+
+pub returns-in_err-reserve_exact-clause-stops : goal.returns-in_err-reserve_exact-clause-stops
+returns-in_err-reserve_exact-clause-stops g c =
+    let a = g.R.Rig.view c.args.rig.now in
+    let l = c.args.journal.now in
+    let Begun = AreBegun c.args.chip.now (commands_in c.args.commands.now) l.state in
+    memory_stops Begun l.is_torn [] a a c.from_residual.result c.from_residual.ensures.1 (inl refl) (does_nothing l a).acts
+
+pub returns-in_err-outcome-clause-stops : goal.returns-in_err-outcome-clause-stops
+returns-in_err-outcome-clause-stops g c =
+    let V = g.R.Rig.view in
+    let chip = c.args.chip.now in
+    let l = c.args.journal.now in
+    let l2 = c.loop-command.journal in
+    let i = c.loop-command.command-index in
+    let cs = c.args.commands.now in
+    let next = c.command-item.result in
+    let so_far = c.loop-command.invariant.order in
+    let One = IsBegunBy chip (command_data next) l2.state in
+    let split = commands_split cs i next c.loop-command-test.true c.command-item.is in
+    then_stops One (AreBegun chip (commands_in cs) l.state) so_far.0 l l2 (V c.args.rig.now) (V c.loop-command.rig) (V c.run_command.new.rig) _ c.from_residual-in_err-outcome.result c.from_residual-in_err-outcome.ensures.1
+    so_far.2 c.in_err-outcome.ensures.stops
+    (λ ys begun.
+    inr (record {
+      earlier = commands_in (take i cs);
+      command = command_data next;
+      later = commands_in (drop (i + 1) cs);
+      split = split;
+      mid = l2.state;
+      before = so_far.0;
+      are_done = so_far.1;
+      own = ys;
+      is_begun = begun;
+      is = refl;
+    }))

@@ -11,6 +11,10 @@ use Rattle.std.proofs.Common.{◌++◌, List, refl}
 use Rattle.stm_session.specs.ChangeOrder.{AreBothSaved}
 use Rattle.stm_session.specs.Order.{Step, Adds}
 use Rattle.stm_session.proofs.Orders.{does_then}
+use Rattle.std.proofs.Common.{ap, refl}
+use Rattle.stm_session.specs.ChangeOrder.{IsCompanionSaved}
+use Rattle.stm_session.specs.Order.{Are, Begin}
+use Rattle.stm_session.proofs.CutShort.{begin_after, begin_on, part_stops, then_stops}
 use Rattle.stm_session.proofs.saving.save_both.Goals as goal
 
 pub save_page-requires-clause-may : goal.save_page-requires-clause-may
@@ -88,3 +92,23 @@ returns-clause-order g c =
     let own : List Step = Adds (Keeps 1 c.args.held.now ∷ []) ∷ [] in
     let saved : AreBothSaved c.args.chip.now 1 c.args.held.now (first.0 ++ own) = record { first = first.0; is_first = first.1; is = refl } in
     (first.0 ++ own, saved, does_then first.0 own c.args.journal.now c.save_companion.new.journal c.save_page.new.journal (V c.args.rig.now) (V c.save_companion.new.rig) (V c.save_page.new.rig) first.2 c.in_ok-save_page.ensures.order)
+
+pub returns-in_err-save_companion-clause-stops : goal.returns-in_err-save_companion-clause-stops
+returns-in_err-save_companion-clause-stops g c =
+    let V = g.R.Rig.view in
+    let chip = c.args.chip.now in
+    let held = c.args.held.now in
+    let own : List Step = Adds (Keeps 1 held ∷ []) ∷ [] in
+    part_stops (Begin (IsCompanionSaved chip)) (Begin (AreBothSaved chip 1 held)) c.args.journal.now.is_torn (V c.args.rig.now) (V c.save_companion.new.rig) _ c.from_residual.result c.from_residual.ensures.1
+    (begin_on (IsCompanionSaved chip) (AreBothSaved chip 1 held) (λ xs saved. (own, record { first = xs; is_first = saved; is = refl }))) c.in_err-save_companion.ensures.stops
+
+pub returns-in_err-save_page-clause-stops : goal.returns-in_err-save_page-clause-stops
+returns-in_err-save_page-clause-stops g c =
+    let V = g.R.Rig.view in
+    let chip = c.args.chip.now in
+    let held = c.args.held.now in
+    let first = c.in_ok-save_companion.ensures.order in
+    let own : List Step = Adds (Keeps 1 held ∷ []) ∷ [] in
+    then_stops (Begin (Are own)) (Begin (AreBothSaved chip 1 held)) first.0 c.args.journal.now c.save_companion.new.journal (V c.args.rig.now) (V c.save_companion.new.rig) (V c.save_page.new.rig) _
+    c.from_residual-in_err-save_page.result c.from_residual-in_err-save_page.ensures.1 first.2 c.in_err-save_page.ensures.stops
+    (begin_after (Are own) (AreBothSaved chip 1 held) first.0 (λ ys is. record { first = first.0; is_first = first.1; is = ap (λ (zs : List Step). first.0 ++ zs) is }))

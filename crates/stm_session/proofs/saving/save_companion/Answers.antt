@@ -13,8 +13,10 @@ use Rattle.stm_session.proofs.SentParts.{part_after, part_fails, part_fails_afte
 use Rattle.std.proofs.Common.{◌/◌, ◌++◌, ap₂, length, refl, rules}
 use Rattle.stm_wire.specs.Chip.{page_size}
 use Rattle.stm_session.specs.ChangeOrder.{IsCompanionSaved}
-use Rattle.stm_session.specs.Order.{Step, Adds, page_reads, read_steps}
-use Rattle.stm_session.proofs.Orders.{does_as, does_reads, does_then}
+use Rattle.stm_session.specs.Fault.{Cause}
+use Rattle.stm_session.specs.Order.{Step, Adds, Are, Begin, StopsBy, page_reads}
+use Rattle.stm_session.proofs.CutShort.{begin_after, by_fault, page_was_read, page_stops, then_stops}
+use Rattle.stm_session.proofs.Orders.{does_then}
 use Rattle.stm_session.proofs.saving.save_companion.Goals as goal
 
 pub returns-in_err-held-clause-honest : goal.returns-in_err-held-clause-honest
@@ -106,10 +108,44 @@ returns-clause-order g c =
     let start = c.page_start-start.result in
     let size = c.page_size-size.result in
     let here : InPage chip 257 start size = record { exists = c.requires.exists; begins = omega (arith, c.page_start-start.ensures.address); ends = omega (arith, c.page_start-start.ensures.address, c.page_size-size.ensures.bytes) } in
-    let reads = read_steps start (size / 256) in
-    let read = does_reads l start (size / 256) a b (c.in_ok-held.ensures.order 257 here c.page_size-size.ensures.blocks.1 l.is_torn) in
-    let whole : reads ≡ page_reads chip 257 = ap₂ (λ (k z : ℕ). read_steps k (z / 256)) c.page_start-start.ensures.address c.page_size-size.ensures.bytes in
-    let own : List Step = Adds (Keeps 257 c.deref.result.now ∷ []) ∷ [] in
-    let many : length c.deref.result.now ≡ page_size chip 257 = search rules in
-    let saved : IsCompanionSaved chip (page_reads chip 257 ++ own) = record { other = c.deref.result.now; size = many; is = refl } in
-    (page_reads chip 257 ++ own, saved, does_as (reads ++ own) (page_reads chip 257 ++ own) l l2 a d (ap (λ (ss : List Step). ss ++ own) whole) (does_then reads own l l l2 a b d read c.in_ok-save_page.ensures.order))
+    let held = c.deref.result.now in
+    let reads = page_reads chip 257 held in
+    let read = page_was_read chip 257 l start size c.in_ok-held.held.items held a b c.page_start-start.ensures.address c.page_size-size.ensures.bytes (search rules) (c.in_ok-held.ensures.order 257 here c.page_size-size.ensures.blocks.1 l.is_torn) in
+    let own : List Step = Adds (Keeps 257 held ∷ []) ∷ [] in
+    let many : length held ≡ page_size chip 257 = search rules in
+    let saved : IsCompanionSaved chip (reads ++ own) = record { other = held; size = many; is = refl } in
+    (reads ++ own, saved, does_then reads own l l l2 a b d read c.in_ok-save_page.ensures.order)
+
+pub returns-in_err-held-clause-stops : goal.returns-in_err-held-clause-stops
+returns-in_err-held-clause-stops g c =
+    let V = g.R.Rig.view in
+    let chip = c.args.chip.now in
+    let torn = c.args.journal.now.is_torn in
+    let a = V c.args.rig.now in
+    let b = V c.read_range.new.rig in
+    let start = c.page_start-start.result in
+    let size = c.page_size-size.result in
+    let here : InPage chip 257 start size = record { exists = c.requires.exists; begins = omega (arith, c.page_start-start.ensures.address); ends = omega (arith, c.page_start-start.ensures.address, c.page_size-size.ensures.bytes) } in
+    by_fault (λ (k : Cause). StopsBy (Begin (IsCompanionSaved chip)) k torn a b) _ c.from_residual.result c.from_residual.ensures.1
+    (page_stops (IsCompanionSaved chip) chip 257 start size _ torn a b c.page_start-start.ensures.address c.page_size-size.ensures.bytes (λ held many. (Adds (Keeps 257 held ∷ []) ∷ [], record { other = held; size = many; is = refl }))
+    (c.in_err-held.ensures.order_stops 257 here c.page_size-size.ensures.blocks.1 torn))
+
+pub returns-in_err-save_page-clause-stops : goal.returns-in_err-save_page-clause-stops
+returns-in_err-save_page-clause-stops g c =
+    let V = g.R.Rig.view in
+    let chip = c.args.chip.now in
+    let l = c.args.journal.now in
+    let l2 = c.save_page.new.journal in
+    let a = V c.args.rig.now in
+    let b = V c.read_range.new.rig in
+    let d = V c.save_page.new.rig in
+    let start = c.page_start-start.result in
+    let size = c.page_size-size.result in
+    let here : InPage chip 257 start size = record { exists = c.requires.exists; begins = omega (arith, c.page_start-start.ensures.address); ends = omega (arith, c.page_start-start.ensures.address, c.page_size-size.ensures.bytes) } in
+    let held = c.deref.result.now in
+    let reads = page_reads chip 257 held in
+    let read = page_was_read chip 257 l start size c.in_ok-held.held.items held a b c.page_start-start.ensures.address c.page_size-size.ensures.bytes (search rules) (c.in_ok-held.ensures.order 257 here c.page_size-size.ensures.blocks.1 l.is_torn) in
+    let own : List Step = Adds (Keeps 257 held ∷ []) ∷ [] in
+    let many : length held ≡ page_size chip 257 = search rules in
+    then_stops (Begin (Are own)) (Begin (IsCompanionSaved chip)) reads l l a b d _ c.from_residual-in_err-save_page.result c.from_residual-in_err-save_page.ensures.1 read c.in_err-save_page.ensures.stops
+    (begin_after (Are own) (IsCompanionSaved chip) reads (λ ys is. record { other = held; size = many; is = ap (λ (zs : List Step). reads ++ zs) is }))

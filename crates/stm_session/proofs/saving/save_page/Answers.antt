@@ -13,6 +13,9 @@ use Rattle.stm_session.proofs.SentParts.{line_part}
 use Rattle.std.proofs.Common.{ap}
 use Rattle.stm_journal.specs.Journals.{Loaded}
 use Rattle.stm_session.proofs.Orders.{does_add}
+use Rattle.std.proofs.Common.{List, refl}
+use Rattle.stm_session.specs.Order.{Step, Adds, Are, Begin}
+use Rattle.stm_session.proofs.CutShort.{append_stops}
 use Rattle.stm_session.proofs.saving.save_page.Goals as goal
 
 pub returns-clause-saved : goal.returns-clause-saved
@@ -58,3 +61,10 @@ returns-clause-order g c =
     let V = g.R.Rig.view in
     does_add (tt {0}) (Keeps c.args.n c.args.held.now ∷ []) c.args.journal.now c.keep_page.new.self (V c.args.rig.now) (V c.keep_page.new.rig) c.in_ok-keep_page.ensures.calls
     (ap (λ (m : Loaded). m.is_torn) c.in_ok-keep_page.ensures.after)
+
+pub returns-in_err-keep_page-clause-stops : goal.returns-in_err-keep_page-clause-stops
+returns-in_err-keep_page-clause-stops g c =
+    let V = g.R.Rig.view in
+    let all : List Step = Adds (Keeps c.args.n c.args.held.now ∷ []) ∷ [] in
+    append_stops (Unit {0}) (Begin (Are all)) c.args.journal.now.is_torn (Keeps c.args.n c.args.held.now ∷ []) _ (V c.args.rig.now) (V c.keep_page.new.rig) c.from_residual.result c.from_residual.ensures.1
+    (all, refl) ([], refl) c.in_err-keep_page.ensures.calls

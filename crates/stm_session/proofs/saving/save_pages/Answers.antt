@@ -14,6 +14,9 @@ use Rattle.std.proofs.Common.{List}
 use Rattle.stm_session.specs.Order.{Step, Adds}
 use Rattle.stm_session.proofs.ChangeOrders.{saved_both, saved_none, saved_one}
 use Rattle.stm_session.proofs.Orders.{does_nothing}
+use Rattle.stm_session.specs.ChangeOrder.{AreBothSaved, IsSaved}
+use Rattle.stm_session.specs.Order.{Are, Begin}
+use Rattle.stm_session.proofs.CutShort.{begin_as, part_stops}
 use Rattle.stm_session.proofs.saving.save_pages.Goals as goal
 
 pub returns-then-kept-clause-honest : goal.returns-then-kept-clause-honest
@@ -112,3 +115,22 @@ pub returns-clause-order : goal.returns-clause-order
 returns-clause-order g c =
     let own : List Step = Adds (Keeps c.args.n c.args.held.now ∷ []) ∷ [] in
     (own, saved_one c.args.kept c.args.chip.now c.args.n c.args.held.now own c.if-kept.false (sym c.has_other.ensures ∙ c.if-has_other.false) refl, c.in_ok-save_page.ensures.order)
+
+pub returns-in_err-save_both-clause-stops : goal.returns-in_err-save_both-clause-stops
+returns-in_err-save_both-clause-stops g c =
+    let V = g.R.Rig.view in
+    let chip = c.args.chip.now in
+    let held = c.args.held.now in
+    let Saved = IsSaved c.args.kept chip c.args.n held in
+    part_stops (Begin (AreBothSaved chip 1 held)) (Begin Saved) c.args.journal.now.is_torn (V c.args.rig.now) (V c.save_both.new.rig) _ c.from_residual.result c.from_residual.ensures.1
+    (begin_as (AreBothSaved chip 1 held) Saved (λ xs both. saved_both c.args.kept chip c.args.n held xs c.if-kept.false (sym c.has_other.ensures ∙ c.if-has_other.true) both)) c.in_err-save_both.ensures.stops
+
+pub returns-in_err-save_page-clause-stops : goal.returns-in_err-save_page-clause-stops
+returns-in_err-save_page-clause-stops g c =
+    let V = g.R.Rig.view in
+    let chip = c.args.chip.now in
+    let held = c.args.held.now in
+    let own : List Step = Adds (Keeps c.args.n held ∷ []) ∷ [] in
+    let Saved = IsSaved c.args.kept chip c.args.n held in
+    part_stops (Begin (Are own)) (Begin Saved) c.args.journal.now.is_torn (V c.args.rig.now) (V c.save_page.new.rig) _ c.from_residual-in_err-save_page.result c.from_residual-in_err-save_page.ensures.1
+    (begin_as (Are own) Saved (λ xs one. saved_one c.args.kept chip c.args.n held xs c.if-kept.false (sym c.has_other.ensures ∙ c.if-has_other.false) one)) c.in_err-save_page.ensures.stops

@@ -18,6 +18,10 @@ use Rattle.stm_session.proofs.Sending.{same_fault}
 use Rattle.std.proofs.Common.{[], ℕ, ◌++◌, subst}
 use Rattle.stm_session.specs.Order.{Follows, AreReturned, IsReturned}
 use Rattle.stm_session.proofs.Orders.{does_nothing, does_then, returned_next}
+use Rattle.std.proofs.Common.{List}
+use Rattle.stm_session.specs.Order.{Step, Begin}
+use Rattle.stm_session.proofs.CutShort.{then_stops}
+use Rattle.stm_session.proofs.UndoOrders.{return_begun}
 use Rattle.stm_session.proofs.taking_back.restore_lines.Goals as goal
 
 pub loop-i-init : goal.loop-i-init
@@ -159,3 +163,21 @@ returns-clause-order g c =
     let all = take_all c.loop-i.i pages (omega (arith, c.loop-i-test.false, c.kept_count-count.ensures, many)) in
     let P : List Kept → Type 0 = λ ks. Follows (AreReturned c.args.chip.now ks) c.args.journal.now c.loop-i.journal (V c.args.rig.now) (V c.loop-i.rig) in
     subst P all c.loop-i.invariant.order
+
+pub returns-in_err-restore_line-clause-stops : goal.returns-in_err-restore_line-clause-stops
+returns-in_err-restore_line-clause-stops g c =
+    let V = g.R.Rig.view in
+    let chip = c.args.chip.now in
+    let l = c.args.journal.now in
+    let pages = newest_kept l.state.stack in
+    let so_far = c.loop-i.invariant in
+    let lt : c.loop-i.i < kept_count l.state c.depth-newest.result = omega (arith, c.loop-i-test.true, c.kept_count-count.ensures) in
+    let kept = the_kept l.state c.loop-i.journal.state c.depth-newest.result c.loop-i.i so_far.same c.depth-newest.ensures.value lt chip c.in-Some-kept.n c.in-Some-kept.field-0-1
+    c.requires.fits (sym c.in-Some-kept.ensures) in
+    let before = so_far.order in
+    let One : ℕ → List Step → Type 0 = λ m. Begin (IsReturned chip m) in
+    then_stops (One c.in-Some-kept.n) (Begin (AreReturned chip pages)) before.0 l c.loop-i.journal (V c.args.rig.now) (V c.loop-i.rig) (V c.restore_line.new.rig) _ c.from_residual.result c.from_residual.ensures.1
+    before.2 c.in_err-restore_line.ensures.stops
+    (λ ys begun.
+    let P : ℕ → Type 0 = λ m. One m ys in
+    return_begun chip pages c.loop-i.i kept.0 before.0 kept.1 before.1 ys (subst P (sym kept.2) begun))

@@ -14,6 +14,10 @@ use Rattle.stm_journal.specs.Journals.{Loaded}
 use Rattle.stm_session.specs.Order.{Adds, Follows, IsTakenBack}
 use Rattle.stm_session.specs.Undoable.{newest_kept}
 use Rattle.stm_session.proofs.Orders.{does_add, does_then}
+use Rattle.std.proofs.Common.{List, refl}
+use Rattle.stm_session.specs.Fault.{Cause}
+use Rattle.stm_session.specs.Order.{Step, Are, AreReturned, Begin, Stops, StopsBy}
+use Rattle.stm_session.proofs.CutShort.{begin_after, begin_on, by_fault, line_stops, part_stops, stop_after}
 use Rattle.stm_session.proofs.taking_back.take_back.Goals as goal
 
 pub returns-in_err-restore_lines-clause-honest : goal.returns-in_err-restore_lines-clause-honest
@@ -108,3 +112,35 @@ returns-clause-order g c =
     let taken : IsTakenBack c.args.chip.now pages k (first.0 ++ Adds (Undoes k ∷ []) ∷ []) = record { returns = first.0; are_returns = first.1; is = refl } in
     let P : ℕ → Type 0 = λ m. Follows (IsTakenBack c.args.chip.now pages m) l l3 a d in
     subst P c.in_ok-restore_lines.ensures.same.depth (first.0 ++ Adds (Undoes k ∷ []) ∷ [], taken, does_then first.0 (Adds (Undoes k ∷ []) ∷ []) l l2 l3 a b d first.2 last)
+
+pub returns-in_err-restore_lines-clause-stops : goal.returns-in_err-restore_lines-clause-stops
+returns-in_err-restore_lines-clause-stops g c =
+    let V = g.R.Rig.view in
+    let chip = c.args.chip.now in
+    let l = c.args.journal.now in
+    let pages = newest_kept l.state.stack in
+    let k = length l.state.stack in
+    let own : List Step = Adds (Undoes k ∷ []) ∷ [] in
+    part_stops (Begin (AreReturned chip pages)) (Begin (IsTakenBack chip pages k)) l.is_torn (V c.args.rig.now) (V c.restore_lines.new.rig) _ c.from_residual.result c.from_residual.ensures.1
+    (begin_on (AreReturned chip pages) (IsTakenBack chip pages k) (λ xs returned. (own, record { returns = xs; are_returns = returned; is = refl }))) c.in_err-restore_lines.ensures.stops
+
+pub returns-in_err-undone-clause-stops : goal.returns-in_err-undone-clause-stops
+returns-in_err-undone-clause-stops g c =
+    let V = g.R.Rig.view in
+    let chip = c.args.chip.now in
+    let l = c.args.journal.now in
+    let l2 = c.restore_lines.new.journal in
+    let a = V c.args.rig.now in
+    let b = V c.restore_lines.new.rig in
+    let d = V c.undone.new.rig in
+    let pages = newest_kept l.state.stack in
+    let k = length l2.state.stack in
+    let own : List Step = Adds (Undoes k ∷ []) ∷ [] in
+    let first = c.in_ok-restore_lines.ensures.order in
+    let Taken : ℕ → List Step → Type 0 = λ m. IsTakenBack chip pages m in
+    let P : ℕ → Type 0 = λ m. Stops (Begin (Taken m)) l.is_torn a d c.from_residual-in_err-undone.result in
+    subst P c.in_ok-restore_lines.ensures.same.depth
+    (by_fault (λ (cause : Cause). StopsBy (Begin (Taken k)) cause l.is_torn a d) _ c.from_residual-in_err-undone.result c.from_residual-in_err-undone.ensures.1
+    (stop_after (Begin (Are own)) (Begin (Taken k)) _ first.0 l l2 a b d first.2
+    (line_stops (Unit {0}) (Begin (Are own)) l2.is_torn (Undoes k ∷ []) _ b d (own, refl) ([], refl) c.in_err-undone.ensures.calls)
+    (begin_after (Are own) (Taken k) first.0 (λ ys is. record { returns = first.0; are_returns = first.1; is = ap (λ (zs : List Step). first.0 ++ zs) is }))))

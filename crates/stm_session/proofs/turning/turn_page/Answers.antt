@@ -17,9 +17,12 @@ use Rattle.stm_session.specs.Sending.{most_of_companion, most_of_page}
 use Rattle.stm_session.proofs.SentParts.{part_after, part_fails, part_fails_after}
 use Rattle.std.proofs.Common.{◌/◌, inl, inr, not, subst}
 use Rattle.std.specs.Prelude.{bytes_eq}
-use Rattle.stm_session.specs.ChangeOrder.{IsChanged, IsTurnOf}
-use Rattle.stm_session.specs.Order.{Step, page_reads, read_steps}
-use Rattle.stm_session.proofs.Orders.{does_as, does_nothing, does_reads, does_then}
+use Rattle.stm_session.specs.ChangeOrder.{IsChanged, IsTurn, IsTurnOf}
+use Rattle.stm_session.specs.Fault.{Cause}
+use Rattle.stm_session.specs.Order.{Begin, StopsBy, page_reads}
+use Rattle.stm_session.proofs.ChangeOrders.{some_turn, turn_of}
+use Rattle.stm_session.proofs.CutShort.{begin_after, by_fault, memory_stops, page_stops, page_was_read, then_stops}
+use Rattle.stm_session.proofs.Orders.{does_nothing, does_then}
 use Rattle.stm_session.proofs.turning.turn_page.Goals as goal
 
 pub returns-then-not-touches-clause-turned : goal.returns-then-not-touches-clause-turned
@@ -180,15 +183,14 @@ returns-clause-order g c =
     let start = c.page_start-start.result in
     let size = c.page_size-size.result in
     let here : InPage chip n start size = record { exists = c.requires.exists; begins = omega (arith, c.page_start-start.ensures.address); ends = omega (arith, c.page_start-start.ensures.address, c.page_size-size.ensures.bytes) } in
-    let reads = read_steps start (size / 256) in
-    let read = does_reads l start (size / 256) a b (c.in_ok-held.ensures.order n here c.page_size-size.ensures.blocks.1 l.is_torn) in
-    let whole : reads ≡ page_reads chip n = ap₂ (λ (k z : ℕ). read_steps k (z / 256)) c.page_start-start.ensures.address c.page_size-size.ensures.bytes in
     let held = c.deref-2.result.now in
+    let reads = page_reads chip n held in
+    let read = page_was_read chip n l start size c.in_ok-held.held.items held a b c.page_start-start.ensures.address c.page_size-size.ensures.bytes (search rules) (c.in_ok-held.ensures.order n here c.page_size-size.ensures.blocks.1 l.is_torn) in
     let made = content chip c.args.change.now n in
     let page_is : c.deref-3.result.now ≡ made held = c.deref-3.ensures.value ∙ c.in_ok-page.ensures.bytes ∙ ap made (c.deref.ensures.value ∙ sym c.deref-2.ensures.value) in
     let many : length held ≡ page_size chip n = search rules in
     let later = c.in_ok-changed.ensures.order in
-    let steps = page_reads chip n ++ later.0 in
+    let steps = reads ++ later.0 in
     let P : List ℕ → Type 0 = λ p. IsChanged c.args.kept chip n held p later.0 in
     let turned : IsTurnOf c.args.kept chip c.args.change.now n c.in_ok-changed.changed steps =
     inr (record {
@@ -200,4 +202,61 @@ returns-clause-order g c =
       is_changed = subst P page_is later.1;
       is = refl;
     }) in
-    (steps, turned, does_as (reads ++ later.0) steps l l2 a d (ap (λ (ss : List Step). ss ++ later.0) whole) (does_then reads later.0 l l l2 a b d read later.2))
+    (steps, turned, does_then reads later.0 l l l2 a b d read later.2)
+
+pub returns-in_err-held-clause-stops : goal.returns-in_err-held-clause-stops
+returns-in_err-held-clause-stops g c =
+    let V = g.R.Rig.view in
+    let chip = c.args.chip.now in
+    let n = c.args.n in
+    let torn = c.args.journal.now.is_torn in
+    let a = V c.args.rig.now in
+    let b = V c.read_range.new.rig in
+    let start = c.page_start-start.result in
+    let size = c.page_size-size.result in
+    let here : InPage chip n start size = record { exists = c.requires.exists; begins = omega (arith, c.page_start-start.ensures.address); ends = omega (arith, c.page_start-start.ensures.address, c.page_size-size.ensures.bytes) } in
+    let Turn = IsTurn c.args.kept chip c.args.change.now n in
+    by_fault (λ (k : Cause). StopsBy (Begin Turn) k torn a b) _ c.from_residual.result c.from_residual.ensures.1
+    (page_stops Turn chip n start size _ torn a b c.page_start-start.ensures.address c.page_size-size.ensures.bytes (some_turn c.args.kept chip c.args.change.now n (c.touches.ensures.may c.if-not-touches.false))
+    (c.in_err-held.ensures.order_stops n here c.page_size-size.ensures.blocks.1 torn))
+
+pub returns-in_err-page-clause-stops : goal.returns-in_err-page-clause-stops
+returns-in_err-page-clause-stops g c =
+    let V = g.R.Rig.view in
+    let chip = c.args.chip.now in
+    let n = c.args.n in
+    let l = c.args.journal.now in
+    let a = V c.args.rig.now in
+    let b = V c.read_range.new.rig in
+    let start = c.page_start-start.result in
+    let size = c.page_size-size.result in
+    let here : InPage chip n start size = record { exists = c.requires.exists; begins = omega (arith, c.page_start-start.ensures.address); ends = omega (arith, c.page_start-start.ensures.address, c.page_size-size.ensures.bytes) } in
+    let held = c.in_ok-held.held.items in
+    let many : length held ≡ page_size chip n = search rules in
+    let read = page_was_read chip n l start size held held a b c.page_start-start.ensures.address c.page_size-size.ensures.bytes refl (c.in_ok-held.ensures.order n here c.page_size-size.ensures.blocks.1 l.is_torn) in
+    memory_stops (Begin (IsTurn c.args.kept chip c.args.change.now n)) l.is_torn (page_reads chip n held) a b c.from_residual-in_err-page.result c.from_residual-in_err-page.ensures.1
+    (some_turn c.args.kept chip c.args.change.now n (c.touches.ensures.may c.if-not-touches.false) held many) read.acts
+
+pub returns-in_err-changed-clause-stops : goal.returns-in_err-changed-clause-stops
+returns-in_err-changed-clause-stops g c =
+    let V = g.R.Rig.view in
+    let chip = c.args.chip.now in
+    let n = c.args.n in
+    let l = c.args.journal.now in
+    let a = V c.args.rig.now in
+    let b = V c.read_range.new.rig in
+    let d = V c.change_page.new.rig in
+    let start = c.page_start-start.result in
+    let size = c.page_size-size.result in
+    let here : InPage chip n start size = record { exists = c.requires.exists; begins = omega (arith, c.page_start-start.ensures.address); ends = omega (arith, c.page_start-start.ensures.address, c.page_size-size.ensures.bytes) } in
+    let held = c.deref-2.result.now in
+    let reads = page_reads chip n held in
+    let read = page_was_read chip n l start size c.in_ok-held.held.items held a b c.page_start-start.ensures.address c.page_size-size.ensures.bytes (search rules) (c.in_ok-held.ensures.order n here c.page_size-size.ensures.blocks.1 l.is_torn) in
+    let made = content chip c.args.change.now n in
+    let page = c.deref-3.result.now in
+    let page_is : page ≡ made held = c.deref-3.ensures.value ∙ c.in_ok-page.ensures.bytes ∙ ap made (c.deref.ensures.value ∙ sym c.deref-2.ensures.value) in
+    let many : length held ≡ page_size chip n = search rules in
+    let Made = IsChanged c.args.kept chip n held page in
+    let Turn = IsTurn c.args.kept chip c.args.change.now n in
+    then_stops (Begin Made) (Begin Turn) reads l l a b d _ c.from_residual-in_err-changed.result c.from_residual-in_err-changed.ensures.1 read c.in_err-changed.ensures.stops
+    (begin_after Made Turn reads (λ ys changed. turn_of c.args.kept chip c.args.change.now n held page ys (c.touches.ensures.may c.if-not-touches.false) many page_is changed))

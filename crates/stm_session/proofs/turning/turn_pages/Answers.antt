@@ -19,6 +19,9 @@ use Rattle.stm_session.proofs.SentChanges.{turned_next, turned_within}
 use Rattle.stm_session.specs.ChangeOrder.{AreAllTurned, AreTurned, none}
 use Rattle.stm_session.proofs.ChangeOrders.{all_turned}
 use Rattle.stm_session.proofs.Orders.{does_nothing, does_then}
+use Rattle.stm_session.specs.ChangeOrder.{AreBegunTurns, IsTurn}
+use Rattle.stm_session.specs.Order.{Step, Begin}
+use Rattle.stm_session.proofs.CutShort.{then_stops}
 use Rattle.stm_session.proofs.turning.turn_pages.Goals as goal
 
 pub loop-n-init : goal.loop-n-init
@@ -180,3 +183,18 @@ returns-clause-order g c =
     let P : ℕ → Type 0 = λ m. AreTurned k c.args.change.now m c.loop-n.first done.0 in
     let turned : AreAllTurned k c.args.change.now done.0 = (c.loop-n.first, subst P all done.1) in
     (done.0, turned, done.2)
+
+pub returns-in_err-changed-clause-stops : goal.returns-in_err-changed-clause-stops
+returns-in_err-changed-clause-stops g c =
+    let V = g.R.Rig.view in
+    let chip = c.args.chip.now in
+    let change = c.args.change.now in
+    let n = c.loop-n.n in
+    let so_far = c.loop-n.invariant.order in
+    let here : n < page_count chip = omega (arith, c.loop-n-test.true, c.pages-n-end.ensures) in
+    let Turn : Bool → List Step → Type 0 = λ k. IsTurn k chip change n in
+    then_stops (Begin (Turn c.is_kept-kept.result)) (AreBegunTurns chip change) so_far.0 c.args.journal.now c.loop-n.journal (V c.args.rig.now) (V c.loop-n.rig) (V c.turn_page.new.rig) _ c.from_residual.result c.from_residual.ensures.1
+    so_far.2 c.in_err-changed.ensures.stops
+    (λ ys begun.
+    let P : Bool → Type 0 = λ k. Begin (Turn k) ys in
+    record { page = n; exists = here; first = c.loop-n.first; before = so_far.0; are_turned = so_far.1; own = ys; is_begun = subst P c.is_kept-kept.ensures begun; is = refl })

@@ -1,0 +1,87 @@
+-- How sessions end that reached no device, or another one.
+use Rattle.std.proofs.Common.{◌≡◌, inl, inr, ⊎_elim, ℕ, Bool, List, [], ◌∷◌, ◌++◌, None, Result, Ok, Err, IsErrAnd, refl, sym, ◌∙◌, ap, subst, append-nil}
+use Rattle.std.specs.Prelude.{IfErr, IfOk, Option}
+use Rattle.stm_wire.specs.declared.rig.RigCall.{RigCall}
+use Rattle.stm_wire.specs.Dialogue.{GoesOn}
+use Rattle.stm_wire.specs.DialogueLaws.{GoesOn-append, GoesOn-weaker}
+use Rattle.stm_wire.specs.Rig.{RigState}
+use Rattle.stm_wire.specs.Settling.{SettlesWithin}
+use Rattle.stm_wire.specs.SettlingCalls.{EndsSettled}
+use Rattle.stm_journal.specs.Calls.{AreFetches}
+use Rattle.stm_session.specs.declared.fault.Fault.{Fault}
+use Rattle.stm_session.specs.Fault.{Cause, IsHeard, IsRefusedLater, of_file, of_line, of_memory, of_protocol, of_refusal, of_session}
+use Rattle.stm_session.specs.Order.{Step, AreCutShort, Begin, FailsBy, IsAfter, IsAsking, ReachesInOrder, ReachesInPart, Sends, SettlesFirst, SettlesThen, StopsBy, acts_of, acts_of_steps, asking_steps, id_turns}
+use Rattle.stm_session.proofs.CutShort.{begin_all, cut_after}
+use Rattle.stm_session.proofs.Orders.{acts-append, acts-line, fetched_and, fetches-act, settled_and, settles_and}
+
+-- what follows at a fault from what holds there
+pub err_then : {T : Type 0} (r : Result T Fault) (A B : Fault → Type 0) → ((e : Fault) → A e → B e) → IfErr r A → IfErr r B
+err_then (Ok x) A B then p = tt
+err_then (Err e) A B then p = then e p
+
+pub at_fault : {U : Type 0} (P : Fault → Type 0) (e : Fault) (result : Result U Fault) → IsErrAnd result (λ x. x ≡ e) → P e → IfErr result P
+at_fault P e (Ok x) is p = absurd is
+at_fault P e (Err x) is p = subst P (sym is) p
+
+pub told_then : {T : Type 0} (r : Result T Fault) (A B : T → Type 0) → ((x : T) → A x → B x) → IfOk r A → IfOk r B
+told_then (Ok x) A B then p = then x p
+told_then (Err e) A B then p = tt
+
+module _ (byte : ℕ) (cause : Cause) (torn : Bool) where
+  -- settling ends
+  pub settle_stops : (a b : Option (List RigCall)) → IsHeard cause → GoesOn (SettlesWithin byte 131072) a b → GoesOn (ReachesInPart byte cause torn) a b
+  settle_stops a b heard settles =
+      GoesOn-weaker (SettlesWithin byte 131072) (ReachesInPart byte cause torn) a b settles
+      (λ xs s. inr (inl (heard, subst (λ (l : List RigCall). SettlesWithin byte 131072 l) (sym (acts-line xs s.line)) s)))
+
+  -- the questions do
+  pub asks_stop : (a b c : RigState) → GoesOn (SettlesWithin byte 131072) a.calls b.calls → GoesOn (EndsSettled byte 131072) a.calls b.calls → StopsBy (Begin IsAsking) cause torn b c → GoesOn (ReachesInPart byte cause torn) a.calls c.calls
+  asks_stop a b c settles ends stops =
+      let Cut : List RigCall → Type 0 = λ acts. AreCutShort (Begin IsAsking) cause torn acts in
+      GoesOn-weaker (SettlesThen byte Cut) (ReachesInPart byte cause torn) a.calls c.calls (settles_and byte (λ calls. Cut (acts_of calls)) Cut a.calls b.calls c.calls settles ends stops (λ xs x. x)) (λ xs s. inr (inr s))
+
+  -- the journal can't be read, or is refused
+  pub unread_stops : (a b : Option (List RigCall)) → GoesOn AreFetches a b → GoesOn (ReachesInPart byte cause torn) a b
+  unread_stops a b fetches = GoesOn-weaker AreFetches (ReachesInPart byte cause torn) a b fetches (λ xs are. inl (fetches-act xs are))
+
+  -- it was read before
+  pub fetched_stops : (a b c : Option (List RigCall)) → GoesOn AreFetches a b → GoesOn (ReachesInPart byte cause torn) b c → GoesOn (ReachesInPart byte cause torn) a c
+  fetched_stops a b c fetches stops =
+      GoesOn-append AreFetches (ReachesInPart byte cause torn) (ReachesInPart byte cause torn) a b c fetches stops
+      (λ xs ys x y.
+      let same : acts_of (xs ++ ys) ≡ acts_of ys = acts-append xs ys ∙ ap (λ (l : List RigCall). l ++ acts_of ys) (fetches-act xs x) in
+      ⊎_elim (λ none. inl (same ∙ none))
+      (λ some. ⊎_elim (λ part. inr (inl (part.0, subst (λ (l : List RigCall). SettlesWithin byte 131072 l) (sym same) part.1))) (λ s. inr (inr (s.0, s.1, s.2, s.3, same ∙ s.4, s.5))) some) y)
+
+  idle_later : (k : Cause) (t : Bool) → IsRefusedLater k → FailsBy k t None []
+  idle_later of_refusal t is = refl
+  idle_later of_line t is = absurd is
+  idle_later of_protocol t is = absurd is
+  idle_later of_file t is = absurd is
+  idle_later of_memory t is = absurd is
+  idle_later of_session t is = absurd is
+
+  -- it is another device, or something else is refused
+  pub told_stops : (id : ℕ) (a b : RigState) → IsRefusedLater cause → ReachesInOrder byte id torn a b → GoesOn (ReachesInPart byte cause torn) a.calls b.calls
+  told_stops id a b refused (version, codes, reached) =
+      let steps = asking_steps version codes id in
+      let asking : IsAsking steps =
+      record { first = Sends _ ∷ []; is_get = record { version = version; codes = codes; is = refl }; second = Sends (id_turns id) ∷ []; is_get_id = record { high = _; low = _; is = refl }; is = refl } in
+      GoesOn-weaker (SettlesFirst byte torn steps) (ReachesInPart byte cause torn) a.calls b.calls reached
+      (λ xs s.
+      inr (inr (s.0, s.1, s.2, s.3, s.4, record {
+        done = steps;
+        failed = None;
+        allowed = begin_all IsAsking steps asking;
+        last = [];
+        fails = idle_later cause torn refused;
+        is = s.5 ∙ sym (append-nil (acts_of_steps torn steps));
+      })))
+
+-- what is done behind the questions is cut short
+pub reached_stops : (byte id version : ℕ) (codes : List ℕ) (P : List Step → Type 0) (cause : Cause) (torn : Bool) (a b c : RigState) → GoesOn (SettlesFirst byte torn (asking_steps version codes id)) a.calls b.calls → StopsBy P cause torn b c
+    → GoesOn (SettlesThen byte (AreCutShort (IsAfter (asking_steps version codes id) P) cause torn)) a.calls c.calls
+reached_stops byte id version codes P cause torn a b c reached stops =
+    let steps = asking_steps version codes id in
+    settled_and byte (λ rest. rest ≡ acts_of_steps torn steps) (λ calls. AreCutShort P cause torn (acts_of calls)) (AreCutShort (IsAfter steps P) cause torn) a.calls b.calls c.calls reached stops
+    (λ xs ys x y. cut_after P (IsAfter steps P) cause torn steps (λ own p. (own, refl, p)) xs (acts_of ys) x y)
