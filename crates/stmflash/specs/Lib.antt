@@ -4,6 +4,8 @@ pub mod Conduct
 pub mod Content
 pub mod JournalFile
 pub mod Logging
+pub mod Outgoing
+pub mod ShortWaits
 pub mod SimulatorFile
 pub mod SimulatorFileLaws
 pub mod SimulatorRig

@@ -47,6 +47,9 @@ pub enum Failure<'a> {
     /// Nothing answers at a socket, or it can't be made.
     #[error("cannot connect {0}")]
     CannotConnect(&'a str),
+    /// A device was silent for too long, or didn't take what was sent.
+    #[error("no answer from the device")]
+    NoAnswer,
     /// The words can't be done.
     #[error("{0}")]
     Usage(UsageFault<'a>),

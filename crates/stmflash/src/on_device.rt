@@ -13,12 +13,13 @@ use crate::socket_rig::SocketRig;
 use std::fs;
 use std::fs::Files;
 use std::net::Net;
+use std::time::Clock;
 use stm_chip::{Table, read_table};
 use stm_session::Fault;
 use stm_words::{Device, Options, Task};
 
 /// Does a task on a device.
-pub fn use_device<'a, R: Files + Net + AllocGlobal>(
+pub fn use_device<'a, R: Files + Net + Clock + AllocGlobal>(
     rt: &R,
     options: &Options<'a>,
     task: Task<'a>,
@@ -144,7 +145,7 @@ fn on_simulator<'a, R: Files + AllocGlobal>(
 }
 
 /// Does it on what listens at a socket.
-fn on_socket<'a, R: Files + Net + AllocGlobal>(
+fn on_socket<'a, R: Files + Net + Clock + AllocGlobal>(
     rt: &R,
     options: &Options<'a>,
     action: Action,
@@ -152,7 +153,7 @@ fn on_socket<'a, R: Files + Net + AllocGlobal>(
     path: &'a str,
     out: Option<&'a str>,
 ) -> Result<Answer, Failure<'a>> {
-    let line = match SocketLine::connect(rt, path, u64::from(options.wait)) {
+    let line = match SocketLine::connect(rt, rt, path, u64::from(options.wait), u64::from(options.give_up)) {
         Ok(line) => line,
         Err(e) => return Err(Failure::of_file(&e, Failure::CannotConnect(path))),
     };
@@ -162,6 +163,10 @@ fn on_socket<'a, R: Files + Net + AllocGlobal>(
     }
     let mut rig = SocketRig::new(line, journal);
     let done = action.run(rt.alloc(), &mut rig, table);
+    let has_given_up = rig.has_given_up();
     drop(rig);
-    write_out(rt, done?, out)
+    match done {
+        Err(_) if has_given_up => Err(Failure::NoAnswer),
+        done => write_out(rt, done?, out),
+    }
 }

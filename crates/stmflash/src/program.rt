@@ -10,12 +10,13 @@ use std::env::Env;
 use std::fs::Files;
 use std::io::Write;
 use std::net::Net;
+use std::time::Clock;
 use stm_words::{Request, Unread, read_request};
 
 /// Runs the program on its words, the first of which is its name, and answers the exit status: 0 where all was done or
 /// help was asked for, 1 after a fault, 2 where the words can't be done, 3 where a simulator was stopped. A fault is one
 /// line on `err`; of words that `clap` refuses its text stands there. Nothing is printed while a line or a journal is open.
-pub fn program<R: Env + Files + Net + AllocGlobal, O: Write, E: Write>(
+pub fn program<R: Env + Files + Net + Clock + AllocGlobal, O: Write, E: Write>(
     rt: &R,
     words: &[&str],
     out: &mut O,

@@ -7,12 +7,13 @@ use crate::journal_file::JournalFile;
 use crate::socket_line::SocketLine;
 use std::fs::Files;
 use std::marker::Model;
+use std::time::Clock;
 use stm_wire::{Patience, Rig, RigFault};
 
 /// A device behind a socket, and a journal kept in a file.
 #[derive(Drop)]
 pub struct SocketRig<'a, R: Files> {
-    line: SocketLine,
+    line: SocketLine<'a, R>,
     file: JournalFile<'a, R>,
     line_failures: u64,
     journal_failures: u64,
@@ -24,15 +25,20 @@ impl<'a, R: Files> Model for SocketRig<'a, R> {
     ghost view = { λ rig. record { line = rig.line_failures; journal = rig.journal_failures } };
 }
 
-impl<'a, R: Files> SocketRig<'a, R> {
+impl<'a, R: Files + Clock> SocketRig<'a, R> {
     /// A Rig with this line and this journal.
-    pub fn new(line: SocketLine, file: JournalFile<'a, R>) -> SocketRig<'a, R> {
+    pub fn new(line: SocketLine<'a, R>, file: JournalFile<'a, R>) -> SocketRig<'a, R> {
         SocketRig {
             line,
             file,
             line_failures: 0,
             journal_failures: 0,
         }
+    }
+
+    /// Whether the device was given up: it answered nothing for too long, or didn't take what was sent.
+    pub fn has_given_up(&self) -> bool {
+        self.line.has_given_up()
     }
 
     /// Counts a failure of the line, where the answer is one.
@@ -60,7 +66,7 @@ impl<'a, R: Files> SocketRig<'a, R> {
     }
 }
 
-impl<'a, R: Files> Rig for SocketRig<'a, R> {
+impl<'a, R: Files + Clock> Rig for SocketRig<'a, R> {
     ghost view = { socket_rig_state };
 
     ghost model = { λ rig honest. absurd honest };
@@ -84,7 +90,8 @@ impl<'a, R: Files> Rig for SocketRig<'a, R> {
     }
 
     fn append(&mut self, bytes: &[u8]) -> Result<(), RigFault> {
-        let answer = match self.file.append(bytes) {
+        // What was put goes out first: a line of the journal stands behind it.
+        let answer = match self.line.flush().and_then(|()| self.file.append(bytes)) {
             Ok(done) => Ok(done),
             Err(_) => Err(RigFault::File),
         };

@@ -1,0 +1,44 @@
+-- How long short waits on a line may go on.
+use Rattle.std.specs.Prelude.{ℕ, ◌+◌, ◌-◌, ◌^◌, ◌&&◌, if◌then◌else◌, min, nat_le, Bool, false, Option, Some, None, option_map}
+use Rattle.std.specs.Option.{option_or}
+use Rattle.stm_wire.specs.declared.rig.Patience.{Patience}
+use Rattle.stm_wire.specs.declared.rig.Patience.TheVariants.{Brief, Long}
+
+pub record WaitsData : Type 0 where
+  -- how many nanoseconds they may go on; None: for ever
+  pub limit : Option ℕ
+  -- the bytes put since the last get
+  pub puts : ℕ
+  -- the gets of the row, and when the first of them began that had to wait
+  pub gets : ℕ
+  pub since : Option ℕ
+
+abbrev pub no_waits : Option ℕ → WaitsData
+no_waits limit = record { limit = limit; puts = 0; gets = 0; since = None }
+
+-- counts stay at 2^32 - 1
+abbrev pub one_more : ℕ → ℕ
+one_more n = min (n + 1) (2 ^ 32 - 1)
+
+abbrev pub with_put : WaitsData → WaitsData
+with_put w = record w { puts = one_more w.puts }
+
+-- A short get behind one byte, or none, goes on with the row; one behind a batch ends it, and so does a long one.
+abbrev pub with_get : Patience → Option ℕ → WaitsData → WaitsData
+with_get Long at w = no_waits w.limit
+with_get Brief at w =
+    if nat_le w.puts 1 then record w { puts = 0; gets = one_more w.gets; since = option_or w.since at } else no_waits w.limit
+
+-- they are over where there were 16 gets and they have gone on for so long
+abbrev pub is_over_after : Option ℕ → ℕ → Option ℕ → Bool
+is_over_after None gets time = false
+is_over_after (Some limit) gets None = false
+is_over_after (Some limit) gets (Some time) = nat_le 16 gets && nat_le limit time
+
+abbrev pub is_over_at : ℕ → WaitsData → Bool
+is_over_at now w = is_over_after w.limit w.gets (option_map (λ start. now - start) w.since)
+
+-- one long wait that stays quiet is over by itself where it was no shorter
+abbrev pub is_over_in : ℕ → Option ℕ → Bool
+is_over_in time None = false
+is_over_in time (Some limit) = nat_le limit time

@@ -1,0 +1,182 @@
+"""Devices that answer nothing, or something else, or late, and when they are given up."""
+
+import os
+import select
+import socket
+import threading
+import time
+
+from place import PATIENCE, ZEROS, Said, with_page
+from served import Served
+
+NO_ANSWER = Said(1, b"", b"stmflash: no answer from the device\n")
+PROTOCOL = Said(1, b"", b"stmflash: device does not follow the protocol\n")
+# short waits, so that a test doesn't take long; and a device that is given up soon
+HASTY = ("--wait", "50", "--give-up", "2")
+WIDE = b'[[chip]]\nid = 0x414\nbase = 0x08000000\npages = [[256, 2048]]\nerase = "extended"\n'
+
+
+class Peer:
+    """A listener that hands each of its lines to a function, in a thread of its own."""
+
+    def __init__(self, test, name, serve):
+        self.serve, self.ending = serve, threading.Event()
+        self.listener = socket.socket(socket.AF_UNIX, socket.SOCK_STREAM)
+        self.listener.bind(test.path(name))
+        self.listener.listen()
+        self.listener.settimeout(PATIENCE)
+        self.thread = threading.Thread(target=self.run)
+        self.thread.start()
+        test.addCleanup(self.end)
+
+    def run(self):
+        try:
+            line, _ = self.listener.accept()
+        except OSError:
+            return
+        with line:
+            try:
+                self.serve(line, self.ending)
+            except OSError:
+                pass
+
+    def end(self):
+        self.ending.set()
+        self.listener.close()
+        self.thread.join(PATIENCE)
+
+
+def be_silent(line, ending):
+    """Reads, and says nothing."""
+    while not ending.is_set():
+        if not line.recv(4096):
+            return
+
+
+def be_deaf(_, ending):
+    """Neither reads nor says anything."""
+    ending.wait(PATIENCE)
+
+
+def echo(line, ending):
+    """Says what it hears, as a line does whose ends are joined."""
+    while not ending.is_set():
+        came = line.recv(4096)
+        if not came:
+            return
+        line.sendall(came)
+
+
+def be_noisy(line, ending):
+    """Says anything, without an end."""
+    while not ending.is_set():
+        line.sendall(os.urandom(64))
+
+
+def hiss(line, ending):
+    """Says something now and then, more often than a host waits for."""
+    while not ending.wait(0.01):
+        line.sendall(b"\x55")
+
+
+class GivingUp(Served):
+    def relay(self, delay):
+        """A peer that hands all on between the program and a simulator that is served. `delay` is asked of each piece that the
+        program sent and answers for how many seconds what follows is held back."""
+
+        def serve(line, ending):
+            board = self.connect()
+            due, held = 0.0, b""
+            while not ending.is_set():
+                heard, _, _ = select.select([line, board], [], [], 0.02)
+                if line in heard:
+                    came = line.recv(4096)
+                    if not came:
+                        break
+                    seconds = delay(came)
+                    if seconds:
+                        due = time.monotonic() + seconds
+                    board.sendall(came)
+                if board in heard:
+                    held += board.recv(4096)
+                if held and time.monotonic() >= due:
+                    line.sendall(held)
+                    held = b""
+            self.leave(board)
+
+        Peer(self, "slow", serve)
+
+    def answer(self, serve, *words, name="info"):
+        """What a subcommand says to a peer, and for how many seconds it was at it."""
+        self.peers = getattr(self, "peers", 0) + 1
+        peer = f"peer{self.peers}"
+        Peer(self, peer, serve)
+        began = time.monotonic()
+        said = self.use(name, *words, device=peer)
+        return said, time.monotonic() - began
+
+    def test_a_silent_device_is_given_up(self):
+        for serve in (be_silent, be_deaf, echo):
+            with self.subTest(serve.__name__):
+                said, seconds = self.answer(serve, *HASTY)
+                self.assertEqual(said, NO_ANSWER)
+                # 131,072 waits without it
+                self.assertLess(seconds, 60)
+                self.assertFile("journal", None)
+
+    def test_noise_is_no_answer(self):
+        for serve in (be_noisy, hiss):
+            with self.subTest(serve.__name__):
+                said, seconds = self.answer(serve, *HASTY)
+                self.assertIn(said, (NO_ANSWER, PROTOCOL))
+                self.assertLess(seconds, 60)
+
+    def test_a_device_that_takes_nothing_is_given_up(self):
+        """An undo that sends batches without an answer, until no more are taken."""
+        journal = with_page(b"stmjournal 2 0412\nopen 1\npage 5 ", b"0", b"\nerase 5\n")
+        self.store("journal", journal)
+        said, seconds = self.answer(be_deaf, "--wait", "5", "--give-up", "1", name="undo")
+        self.assertEqual(said, NO_ANSWER)
+        self.assertLess(seconds, 60)
+        self.assertFile("journal", journal)
+
+    def test_none_is_given_up_where_that_is_said(self):
+        """A device that hears and says all three seconds late."""
+        waits = [3]
+        self.serve(1)
+        self.relay(lambda _: waits.pop() if waits else 0)
+        said = self.use("info", "--wait", "50", "--give-up", "0", device="slow")
+        self.assertEqual((said.status, said.err), (0, b""))
+        self.assertServed()
+
+    def test_a_slow_erase_is_waited_for(self):
+        """The frame's last byte, and then nothing for longer than a device may be silent."""
+        self.store("flash", ZEROS)
+        self.serve(1)
+        slow = []
+
+        def delay(came):
+            if came == b"\x00\x05\x05":
+                slow.append(came)
+                return 6
+            return 0
+
+        self.relay(delay)
+        said = self.use("erase", "5", "--wait", "1000", "--give-up", "2", device="slow")
+        self.assertTold(said, "segment 1: 1 pages erased\n")
+        self.assertEqual(len(slow), 1)
+        self.assertServed()
+
+    def test_a_long_list_is_settled(self):
+        """A device that waits for 65,279 pages takes 510 batches without a word, which is no reason to give it up."""
+        self.store("table", WIDE)
+        zeros = b"\x00" * 256 * 2048
+        self.store("flash", zeros)
+        self.store("flash.line", b"rest 44BB\n")
+        journal = b"stmjournal 2 0414\nopen 1\npage 254 " + b"0" * 4096 + b"\nerase 254\n"
+        self.store("journal", journal)
+        self.serve(1, number="0414")
+        said = self.use("undo", "--wait", "10", "--give-up", "1", device="board")
+        self.assertTold(said, "undone 1\n")
+        self.assertServed()
+        self.assertHolds(zeros, b"idle\n")
