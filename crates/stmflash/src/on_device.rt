@@ -1,17 +1,21 @@
 // A use of a device: the files that belong to it are opened, the task is done, and they are closed, whatever came of it.
-// Nothing is printed here.
+// Nothing is printed here but what goes on, on standard error.
 
 use crate::action::Action;
 use crate::answer::Answer;
 use crate::failure::Failure;
 use crate::files::is_same_file;
 use crate::journal_file::JournalFile;
+use crate::progress_course::{Course, Goal};
+use crate::progress_rig::ProgressRig;
+use crate::progress_screen::{Screen, Style};
 use crate::simulator_file::{line_name, load, store_rig};
 use crate::simulator_rig::SimulatorRig;
 use crate::socket_line::SocketLine;
 use crate::socket_rig::SocketRig;
 use std::fs;
 use std::fs::Files;
+use std::io::{IsTerminal, Write};
 use std::net::Net;
 use std::time::Clock;
 use stm_chip::{Table, read_table};
@@ -19,11 +23,14 @@ use stm_session::Fault;
 use stm_words::{Device, Options, Task};
 
 /// Does a task on a device.
-pub fn use_device<'a, R: Files + Net + Clock + AllocGlobal>(
+pub fn use_device<'a, R: Files + Net + Clock + AllocGlobal, E: Write + IsTerminal>(
     rt: &R,
     options: &Options<'a>,
     task: Task<'a>,
+    err: &mut E,
 ) -> Result<Answer, Failure<'a>> {
+    let style = Style::of(rt, options, err);
+    let screen = Screen::new(err, rt, rt.alloc(), style);
     let out = match &task {
         Task::Read { out, .. } => Some(*out),
         _ => None,
@@ -42,9 +49,9 @@ pub fn use_device<'a, R: Files + Net + Clock + AllocGlobal>(
     }
     match options.device {
         Device::Simulator { id, file } => {
-            on_simulator(rt, options, action, &table, id, file, out)
+            on_simulator(rt, options, action, &table, id, file, out, screen)
         }
-        Device::Socket(path) => on_socket(rt, options, action, &table, path, out),
+        Device::Socket(path) => on_socket(rt, options, action, &table, path, out, screen),
     }
 }
 
@@ -99,7 +106,7 @@ fn write_out<'a, R: Files>(
 }
 
 /// Does it on a simulator in the process.
-fn on_simulator<'a, R: Files + AllocGlobal>(
+fn on_simulator<'a, R: Files + Clock + AllocGlobal, W: Write + Drop>(
     rt: &R,
     options: &Options<'a>,
     action: Action,
@@ -107,6 +114,7 @@ fn on_simulator<'a, R: Files + AllocGlobal>(
     id: u16,
     file: &'a str,
     out: Option<&'a str>,
+    screen: Screen<'_, W, R>,
 ) -> Result<Answer, Failure<'a>> {
     let Some(chip) = table.find(id) else {
         return Err(Failure::Session(Fault::UnknownChip(id)));
@@ -123,16 +131,15 @@ fn on_simulator<'a, R: Files + AllocGlobal>(
     if let Some(steps) = options.stop {
         memory.stop_after(u64::from(steps));
     }
-    let mut rig = SimulatorRig::new(memory, journal_file);
-    let done = match unread {
-        None => action.run(rt.alloc(), &mut rig, table),
-        Some(e) => {
-            let unread = Failure::of_file(&e, Failure::CannotRead(options.journal));
-            store_rig(rt, &rig.into_memory(), file)?;
-            return Err(unread);
-        }
-    };
-    let memory = rig.into_memory();
+    let rig = SimulatorRig::new(memory, journal_file);
+    if let Some(e) = unread {
+        let unread = Failure::of_file(&e, Failure::CannotRead(options.journal));
+        store_rig(rt, &rig.into_memory(), file)?;
+        return Err(unread);
+    }
+    let mut rig = ProgressRig::new(rig, Course::new(table, Goal::of(&action)), screen);
+    let done = action.run(rt.alloc(), &mut rig, table);
+    let memory = rig.finish(done.is_ok()).into_memory();
     let done = match done {
         Ok(answer) => write_out(rt, answer, out),
         Err(_) if memory.has_stopped() => Err(Failure::Stopped),
@@ -145,13 +152,14 @@ fn on_simulator<'a, R: Files + AllocGlobal>(
 }
 
 /// Does it on what listens at a socket.
-fn on_socket<'a, R: Files + Net + Clock + AllocGlobal>(
+fn on_socket<'a, R: Files + Net + Clock + AllocGlobal, W: Write + Drop>(
     rt: &R,
     options: &Options<'a>,
     action: Action,
     table: &Table,
     path: &'a str,
     out: Option<&'a str>,
+    screen: Screen<'_, W, R>,
 ) -> Result<Answer, Failure<'a>> {
     let line = match SocketLine::connect(rt, rt, path, u64::from(options.wait), u64::from(options.give_up)) {
         Ok(line) => line,
@@ -161,8 +169,10 @@ fn on_socket<'a, R: Files + Net + Clock + AllocGlobal>(
     if let Err(e) = journal.fetch(0, &mut [0]) {
         return Err(Failure::of_file(&e, Failure::CannotRead(options.journal)));
     }
-    let mut rig = SocketRig::new(line, journal);
+    let rig = SocketRig::new(line, journal);
+    let mut rig = ProgressRig::new(rig, Course::new(table, Goal::of(&action)), screen);
     let done = action.run(rt.alloc(), &mut rig, table);
+    let rig = rig.finish(done.is_ok());
     let has_given_up = rig.has_given_up();
     drop(rig);
     match done {

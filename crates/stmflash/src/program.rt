@@ -8,15 +8,16 @@ use crate::serving::serve;
 use crate::variables::Variables;
 use std::env::Env;
 use std::fs::Files;
-use std::io::Write;
+use std::io::{IsTerminal, Write};
 use std::net::Net;
 use std::time::Clock;
 use stm_words::{Request, Unread, read_request};
 
 /// Runs the program on its words, the first of which is its name, and answers the exit status: 0 where all was done or
 /// help was asked for, 1 after a fault, 2 where the words can't be done, 3 where a simulator was stopped. A fault is one
-/// line on `err`; of words that `clap` refuses its text stands there. Nothing is printed while a line or a journal is open.
-pub fn program<R: Env + Files + Net + Clock + AllocGlobal, O: Write, E: Write>(
+/// line on `err`; of words that `clap` refuses its text stands there. While a line or a journal is open
+/// nothing is printed but what goes on, where that is shown.
+pub fn program<R: Env + Files + Net + Clock + AllocGlobal, O: Write, E: Write + IsTerminal>(
     rt: &R,
     words: &[&str],
     out: &mut O,
@@ -27,7 +28,7 @@ pub fn program<R: Env + Files + Net + Clock + AllocGlobal, O: Write, E: Write>(
         Err(failure) => return fail(&failure, err),
     };
     let done = match read_request(rt.alloc(), variables.environment(rt), words) {
-        Ok(Request::Use(options, task)) => use_device(rt, &options, task),
+        Ok(Request::Use(options, task)) => use_device(rt, &options, task, err),
         Ok(Request::Log(journal)) => log(rt, journal),
         Ok(Request::Keep(kept)) => keep(rt, &kept),
         Ok(Request::Serve(served)) => serve(rt, &served),

@@ -1,0 +1,127 @@
+// A Rig whose calls are shown as they go on.
+ghost use Rattle.std.specs.Prelude.{◌≡◌};
+
+use crate::progress_course::Course;
+use crate::progress_screen::Screen;
+use crate::progress_watch::{Seen, Watch, page_named};
+use std::io::Write;
+use std::time::Clock;
+use stm_wire::{Patience, Rig, RigFault};
+
+/// A Rig whose calls are shown as they go on. Each call is the inner Rig's, and so is what it tells of itself: what is
+/// promised on the inner one is promised on this one.
+#[derive(Drop)]
+pub struct ProgressRig<'a, L: Rig + Drop, W: Drop, C> {
+    inner: L,
+    watch: Watch,
+    progress: Course<'a>,
+    screen: Screen<'a, W, C>,
+    sent: u64,
+}
+
+impl<'a, L: Rig + Drop, W: Write + Drop, C: Clock> ProgressRig<'a, L, W, C> {
+    pub fn new(
+        inner: L,
+        progress: Course<'a>,
+        screen: Screen<'a, W, C>,
+    ) -> ProgressRig<'a, L, W, C>
+    {
+        ProgressRig {
+            inner,
+            watch: Watch::new(),
+            progress,
+            screen,
+            sent: 0,
+        }
+    }
+
+    /// The inner Rig. Nothing is shown any more; where all was done, the last page is told.
+    pub fn finish(self, is_done: bool) -> L
+        ensures { result ≡ self.entry.inner }
+    {
+        let ProgressRig {
+            inner,
+            watch: _,
+            progress,
+            mut screen,
+            sent: _,
+        } = self;
+        if is_done {
+            if let Some(place) = progress.place() {
+                screen.end(place);
+            }
+        }
+        screen.clear();
+        inner
+    }
+
+    /// Shows what a call told.
+    fn show(&mut self, seen: Option<Seen>)
+        ensures { self.new.inner ≡ self.old.inner }
+    {
+        let Some(seen) = seen else {
+            return;
+        };
+        let before = self.progress.place();
+        if self.progress.see(seen) {
+            if let Some(place) = self.progress.place() {
+                self.screen.turn(before, place);
+            }
+        }
+    }
+
+    /// Shows what a get answered.
+    fn show_get(&mut self, answer: Option<u8>)
+        ensures { self.new.inner ≡ self.old.inner }
+    {
+        let is_before = self.progress.place().is_none();
+        if let Some(byte) = answer {
+            if is_before {
+                self.screen.came();
+            }
+            let seen = self.watch.reply(byte);
+            self.show(seen);
+        } else if is_before {
+            self.screen.wait(self.sent);
+        }
+    }
+}
+
+impl<'a, L: Rig + Drop, W: Write + Drop, C: Clock> Rig for ProgressRig<'a, L, W, C> {
+    ghost view = { λ rig. L.view rig.inner };
+
+    ghost model = { λ rig honest. L.model rig.inner honest };
+
+    ghost places = { λ rig. L.places rig.inner };
+
+    fn put(&mut self, byte: u8) -> Result<(), RigFault> {
+        if self.screen.is_shown() {
+            self.watch.put(byte);
+            self.sent = self.sent.saturating_add(1);
+        }
+        self.inner.put(byte)
+    }
+
+    fn get(&mut self, patience: Patience) -> Result<Option<u8>, RigFault> {
+        if !self.screen.is_shown() {
+            return self.inner.get(patience);
+        }
+        let seen = self.watch.get();
+        self.show(seen);
+        let answer = self.inner.get(patience)?;
+        self.show_get(answer);
+        Ok(answer)
+    }
+
+    fn append(&mut self, bytes: &[u8]) -> Result<(), RigFault> {
+        if self.screen.is_shown() {
+            let seen = page_named(bytes);
+            self.show(seen);
+        }
+        self.inner.append(bytes)
+    }
+
+    fn fetch(&mut self, at: u64, buf: &mut [u8]) -> Result<usize, RigFault> {
+        self.inner.fetch(at, buf)
+    }
+}

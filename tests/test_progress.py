@@ -1,0 +1,134 @@
+"""What is shown while a session runs, where it is shown, and that it changes nothing else."""
+
+import os
+import pty
+import subprocess
+
+from place import PATIENCE, Place, program
+
+TABLE = b'[[chip]]\nid = 0x410\nbase = 0x08000000\npages = [[128, 1024]]\nerase = "page"\n'
+SIZE = 64 * 1024
+IMAGE = bytes(range(1, 251)) * (SIZE // 250) + bytes(SIZE % 250)
+CLEAR = b"\r\x1b[K"
+
+
+class Progress(Place):
+    def setUp(self):
+        super().setUp()
+        self.store("table", TABLE)
+        self.store("image", IMAGE)
+
+    def run_shown(self, err, name, *words, before=None):
+        """What a subcommand on the simulator answers, and says on standard output; standard error goes where it is told to."""
+        files = ("--table", "table", "--device", "sim:0410:flash", "--journal", "journal")
+        ran = subprocess.run(["stmflash", name, *files, *words], executable=program(), cwd=self.folder, env={}, timeout=PATIENCE,
+                             stdin=subprocess.DEVNULL, stdout=subprocess.PIPE, stderr=err, preexec_fn=before)
+        return ran.returncode, ran.stdout
+
+    def write(self, err, *words, before=None):
+        """Writes the image on a new flash with a new journal, and answers what came of it: all but what was shown."""
+        self.remove(*(name for name in ("flash", "flash.line", "journal") if self.is_there(name)))
+        said = self.run_shown(err, "write", *words, "-f", "-S", "0x08000000", "image", before=before)
+        return said, self.held("flash"), self.held("flash.line"), self.held("journal")
+
+    def on_terminal(self, use):
+        """What a use with standard error on a terminal comes to, and what the terminal showed."""
+        here, there = pty.openpty()
+        try:
+            came = use(there)
+        finally:
+            os.close(there)
+        shown = b""
+        while True:
+            try:
+                piece = os.read(here, 4096)
+            except OSError:
+                break
+            if not piece:
+                break
+            shown += piece
+        os.close(here)
+        return came, shown
+
+    def in_file(self, use):
+        """The same, of a file."""
+        with open(self.path("shown"), "wb") as err:
+            came = use(err)
+        return came, self.held("shown")
+
+    def plain(self):
+        """What a write comes to where nothing is shown."""
+        came, shown = self.in_file(lambda err: self.write(err, "--quiet"))
+        self.assertEqual((came[0], shown), ((0, b"segment 1: 64 pages written\n"), b""))
+        return came
+
+    def test_a_terminal_has_one_line(self):
+        """It is written again and again, names each page with what is done, and is cleared in the end."""
+        plain = self.plain()
+        came, shown = self.on_terminal(self.write)
+        self.assertEqual(came, plain)
+        self.assertNotIn(b"\n", shown)
+        self.assertTrue(shown.endswith(CLEAR))
+        lines = shown.split(b"\x1b[K\r")
+        for page in range(64):
+            for doing in (b"reading", b"erasing", b"writing"):
+                text = b"%s page %d, %d of 64 pages" % (doing, page, page + 1)
+                self.assertTrue(any(text in line for line in lines), text)
+        self.assertEqual(self.on_terminal(lambda err: self.write(err, "--quiet")), (plain, b""))
+
+    def test_a_file_has_nothing_unless_it_is_said(self):
+        plain = self.plain()
+        self.assertEqual(self.in_file(self.write), (plain, b""))
+        came, shown = self.in_file(lambda err: self.write(err, "--progress"))
+        self.assertEqual(came, plain)
+        lines = shown.split(b"\n")
+        self.assertEqual((len(lines), lines[-1]), (65, b""))
+        for page, line in enumerate(lines[:-1]):
+            self.assertTrue(line.startswith(b"page %d written, %d of 64 pages" % (page, page + 1)), line)
+        self.assertEqual(self.in_file(lambda err: self.write(err, "--progress", "--quiet")), (plain, b""))
+
+    def test_each_command_names_its_pages(self):
+        came, shown = self.in_file(self.write)
+        self.assertEqual((came[0][0], shown), (0, b""))
+        part = ("-S", "0x08000400:3072")
+        for words, first, last, count in (
+            (("read", "--progress", *part, "out"), b"page 1 read, 1 of 3", b"page 3 read, 3 of 3", 3),
+            (("read", "--progress", "out"), b"page 0 read, 1 of 128", b"page 127 read, 128 of 128", 128),
+            (("verify", "--progress", "-f", "-S", "0x08000000", "image"), b"page 0 read, 1 of 64", b"page 63 read, 64 of 64", 64),
+            (("erase", "--progress", "5", "7"), b"page 5 erased, 1 of 2", b"page 7 erased, 2 of 2", 2),
+            (("undo", "--progress"), b"page 5 written, 1 so far", b"page 0 ", None),
+            (("info", "--progress"), None, None, 0),
+        ):
+            with self.subTest(words=words):
+                came, shown = self.in_file(lambda err: self.run_shown(err, *words))
+                self.assertEqual(came[0], 0)
+                lines = shown.split(b"\n")[:-1]
+                if count is not None:
+                    self.assertEqual(len(lines), count)
+                if first:
+                    self.assertTrue(lines[0].startswith(first), lines[0])
+                    self.assertTrue(any(line.startswith(last) for line in lines), last)
+
+    def test_a_closed_standard_error_is_left_alone(self):
+        """A file that is opened later has its number."""
+        plain = self.plain()
+        for words in ((), ("--progress",), ("--quiet",)):
+            with self.subTest(words=words):
+                self.assertEqual(self.write(None, *words, before=lambda: os.close(2)), plain)
+
+    def test_the_journal_is_no_standard_error(self):
+        """Nothing is shown where standard error is the journal."""
+        plain = self.plain()
+        self.remove("flash", "flash.line", "journal")
+        self.store("journal", b"")
+        for name in ("journal", "./journal"):
+            with self.subTest(name=name), open(self.path(name), "ab") as err:
+                said = self.run_shown(err, "write", "--progress", "-f", "-S", "0x08000000", "image")
+                self.assertEqual((said, self.held("flash"), self.held("journal")), (plain[0], plain[1], plain[3]))
+            self.remove("flash", "flash.line")
+            self.store("journal", b"")
+
+    def test_a_full_disk_ends_nothing(self):
+        plain = self.plain()
+        with open("/dev/full", "wb") as err:
+            self.assertEqual(self.write(err, "--progress"), plain)
