@@ -79,6 +79,15 @@ def hiss(line, ending):
         line.sendall(b"\x55")
 
 
+def fall_silent(line, ending):
+    """Is a bootloader until it is asked for the first thing."""
+    for reply in (b"\x79", b"", b"\x1f"):
+        if line.recv(1) != b"\x7f":
+            return
+        line.sendall(reply)
+    be_silent(line, ending)
+
+
 class GivingUp(Served):
     def relay(self, delay):
         """A peer that hands all on between the program and a simulator that is served. `delay` is asked of each piece that the
@@ -130,6 +139,12 @@ class GivingUp(Served):
                 said, seconds = self.answer(serve, *HASTY)
                 self.assertIn(said, (NO_ANSWER, PROTOCOL))
                 self.assertLess(seconds, 60)
+
+    def test_a_device_that_falls_silent_is_given_up(self):
+        """A reply that is waited for 40 s, and not for less."""
+        said, seconds = self.answer(fall_silent, "--wait", "500", "--give-up", "2")
+        self.assertEqual(said, NO_ANSWER)
+        self.assertGreater(seconds, 39)
 
     def test_a_device_that_takes_nothing_is_given_up(self):
         """An undo that sends batches without an answer, until no more are taken."""

@@ -1,4 +1,7 @@
 // Where a session is shown as it goes on.
+ghost use Rattle.std.specs.Prelude.{◌≡◌};
+ghost use Rattle.stm_words.specs.declared.progress.Progress.TheVariants.{Silent};
+ghost use Rattle.stmflash.specs.declared.progress_screen.Style.TheVariants.{Hidden};
 
 use crate::progress_course::Place;
 use crate::progress_text::Status;
@@ -24,7 +27,9 @@ pub enum Style {
 impl Style {
     /// How a session is shown on standard error. Nothing is where that can't be written, or is the journal: a file that is
     /// opened later has the number of one that is closed.
-    pub fn of<R: Files, E: Write + IsTerminal>(rt: &R, options: &Options, err: &mut E) -> Style {
+    pub fn of<R: Files, E: Write + IsTerminal>(rt: &R, options: &Options, err: &mut E) -> Style
+        ensures silent { options.now.progress ≡ Silent → result ≡ Hidden }
+    {
         match options.progress {
             Progress::OnTerminal if err.is_terminal() => Style::Line,
             Progress::Lines if err.write(&[]).is_ok() && !is_standard_error(rt, options.journal) => {
@@ -120,13 +125,19 @@ impl<'a, W: Write + Drop, C: Clock> Screen<'a, W, C> {
     }
 
     /// A byte came.
-    pub fn came(&mut self) {
+    pub fn came(&mut self)
+        ensures hidden { self.old.style ≡ Hidden → self.new.out ≡ self.old.out }
+        ensures style { self.new.style ≡ self.old.style }
+    {
         self.came = self.now();
         self.is_quiet = false;
     }
 
     /// No byte came, before the first page; so many were sent.
-    pub fn wait(&mut self, sent: u64) {
+    pub fn wait(&mut self, sent: u64)
+        ensures hidden { self.old.style ≡ Hidden → self.new.out ≡ self.old.out }
+        ensures style { self.new.style ≡ self.old.style }
+    {
         let now = self.now();
         let is_quiet = match between(self.came, now) {
             Some(millis) => millis >= QUIET,
@@ -155,7 +166,10 @@ impl<'a, W: Write + Drop, C: Clock> Screen<'a, W, C> {
     }
 
     /// Another page is begun, or something else is done with the same one.
-    pub fn turn(&mut self, before: Option<Place>, place: Place) {
+    pub fn turn(&mut self, before: Option<Place>, place: Place)
+        ensures hidden { self.old.style ≡ Hidden → self.new.out ≡ self.old.out }
+        ensures style { self.new.style ≡ self.old.style }
+    {
         let is_begun = match before {
             Some(before) => before.page != place.page,
             None => true,
@@ -175,7 +189,10 @@ impl<'a, W: Write + Drop, C: Clock> Screen<'a, W, C> {
     }
 
     /// All was done with a page.
-    pub fn end(&mut self, place: Place) {
+    pub fn end(&mut self, place: Place)
+        ensures hidden { self.old.style ≡ Hidden → self.new.out ≡ self.old.out }
+        ensures style { self.new.style ≡ self.old.style }
+    {
         if self.style == Style::Lines {
             let left = self.left(place, place.turn);
             self.write(&Status::Done(place, left));
@@ -189,7 +206,10 @@ impl<'a, W: Write + Drop, C: Clock> Screen<'a, W, C> {
     }
 
     /// Shows a line, in one write.
-    fn write(&mut self, status: &Status) {
+    fn write(&mut self, status: &Status)
+        ensures hidden { self.old.style ≡ Hidden → self.new.out ≡ self.old.out }
+        ensures style { self.new.style ≡ self.old.style }
+    {
         let text = match self.style {
             Style::Hidden => return,
             Style::Line => format!(in self.alloc; "\r{status}\x1b[K"),
