@@ -161,7 +161,13 @@ fn on_socket<'a, R: Files + Net + Clock + AllocGlobal, W: Write + Drop>(
     out: Option<&'a str>,
     screen: Screen<'_, W, R>,
 ) -> Result<Answer, Failure<'a>> {
-    let line = match SocketLine::connect(rt, rt, path, u64::from(options.wait), u64::from(options.give_up)) {
+    let line = match SocketLine::connect(
+        rt,
+        rt,
+        path,
+        u64::from(options.wait),
+        u64::from(options.give_up),
+    ) {
         Ok(line) => line,
         Err(e) => return Err(Failure::of_file(&e, Failure::CannotConnect(path))),
     };

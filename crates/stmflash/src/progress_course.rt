@@ -164,7 +164,10 @@ impl<'a> Course<'a> {
             Goal::All => Some((chip.base(), chip.end())),
             Goal::From(from) => Some((from, chip.end())),
             Goal::Span(from, to) => Some((from, u64::from(to).saturating_add(1))),
-            Goal::First(size) => Some((chip.base(), u64::from(chip.base()).saturating_add(u64::from(size)))),
+            Goal::First(size) => Some((
+                chip.base(),
+                u64::from(chip.base()).saturating_add(u64::from(size)),
+            )),
         };
         let Some((from, end)) = ends else {
             return;

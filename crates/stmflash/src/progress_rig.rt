@@ -24,8 +24,7 @@ impl<'a, L: Rig + Drop, W: Write + Drop, C: Clock> ProgressRig<'a, L, W, C> {
         inner: L,
         progress: Course<'a>,
         screen: Screen<'a, W, C>,
-    ) -> ProgressRig<'a, L, W, C>
-    {
+    ) -> ProgressRig<'a, L, W, C> {
         ProgressRig {
             inner,
             watch: Watch::new(),

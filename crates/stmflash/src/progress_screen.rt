@@ -32,9 +32,8 @@ impl Style {
     {
         match options.progress {
             Progress::OnTerminal if err.is_terminal() => Style::Line,
-            Progress::Lines if err.write(&[]).is_ok() && !is_standard_error(rt, options.journal) => {
-                Style::Lines
-            }
+            Progress::Lines if err.write(&[]).is_ok() && !is_standard_error(rt, options.journal) =>
+                { Style::Lines }
             _ => Style::Hidden,
         }
     }

@@ -60,7 +60,11 @@ impl Display for Status {
 }
 
 /// The how manieth page of how many it is, and how many seconds are left.
-fn write_turn<W: fmt::Write>(f: &mut Formatter<W>, place: &Place, left: Option<u64>) -> fmt::Result {
+fn write_turn<W: fmt::Write>(
+    f: &mut Formatter<W>,
+    place: &Place,
+    left: Option<u64>,
+) -> fmt::Result {
     match place.count {
         Some(count) => write!(f, ", {} of {count} pages", place.turn)?,
         None => write!(f, ", {} so far", place.turn)?,

@@ -21,7 +21,9 @@ pub enum Seen {
 
 /// The codes of the commands that are told apart (AN3155, sections 3.2, 3.3 and 3.5).
 const GET_ID: u8 = 0x02;
+
 const READ: u8 = 0x11;
+
 const WRITE: u8 = 0x31;
 
 /// How many bytes a line of the journal has at most that names a page without its bytes, and what may stand before it.
@@ -103,7 +105,9 @@ fn number(digits: &[u8]) -> Option<u16> {
         if !digit.is_ascii_digit() {
             return None;
         }
-        number = number.checked_mul(10)?.checked_add(u16::from(*digit - b'0'))?;
+        number = number
+            .checked_mul(10)?
+            .checked_add(u16::from(*digit - b'0'))?;
     }
     Some(number)
 }

@@ -27,7 +27,11 @@ impl Model for ShortWaits {
     ghost Value = { WaitsData };
 
     ghost view = { λ w. record {
-        limit = option_map as_nanos w.limit; puts = w.puts; gets = w.gets; since = option_map instant_nanos w.since } };
+      limit = option_map as_nanos w.limit;
+      puts = w.puts;
+      gets = w.gets;
+      since = option_map instant_nanos w.since;
+    } };
 }
 
 impl ShortWaits {
