@@ -1,3 +1,5 @@
 pub mod Growing
 pub mod Telling
 pub mod Waiting
+pub mod Acting
+pub mod Stored

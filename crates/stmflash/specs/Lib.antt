@@ -14,3 +14,4 @@ pub mod Protections
 pub mod Reading
 pub mod SocketRig
 pub mod Standing
+pub mod Histories

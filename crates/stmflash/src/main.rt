@@ -7,6 +7,7 @@ mod changing;
 mod content;
 mod failure;
 mod files;
+mod histories;
 mod journal_file;
 mod journal_rig;
 mod journal_tasks;
