@@ -39,8 +39,8 @@ class Board:
     def __init__(self, program, folder, chip, flash):
         self.program, self.folder = os.path.abspath(program), folder
         self.store("flash", flash)
-        words = [self.program, "sim", "--table", os.path.join(TOP, "chips.toml"), "--id", chip, "--flash", "flash", "--socket", "board",
-                 "--clients", "1000"]
+        files = ["--table", os.path.join(TOP, "chips.toml"), "--flash", "flash", "--socket", "board"]
+        words = [self.program, "sim", "--id", chip, *files, "--clients", "1000"]
         self.simulator = subprocess.Popen(words, cwd=folder)
         self.wait_for(self.answers)
 

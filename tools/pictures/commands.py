@@ -3,7 +3,8 @@
 import collections
 
 # a code and its complement, then what the command is called
-CODES = {b"\x00\xff": "get", b"\x02\xfd": "id", b"\x11\xee": "read", b"\x31\xce": "write", b"\x43\xbc": "erase", b"\x44\xbb": "erase"}
+CODES = {b"\x00\xff": "get", b"\x02\xfd": "id", b"\x11\xee": "read", b"\x31\xce": "write",
+         b"\x43\xbc": "erase", b"\x44\xbb": "erase"}
 # how many more turns a command has after its code, where each is acknowledged
 FURTHER = {"get": 0, "id": 0, "read": 2, "write": 2, "erase": 1}
 ACK = b"\x79"
