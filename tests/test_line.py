@@ -37,6 +37,11 @@ class Sessions(LinePlace):
         self.store("journal", b"no journal\n")
         self.assertFault(self.through("info"), "bad journal line 1")
 
+    def test_a_silent_board_is_given_up(self):
+        self.plain()
+        said = self.line("ttyUSB0", "--", *self.stmflash("info", "--give-up", "2"))
+        self.assertFault(said, "no answer from the device")
+
     def test_eight_at_once(self):
         boards = [self.board(f"ttyUSB{number}") for number in range(8)]
         images = [random.Random(number).randbytes(5000) for number in range(8)]
@@ -83,12 +88,16 @@ class Commands(LinePlace):
         self.assertLineFault(self.line("ttyUSB0", "--", "./bad"), "./bad: Exec format error")
 
     def test_a_signal_ends_the_command_too(self):
+        """It gets the same signal, and may answer it."""
+        script = "trap 'echo TERM; exit' TERM; trap 'echo INT; exit' INT; trap 'echo HUP; exit' HUP; echo $$; " \
+                 "while :; do sleep 0.1; done"
         for number in ENDING:
             with self.subTest(number=number):
-                started = self.start("ttyUSB0", "--", "sh", "-c", "echo $$; exec sleep 1000")
+                started = self.start("ttyUSB0", "--", "sh", "-c", script)
                 child = int(started.stdout.readline())
                 self.assertEqual(end_with(started, number), 128 + number)
                 self.assertFalse(os.path.exists(f"/proc/{child}"))
+                self.assertEqual(started.stdout.read().decode(), number.name.removeprefix("SIG") + "\n")
                 self.assertEqual(started.stderr.read(), b"")
 
     def test_a_command_that_does_not_listen_is_killed(self):

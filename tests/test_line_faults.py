@@ -155,10 +155,11 @@ class Pulled(LinePlace):
 
     def test_a_command_that_goes_on_is_ended(self):
         master = self.plain_to_pull()
-        started = self.start("ttyUSB0", "--", "sh", "-c", "echo $$; exec sleep 1000")
+        script = "trap 'echo TERM; exit' TERM; echo $$; while :; do sleep 0.1; done"
+        started = self.start("ttyUSB0", "--", "sh", "-c", script)
         child = int(started.stdout.readline())
         os.close(master)
-        self.assertEqual(self.ended(started), Said(1, b"", self.UNPLUGGED.encode()))
+        self.assertEqual(self.ended(started), Said(1, b"TERM\n", self.UNPLUGGED.encode()))
         self.assertFalse(os.path.exists(f"/proc/{child}"))
 
     def test_a_write_is_taken_back(self):
