@@ -5,6 +5,7 @@ pub mod Content
 pub mod JournalFile
 pub mod Logging
 pub mod Outgoing
+pub mod Serving
 pub mod ShortWaits
 pub mod SimulatorFile
 pub mod SimulatorFileLaws

@@ -1,6 +1,7 @@
 // A simulator behind a Unix socket.
-ghost use Rattle.std.specs.Prelude.{◌≡◌, ℕ, IsTrue};
-ghost use Rattle.stm_wire.specs.Simulator.{simulated_device};
+ghost use Rattle.std.specs.Prelude.{◌≡◌, ◌<◌, ◌≤◌, ℕ, List, IsTrue, length, take};
+ghost use Rattle.std.specs.Io.KnownBytes.{Consumes};
+ghost use Rattle.stmflash.specs.Serving.{fed_all};
 
 use crate::answer::Answer;
 use crate::failure::Failure;
@@ -16,20 +17,37 @@ use stm_session::Fault;
 use stm_wire::Simulator;
 use stm_words::Served;
 
-/// How many bytes are written at a time.
+/// How many bytes are read and written at a time.
 const ROOM: usize = 512;
 
-/// The next byte that comes; none at the end of input, or where a read failed.
-fn read_byte<R: Read>(reader: &mut R) -> Option<u8> {
+/// Takes bytes that come, as many as there are and the buffer holds, and answers how many: none at the end of input, or where a
+/// read failed.
+fn read_some<R: Read>(reader: &mut R, bytes: &mut [u8]) -> usize
+    ensures within { result ≤ length bytes.old }
+    ensures length { length bytes.new ≡ length bytes.old }
+    ensures taken { 0 < result → Consumes
+        (R.remaining reader.old) (R.remaining reader.new) (take result bytes.new) }
+{
     for _ in 0..u64::MAX {
-        let mut byte = [0u8];
-        match reader.read(&mut byte) {
-            Ok(1) => return Some(byte[0]),
+        match reader.read(bytes) {
+            Ok(count) => return count,
             Err(e) if e.kind() == ErrorKind::Interrupted => {}
-            _ => return None,
+            Err(_) => return 0,
         }
     }
-    None
+    0
+}
+
+/// Feeds bytes, one after the other. False where memory is refused for one.
+fn feed_all(sim: &mut Simulator, bytes: &[u8]) -> bool
+    ensures { IsTrue result → sim.new ≡ fed_all sim.old bytes.now }
+{
+    for byte in bytes {
+        if sim.feed(*byte).is_err() {
+            return false;
+        }
+    }
+    true
 }
 
 /// Takes owed bytes until the buffer is full or none is owed, and answers how many.
@@ -64,14 +82,16 @@ fn write_owed<W: Write>(sim: &mut Simulator, writer: &mut W) -> bool
     false
 }
 
-/// Takes a byte, feeds it, and writes the bytes owed. False at the end of input, or where a read, a write or a step failed.
-pub fn serve_byte<R: Read, W: Write>(sim: &mut Simulator, reader: &mut R, writer: &mut W) -> bool
-    ensures { IsTrue result → (byte : ℕ) × (sim.new ≡ record (simulated_device byte sim.old) { owed = sim.new.owed }) }
+/// Takes the bytes that came, feeds them, and writes the bytes owed. False at the end of input, or where a read, a write or a
+/// step failed.
+pub fn serve_bytes<R: Read, W: Write>(sim: &mut Simulator, reader: &mut R, writer: &mut W) -> bool
+    ensures { IsTrue result → (bytes : List ℕ) × (0 < length bytes)
+        × Consumes (R.remaining reader.old) (R.remaining reader.new) bytes
+        × (sim.new ≡ record (fed_all sim.old bytes) { owed = sim.new.owed }) }
 {
-    let Some(byte) = read_byte(reader) else {
-        return false;
-    };
-    sim.feed(byte).is_ok() && write_owed(sim, writer)
+    let mut bytes = [0u8; ROOM];
+    let count = read_some(reader, &mut bytes);
+    count > 0 && feed_all(sim, &bytes[..count]) && write_owed(sim, writer)
 }
 
 /// Serves a simulator's clients, and removes its socket.
@@ -116,7 +136,7 @@ fn serve_clients<'a, R: Files + AllocGlobal>(
             }
         };
         for _ in 0..u64::MAX {
-            if !serve_byte(sim, &mut &stream, &mut &stream) {
+            if !serve_bytes(sim, &mut &stream, &mut &stream) {
                 break;
             }
         }
