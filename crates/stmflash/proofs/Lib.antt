@@ -1,4 +1,5 @@
 pub mod Growing
+pub mod LoggedPages
 pub mod Telling
 pub mod Waiting
 pub mod Acting

@@ -1,5 +1,5 @@
 // What a journal says, told in lines.
-ghost use Rattle.std.specs.Prelude.{◌≡◌, ◌/◌, ◌%◌, ◌∷◌, ◌++◌, [], IfOk, OnOk, Some, codes, decimal};
+ghost use Rattle.std.specs.Prelude.{◌≡◌, ◌/◌, ◌%◌, ◌∷◌, ◌++◌, ◌==◌, ◌+◌, [], IfOk, OnOk, Some, codes, decimal};
 ghost use Rattle.hex.specs.Hex.{encode_upper};
 ghost use Rattle.stm_journal.specs.States.{intent_at, segment_of};
 ghost use Rattle.stmflash.specs.Logging.{end_text, id_text, intent_text, kept_text, line_of, log_text, numbers_of, range_text, stage_text};
@@ -32,6 +32,13 @@ fn add_range(out: &mut Vec<u8>, alloc: Global, first: u16, last: u16) -> Result<
     Ok(())
 }
 
+/// Whether a page is the one behind another.
+fn follows(last: u16, page: u16) -> bool
+    ensures { result ≡ (page == last + 1) }
+{
+    u32::from(page) == u32::from(last) + 1
+}
+
 /// Adds the pages that segment `k` keeps.
 fn add_pages(out: &mut Vec<u8>, alloc: Global, journal: &Journal, k: u32) -> Result<(), AllocError>
     ensures { (segment : _) → segment_of journal.now.state k ≡ Some segment
@@ -47,7 +54,7 @@ fn add_pages(out: &mut Vec<u8>, alloc: Global, journal: &Journal, k: u32) -> Res
         let Some((page, _)) = journal.kept(k, i) else {
             unreachable!()
         };
-        if u32::from(page) != u32::from(last) + 1 {
+        if !follows(last, page) {
             add_range(out, alloc, first, last)?;
             first = page;
         }
@@ -137,6 +144,16 @@ fn add_id(out: &mut Vec<u8>, alloc: Global, id: u16) -> Result<(), AllocError>
     Ok(())
 }
 
+/// Adds the line of the device, where the journal names one.
+fn add_device(out: &mut Vec<u8>, alloc: Global, journal: &Journal) -> Result<(), AllocError>
+    ensures { OnOk result (out.new.items ≡ out.old.items ++ id_text journal.now.state.header) }
+{
+    match journal.id() {
+        Some(id) => add_id(out, alloc, id),
+        None => Ok(()),
+    }
+}
+
 /// Adds what can be done next.
 fn add_end(out: &mut Vec<u8>, alloc: Global, journal: &Journal) -> Result<(), AllocError>
     ensures { OnOk result (out.new.items ≡ out.old.items ++ end_text journal.now.state) }
@@ -153,9 +170,7 @@ pub fn log_lines(alloc: Global, journal: &Journal) -> Result<Vec<u8>, AllocError
     ensures { IfOk result (λ text. text.items ≡ log_text journal.now.state) }
 {
     let mut out = Vec::new(alloc);
-    if let Some(id) = journal.id() {
-        add_id(&mut out, alloc, id)?;
-    }
+    add_device(&mut out, alloc, journal)?;
     for k in 0..journal.depth() {
         add_segment(&mut out, alloc, journal, k + 1)?;
     }
