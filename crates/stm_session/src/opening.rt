@@ -31,7 +31,7 @@ pub struct Opened<'t> {
 }
 
 /// Reads the journal, which must be finished.
-fn load_finished<R: Rig>(alloc: Global, rig: &mut R) -> Result<Journal, Fault>
+pub fn load_finished<R: Rig>(alloc: Global, rig: &mut R) -> Result<Journal, Fault>
     ensures cause { let old = R.view rig.old in let new = R.view rig.new in
         HasSessionCause old new result }
     ensures calls { let old = R.view rig.old in let new = R.view rig.new in
@@ -52,7 +52,7 @@ fn load_finished<R: Rig>(alloc: Global, rig: &mut R) -> Result<Journal, Fault>
 }
 
 /// Settles a device with 7F, and asks who it is.
-fn reach<R: Rig>(rig: &mut R) -> Result<Told, Fault>
+pub fn reach<R: Rig>(rig: &mut R) -> Result<Told, Fault>
     ensures unwritten { let old = R.view rig.old in let new = R.view rig.new in
         GoesOn AppendsNothing old.calls new.calls }
     ensures cause { let old = R.view rig.old in let new = R.view rig.new in

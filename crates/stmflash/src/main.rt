@@ -33,19 +33,30 @@ mod socket_rig;
 mod standing;
 mod variables;
 
-use program::program;
+use program::{fail, program};
 use std::io::ErrorKind;
 use std::process::ExitCode;
 use std::{env, io};
+use variables::Variables;
 
 /// Runs the program on the words that the system hands in.
 fn run(rt: &HostRuntime) -> io::Result<u8> {
+    let variables = match Variables::read(rt) {
+        Ok(variables) => variables,
+        Err(failure) => return Ok(fail(&failure, &mut rt.stderr())),
+    };
     let given: Vec<String> = env::args(rt)?.collect(rt.alloc())?;
     let mut words = Vec::new(rt.alloc());
     for word in &given {
         words.push(word.as_str())?;
     }
-    Ok(program(rt, words.as_slice(), &mut rt.stdout(), &mut rt.stderr()))
+    Ok(program(
+        rt,
+        variables.environment(rt),
+        words.as_slice(),
+        &mut rt.stdout(),
+        &mut rt.stderr(),
+    ))
 }
 
 fn main(rt: HostRuntime) -> ExitCode {

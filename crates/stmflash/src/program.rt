@@ -5,29 +5,24 @@ use crate::failure::Failure;
 use crate::journal_tasks::{keep, log};
 use crate::on_device::use_device;
 use crate::serving::serve;
-use crate::variables::Variables;
-use std::env::Env;
 use std::fs::Files;
 use std::io::{IsTerminal, Write};
 use std::net::Net;
 use std::time::Clock;
-use stm_words::{Request, Unread, read_request};
+use stm_words::{Environment, Request, Unread, read_request};
 
-/// Runs the program on its words, the first of which is its name, and answers the exit status: 0 where all was done or
-/// help was asked for, 1 after a fault, 2 where the words can't be done, 3 where a simulator was stopped. A fault is one
-/// line on `err`; of words that `clap` refuses its text stands there. While a line or a journal is open
-/// nothing is printed but what goes on, where that is shown.
-pub fn program<R: Env + Files + Net + Clock + AllocGlobal, O: Write, E: Write + IsTerminal>(
+/// Runs the program on its words, the first of which is its name, and on what stands in the place of words. It answers the
+/// exit status: 0 where all was done or help was asked for, 1 after a fault, 2 where the words can't be done, 3 where a
+/// simulator was stopped. A fault is one line on `err`; of words that `clap` refuses its text stands there. While a line or a
+/// journal is open nothing is printed but what goes on, where that is shown.
+pub fn program<'a, R: Files + Net + Clock + AllocGlobal, O: Write, E: Write + IsTerminal>(
     rt: &R,
-    words: &[&str],
+    environment: Environment<'a>,
+    words: &'a [&'a str],
     out: &mut O,
     err: &mut E,
 ) -> u8 {
-    let variables = match Variables::read(rt) {
-        Ok(variables) => variables,
-        Err(failure) => return fail(&failure, err),
-    };
-    let done = match read_request(rt.alloc(), variables.environment(rt), words) {
+    let done = match read_request(rt.alloc(), environment, words) {
         Ok(Request::Use(options, task)) => use_device(rt, &options, task, err),
         Ok(Request::Log(journal)) => log(rt, journal),
         Ok(Request::Keep(kept)) => keep(rt, &kept),
@@ -47,7 +42,7 @@ pub fn program<R: Env + Files + Net + Clock + AllocGlobal, O: Write, E: Write + 
 }
 
 /// Tells a fault.
-fn fail<E: Write>(failure: &Failure, err: &mut E) -> u8 {
+pub fn fail<E: Write>(failure: &Failure, err: &mut E) -> u8 {
     let _ = writeln!(err, "stmflash: {failure}");
     failure.status()
 }

@@ -32,7 +32,7 @@ impl Variables {
             table,
             device,
             journal,
-            is_fresh: matches!(fresh, Some(text) if text.as_str() == "1"),
+            is_fresh: matches!(text_of(&fresh), Some("1")),
         })
     }
 
