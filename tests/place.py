@@ -75,9 +75,10 @@ class Place(unittest.TestCase):
     def is_there(self, name):
         return os.path.lexists(self.path(name))
 
-    def call(self, *words, before=None):
-        """Runs the program on these words, after its name; `before` is called in its process before it begins."""
-        ran = subprocess.run(["stmflash", *words], executable=program(), cwd=self.folder, env={}, timeout=PATIENCE,
+    def call(self, *words, before=None, variables=None):
+        """Runs the program on these words, after its name, with these variables alone; `before` is called in its process
+        before it begins."""
+        ran = subprocess.run(["stmflash", *words], executable=program(), cwd=self.folder, env=variables or {}, timeout=PATIENCE,
                              stdin=subprocess.DEVNULL, capture_output=True, preexec_fn=before)
         return Said(ran.returncode, ran.stdout, ran.stderr)
 

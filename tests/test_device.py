@@ -6,6 +6,7 @@ from place import COUNTING, ERASED, TABLE, ZEROS, Place
 
 INFO = ("id 0412\nbase 08000000\npages 32\nsize 32768\nerase 43\nerased FF\nversion 22\n"
         "codes 00 02 11 21 31 43 73 82 92\n")
+RAW = "id 0412\nversion 22\ncodes 00 02 11 21 31 43 73 82 92\n"
 BAD_FLASH = "bad simulator file flash"
 # lines that no simulator's file has
 BAD_LINES = (b"rest 43BD\n", b"rest 43bc\n", b"rest \n", b"rest 4\n", b"rest 43BC", b"rest 43BC\n\n", b"rest 02FD\n")
@@ -25,6 +26,15 @@ class Device(Place):
     def test_tells_what_an_erased_device_is(self):
         self.assertTold(self.use("info"), INFO)
         self.assertHolds(ERASED, b"idle\n")
+
+    def test_tells_what_a_device_says_itself(self):
+        """A journal of another device doesn't matter, but one that isn't finished does."""
+        self.store("journal", b"stmjournal 1 0410\nopen 1\nend 1\n")
+        self.assertFault(self.use("info"), "journal belongs to another device")
+        self.assertTold(self.use("info", "--raw"), RAW)
+        self.assertHolds(ERASED, b"idle\n")
+        self.store("journal", b"stmjournal 1 0412\nopen 1\n")
+        self.assertFault(self.use("info", "--raw"), "unfinished command, undo first")
 
     def test_a_missing_flash_is_erased_as_its_chip_erases(self):
         """A flash that isn't there is all what the chip's erase leaves."""

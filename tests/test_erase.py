@@ -9,6 +9,11 @@ REFUSED = (
     ("sim:0412:F", (), PAGES),
     ("sim:0412:F", ("--all", "3"), PAGES),
     ("sim:0412:F", ("3", "65536"), "usage: bad number 65536"),
+    ("sim:0412:F", ("9-4",), "usage: bad number 9-4"),
+    ("sim:0412:F", ("4-65536",), "usage: bad number 4-65536"),
+    ("sim:0412:F", ("4-",), "usage: bad number 4-"),
+    ("sim:0412:F", ("4-5-6",), "usage: bad number 4-5-6"),
+    ("sim:0412:F", ("4-05",), "usage: bad number 4-05"),
     ("socket", ("--stop", "1", "03"), "usage: bad number 03"),
     ("socket", ("--stop", "1"), "usage: --stop needs a simulator"),
     ("socket", (), PAGES),
@@ -33,6 +38,13 @@ class Erase(Place):
         self.assertTold(self.use("erase", "5", "0x5"), "segment 1: 1 pages erased\n")
         self.assertHolds(ZEROS[:5120] + ERASED[:1024] + ZEROS[:26624], b"idle\n")
         self.assertTold(self.use("erase", "5"), "segment 2: 0 pages erased\n")
+
+    def test_erases_a_range(self):
+        """From one page to another, both of them; a range of one page is that page."""
+        self.store("flash", ZEROS)
+        self.assertTold(self.use("erase", "4-0x9", "31-31", "5"), "segment 1: 7 pages erased\n")
+        self.assertHolds(ZEROS[:4096] + ERASED[:6144] + ZEROS[:21504] + ERASED[:1024], b"idle\n")
+        self.assertFault(self.use("erase", "30-32"), "address outside the flash")
 
     def test_erases_all(self):
         self.store("flash", ZEROS)

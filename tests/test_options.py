@@ -4,7 +4,7 @@ import os
 
 from place import COUNTING, ERASED, Place
 
-SUBCOMMANDS = ("info", "read", "write", "verify", "erase", "undo", "go", "protect", "sim")
+SUBCOMMANDS = ("info", "read", "write", "verify", "erase", "undo", "log", "keep", "go", "protect", "sim")
 # words that are numbers, as the length of what is read
 LENGTHS = (("0", 0), ("255", 255), ("0x0", 0), ("0x00000010", 16))
 # words of the last address of all

@@ -2,7 +2,7 @@
 
 import socket
 
-from place import ERASED, PATIENCE, ZEROS, with_page
+from place import ERASED, PATIENCE, TABLE, ZEROS, with_page
 from served import WAIT, Served
 
 ID = bytes([0x79, 0x01, 0x04, 0x12, 0x79])
@@ -57,6 +57,14 @@ class Socket(Served):
         self.assertFile("journal", erased + b"erase 5\nprogram 5\nundone 1\n")
         self.assertServed()
         self.assertHolds(ZEROS, b"idle\n")
+
+    def test_tells_what_a_device_says_that_no_table_has(self):
+        self.serve(2)
+        self.store("table", TABLE.replace(b"0x412", b"0x413"))
+        self.assertFault(self.use("info", "--wait", WAIT, device="board"), "unknown chip 0412")
+        said = self.use("info", "--raw", "--wait", WAIT, device="board")
+        self.assertTold(said, "id 0412\nversion 22\ncodes 00 02 11 21 31 43 73 82 92\n")
+        self.assertServed()
 
     def test_a_line_that_ends_is_told(self):
         """A device that hangs up, or sends nothing more and still takes what is sent: at once, after a byte, and after it has

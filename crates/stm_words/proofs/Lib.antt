@@ -1,2 +1,3 @@
+pub mod NamedPages
 pub mod Subcommands
 pub mod Simple

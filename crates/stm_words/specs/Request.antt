@@ -9,6 +9,7 @@ use Rattle.stm_words.specs.declared.kept.Kept.{Kept}
 use Rattle.stm_words.specs.declared.task.Task.{Task}
 use Rattle.stm_words.specs.declared.task.Task.TheVariants.{Info, Read, Write, Verify, Erase, Undo, Go, Protect}
 use Rattle.stm_words.specs.Number.{number_of}
+use Rattle.stm_words.specs.Pages.{NameAll}
 
 -- a socket's path is the word
 abbrev pub IsDevice : List ℕ → Device → Type 0
@@ -32,10 +33,10 @@ texts_of given id = unwrap_or (option_map raw_values (matched_of given id)) []
 abbrev pub IsImageFile : Found → ImageFile → Type 0
 IsImageFile given image = (first_value given (codes "IMAGE") ≡ Some image.name.now) × IsFlag given (codes "force") image.is_raw
 
--- the pages that `erase` names, each by its number
+-- the pages that `erase` names
 abbrev pub IsErase : Found → Task → Type 0
 IsErase given (Erase is_all pages) = IsFlag given (codes "all") is_all
-    × (map number_of (texts_of given (codes "PAGE")) ≡ map Some pages.items)
+    × NameAll (texts_of given (codes "PAGE")) pages.items
 IsErase given (Info is_raw) = ⊥
 IsErase given (Read range out) = ⊥
 IsErase given (Write image verifies) = ⊥

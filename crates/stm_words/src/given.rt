@@ -1,10 +1,12 @@
 // The values that `clap` found, each read as what it stands for.
-ghost use Rattle.std.specs.Prelude.{◌≡◌, ◌≤◌, IfOk, Some, map, option_and_then};
+ghost use Rattle.std.specs.Prelude.{◌≡◌, ◌≤◌, IfOk, Some, option_and_then};
 ghost use Rattle.clap.specs.Words.{first_value, found_of};
 ghost use Rattle.stm_words.specs.Number.{number_of};
+ghost use Rattle.stm_words.specs.Pages.{NameAll};
 ghost use Rattle.stm_words.specs.Request.{IsFlag, texts_of};
 
 use crate::number::parse_number;
+use crate::pages::pages_of;
 use crate::range::Range;
 use crate::unread::Unread;
 use crate::usage_fault::UsageFault;
@@ -77,35 +79,12 @@ pub fn range<'a>(given: &ArgMatches<'a>) -> Result<Option<Range>, UsageFault<'a>
     }
 }
 
-/// The page that a word names by its number, which is at most 65535.
-fn page<'a>(word: &'a str) -> Result<u16, UsageFault<'a>>
-    ensures { IfOk result (λ n. number_of word.entry.now ≡ Some n) }
-{
-    match parse_number(word) {
-        Some(n) if n <= 0xFFFF => Ok(n as u16),
-        _ => Err(UsageFault::BadNumber(word)),
-    }
-}
-
-/// The pages that words name, in their order.
-fn numbers_of<'a>(alloc: Global, words: &[&'a str]) -> Result<Vec<u16>, Unread<'a>>
-    ensures { IfOk result (λ pages. map number_of (map (λ w. w.now) words.now)
-        ≡ map Some pages.items) }
-{
-    let mut pages = Vec::new(alloc);
-    for word in words {
-        pages.push(page(word)?)?;
-    }
-    Ok(pages)
-}
-
 /// The pages that were given under this name, in their order.
 pub fn pages<'a>(alloc: Global, given: &ArgMatches<'a>, id: &str) -> Result<Vec<u16>, Unread<'a>>
-    ensures { IfOk result (λ pages. map number_of (texts_of (found_of given.now) id.now)
-        ≡ map Some pages.items) }
+    ensures { IfOk result (λ pages. NameAll (texts_of (found_of given.now) id.now) pages.items) }
 {
     match given.get_strs(id) {
-        Some(words) => numbers_of(alloc, words),
+        Some(words) => pages_of(alloc, words),
         None => Ok(Vec::new(alloc)),
     }
 }

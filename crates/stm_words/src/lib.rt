@@ -12,6 +12,7 @@ mod kept;
 mod mode;
 mod number;
 mod options;
+mod pages;
 mod progress;
 mod range;
 mod request;

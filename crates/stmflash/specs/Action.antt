@@ -28,7 +28,7 @@ use Rattle.stmflash.specs.declared.answer.Answer.TheVariants as answer
 use Rattle.stmflash.specs.declared.content.Content.{Content}
 use Rattle.stmflash.specs.declared.failure.Failure.{Failure}
 use Rattle.stmflash.specs.declared.failure.Failure.TheVariants.{Session}
-use Rattle.stmflash.specs.Conduct.{Asks, ErasesAll, RunsIfRoom, RunsTold}
+use Rattle.stmflash.specs.Conduct.{Asks, ErasesAll, Identifies, RunsIfRoom, RunsTold}
 use Rattle.stmflash.specs.Content.{ComesOf, ImageOn, is_hex}
 use Rattle.stmflash.specs.Protections.{protection_of}
 use Rattle.stmflash.specs.Reading.{ReadsRange}
@@ -39,7 +39,8 @@ ComesOfFile image content = (bytes : List ℕ) × ComesOf (is_hex image.is_raw b
 
 -- the action that a task asks for
 abbrev pub IsFor : Task → Action → Type 0
-IsFor (task.Info is_raw) does = does ≡ action.Info
+IsFor (task.Info false) does = does ≡ action.Info
+IsFor (task.Info true) does = does ≡ action.Identify
 IsFor (task.Read range out) does = does ≡ action.Read range
 IsFor (task.Write image true) does = (content : Content) × (does ≡ action.WriteAndVerify content) × ComesOfFile image content
 IsFor (task.Write image false) does = (content : Content) × (does ≡ action.Write content) × ComesOfFile image content
@@ -85,6 +86,7 @@ pub record Parts (turns : List Turn) (frame : List ℕ) (Allows : Device → Typ
 -- Each action is the calls of its own, and hands on what they answer.
 abbrev pub Does : {R : Type 0} → (R → RigState) → List ChipData → Action → R → R → Result Answer Failure → Type 0
 Does view table action.Info old new result = Calls answer.Told (λ a b said. Asks table (view a) (view b) said) old new result
+Does view table action.Identify old new result = Calls answer.Identified (λ a b said. Identifies (view a) (view b) said) old new result
 Does view table (action.Read range) old new result = Calls (λ said. said) (ReadsRange view table range) old new result
 Does view table (action.Write content) old new result =
     PlacesFirst view table content (λ image a b said. RunsTold table (writes image ∷ []) (view a) (view b) said) old new result

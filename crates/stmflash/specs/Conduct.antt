@@ -6,12 +6,18 @@ use Rattle.stm_wire.specs.Dialogue.{GoesOn}
 use Rattle.stm_wire.specs.Parts.{IsSession}
 use Rattle.stm_wire.specs.Rig.{RigState}
 use Rattle.stm_journal.specs.Calls.{AreFetches}
+use Rattle.stm_journal.specs.Journals.{journal_of}
+use Rattle.stm_session.specs.declared.contact.Told.{Told}
 use Rattle.stm_session.specs.declared.fault.Fault.{Fault}
 use Rattle.stm_session.specs.declared.fault.Fault.TheVariants.{Memory, Unfinished}
 use Rattle.stm_session.specs.declared.information.Info.{Info}
 use Rattle.stm_session.specs.Answers.{OutcomeData}
 use Rattle.stm_session.specs.Fault.{HasSessionCause}
 use Rattle.stm_session.specs.Information.{Describes}
+use Rattle.stm_session.specs.Moments.{IsSafe}
+use Rattle.stm_session.specs.Opening.{Tells}
+use Rattle.stm_session.specs.Refusal.{unsent_refusal}
+use Rattle.stm_session.specs.Unwritten.{AppendsNothing}
 use Rattle.stm_session.specs.Meaning.{CommandData, erases}
 use Rattle.stm_session.specs.Promises.{InfoContract, RunContract}
 use Rattle.stm_session.specs.RunOrder.{RunsInOrder}
@@ -45,6 +51,15 @@ pub record Asks (table : List ChipData) (old new : RigState) (told : Result Info
   pub cause : HasSessionCause old new told
   pub puts : GoesOn (IsSession None 0x7F 131072 (is_whole told) (most_calls 0)) old.calls new.calls
   pub silent : IfErr told (λ fault. fault ≡ Unfinished → GoesOn AreFetches old.calls new.calls)
+
+-- What `identify` promises.
+pub record Identifies (old new : RigState) (told : Result Told Fault) : Type 0 where
+  pub unwritten : GoesOn AppendsNothing old.calls new.calls
+  pub cause : HasSessionCause old new told
+  pub puts : GoesOn (IsSession None 0x7F 131072 (is_whole told) (most_calls 0)) old.calls new.calls
+  pub silent : IfErr told (λ fault. fault ≡ Unfinished → GoesOn AreFetches old.calls new.calls)
+  pub accepted : old.is_honest → OnOk told (unsent_refusal (journal_of old.journal) ≡ None)
+  pub told : old.is_honest → IsSafe old.device → IfOk told (Tells old.device)
 
 -- The device is asked what it is, and by what it tells the step goes on; a fault of the asking is the step's, and nothing more
 -- was called.

@@ -2,8 +2,8 @@
 
 use std::io;
 use std::io::Write;
-use stm_session::Info;
-use stm_wire::EraseKind;
+use stm_session::{Info, Told};
+use stm_wire::{Commands, EraseKind};
 
 /// What came of the words.
 #[derive(Drop)]
@@ -12,6 +12,8 @@ pub enum Answer {
     Nothing,
     /// What the device is.
     Told(Info),
+    /// What the device says itself.
+    Identified(Told),
     /// Bytes of the flash, for a file.
     Bytes(Vec<u8>),
     /// The number of a write's segment, and how many pages it changed.
@@ -45,6 +47,10 @@ impl Answer {
     pub fn print<O: Write>(&self, out: &mut O) -> io::Result<()> {
         match self {
             Answer::Told(info) => print_info(info, out),
+            Answer::Identified(told) => {
+                writeln!(out, "id {:04X}", told.id)?;
+                print_commands(&told.commands, out)
+            }
             Answer::Written { segment, pages } => print_written(*segment, *pages, out),
             Answer::WrittenAndVerified {
                 segment,
@@ -88,11 +94,13 @@ fn print_info<O: Write>(info: &Info, out: &mut O) -> io::Result<()> {
     };
     writeln!(out, "erase {erase:02X}")?;
     writeln!(out, "erased {:02X}", info.erased)?;
-    writeln!(out, "version {:02X}", info.commands.version)?;
-    print_codes(
-        &info.commands.codes[..usize::from(info.commands.count)],
-        out,
-    )
+    print_commands(&info.commands, out)
+}
+
+/// Prints the bootloader's version and the codes of its commands.
+fn print_commands<O: Write>(commands: &Commands, out: &mut O) -> io::Result<()> {
+    writeln!(out, "version {:02X}", commands.version)?;
+    print_codes(&commands.codes[..usize::from(commands.count)], out)
 }
 
 /// Prints the line of the codes.

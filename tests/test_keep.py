@@ -1,0 +1,104 @@
+"""How the way back is given up: `keep`, after which `go` and `protect` are free again."""
+
+import os
+
+from place import Place, ZEROS
+
+IMAGE = b"\x00" * 1024
+WRITTEN = "segment 1: 1 pages written\n"
+OPEN = "journal is open, refused"
+UNFINISHED = "unfinished command, undo first"
+BAD = b"stmjournal 1 0412\nopen 2\n"
+
+
+class Keep(Place):
+    def keep(self, *words):
+        return self.call("keep", "--journal", "journal", *words)
+
+    def write(self):
+        """Writes a page of zeros, and answers the journal."""
+        self.assertTold(self.use_image("write", IMAGE), WRITTEN)
+        return self.held("journal")
+
+    def test_gives_the_way_back_up(self):
+        """The flash stays, the journal goes, and a second time there is nothing to keep."""
+        self.write()
+        flash = self.held("flash")
+        self.assertEqual(flash[:1024], IMAGE)
+        self.assertTold(self.keep(), "kept 1\n")
+        self.assertFalse(self.is_there("journal"))
+        self.assertFile("flash", flash)
+        self.assertTold(self.keep(), "kept 0\n")
+
+    def test_frees_go_and_protect(self):
+        self.assertTold(self.use_image("write", IMAGE, "-v"), WRITTEN + "verified 1024 bytes\n")
+        for name, word in (("go", "0x08000000"), ("protect", "write-unprotect")):
+            self.assertFault(self.use(name, word), OPEN)
+        self.assertTold(self.keep(), "kept 1\n")
+        self.assertSilent(self.use("protect", "write-unprotect"))
+        self.assertSilent(self.use("go", "0x08000000"))
+        self.assertFile("flash.line", b"gone\n")
+
+    def test_counts_what_stays(self):
+        self.write()
+        self.assertTold(self.use("erase", "5"), "segment 2: 0 pages erased\n")
+        self.assertTold(self.keep(), "kept 2\n")
+        self.assertTold(self.use_image("write", b"\x01"), WRITTEN)
+
+    def test_refuses_a_stopped_command(self):
+        """A write that was stopped, and an undo that was."""
+        self.store("flash", ZEROS)
+        self.assertFault(self.use("erase", "--stop", "3190", "5"), "stopped", 3)
+        for words in ((), ("elsewhere",)):
+            journal = self.held("journal")
+            self.assertFault(self.keep(*words), UNFINISHED)
+            self.assertFile("journal", journal)
+            self.assertFile("elsewhere", None)
+        self.assertTold(self.use("undo"), "undone 1\n")
+        self.assertTold(self.keep(), "kept 0\n")
+        self.assertFile("journal", None)
+
+    def test_refuses_a_bad_journal(self):
+        for words in ((), ("elsewhere",)):
+            self.store("journal", BAD)
+            self.assertFault(self.keep(*words), "bad journal line 2")
+            self.assertFile("journal", BAD)
+            self.assertFile("elsewhere", None)
+
+    def test_renames_the_journal(self):
+        """The name may lie in another folder; what was there is never replaced."""
+        os.mkdir(self.path("folder"))
+        for name in ("elsewhere", "folder/elsewhere"):
+            with self.subTest(name=name):
+                journal = self.write()
+                self.assertFault(self.keep("table"), "cannot write table")
+                self.assertFile("journal", journal)
+                self.assertTold(self.keep(name), "kept 1\n")
+                self.assertFile("journal", None)
+                self.assertFile(name, journal)
+                self.assertTold(self.use("undo", journal=name), "undone 1\n")
+
+    def test_says_which_name_cannot_be_written(self):
+        """A file, a folder, a link to nothing, the journal itself, and a folder that isn't there."""
+        journal = self.write()
+        os.mkdir(self.path("folder"))
+        os.symlink("nowhere", self.path("link"))
+        for name in ("flash", "folder", "link", "journal", "missing/elsewhere"):
+            with self.subTest(name=name):
+                self.assertFault(self.keep(name), f"cannot write {name}")
+                self.assertFile("journal", journal)
+                self.assertFalse(self.is_there("nowhere"))
+
+    def test_follows_a_link(self):
+        """The journal that a link names is the one that goes."""
+        self.write()
+        os.rename(self.path("journal"), self.path("real"))
+        os.symlink("real", self.path("journal"))
+        self.assertTold(self.keep(), "kept 1\n")
+        self.assertFile("real", None)
+
+    def test_wants_a_journal(self):
+        self.assertUsage(self.call("keep"))
+        self.assertUsage(self.keep("one", "two"))
+        os.mkdir(self.path("journal"))
+        self.assertFault(self.keep(), "cannot read journal")

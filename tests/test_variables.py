@@ -1,0 +1,71 @@
+"""Variables of the environment that stand in the place of words."""
+
+import os
+
+from place import Place
+from test_device import INFO
+
+WORDS = {"table": "table", "device": "sim:0412:flash", "journal": "journal"}
+BAD = b"stmjournal 1 0412\nopen 2\n"
+
+
+def variable(name):
+    return "STMFLASH_" + name.upper()
+
+
+def is_installed():
+    """Whether a chip table is installed on this machine, which then stands in the place of `--table`."""
+    return any(os.path.exists(f"{folder}/share/stmflash/chips.toml") for folder in ("/usr/local", "/usr"))
+
+
+class Variables(Place):
+    def test_stand_in_the_place_of_words(self):
+        self.assertTold(self.call("info", variables={variable(name): word for name, word in WORDS.items()}), INFO)
+        for name, word in WORDS.items():
+            with self.subTest(name=name):
+                words = [text for other in WORDS if other != name for text in ("--" + other, WORDS[other])]
+                self.assertTold(self.call("info", *words, variables={variable(name): word}), INFO)
+                if name != "table" or not is_installed():
+                    self.assertUsage(self.call("info", *words))
+
+    def test_a_word_goes_before(self):
+        wrong = {"table": "missing", "device": "sim:0412:", "journal": "bad"}
+        self.store("bad", BAD)
+        for name, text in wrong.items():
+            with self.subTest(name=name):
+                words = [part for other, word in WORDS.items() for part in ("--" + other, word)]
+                self.assertTold(self.call("info", *words, variables={variable(name): text}), INFO)
+
+    def test_say_what_is_wrong_with_them(self):
+        words = {"table": ("cannot read missing", "missing", 1), "device": ("usage: bad device sim:0412:", "sim:0412:", 2),
+                 "journal": ("bad journal line 2", "bad", 1)}
+        self.store("bad", BAD)
+        for name, (fault, text, status) in words.items():
+            with self.subTest(name=name):
+                others = [text for other, word in WORDS.items() if other != name for text in ("--" + other, word)]
+                self.assertFault(self.call("info", *others, variables={variable(name): text}), fault, status)
+
+    def test_an_empty_one_is_none(self):
+        words = ("--table", "table", "--device", "sim:0412:flash")
+        self.assertUsage(self.call("info", *words, variables={"STMFLASH_JOURNAL": ""}))
+
+    def test_are_text(self):
+        for name in ("STMFLASH_TABLE", "STMFLASH_DEVICE", "STMFLASH_JOURNAL", "STMFLASH_FRESH"):
+            with self.subTest(name=name):
+                self.assertFault(self.call("info", variables={name: os.fsdecode(b"\xff")}), f"usage: {name} is not text", 2)
+
+    def test_name_the_journal_of_log_and_keep(self):
+        self.assertTold(self.use("erase", "5"), "segment 1: 0 pages erased\n")
+        variables = {"STMFLASH_JOURNAL": "journal"}
+        told = "id 0412\nsegment 1: ended, 0 pages\n1 can be undone\n"
+        self.assertTold(self.call("log", variables=variables), told)
+        self.assertTold(self.call("log", "--journal", "other", variables=variables), "0 can be undone\n")
+        self.assertTold(self.call("keep", "kept", variables=variables), "kept 1\n")
+        self.assertFile("journal", None)
+        self.assertTold(self.call("log", "--journal", "kept"), told)
+
+    def test_name_the_table_of_a_served_simulator(self):
+        words = ("--id", "0413", "--flash", "flash", "--socket", "board")
+        self.assertFault(self.call("sim", *words, variables={"STMFLASH_TABLE": "table"}), "unknown chip 0413")
+        said = self.call("sim", *words, "--table", "missing", variables={"STMFLASH_TABLE": "table"})
+        self.assertFault(said, "cannot read missing")
