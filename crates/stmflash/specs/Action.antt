@@ -23,6 +23,8 @@ use Rattle.stm_words.specs.declared.task.Task.{Task}
 use Rattle.stm_words.specs.declared.task.Task.TheVariants as task
 use Rattle.stmflash.specs.declared.action.Action.{Action}
 use Rattle.stmflash.specs.declared.action.Action.TheVariants as action
+use Rattle.stmflash.specs.declared.work.Work.{Work}
+use Rattle.stmflash.specs.declared.work.Work.TheVariants as work
 use Rattle.stmflash.specs.declared.answer.Answer.{Answer}
 use Rattle.stmflash.specs.declared.answer.Answer.TheVariants as answer
 use Rattle.stmflash.specs.declared.content.Content.{Content}
@@ -39,8 +41,7 @@ ComesOfFile image content = (bytes : List ℕ) × ComesOf (is_hex image.is_raw b
 
 -- the action that a task asks for
 abbrev pub IsFor : Task → Action → Type 0
-IsFor (task.Info false) does = does ≡ action.Info
-IsFor (task.Info true) does = does ≡ action.Identify
+IsFor (task.Info is_raw) does = does ≡ action.Info
 IsFor (task.Read range out) does = does ≡ action.Read range
 IsFor (task.Write image true) does = (content : Content) × (does ≡ action.WriteAndVerify content) × ComesOfFile image content
 IsFor (task.Write image false) does = (content : Content) × (does ≡ action.Write content) × ComesOfFile image content
@@ -86,7 +87,6 @@ pub record Parts (turns : List Turn) (frame : List ℕ) (Allows : Device → Typ
 -- Each action is the calls of its own, and hands on what they answer.
 abbrev pub Does : {R : Type 0} → (R → RigState) → List ChipData → Action → R → R → Result Answer Failure → Type 0
 Does view table action.Info old new result = Calls answer.Told (λ a b said. Asks table (view a) (view b) said) old new result
-Does view table action.Identify old new result = Calls answer.Identified (λ a b said. Identifies (view a) (view b) said) old new result
 Does view table (action.Read range) old new result = Calls (λ said. said) (ReadsRange view table range) old new result
 Does view table (action.Write content) old new result =
     PlacesFirst view table content (λ image a b said. RunsTold table (writes image ∷ []) (view a) (view b) said) old new result
@@ -101,3 +101,8 @@ Does view table (action.Go address) old new result =
     Calls (λ done. answer.Nothing) (λ a b said. Parts (go_turns address) (go_frame address) (λ d. CanLeave 0x21 d × IsTrue (is_inside d.chip address)) (view a) (view b) said) old new result
 Does view table (action.Protect kind) old new result =
     Calls (λ done. answer.Nothing) (λ a b said. Parts (protect_turns (protection_code kind)) (command (protection_code kind)) (CanLeave (protection_code kind)) (view a) (view b) said) old new result
+
+-- What is done on a device: the question that needs no table, or an action.
+abbrev pub Works : {R : Type 0} → (R → RigState) → List ChipData → Work → R → R → Result Answer Failure → Type 0
+Works view table work.Identify old new result = Calls answer.Identified (λ a b said. Identifies (view a) (view b) said) old new result
+Works view table (work.Act does) old new result = Does view table does old new result

@@ -11,7 +11,7 @@ use crate::reading::read;
 use std::alloc::Global;
 use std::fs::Files;
 use stm_chip::Table;
-use stm_session::{go, identify, info, protect, undo};
+use stm_session::{go, info, protect, undo};
 use stm_wire::{Protection, Rig};
 use stm_words::{Range, Task, UsageFault};
 
@@ -20,8 +20,6 @@ use stm_words::{Range, Task, UsageFault};
 pub enum Action {
     /// Tells what it is.
     Info,
-    /// Tells what it says itself, whether or not the table has its chip.
-    Identify,
     /// Reads its whole flash, or a part of it.
     Read(Option<Range>),
     /// Writes an image.
@@ -48,11 +46,7 @@ impl Action {
         ensures { IfOk result (IsFor task.entry) }
     {
         match task {
-            Task::Info { is_raw } => Ok(if is_raw {
-                Action::Identify
-            } else {
-                Action::Info
-            }),
+            Task::Info { .. } => Ok(Action::Info),
             Task::Read { range, .. } => Ok(Action::Read(range)),
             Task::Write { image, verifies } => {
                 let content = read_content(rt, &image)?;
@@ -88,7 +82,6 @@ impl Action {
     {
         match self {
             Action::Info => Ok(Answer::Told(info(alloc, rig, table)?)),
-            Action::Identify => Ok(Answer::Identified(identify(alloc, rig)?)),
             Action::Read(range) => Ok(read(alloc, rig, table, range)?),
             Action::Write(content) => {
                 let image = content.on_device(alloc, rig, table)?;

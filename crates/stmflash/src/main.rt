@@ -32,6 +32,7 @@ mod socket_line;
 mod socket_rig;
 mod standing;
 mod variables;
+mod work;
 
 use program::{fail, program};
 use std::io::ErrorKind;

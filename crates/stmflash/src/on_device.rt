@@ -1,18 +1,18 @@
 // A use of a device: the files that belong to it are opened, the task is done, and they are closed, whatever came of it.
 // Nothing is printed here but what goes on, on standard error.
 
-use crate::action::Action;
 use crate::answer::Answer;
 use crate::failure::Failure;
 use crate::files::is_same_file;
 use crate::journal_file::JournalFile;
-use crate::progress_course::{Course, Goal};
+use crate::progress_course::Course;
 use crate::progress_rig::ProgressRig;
 use crate::progress_screen::{Screen, Style};
 use crate::simulator_file::{line_name, load, store_rig};
 use crate::simulator_rig::SimulatorRig;
 use crate::socket_line::SocketLine;
 use crate::socket_rig::SocketRig;
+use crate::work::Work;
 use std::fs;
 use std::fs::Files;
 use std::io::{IsTerminal, Write};
@@ -36,7 +36,7 @@ pub fn use_device<'a, R: Files + Net + Clock + AllocGlobal, E: Write + IsTermina
         _ => None,
     };
     let table = read_chips(rt, options.table)?;
-    let action = Action::of(rt, task)?;
+    let work = Work::of(rt, task)?;
     if is_same_file(rt, options.journal, options.table)
         || is_simulators(rt, options, options.journal)?
     {
@@ -49,9 +49,9 @@ pub fn use_device<'a, R: Files + Net + Clock + AllocGlobal, E: Write + IsTermina
     }
     match options.device {
         Device::Simulator { id, file } => {
-            on_simulator(rt, options, action, &table, id, file, out, screen)
+            on_simulator(rt, options, work, &table, id, file, out, screen)
         }
-        Device::Socket(path) => on_socket(rt, options, action, &table, path, out, screen),
+        Device::Socket(path) => on_socket(rt, options, work, &table, path, out, screen),
     }
 }
 
@@ -109,7 +109,7 @@ fn write_out<'a, R: Files>(
 fn on_simulator<'a, R: Files + Clock + AllocGlobal, W: Write + Drop>(
     rt: &R,
     options: &Options<'a>,
-    action: Action,
+    work: Work,
     table: &Table,
     id: u16,
     file: &'a str,
@@ -137,8 +137,8 @@ fn on_simulator<'a, R: Files + Clock + AllocGlobal, W: Write + Drop>(
         store_rig(rt, &rig.into_memory(), file)?;
         return Err(unread);
     }
-    let mut rig = ProgressRig::new(rig, Course::new(table, Goal::of(&action)), screen);
-    let done = action.run(rt.alloc(), &mut rig, table);
+    let mut rig = ProgressRig::new(rig, Course::new(table, work.goal()), screen);
+    let done = work.run(rt.alloc(), &mut rig, table);
     let memory = rig.finish(done.is_ok()).into_memory();
     let done = match done {
         Ok(answer) => write_out(rt, answer, out),
@@ -155,7 +155,7 @@ fn on_simulator<'a, R: Files + Clock + AllocGlobal, W: Write + Drop>(
 fn on_socket<'a, R: Files + Net + Clock + AllocGlobal, W: Write + Drop>(
     rt: &R,
     options: &Options<'a>,
-    action: Action,
+    work: Work,
     table: &Table,
     path: &'a str,
     out: Option<&'a str>,
@@ -176,8 +176,8 @@ fn on_socket<'a, R: Files + Net + Clock + AllocGlobal, W: Write + Drop>(
         return Err(Failure::of_file(&e, Failure::CannotRead(options.journal)));
     }
     let rig = SocketRig::new(line, journal);
-    let mut rig = ProgressRig::new(rig, Course::new(table, Goal::of(&action)), screen);
-    let done = action.run(rt.alloc(), &mut rig, table);
+    let mut rig = ProgressRig::new(rig, Course::new(table, work.goal()), screen);
+    let done = work.run(rt.alloc(), &mut rig, table);
     let rig = rig.finish(done.is_ok());
     let has_given_up = rig.has_given_up();
     drop(rig);

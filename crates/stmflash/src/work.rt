@@ -1,0 +1,55 @@
+// What is done on a device, whether or not the table has its chip.
+ghost use Rattle.stmflash.specs.Action.{Works};
+
+use crate::action::Action;
+use crate::answer::Answer;
+use crate::failure::Failure;
+use crate::progress_course::Goal;
+use std::alloc::Global;
+use std::fs::Files;
+use stm_chip::Table;
+use stm_session::identify;
+use stm_wire::Rig;
+use stm_words::Task;
+
+/// What is done on a device.
+#[derive(Drop)]
+pub enum Work {
+    /// It tells what it is, and no table has to have its chip.
+    Identify,
+    /// What is done on a chip of the table.
+    Act(Action),
+}
+
+impl Work {
+    /// What a task asks for. The file of an image is read.
+    pub fn of<'a, R: Files + AllocGlobal>(rt: &R, task: Task<'a>) -> Result<Work, Failure<'a>> {
+        match task {
+            Task::Info { is_raw: true } => Ok(Work::Identify),
+            task => Ok(Work::Act(Action::of(rt, task)?)),
+        }
+    }
+
+    /// Which pages it goes through.
+    pub fn goal(&self) -> Goal {
+        match self {
+            Work::Identify => Goal::Unknown,
+            Work::Act(action) => Goal::of(action),
+        }
+    }
+
+    /// Does it.
+    pub fn run<'a, L: Rig>(
+        self,
+        alloc: Global,
+        rig: &mut L,
+        table: &Table,
+    ) -> Result<Answer, Failure<'a>>
+        ensures { Works L.view table.now self rig.old rig.new result }
+    {
+        match self {
+            Work::Identify => Ok(Answer::Identified(identify(alloc, rig)?)),
+            Work::Act(action) => action.run(alloc, rig, table),
+        }
+    }
+}
