@@ -54,7 +54,7 @@ class Options(Place):
             with self.subTest(name=name):
                 told = self.call(name, "--help")
                 self.assertEqual((told.status, told.err), (0, b""))
-                self.assertGreater(len(told.out), 300)
+                self.assertGreater(len(told.out), 200)
                 self.assertIn(f"Usage: stmflash {name} ".encode(), told.out)
 
     def test_reads_numbers(self):
