@@ -53,13 +53,13 @@ pub record Asks (table : List ChipData) (old new : RigState) (told : Result Info
   pub silent : IfErr told (λ fault. fault ≡ Unfinished → GoesOn AreFetches old.calls new.calls)
 
 -- What `identify` promises.
-pub record Identifies (old new : RigState) (told : Result Told Fault) : Type 0 where
+pub record Identifies (old new : RigState) (said : Result Told Fault) : Type 0 where
   pub unwritten : GoesOn AppendsNothing old.calls new.calls
-  pub cause : HasSessionCause old new told
-  pub puts : GoesOn (IsSession None 0x7F 131072 (is_whole told) (most_calls 0)) old.calls new.calls
-  pub silent : IfErr told (λ fault. fault ≡ Unfinished → GoesOn AreFetches old.calls new.calls)
-  pub accepted : old.is_honest → OnOk told (unsent_refusal (journal_of old.journal) ≡ None)
-  pub told : old.is_honest → IsSafe old.device → IfOk told (Tells old.device)
+  pub cause : HasSessionCause old new said
+  pub puts : GoesOn (IsSession None 0x7F 131072 (is_whole said) (most_calls 0)) old.calls new.calls
+  pub silent : IfErr said (λ fault. fault ≡ Unfinished → GoesOn AreFetches old.calls new.calls)
+  pub accepted : old.is_honest → OnOk said (unsent_refusal (journal_of old.journal) ≡ None)
+  pub told : old.is_honest → IsSafe old.device → IfOk said (Tells old.device)
 
 -- The device is asked what it is, and by what it tells the step goes on; a fault of the asking is the step's, and nothing more
 -- was called.
