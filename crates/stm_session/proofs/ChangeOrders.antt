@@ -72,13 +72,13 @@ some_changed kept chip n held page = by_same (bytes_eq held page)
         (saved.0 ++ own, record { saved = saved.0; is_saved = saved.1; is = refl })
 
 -- a page that was read, and what is made of it
-pub turn_of : (kept : Bool) (chip : ChipData) (c : Change) (n : ℕ) (held page : List ℕ) (later : List Step) → MayTouch c n → length held ≡ page_size chip n → page ≡ content chip c n held → IsChanged kept chip n held page later
+pub turn_of : (kept : Bool) (chip : ChipData) (c : Change) (n : ℕ) (held page : List ℕ) (later : List Step) → MayTouch chip c n → length held ≡ page_size chip n → page ≡ content chip c n held → IsChanged kept chip n held page later
     → IsTurn kept chip c n (page_reads chip n held ++ later)
 turn_of kept chip c n held page later may size made changed =
     let P : List ℕ → Type 0 = λ xs. IsChanged kept chip n held xs later in
     (not (bytes_eq held (content chip c n held)), inr (record { may = may; held = held; size = size; counts = refl; later = later; is_changed = subst P made changed; is = refl }))
 
-pub some_turn : (kept : Bool) (chip : ChipData) (c : Change) (n : ℕ) → MayTouch c n → (held : List ℕ) → length held ≡ page_size chip n → (more : List Step) × IsTurn kept chip c n (page_reads chip n held ++ more)
+pub some_turn : (kept : Bool) (chip : ChipData) (c : Change) (n : ℕ) → MayTouch chip c n → (held : List ℕ) → length held ≡ page_size chip n → (more : List Step) × IsTurn kept chip c n (page_reads chip n held ++ more)
 some_turn kept chip c n may held size =
     let later = some_changed kept chip n held (content chip c n held) in
     (later.0, turn_of kept chip c n held (content chip c n held) later.0 may size refl later.1)

@@ -47,7 +47,7 @@ IsChanged kept chip n held page steps = IsChangedUnless (bytes_eq held page) kep
 
 -- a page that the command is for is read first; whatever was read, what the command makes of it is what is written
 pub record IsReadAndChanged (kept : Bool) (chip : ChipData) (c : Change) (n : ℕ) (changed : Bool) (steps : List Step) : Type 0 where
-  pub may : MayTouch c n
+  pub may : MayTouch chip c n
   pub held : List ℕ
   pub size : length held ≡ page_size chip n
   pub counts : changed ≡ not (bytes_eq held (content chip c n held))

@@ -1,8 +1,9 @@
 -- What a command that begins a segment makes of one page.
-use Rattle.std.specs.Prelude.{◌≡◌, ℕ, ◌+◌, Bool, true, not, ◌==◌, if◌then◌else◌, List, bytes_eq}
+use Rattle.std.specs.Prelude.{◌≡◌, ℕ, ◌+◌, ◌<◌, ◌≤◌, Contains, Bool, true, not, ◌==◌, if◌then◌else◌, List, bytes_eq}
 use Rattle.std.specs.List.{list_any}
 use Rattle.stm_image.specs.Lay.{lay}
-use Rattle.stm_wire.specs.Chip.{ChipData, erased_page, page_of, page_offset, with_page}
+use Rattle.stm_image.specs.Pairs.{Pairs}
+use Rattle.stm_wire.specs.Chip.{ChipData, erased_page, page_of, page_offset, page_size, with_page}
 use Rattle.stm_session.specs.declared.change.Change.{Change}
 use Rattle.stm_session.specs.declared.change.Change.TheVariants as change
 use Rattle.stm_session.specs.Meaning.{CommandData, writes, erases, flash_after}
@@ -17,10 +18,17 @@ abbrev pub content : ChipData → Change → ℕ → List ℕ → List ℕ
 content chip (change.Write image) n held = lay image.now (chip.base + page_offset chip n) held
 content chip (change.Erase pages) n held = if list_any (λ m. m == n) pages.now then erased_page chip n else held
 
--- page n may be asked for
-abbrev pub MayTouch : Change → ℕ → Type 0
-MayTouch (change.Write image) n = Unit {0}
-MayTouch (change.Erase pages) n = list_any (λ m. m == n) pages.now ≡ true
+-- the image has a byte for a place in page n
+pub record HasPlaceIn (chip : ChipData) (image : Pairs) (n : ℕ) : Type 0 where
+  pub place : ℕ × ℕ
+  pub held : Contains image place
+  pub begins : chip.base + page_offset chip n ≤ place.0
+  pub ends : place.0 < chip.base + page_offset chip n + page_size chip n
+
+-- page n may be read and changed: the image has a byte for it, or it is to be erased
+abbrev pub MayTouch : ChipData → Change → ℕ → Type 0
+MayTouch chip (change.Write image) n = HasPlaceIn chip image.now n
+MayTouch chip (change.Erase pages) n = list_any (λ m. m == n) pages.now ≡ true
 
 -- Page n holds these bytes, every other page what it held, and this says whether page n held others.
 pub record IsGiven (chip : ChipData) (n : ℕ) (page old new : List ℕ) (changed : Bool) : Type 0 where

@@ -19,7 +19,7 @@ fn names(pages: &[u16], n: u16) -> bool
 /// Whether the command is for page `n`; any other page it leaves as it is.
 pub fn touches(change: &Change<'_>, chip: &Chip, n: u16) -> bool
     requires exists { n < page_count chip.now }
-    ensures may { result ≡ true → MayTouch change.now n }
+    ensures may { result ≡ true → MayTouch chip.now change.now n }
     ensures same { result ≡ false → (held : List ℕ) → length held ≡ page_size chip.now n
         → content chip.now change.now n held ≡ held }
 {
@@ -47,7 +47,7 @@ pub fn content(
 ) -> Result<Vec<u8>, AllocError>
     requires exists { n < page_count chip.now }
     requires held { length held.now ≡ page_size chip.now n }
-    requires may { MayTouch change.now n }
+    requires may { MayTouch chip.now change.now n }
     ensures bytes { IfOk result (λ bytes. bytes.items ≡ content chip.now change.now n held.now) }
     ensures size { IfOk result (λ bytes. vec_len bytes ≡ page_size chip.now n) }
 {
