@@ -69,14 +69,21 @@ module _ (byte : ℕ) (cause : Cause) (torn : Bool) where
       record { first = Sends _ ∷ []; is_get = record { version = version; codes = codes; is = refl }; second = Sends (id_turns id) ∷ []; is_get_id = record { high = _; low = _; is = refl }; is = refl } in
       GoesOn-weaker (SettlesFirst byte torn steps) (ReachesInPart byte cause torn) a.calls b.calls reached
       (λ xs s.
-      inr (inr (s.0, s.1, s.2, s.3, s.4, record {
-        done = steps;
-        failed = None;
-        allowed = begin_all IsAsking steps asking;
-        last = [];
-        fails = idle_later cause torn refused;
-        is = s.5 ∙ sym (append-nil (acts_of_steps torn steps));
-      })))
+      inr (inr (
+        s.0,
+        s.1,
+        s.2,
+        s.3,
+        s.4,
+        record {
+          done = steps;
+          failed = None;
+          allowed = begin_all IsAsking steps asking;
+          last = [];
+          fails = idle_later cause torn refused;
+          is = s.5 ∙ sym (append-nil (acts_of_steps torn steps));
+        },
+      )))
 
 -- what is done behind the questions is cut short
 pub reached_stops : (byte id version : ℕ) (codes : List ℕ) (P : List Step → Type 0) (cause : Cause) (torn : Bool) (a b c : RigState) → GoesOn (SettlesFirst byte torn (asking_steps version codes id)) a.calls b.calls → StopsBy P cause torn b c

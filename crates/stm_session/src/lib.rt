@@ -18,8 +18,8 @@ mod fault;
 mod finding;
 mod going_back;
 mod headline;
-mod information;
 mod identifying;
+mod information;
 mod inspect;
 mod laws;
 mod laws_of_steps;
@@ -42,11 +42,11 @@ mod taking_back;
 mod turning;
 
 pub use command::Command;
+pub use contact::Told;
 pub use fault::Fault;
 pub use headline::{a_session_can_be_taken_back, the_first_difference_is_the_first};
-pub use information::Info;
-pub use contact::Told;
 pub use identifying::identify;
+pub use information::Info;
 pub use inspect::info;
 pub use laws::{
     a_chip_is_looked_up_by_its_id, a_journal_of_the_chip_is_not_refused,

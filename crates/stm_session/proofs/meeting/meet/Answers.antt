@@ -134,9 +134,12 @@ pub returns-in-None-clause-order : goal.returns-in-None-clause-order
 returns-in-None-clause-order g c torn =
     let V = g.R.Rig.view in
     let byte = settling_byte (intent_of c.args.journal.now.state) in
-    let asked = c.in_ok-misfit.ensures.order torn c.in-None.is in
-    (asked.0, asked.1, settles_then byte torn (asking_steps asked.0 asked.1 c.args.chip.now.id) (V c.args.rig.now).calls (V c.settle_intended.new.rig).calls (V c.ask_misfit.new.rig).calls
-    c.settle_intended.ensures.calls c.in_ok-settle_intended.ensures.settled asked.2)
+    let asked = c.in_ok-misfit.ensures.order torn c.in-None.is in (
+      asked.0,
+      asked.1,
+      settles_then byte torn (asking_steps asked.0 asked.1 c.args.chip.now.id) (V c.args.rig.now).calls (V c.settle_intended.new.rig).calls (V c.ask_misfit.new.rig).calls
+          c.settle_intended.ensures.calls c.in_ok-settle_intended.ensures.settled asked.2,
+    )
 
 pub returns-in_err-settle_intended-clause-stops : goal.returns-in_err-settle_intended-clause-stops
 returns-in_err-settle_intended-clause-stops g c torn =
