@@ -34,6 +34,7 @@ pub mod Reaching
 pub mod UndoOrders
 pub mod PageSums
 pub mod Settlings
+pub mod Freshness
 pub mod Restorings
 pub mod Fetchings
 pub mod Returns

@@ -14,7 +14,7 @@ use Rattle.stm_wire.specs.DialogueLaws.{GoesOn-adds, GoesOn-append, GoesOn-nothi
 use Rattle.stm_wire.specs.Frames.{erase_turns, read_turns, write_turns}
 use Rattle.stm_wire.specs.Rig.{RigState}
 use Rattle.stm_wire.specs.Settling.{SettlesWithin}
-use Rattle.stm_wire.specs.SettlingCalls.{EndsSettled}
+use Rattle.stm_session.specs.Fresh.{EndsWell, Way, byte_of}
 use Rattle.stm_chip.specs.declared.plan.Frame.{Frame}
 use Rattle.stm_chip.specs.Plan.{frames_of}
 use Rattle.stm_journal.specs.declared.entry.Entry.{Entry}
@@ -186,37 +186,37 @@ GoesOn-both P Q (Some past) b p q =
     list_in None = []
     list_in (Some l) = l
 
-pub settles_and : (byte : ℕ) (P Then : List RigCall → Type 0) (a b c : Option (List RigCall)) → GoesOn (SettlesWithin byte 131072) a b → GoesOn (EndsSettled byte 131072) a b → GoesOn P b c → ((xs : List RigCall) → P xs → Then (acts_of xs))
-    → GoesOn (SettlesThen byte Then) a c
-settles_and byte P Then a b c p e q f =
-    GoesOn-append (λ xs. SettlesWithin byte 131072 xs × EndsSettled byte 131072 xs) P (SettlesThen byte Then) a b c (GoesOn-both (SettlesWithin byte 131072) (EndsSettled byte 131072) a b p e) q
+pub settles_and : (way : Way) (P Then : List RigCall → Type 0) (a b c : Option (List RigCall)) → GoesOn (SettlesWithin (byte_of way) 131072) a b → GoesOn (EndsWell way) a b → GoesOn P b c → ((xs : List RigCall) → P xs → Then (acts_of xs))
+    → GoesOn (SettlesThen way Then) a c
+settles_and way P Then a b c p e q f =
+    GoesOn-append (λ xs. SettlesWithin (byte_of way) 131072 xs × EndsWell way xs) P (SettlesThen way Then) a b c (GoesOn-both (SettlesWithin (byte_of way) 131072) (EndsWell way) a b p e) q
     (λ xs ys x y. (xs, acts_of ys, x.0, x.1, acts-append xs ys ∙ ap (λ (l : List RigCall). l ++ acts_of ys) (acts-line xs x.0.line), f ys y))
 
-pub settles_then : (byte : ℕ) (torn : Bool) (steps : List Step) (a b c : Option (List RigCall)) → GoesOn (SettlesWithin byte 131072) a b → GoesOn (EndsSettled byte 131072) a b → GoesOn (IsInOrder torn steps) b c
-    → GoesOn (SettlesFirst byte torn steps) a c
-settles_then byte torn steps a b c p e q = settles_and byte (IsInOrder torn steps) (λ rest. rest ≡ acts_of_steps torn steps) a b c p e q (λ xs x. x)
+pub settles_then : (way : Way) (torn : Bool) (steps : List Step) (a b c : Option (List RigCall)) → GoesOn (SettlesWithin (byte_of way) 131072) a b → GoesOn (EndsWell way) a b → GoesOn (IsInOrder torn steps) b c
+    → GoesOn (SettlesFirst way torn steps) a c
+settles_then way torn steps a b c p e q = settles_and way (IsInOrder torn steps) (λ rest. rest ≡ acts_of_steps torn steps) a b c p e q (λ xs x. x)
 
 -- and then further calls
-pub settled_and : (byte : ℕ) (Then P Now : List RigCall → Type 0) (a b c : Option (List RigCall)) → GoesOn (SettlesThen byte Then) a b → GoesOn P b c → ((xs ys : List RigCall) → Then xs → P ys → Now (xs ++ acts_of ys))
-    → GoesOn (SettlesThen byte Now) a c
-settled_and byte Then P Now a b c p q f =
-    GoesOn-append (SettlesThen byte Then) P (SettlesThen byte Now) a b c p q
+pub settled_and : (way : Way) (Then P Now : List RigCall → Type 0) (a b c : Option (List RigCall)) → GoesOn (SettlesThen way Then) a b → GoesOn P b c → ((xs ys : List RigCall) → Then xs → P ys → Now (xs ++ acts_of ys))
+    → GoesOn (SettlesThen way Now) a c
+settled_and way Then P Now a b c p q f =
+    GoesOn-append (SettlesThen way Then) P (SettlesThen way Now) a b c p q
     (λ cs ds x y. (x.0, x.1 ++ acts_of ds, x.2, x.3, acts-append cs ds ∙ ap (λ (l : List RigCall). l ++ acts_of ds) x.4 ∙ append_assoc x.0 x.1 (acts_of ds), f x.1 ds x.5 y))
 
-pub settled_then : (byte : ℕ) (torn : Bool) (xs ys : List Step) (a b c : Option (List RigCall)) → torn_behind torn xs ≡ torn → GoesOn (SettlesFirst byte torn xs) a b → GoesOn (IsInOrder torn ys) b c
-    → GoesOn (SettlesFirst byte torn (xs ++ ys)) a c
-settled_then byte torn xs ys a b c still p q =
-    settled_and byte (λ rest. rest ≡ acts_of_steps torn xs) (IsInOrder torn ys) (λ rest. rest ≡ acts_of_steps torn (xs ++ ys)) a b c p q
+pub settled_then : (way : Way) (torn : Bool) (xs ys : List Step) (a b c : Option (List RigCall)) → torn_behind torn xs ≡ torn → GoesOn (SettlesFirst way torn xs) a b → GoesOn (IsInOrder torn ys) b c
+    → GoesOn (SettlesFirst way torn (xs ++ ys)) a c
+settled_then way torn xs ys a b c still p q =
+    settled_and way (λ rest. rest ≡ acts_of_steps torn xs) (IsInOrder torn ys) (λ rest. rest ≡ acts_of_steps torn (xs ++ ys)) a b c p q
     (λ cs ds x y.
     ap (λ (l : List RigCall). l ++ acts_of ds) x ∙ ap (λ (l : List RigCall). acts_of_steps torn xs ++ l) (y ∙ ap (λ (t : Bool). acts_of_steps t ys) (sym still)) ∙ sym (steps-append torn xs ys))
 
-pub fetched_and : (byte : ℕ) (Then : List RigCall → Type 0) (a b c : Option (List RigCall)) → GoesOn AreFetches a b → GoesOn (SettlesThen byte Then) b c → GoesOn (SettlesThen byte Then) a c
-fetched_and byte Then a b c p q =
-    GoesOn-append AreFetches (SettlesThen byte Then) (SettlesThen byte Then) a b c p q
+pub fetched_and : (way : Way) (Then : List RigCall → Type 0) (a b c : Option (List RigCall)) → GoesOn AreFetches a b → GoesOn (SettlesThen way Then) b c → GoesOn (SettlesThen way Then) a c
+fetched_and way Then a b c p q =
+    GoesOn-append AreFetches (SettlesThen way Then) (SettlesThen way Then) a b c p q
     (λ cs ds x y. (y.0, y.1, y.2, y.3, acts-append cs ds ∙ ap (λ (l : List RigCall). l ++ acts_of ds) (fetches-act cs x) ∙ y.4, y.5))
 
-pub fetched_then : (byte : ℕ) (torn : Bool) (steps : List Step) (a b c : Option (List RigCall)) → GoesOn AreFetches a b → GoesOn (SettlesFirst byte torn steps) b c → GoesOn (SettlesFirst byte torn steps) a c
-fetched_then byte torn steps a b c p q = fetched_and byte (λ rest. rest ≡ acts_of_steps torn steps) a b c p q
+pub fetched_then : (way : Way) (torn : Bool) (steps : List Step) (a b c : Option (List RigCall)) → GoesOn AreFetches a b → GoesOn (SettlesFirst way torn steps) b c → GoesOn (SettlesFirst way torn steps) a c
+fetched_then way torn steps a b c p q = fetched_and way (λ rest. rest ≡ acts_of_steps torn steps) a b c p q
 
 -- the frame that writes a part of a page
 pub order_written : (chip : ChipData) (n : ℕ) (page : List ℕ) (f : Frame) (torn : Bool) (address : ℕ) → address ≡ page_address chip n + f.offset → (bytes : List ℕ) → bytes ≡ take f.length (drop f.offset page) → (a b : Option (List RigCall))

@@ -6,7 +6,7 @@ use Rattle.stm_wire.specs.Dialogue.{GoesOn}
 use Rattle.stm_wire.specs.DialogueLaws.{GoesOn-append, GoesOn-weaker}
 use Rattle.stm_wire.specs.Rig.{RigState}
 use Rattle.stm_wire.specs.Settling.{SettlesWithin}
-use Rattle.stm_wire.specs.SettlingCalls.{EndsSettled}
+use Rattle.stm_session.specs.Fresh.{EndsWell, Way, byte_of}
 use Rattle.stm_journal.specs.Calls.{AreFetches}
 use Rattle.stm_session.specs.declared.fault.Fault.{Fault}
 use Rattle.stm_session.specs.Fault.{Cause, IsHeard, IsRefusedLater, of_file, of_line, of_memory, of_protocol, of_refusal, of_session}
@@ -27,31 +27,31 @@ pub told_then : {T : Type 0} (r : Result T Fault) (A B : T → Type 0) → ((x :
 told_then (Ok x) A B then p = then x p
 told_then (Err e) A B then p = tt
 
-module _ (byte : ℕ) (cause : Cause) (torn : Bool) where
+module _ (way : Way) (cause : Cause) (torn : Bool) where
   -- settling ends
-  pub settle_stops : (a b : Option (List RigCall)) → IsHeard cause → GoesOn (SettlesWithin byte 131072) a b → GoesOn (ReachesInPart byte cause torn) a b
+  pub settle_stops : (a b : Option (List RigCall)) → IsHeard cause → GoesOn (SettlesWithin (byte_of way) 131072) a b → GoesOn (ReachesInPart way cause torn) a b
   settle_stops a b heard settles =
-      GoesOn-weaker (SettlesWithin byte 131072) (ReachesInPart byte cause torn) a b settles
-      (λ xs s. inr (inl (heard, subst (λ (l : List RigCall). SettlesWithin byte 131072 l) (sym (acts-line xs s.line)) s)))
+      GoesOn-weaker (SettlesWithin (byte_of way) 131072) (ReachesInPart way cause torn) a b settles
+      (λ xs s. inr (inl (heard, subst (λ (l : List RigCall). SettlesWithin (byte_of way) 131072 l) (sym (acts-line xs s.line)) s)))
 
   -- the questions do
-  pub asks_stop : (a b c : RigState) → GoesOn (SettlesWithin byte 131072) a.calls b.calls → GoesOn (EndsSettled byte 131072) a.calls b.calls → StopsBy (Begin IsAsking) cause torn b c → GoesOn (ReachesInPart byte cause torn) a.calls c.calls
+  pub asks_stop : (a b c : RigState) → GoesOn (SettlesWithin (byte_of way) 131072) a.calls b.calls → GoesOn (EndsWell way) a.calls b.calls → StopsBy (Begin IsAsking) cause torn b c → GoesOn (ReachesInPart way cause torn) a.calls c.calls
   asks_stop a b c settles ends stops =
       let Cut : List RigCall → Type 0 = λ acts. AreCutShort (Begin IsAsking) cause torn acts in
-      GoesOn-weaker (SettlesThen byte Cut) (ReachesInPart byte cause torn) a.calls c.calls (settles_and byte (λ calls. Cut (acts_of calls)) Cut a.calls b.calls c.calls settles ends stops (λ xs x. x)) (λ xs s. inr (inr s))
+      GoesOn-weaker (SettlesThen way Cut) (ReachesInPart way cause torn) a.calls c.calls (settles_and way (λ calls. Cut (acts_of calls)) Cut a.calls b.calls c.calls settles ends stops (λ xs x. x)) (λ xs s. inr (inr s))
 
   -- the journal can't be read, or is refused
-  pub unread_stops : (a b : Option (List RigCall)) → GoesOn AreFetches a b → GoesOn (ReachesInPart byte cause torn) a b
-  unread_stops a b fetches = GoesOn-weaker AreFetches (ReachesInPart byte cause torn) a b fetches (λ xs are. inl (fetches-act xs are))
+  pub unread_stops : (a b : Option (List RigCall)) → GoesOn AreFetches a b → GoesOn (ReachesInPart way cause torn) a b
+  unread_stops a b fetches = GoesOn-weaker AreFetches (ReachesInPart way cause torn) a b fetches (λ xs are. inl (fetches-act xs are))
 
   -- it was read before
-  pub fetched_stops : (a b c : Option (List RigCall)) → GoesOn AreFetches a b → GoesOn (ReachesInPart byte cause torn) b c → GoesOn (ReachesInPart byte cause torn) a c
+  pub fetched_stops : (a b c : Option (List RigCall)) → GoesOn AreFetches a b → GoesOn (ReachesInPart way cause torn) b c → GoesOn (ReachesInPart way cause torn) a c
   fetched_stops a b c fetches stops =
-      GoesOn-append AreFetches (ReachesInPart byte cause torn) (ReachesInPart byte cause torn) a b c fetches stops
+      GoesOn-append AreFetches (ReachesInPart way cause torn) (ReachesInPart way cause torn) a b c fetches stops
       (λ xs ys x y.
       let same : acts_of (xs ++ ys) ≡ acts_of ys = acts-append xs ys ∙ ap (λ (l : List RigCall). l ++ acts_of ys) (fetches-act xs x) in
       ⊎_elim (λ none. inl (same ∙ none))
-      (λ some. ⊎_elim (λ part. inr (inl (part.0, subst (λ (l : List RigCall). SettlesWithin byte 131072 l) (sym same) part.1))) (λ s. inr (inr (s.0, s.1, s.2, s.3, same ∙ s.4, s.5))) some) y)
+      (λ some. ⊎_elim (λ part. inr (inl (part.0, subst (λ (l : List RigCall). SettlesWithin (byte_of way) 131072 l) (sym same) part.1))) (λ s. inr (inr (s.0, s.1, s.2, s.3, same ∙ s.4, s.5))) some) y)
 
   idle_later : (k : Cause) (t : Bool) → IsRefusedLater k → FailsBy k t None []
   idle_later of_refusal t is = refl
@@ -62,12 +62,12 @@ module _ (byte : ℕ) (cause : Cause) (torn : Bool) where
   idle_later of_session t is = absurd is
 
   -- it is another device, or something else is refused
-  pub told_stops : (id : ℕ) (a b : RigState) → IsRefusedLater cause → ReachesInOrder byte id torn a b → GoesOn (ReachesInPart byte cause torn) a.calls b.calls
+  pub told_stops : (id : ℕ) (a b : RigState) → IsRefusedLater cause → ReachesInOrder way id torn a b → GoesOn (ReachesInPart way cause torn) a.calls b.calls
   told_stops id a b refused (version, codes, reached) =
       let steps = asking_steps version codes id in
       let asking : IsAsking steps =
       record { first = Sends _ ∷ []; is_get = record { version = version; codes = codes; is = refl }; second = Sends (id_turns id) ∷ []; is_get_id = record { high = _; low = _; is = refl }; is = refl } in
-      GoesOn-weaker (SettlesFirst byte torn steps) (ReachesInPart byte cause torn) a.calls b.calls reached
+      GoesOn-weaker (SettlesFirst way torn steps) (ReachesInPart way cause torn) a.calls b.calls reached
       (λ xs s.
       inr (inr (
         s.0,
@@ -86,9 +86,9 @@ module _ (byte : ℕ) (cause : Cause) (torn : Bool) where
       )))
 
 -- what is done behind the questions is cut short
-pub reached_stops : (byte id version : ℕ) (codes : List ℕ) (P : List Step → Type 0) (cause : Cause) (torn : Bool) (a b c : RigState) → GoesOn (SettlesFirst byte torn (asking_steps version codes id)) a.calls b.calls → StopsBy P cause torn b c
-    → GoesOn (SettlesThen byte (AreCutShort (IsAfter (asking_steps version codes id) P) cause torn)) a.calls c.calls
-reached_stops byte id version codes P cause torn a b c reached stops =
+pub reached_stops : (way : Way) (id version : ℕ) (codes : List ℕ) (P : List Step → Type 0) (cause : Cause) (torn : Bool) (a b c : RigState) → GoesOn (SettlesFirst way torn (asking_steps version codes id)) a.calls b.calls → StopsBy P cause torn b c
+    → GoesOn (SettlesThen way (AreCutShort (IsAfter (asking_steps version codes id) P) cause torn)) a.calls c.calls
+reached_stops way id version codes P cause torn a b c reached stops =
     let steps = asking_steps version codes id in
-    settled_and byte (λ rest. rest ≡ acts_of_steps torn steps) (λ calls. AreCutShort P cause torn (acts_of calls)) (AreCutShort (IsAfter steps P) cause torn) a.calls b.calls c.calls reached stops
+    settled_and way (λ rest. rest ≡ acts_of_steps torn steps) (λ calls. AreCutShort P cause torn (acts_of calls)) (AreCutShort (IsAfter steps P) cause torn) a.calls b.calls c.calls reached stops
     (λ xs ys x y. cut_after P (IsAfter steps P) cause torn steps (λ own p. (own, refl, p)) xs (acts_of ys) x y)

@@ -1,6 +1,7 @@
 pub mod Fault
 pub mod Sending
 pub mod Unwritten
+pub mod Fresh
 pub mod Order
 pub mod Undoable
 pub mod Moments

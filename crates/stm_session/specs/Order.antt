@@ -9,10 +9,9 @@ use Rattle.stm_wire.specs.declared.rig.RigCall.TheVariants.{Put, Get, Append, Fe
 use Rattle.stm_wire.specs.Chip.{ChipData, erased_byte, page_offset, page_size}
 use Rattle.stm_wire.specs.Dialogue.{Turn, GoesOn, IsBrokenOff, calls_of}
 use Rattle.stm_wire.specs.Frames.{erase_turns, get_id_turns, get_turns, read_turns, write_turns}
-use Rattle.stm_wire.specs.Intents.{settling_byte}
 use Rattle.stm_wire.specs.Rig.{RigState}
 use Rattle.stm_wire.specs.Settling.{SettlesWithin}
-use Rattle.stm_wire.specs.SettlingCalls.{EndsSettled}
+use Rattle.stm_session.specs.Fresh.{EndsWell, Way, byte_of, undo_way}
 use Rattle.stm_chip.specs.declared.plan.Frame.{Frame}
 use Rattle.stm_chip.specs.Document.{IsChipWith}
 use Rattle.stm_chip.specs.Plan.{frames_of}
@@ -214,13 +213,13 @@ pub record AreAllTakenBack (chip : ChipData) (intent : Option Intent) (taken : �
   pub is : steps ≡ first ++ back
 
 -- a device was settled, and it showed that it is; and then came such calls
-abbrev pub SettlesThen : ℕ → (List RigCall → Type 0) → List RigCall → Type 0
-SettlesThen byte Then calls =
-    (settling rest : List RigCall) × SettlesWithin byte 131072 settling × EndsSettled byte 131072 settling × (acts_of calls ≡ settling ++ rest) × Then rest
+abbrev pub SettlesThen : Way → (List RigCall → Type 0) → List RigCall → Type 0
+SettlesThen way Then calls =
+    (settling rest : List RigCall) × SettlesWithin (byte_of way) 131072 settling × EndsWell way settling × (acts_of calls ≡ settling ++ rest) × Then rest
 
 -- and then these steps
-abbrev pub SettlesFirst : ℕ → Bool → List Step → List RigCall → Type 0
-SettlesFirst byte torn steps calls = SettlesThen byte (λ rest. rest ≡ acts_of_steps torn steps) calls
+abbrev pub SettlesFirst : Way → Bool → List Step → List RigCall → Type 0
+SettlesFirst way torn steps calls = SettlesThen way (λ rest. rest ≡ acts_of_steps torn steps) calls
 
 -- which commands the device has: Get, and what it answers
 pub record IsGet (steps : List Step) : Type 0 where
@@ -252,22 +251,22 @@ asking_steps version codes id = Sends (get_turns version codes) ∷ Sends (id_tu
 abbrev pub AsksInOrder : ℕ → Bool → RigState → RigState → Type 0
 AsksInOrder id torn old new = (version : ℕ) × (codes : List ℕ) × GoesOn (IsInOrder torn (asking_steps version codes id)) old.calls new.calls
 
--- the device was settled by this byte, and answered this number
-abbrev pub ReachesInOrder : ℕ → ℕ → Bool → RigState → RigState → Type 0
-ReachesInOrder byte id torn old new = (version : ℕ) × (codes : List ℕ) × GoesOn (SettlesFirst byte torn (asking_steps version codes id)) old.calls new.calls
+-- the device was settled so, and answered this number
+abbrev pub ReachesInOrder : Way → ℕ → Bool → RigState → RigState → Type 0
+ReachesInOrder way id torn old new = (version : ℕ) × (codes : List ℕ) × GoesOn (SettlesFirst way torn (asking_steps version codes id)) old.calls new.calls
 
 -- Of a session that reached no device, or was told that it is another, this was done: nothing; or it was settled in part, which
 -- the line or the device ended; or it was settled, and then asked, or asked in part.
-abbrev pub ReachesInPart : ℕ → Cause → Bool → List RigCall → Type 0
-ReachesInPart byte cause torn calls =
-    (acts_of calls ≡ []) ⊎ ((IsHeard cause × SettlesWithin byte 131072 (acts_of calls)) ⊎ SettlesThen byte (AreCutShort (Begin IsAsking) cause torn) calls)
+abbrev pub ReachesInPart : Way → Cause → Bool → List RigCall → Type 0
+ReachesInPart way cause torn calls =
+    (acts_of calls ≡ []) ⊎ ((IsHeard cause × SettlesWithin (byte_of way) 131072 (acts_of calls)) ⊎ SettlesThen way (AreCutShort (Begin IsAsking) cause torn) calls)
 
-abbrev pub StopsShort : {T : Type 0} → ℕ → Bool → RigState → RigState → Result T Fault → Type 0
-StopsShort byte torn old new result = IfErr result (λ fault. GoesOn (ReachesInPart byte (cause_of fault) torn) old.calls new.calls)
+abbrev pub StopsShort : {T : Type 0} → Way → Bool → RigState → RigState → Result T Fault → Type 0
+StopsShort way torn old new result = IfErr result (λ fault. GoesOn (ReachesInPart way (cause_of fault) torn) old.calls new.calls)
 
--- An undo of so many segments: settling by the intent of the journal that was loaded, Get, Get ID, by which the device is the
--- journal's chip, the page of that intent, and then the segments.
-pub record UndoesInOrder (table : List ChipData) (taken : ℕ) (old new : RigState) : Type 0 where
+-- An undo of so many segments: settling by the intent of the journal that was loaded, or connecting, Get, Get ID, by which the
+-- device is the journal's chip, the page of that intent, and then the segments.
+pub record UndoesInOrderFrom (is_fresh : Bool) (table : List ChipData) (taken : ℕ) (old new : RigState) : Type 0 where
   pub journal : Loaded
   pub loaded : old.is_honest → IsLoaded journal old.journal
   pub chip : ChipData
@@ -276,12 +275,15 @@ pub record UndoesInOrder (table : List ChipData) (taken : ℕ) (old new : RigSta
   pub codes : List ℕ
   pub steps : List Step
   pub are_steps : AreAllTakenBack chip (intent_of journal.state) taken (pages_of_segments journal.state.stack) steps
-  pub calls : GoesOn (SettlesFirst (settling_byte (intent_of journal.state)) journal.is_torn (asking_steps version codes chip.id ++ steps)) old.calls new.calls
+  pub calls : GoesOn (SettlesFirst (undo_way is_fresh (intent_of journal.state)) journal.is_torn (asking_steps version codes chip.id ++ steps)) old.calls new.calls
 
--- At a fault: settling by the intent of the journal that was loaded, Get and Get ID, or a part of these; or all of these, by which
+abbrev pub UndoesInOrder : List ChipData → ℕ → RigState → RigState → Type 0
+UndoesInOrder table taken old new = UndoesInOrderFrom false table taken old new
+
+-- At a fault: settling or connecting, Get and Get ID, or a part of these; or all of these, by which
 -- the device is the journal's chip, and then a beginning of taking so many segments back, no more than the journal has, nor than
 -- are asked for where that is a number.
-pub record UndoIsCutShort (table : List ChipData) (count : ℕ) (cause : Cause) (old new : RigState) : Type 0 where
+pub record UndoIsCutShort (is_fresh : Bool) (table : List ChipData) (count : ℕ) (cause : Cause) (old new : RigState) : Type 0 where
   pub journal : Loaded
   pub loaded : old.is_honest → IsLoaded journal old.journal
   pub chip : ChipData
@@ -291,10 +293,13 @@ pub record UndoIsCutShort (table : List ChipData) (count : ℕ) (cause : Cause) 
   pub asked : 0 < count → taken ≤ count
   pub version : ℕ
   pub codes : List ℕ
-  pub calls : GoesOn (λ calls. ReachesInPart (settling_byte (intent_of journal.state)) cause journal.is_torn calls
-      ⊎ SettlesThen (settling_byte (intent_of journal.state))
+  pub calls : GoesOn (λ calls. ReachesInPart (undo_way is_fresh (intent_of journal.state)) cause journal.is_torn calls
+      ⊎ SettlesThen (undo_way is_fresh (intent_of journal.state))
       (AreCutShort (IsAfter (asking_steps version codes chip.id) (Begin (AreAllTakenBack chip (intent_of journal.state) taken (pages_of_segments journal.state.stack)))) cause journal.is_torn) calls) old.calls new.calls
 
 -- An undo that is broken off: nothing was done but reading the journal; or so.
+abbrev pub UndoStopsFrom : Bool → List ChipData → ℕ → RigState → RigState → Fault → Type 0
+UndoStopsFrom is_fresh table count old new fault = GoesOn AreFetches old.calls new.calls ⊎ UndoIsCutShort is_fresh table count (cause_of fault) old new
+
 abbrev pub UndoStops : List ChipData → ℕ → RigState → RigState → Fault → Type 0
-UndoStops table count old new fault = GoesOn AreFetches old.calls new.calls ⊎ UndoIsCutShort table count (cause_of fault) old new
+UndoStops table count old new fault = UndoStopsFrom false table count old new fault

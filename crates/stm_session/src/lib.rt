@@ -58,5 +58,5 @@ pub use laws::{
 };
 pub use leave::{go, protect};
 pub use outcome::{Outcome, Report};
-pub use reversal::undo;
+pub use reversal::{undo, undo_fresh};
 pub use running::run;

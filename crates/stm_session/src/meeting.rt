@@ -4,12 +4,12 @@ ghost use Rattle.stm_wire.specs.Device.{IsSettled};
 ghost use Rattle.stm_wire.specs.Dialogue.{GoesOn};
 ghost use Rattle.stm_wire.specs.Frames.{get_turns};
 ghost use Rattle.stm_wire.specs.Harmless.{Harmless};
-ghost use Rattle.stm_wire.specs.Intents.{settling_byte};
 ghost use Rattle.stm_wire.specs.Parts.{IsPart, IsSession};
 ghost use Rattle.stm_journal.specs.Journals.{IsLoaded};
 ghost use Rattle.stm_journal.specs.States.{intent_of};
 ghost use Rattle.stm_session.specs.Asking.{Asks};
 ghost use Rattle.stm_session.specs.Fault.{HasSessionCause, IsLaterRefusal, cause_of};
+ghost use Rattle.stm_session.specs.Fresh.{IsAsSaid, byte_of, undo_way};
 ghost use Rattle.stm_session.specs.Meeting.{Meets};
 ghost use Rattle.stm_session.specs.Refusals.{can_erase, undo_misfit};
 ghost use Rattle.stm_session.specs.Order.{AsksInOrder, Begin, IsAsking, IsGet, IsInOrder, ReachesInOrder, Sends, Stops, StopsBy, StopsShort};
@@ -73,29 +73,35 @@ fn ask_misfit<R: Rig>(rig: &mut R, chip: &Chip) -> Result<Option<Fault>, Fault>
     Ok(None)
 }
 
-/// Settles the device by the journal's intent, and asks whether it is the journal's chip.
-pub fn meet<R: Rig>(rig: &mut R, journal: &Journal, chip: &Chip) -> Result<(), Fault>
+/// Settles the device by the journal's intent, or as one that is fresh, and asks whether it is the journal's chip.
+pub fn meet<R: Rig>(
+    rig: &mut R,
+    journal: &Journal,
+    chip: &Chip,
+    is_fresh: bool,
+) -> Result<(), Fault>
     ensures cause { HasSessionCause (R.view rig.old) (R.view rig.new) result }
     ensures puts { let old = R.view rig.old in let new = R.view rig.new in
-        let byte = settling_byte (intent_of journal.now.state) in
+        let byte = byte_of (undo_way is_fresh (intent_of journal.now.state)) in
         GoesOn (IsSession None byte 131072 (is_whole result) (most_calls 0)) old.calls new.calls }
     ensures order { let old = R.view rig.old in let new = R.view rig.new in
-        let byte = settling_byte (intent_of journal.now.state) in
-        (torn : Bool) → OnOk result (ReachesInOrder byte chip.now.id torn old new) }
+        let way = undo_way is_fresh (intent_of journal.now.state) in
+        (torn : Bool) → OnOk result (ReachesInOrder way chip.now.id torn old new) }
     ensures stops { let old = R.view rig.old in let new = R.view rig.new in
-        let byte = settling_byte (intent_of journal.now.state) in
-        (torn : Bool) → StopsShort byte torn old new result }
+        let way = undo_way is_fresh (intent_of journal.now.state) in
+        (torn : Bool) → StopsShort way torn old new result }
     ensures honest { let old = R.view rig.old in let new = R.view rig.new in
-        old.is_honest → (flashes : List (List ℕ)) → IsLoaded journal.now old.journal
+        old.is_honest → IsAsSaid is_fresh old.device → (flashes : List (List ℕ))
+        → IsLoaded journal.now old.journal
         → Undoable flashes old.device old.journal → old.device.chip ≡ chip.now
         → Goes flashes [] journal.now old new result (λ _. ⊤) }
     ensures elsewhere { let old = R.view rig.old in let new = R.view rig.new in
-        old.is_honest → IsLoaded journal.now old.journal
+        old.is_honest → IsAsSaid is_fresh old.device → IsLoaded journal.now old.journal
         → Harmless old.device (byte_at_journal old.journal) (risked_at old.journal)
         → length old.device.owed ≤ 4096 → Meets chip.now old new result }
 {
     step_laws();
-    settle_intended(rig, journal)?;
+    settle_intended(rig, journal, is_fresh)?;
     let misfit = ask_misfit(rig, chip)?;
     match misfit {
         Some(fault) => Err(fault),

@@ -1,10 +1,11 @@
 // Taking a session back, wherever it was stopped.
-ghost use Rattle.std.specs.Prelude.{◌≡◌, ◌<◌, ◌≤◌, Ok, IfErr, IfOk};
+ghost use Rattle.std.specs.Prelude.{◌≡◌, ◌<◌, ◌≤◌, true, Ok, IfErr, IfOk};
 ghost use Rattle.stm_wire.specs.Dialogue.{GoesOn};
 ghost use Rattle.stm_journal.specs.Calls.{AreFetches};
 ghost use Rattle.stm_session.specs.Fault.{HasSessionCause};
+ghost use Rattle.stm_session.specs.Fresh.{IsAsSaid, IsReset};
 ghost use Rattle.stm_session.specs.Promises.{UndoContract};
-ghost use Rattle.stm_session.specs.Order.{UndoStops, UndoesInOrder};
+ghost use Rattle.stm_session.specs.Order.{UndoStops, UndoStopsFrom, UndoesInOrder, UndoesInOrderFrom};
 ghost use Rattle.stm_session.specs.Sending.{SendsAsUndo};
 ghost use Rattle.stm_session.specs.Undoes.{taken_count};
 
@@ -32,10 +33,47 @@ fn taken_count(count: u32, depth: u32) -> u32
     }
 }
 
+/// Takes back the newest segments, as `undo` does, of a device that may be said to be fresh from reset.
+fn undo_from<R: Rig>(
+    alloc: Global,
+    rig: &mut R,
+    table: &Table,
+    count: u32,
+    is_fresh: bool,
+) -> Result<u32, Fault>
+    ensures cause { HasSessionCause (R.view rig.old) (R.view rig.new) result }
+    ensures silent { let old = R.view rig.old in let new = R.view rig.new in
+        result ≡ Ok 0 → GoesOn AreFetches old.calls new.calls }
+    ensures puts { let old = R.view rig.old in let new = R.view rig.new in
+        SendsAsUndo table.now count old new result }
+    ensures order { let old = R.view rig.old in let new = R.view rig.new in
+        IfOk result (λ taken. 1 ≤ taken → UndoesInOrderFrom is_fresh table.now taken old new) }
+    ensures stops { let old = R.view rig.old in let new = R.view rig.new in
+        IfErr result (UndoStopsFrom is_fresh table.now count old new) }
+    ensures promised { let old = R.view rig.old in let new = R.view rig.new in
+        IsAsSaid is_fresh old.device → UndoContract table.now count old new result }
+{
+    step_laws();
+    let mut journal = Journal::load(alloc, rig)?;
+    let depth = journal.depth();
+    if depth == 0 {
+        return Ok(0);
+    }
+    let Some(id) = journal.id() else {
+        unreachable!()
+    };
+    let chip = find_named(&journal, table, id)?;
+    meet(rig, &journal, chip, is_fresh)?;
+    let taken = taken_count(count, depth);
+    go_back(alloc, rig, &mut journal, chip, taken)?;
+    Ok(taken)
+}
+
 /// Takes back the newest segments of the journal, from wherever a session was stopped: so many, or all where the count is 0 or
-/// more than there are. The page of the journal's intent isn't believed: it is written before any other is read. Answers how many; where there is none it is 0, and no byte is sent. A bad journal, a chip that the table
-/// hasn't, and a page or header that isn't one of that chip are refused before a byte is sent; a device that lists no command to
-/// erase pages, or isn't the journal's, once it has answered Get and Get ID (AN3155, 3.1 and 3.3).
+/// more than there are. The page of the journal's intent isn't believed: it is written before any other is read. Answers how
+/// many; where there is none it is 0, and no byte is sent. A bad journal, a chip that the table hasn't, and a page or header that
+/// isn't one of that chip are refused before a byte is sent; a device that lists no command to erase pages, or isn't the
+/// journal's, once it has answered Get and Get ID (AN3155, 3.1 and 3.3).
 pub fn undo<R: Rig>(alloc: Global, rig: &mut R, table: &Table, count: u32) -> Result<u32, Fault>
     ensures cause { HasSessionCause (R.view rig.old) (R.view rig.new) result }
     ensures silent { let old = R.view rig.old in let new = R.view rig.new in
@@ -48,18 +86,29 @@ pub fn undo<R: Rig>(alloc: Global, rig: &mut R, table: &Table, count: u32) -> Re
         IfErr result (UndoStops table.now count old new) }
     ensures promised { UndoContract table.now count (R.view rig.old) (R.view rig.new) result }
 {
-    step_laws();
-    let mut journal = Journal::load(alloc, rig)?;
-    let depth = journal.depth();
-    if depth == 0 {
-        return Ok(0);
-    }
-    let Some(id) = journal.id() else {
-        unreachable!()
-    };
-    let chip = find_named(&journal, table, id)?;
-    meet(rig, &journal, chip)?;
-    let taken = taken_count(count, depth);
-    go_back(alloc, rig, &mut journal, chip, taken)?;
-    Ok(taken)
+    undo_from(alloc, rig, table, count, false)
+}
+
+/// Takes back the newest segments of the journal as `undo` does, of a device that was reset since the last session: where the
+/// journal has an intent, 7F is sent once and nothing else to settle it, for which it doesn't wait long. All is promised of a
+/// device that is fresh from reset; of another one only what is promised on any line, and what 7F does to it isn't known.
+pub fn undo_fresh<R: Rig>(
+    alloc: Global,
+    rig: &mut R,
+    table: &Table,
+    count: u32,
+) -> Result<u32, Fault>
+    ensures cause { HasSessionCause (R.view rig.old) (R.view rig.new) result }
+    ensures silent { let old = R.view rig.old in let new = R.view rig.new in
+        result ≡ Ok 0 → GoesOn AreFetches old.calls new.calls }
+    ensures puts { let old = R.view rig.old in let new = R.view rig.new in
+        SendsAsUndo table.now count old new result }
+    ensures order { let old = R.view rig.old in let new = R.view rig.new in
+        IfOk result (λ taken. 1 ≤ taken → UndoesInOrderFrom true table.now taken old new) }
+    ensures stops { let old = R.view rig.old in let new = R.view rig.new in
+        IfErr result (UndoStopsFrom true table.now count old new) }
+    ensures promised { let old = R.view rig.old in let new = R.view rig.new in
+        IsReset old.device → UndoContract table.now count old new result }
+{
+    undo_from(alloc, rig, table, count, true)
 }

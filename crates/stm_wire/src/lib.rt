@@ -46,7 +46,7 @@ pub use plan::{Plan, Stop};
 pub use protection::{Protection, protect};
 pub use read_memory::read;
 pub use rig::{Patience, Rig, RigCall};
-pub use settling::settle;
+pub use settling::{connect, settle};
 pub use simulator::{Simulator, Stage};
 pub use verdict::Verdict;
 pub use write_memory::program;

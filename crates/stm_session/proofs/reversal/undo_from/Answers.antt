@@ -3,7 +3,7 @@ use Rattle.stm_session.specs.declared.fault.Fault.{Fault}
 use Rattle.stm_session.specs.Promises.{UndoContract}
 use Rattle.stm_session.specs.Undoes.{Undoes, taken_count}
 use Rattle.stm_session.proofs.Going.{at_exit}
-use Rattle.stm_wire.specs.Intents.{settling_byte}
+use Rattle.stm_session.specs.Fresh.{IsReset, byte_of, undo_way}
 use Rattle.stm_journal.specs.States.{intent_of}
 use Rattle.stm_session.proofs.SentUndo.{sends_back, sends_failed, sends_met, sends_nothing}
 use Rattle.stm_session.proofs.Unread.{contract_unread, none_some}
@@ -14,19 +14,19 @@ use Rattle.std.proofs.Common.{inl, inr, []}
 use Rattle.stm_wire.specs.DialogueLaws.{GoesOn-weaker}
 use Rattle.stm_journal.specs.Newest.{pages_of_segments}
 use Rattle.stm_session.specs.Fault.{cause_of}
-use Rattle.stm_session.specs.Order.{AreAllTakenBack, AreCutShort, Begin, IsAfter, SettlesThen, UndoStops, asking_steps}
+use Rattle.stm_session.specs.Order.{AreAllTakenBack, AreCutShort, Begin, IsAfter, SettlesThen, UndoStopsFrom, asking_steps}
 use Rattle.stm_session.proofs.Orders.{fetched_and, fetched_then, settled_then}
 use Rattle.stm_session.proofs.Reaching.{at_fault, fetched_stops, reached_stops}
 use Rattle.stm_session.proofs.SentUndo.{own-id}
-use Rattle.stm_session.proofs.reversal.undo.Goals as goal
+use Rattle.stm_session.proofs.reversal.undo_from.Goals as goal
 
 pub returns-in_err-journal-clause-promised : goal.returns-in_err-journal-clause-promised
-returns-in_err-journal-clause-promised g c =
+returns-in_err-journal-clause-promised g c said =
     let V = g.R.Rig.view in
     contract_unread c.step_laws.ensures c.args.table.now c.args.count (V c.args.rig.now) (V c.load.new.rig) _ c.from_residual.result c.in_err-journal.ensures.honest c.in_err-journal.ensures.calls c.from_residual.ensures.1
 
 pub returns-then-depth-eq0-clause-promised : goal.returns-then-depth-eq0-clause-promised
-returns-then-depth-eq0-clause-promised g c =
+returns-then-depth-eq0-clause-promised g c said =
     let V = g.R.Rig.view in
     let none : length c.in_ok-journal.journal.state.stack ≡ 0 = omega (arith, c.if-depth-eq0.true, c.depth-depth.ensures.value) in
     contract_when c.args.table.now c.args.count (V c.args.rig.now) (V c.load.new.rig) _ (λ h.
@@ -34,7 +34,7 @@ returns-then-depth-eq0-clause-promised g c =
     contract_none c.args.table.now c.in_ok-journal.journal (V c.args.rig.now) (V c.load.new.rig) loads c.step_laws.ensures c.args.count (g.met.R.Rig.model c.load.new.rig loads.honest) none c.in_ok-journal.ensures.calls)
 
 pub returns-in_err-chip-clause-promised : goal.returns-in_err-chip-clause-promised
-returns-in_err-chip-clause-promised g c =
+returns-in_err-chip-clause-promised g c said =
     let V = g.R.Rig.view in
     let some : 1 ≤ length c.in_ok-journal.journal.state.stack = omega (arith, c.if-depth-eq0.false, c.depth-depth.ensures.value) in
     let named : option_map (λ h. h.id) c.in_ok-journal.journal.state.header ≡ Some c.in-Some.id = sym c.in-Some.ensures in
@@ -43,7 +43,7 @@ returns-in_err-chip-clause-promised g c =
     contract_unfound c.args.table.now c.in_ok-journal.journal (V c.args.rig.now) (V c.load.new.rig) loads some c.in-Some.id named c.args.count _ c.from_residual-in_err-chip.result c.in_ok-journal.ensures.calls c.in_err-chip.ensures.refused c.from_residual-in_err-chip.ensures.1)
 
 pub returns-in_err-meet-clause-promised : goal.returns-in_err-meet-clause-promised
-returns-in_err-meet-clause-promised g c =
+returns-in_err-meet-clause-promised g c said =
     let V = g.R.Rig.view in
     let some : 1 ≤ length c.in_ok-journal.journal.state.stack = omega (arith, c.if-depth-eq0.false, c.depth-depth.ensures.value) in
     let named : option_map (λ h. h.id) c.in_ok-journal.journal.state.header ≡ Some c.in-Some.id = sym c.in-Some.ensures in
@@ -54,13 +54,13 @@ returns-in_err-meet-clause-promised g c =
     contract_after c.args.table.now c.in_ok-journal.journal (V c.args.rig.now) (V c.load.new.rig) loads some c.in-Some.id named c.step_laws.ensures c.in_ok-chip.chip.now c.in_ok-chip.ensures.chip c.in_ok-chip.ensures.accepted c.args.count (V c.meet.new.rig) (Err x)
     (λ refusal harmless owed misfit.
     refuses_elsewhere c.args.table.now c.in_ok-journal.journal (V c.args.rig.now) (V c.load.new.rig) loads some c.in-Some.id named c.step_laws.ensures c.in_ok-chip.chip.now c.in_ok-chip.ensures.chip c.in_ok-chip.ensures.accepted c.args.count (V c.meet.new.rig) refusal _ x is harmless owed misfit
-    (c.in_err-meet.ensures.elsewhere loads.honest (loaded_then c.args.table.now c.in_ok-journal.journal (V c.args.rig.now) (V c.load.new.rig) loads) (harmless_then c.args.table.now c.in_ok-journal.journal (V c.args.rig.now) (V c.load.new.rig) loads some c.in-Some.id named c.step_laws.ensures c.in_ok-chip.chip.now c.in_ok-chip.ensures.chip c.in_ok-chip.ensures.accepted harmless) (owed_then c.args.table.now c.in_ok-journal.journal (V c.args.rig.now) (V c.load.new.rig) loads some c.in-Some.id named c.step_laws.ensures c.in_ok-chip.chip.now c.in_ok-chip.ensures.chip c.in_ok-chip.ensures.accepted owed)))
+    (c.in_err-meet.ensures.elsewhere loads.honest (λ t. subst IsReset (sym loads.same_device) (said t)) (loaded_then c.args.table.now c.in_ok-journal.journal (V c.args.rig.now) (V c.load.new.rig) loads) (harmless_then c.args.table.now c.in_ok-journal.journal (V c.args.rig.now) (V c.load.new.rig) loads some c.in-Some.id named c.step_laws.ensures c.in_ok-chip.chip.now c.in_ok-chip.ensures.chip c.in_ok-chip.ensures.accepted harmless) (owed_then c.args.table.now c.in_ok-journal.journal (V c.args.rig.now) (V c.load.new.rig) loads some c.in-Some.id named c.step_laws.ensures c.in_ok-chip.chip.now c.in_ok-chip.ensures.chip c.in_ok-chip.ensures.accepted owed)))
     (λ flashes u listed.
-    let goes = c.in_err-meet.ensures.honest loads.honest flashes (loaded_then c.args.table.now c.in_ok-journal.journal (V c.args.rig.now) (V c.load.new.rig) loads) (undoable_then c.args.table.now c.in_ok-journal.journal (V c.args.rig.now) (V c.load.new.rig) loads flashes u) (own_chip c.args.table.now c.in_ok-journal.journal (V c.args.rig.now) (V c.load.new.rig) loads some c.in-Some.id named c.step_laws.ensures c.in_ok-chip.chip.now c.in_ok-chip.ensures.chip c.in_ok-chip.ensures.accepted flashes u listed) in
+    let goes = c.in_err-meet.ensures.honest loads.honest (λ t. subst IsReset (sym loads.same_device) (said t)) flashes (loaded_then c.args.table.now c.in_ok-journal.journal (V c.args.rig.now) (V c.load.new.rig) loads) (undoable_then c.args.table.now c.in_ok-journal.journal (V c.args.rig.now) (V c.load.new.rig) loads flashes u) (own_chip c.args.table.now c.in_ok-journal.journal (V c.args.rig.now) (V c.load.new.rig) loads some c.in-Some.id named c.step_laws.ensures c.in_ok-chip.chip.now c.in_ok-chip.ensures.chip c.in_ok-chip.ensures.accepted flashes u listed) in
     undoes_unmet c.args.table.now c.in_ok-journal.journal (V c.args.rig.now) (V c.load.new.rig) loads some c.in-Some.id named c.step_laws.ensures c.in_ok-chip.chip.now c.in_ok-chip.ensures.chip c.in_ok-chip.ensures.accepted (taken_count c.args.count (length flashes)) flashes u (V c.meet.new.rig) c.in_ok-journal.journal _ x (g.met.R.Rig.model c.meet.new.rig goes.honest) goes is)))
 
 pub returns-in_err-go_back-clause-promised : goal.returns-in_err-go_back-clause-promised
-returns-in_err-go_back-clause-promised g c =
+returns-in_err-go_back-clause-promised g c said =
     let V = g.R.Rig.view in
     let some : 1 ≤ length c.in_ok-journal.journal.state.stack = omega (arith, c.if-depth-eq0.false, c.depth-depth.ensures.value) in
     let named : option_map (λ h. h.id) c.in_ok-journal.journal.state.header ≡ Some c.in-Some.id = sym c.in-Some.ensures in
@@ -70,11 +70,11 @@ returns-in_err-go_back-clause-promised g c =
     err_as P c.from_residual-in_err-go_back.result _ c.from_residual-in_err-go_back.ensures.1 (λ x is.
     contract_after c.args.table.now c.in_ok-journal.journal (V c.args.rig.now) (V c.load.new.rig) loads some c.in-Some.id named c.step_laws.ensures c.in_ok-chip.chip.now c.in_ok-chip.ensures.chip c.in_ok-chip.ensures.accepted c.args.count (V c.go_back.new.rig) (Err x)
     (λ refusal harmless owed misfit.
-    let meets = c.in_ok-meet.ensures.elsewhere loads.honest (loaded_then c.args.table.now c.in_ok-journal.journal (V c.args.rig.now) (V c.load.new.rig) loads) (harmless_then c.args.table.now c.in_ok-journal.journal (V c.args.rig.now) (V c.load.new.rig) loads some c.in-Some.id named c.step_laws.ensures c.in_ok-chip.chip.now c.in_ok-chip.ensures.chip c.in_ok-chip.ensures.accepted harmless) (owed_then c.args.table.now c.in_ok-journal.journal (V c.args.rig.now) (V c.load.new.rig) loads some c.in-Some.id named c.step_laws.ensures c.in_ok-chip.chip.now c.in_ok-chip.ensures.chip c.in_ok-chip.ensures.accepted owed) in
+    let meets = c.in_ok-meet.ensures.elsewhere loads.honest (λ t. subst IsReset (sym loads.same_device) (said t)) (loaded_then c.args.table.now c.in_ok-journal.journal (V c.args.rig.now) (V c.load.new.rig) loads) (harmless_then c.args.table.now c.in_ok-journal.journal (V c.args.rig.now) (V c.load.new.rig) loads some c.in-Some.id named c.step_laws.ensures c.in_ok-chip.chip.now c.in_ok-chip.ensures.chip c.in_ok-chip.ensures.accepted harmless) (owed_then c.args.table.now c.in_ok-journal.journal (V c.args.rig.now) (V c.load.new.rig) loads some c.in-Some.id named c.step_laws.ensures c.in_ok-chip.chip.now c.in_ok-chip.ensures.chip c.in_ok-chip.ensures.accepted owed) in
     none_some _ refusal meets.accepted misfit)
     (λ flashes u listed.
-    let goes = c.in_ok-meet.ensures.honest loads.honest flashes (loaded_then c.args.table.now c.in_ok-journal.journal (V c.args.rig.now) (V c.load.new.rig) loads) (undoable_then c.args.table.now c.in_ok-journal.journal (V c.args.rig.now) (V c.load.new.rig) loads flashes u) (own_chip c.args.table.now c.in_ok-journal.journal (V c.args.rig.now) (V c.load.new.rig) loads some c.in-Some.id named c.step_laws.ensures c.in_ok-chip.chip.now c.in_ok-chip.ensures.chip c.in_ok-chip.ensures.accepted flashes u listed) in
-    let met = c.in_ok-meet.ensures.elsewhere loads.honest (loaded_then c.args.table.now c.in_ok-journal.journal (V c.args.rig.now) (V c.load.new.rig) loads) (harmless_then c.args.table.now c.in_ok-journal.journal (V c.args.rig.now) (V c.load.new.rig) loads some c.in-Some.id named c.step_laws.ensures c.in_ok-chip.chip.now c.in_ok-chip.ensures.chip c.in_ok-chip.ensures.accepted u.harmless) (owed_then c.args.table.now c.in_ok-journal.journal (V c.args.rig.now) (V c.load.new.rig) loads some c.in-Some.id named c.step_laws.ensures c.in_ok-chip.chip.now c.in_ok-chip.ensures.chip c.in_ok-chip.ensures.accepted u.owed) in
+    let goes = c.in_ok-meet.ensures.honest loads.honest (λ t. subst IsReset (sym loads.same_device) (said t)) flashes (loaded_then c.args.table.now c.in_ok-journal.journal (V c.args.rig.now) (V c.load.new.rig) loads) (undoable_then c.args.table.now c.in_ok-journal.journal (V c.args.rig.now) (V c.load.new.rig) loads flashes u) (own_chip c.args.table.now c.in_ok-journal.journal (V c.args.rig.now) (V c.load.new.rig) loads some c.in-Some.id named c.step_laws.ensures c.in_ok-chip.chip.now c.in_ok-chip.ensures.chip c.in_ok-chip.ensures.accepted flashes u listed) in
+    let met = c.in_ok-meet.ensures.elsewhere loads.honest (λ t. subst IsReset (sym loads.same_device) (said t)) (loaded_then c.args.table.now c.in_ok-journal.journal (V c.args.rig.now) (V c.load.new.rig) loads) (harmless_then c.args.table.now c.in_ok-journal.journal (V c.args.rig.now) (V c.load.new.rig) loads some c.in-Some.id named c.step_laws.ensures c.in_ok-chip.chip.now c.in_ok-chip.ensures.chip c.in_ok-chip.ensures.accepted u.harmless) (owed_then c.args.table.now c.in_ok-journal.journal (V c.args.rig.now) (V c.load.new.rig) loads some c.in-Some.id named c.step_laws.ensures c.in_ok-chip.chip.now c.in_ok-chip.ensures.chip c.in_ok-chip.ensures.accepted u.owed) in
     let settled = (elsewhere_back c.args.table.now c.in_ok-journal.journal (V c.args.rig.now) (V c.load.new.rig) loads some c.in-Some.id named c.step_laws.ensures c.in_ok-chip.chip.now c.in_ok-chip.ensures.chip c.in_ok-chip.ensures.accepted (V c.meet.new.rig).device (V c.meet.new.rig).journal met.left).flash in
     let model_b = g.met.R.Rig.model c.meet.new.rig goes.honest in
     let chip_b = (at_exit _ (V c.load.new.rig) (V c.meet.new.rig) model_b goes.moments).make.chip ∙ own_chip c.args.table.now c.in_ok-journal.journal (V c.args.rig.now) (V c.load.new.rig) loads some c.in-Some.id named c.step_laws.ensures c.in_ok-chip.chip.now c.in_ok-chip.ensures.chip c.in_ok-chip.ensures.accepted flashes u listed in
@@ -86,7 +86,7 @@ returns-in_err-go_back-clause-promised g c =
     (undoes_stopped c.args.table.now c.in_ok-journal.journal (V c.args.rig.now) (V c.load.new.rig) loads some c.in-Some.id named c.step_laws.ensures c.in_ok-chip.chip.now c.in_ok-chip.ensures.chip c.in_ok-chip.ensures.accepted c.taken_count-taken.result flashes u (V c.meet.new.rig) model_b goes settled (V c.go_back.new.rig) c.go_back.new.journal _ x (g.met.R.Rig.model c.go_back.new.rig back.honest) back is))))
 
 pub returns-clause-promised : goal.returns-clause-promised
-returns-clause-promised g c =
+returns-clause-promised g c said =
     let V = g.R.Rig.view in
     let some : 1 ≤ length c.in_ok-journal.journal.state.stack = omega (arith, c.if-depth-eq0.false, c.depth-depth.ensures.value) in
     let named : option_map (λ h. h.id) c.in_ok-journal.journal.state.header ≡ Some c.in-Some.id = sym c.in-Some.ensures in
@@ -94,11 +94,11 @@ returns-clause-promised g c =
     let loads = c.in_ok-journal.ensures.honest h in
     contract_after c.args.table.now c.in_ok-journal.journal (V c.args.rig.now) (V c.load.new.rig) loads some c.in-Some.id named c.step_laws.ensures c.in_ok-chip.chip.now c.in_ok-chip.ensures.chip c.in_ok-chip.ensures.accepted c.args.count (V c.go_back.new.rig) _
     (λ refusal harmless owed misfit.
-    let meets = c.in_ok-meet.ensures.elsewhere loads.honest (loaded_then c.args.table.now c.in_ok-journal.journal (V c.args.rig.now) (V c.load.new.rig) loads) (harmless_then c.args.table.now c.in_ok-journal.journal (V c.args.rig.now) (V c.load.new.rig) loads some c.in-Some.id named c.step_laws.ensures c.in_ok-chip.chip.now c.in_ok-chip.ensures.chip c.in_ok-chip.ensures.accepted harmless) (owed_then c.args.table.now c.in_ok-journal.journal (V c.args.rig.now) (V c.load.new.rig) loads some c.in-Some.id named c.step_laws.ensures c.in_ok-chip.chip.now c.in_ok-chip.ensures.chip c.in_ok-chip.ensures.accepted owed) in
+    let meets = c.in_ok-meet.ensures.elsewhere loads.honest (λ t. subst IsReset (sym loads.same_device) (said t)) (loaded_then c.args.table.now c.in_ok-journal.journal (V c.args.rig.now) (V c.load.new.rig) loads) (harmless_then c.args.table.now c.in_ok-journal.journal (V c.args.rig.now) (V c.load.new.rig) loads some c.in-Some.id named c.step_laws.ensures c.in_ok-chip.chip.now c.in_ok-chip.ensures.chip c.in_ok-chip.ensures.accepted harmless) (owed_then c.args.table.now c.in_ok-journal.journal (V c.args.rig.now) (V c.load.new.rig) loads some c.in-Some.id named c.step_laws.ensures c.in_ok-chip.chip.now c.in_ok-chip.ensures.chip c.in_ok-chip.ensures.accepted owed) in
     none_some _ refusal meets.accepted misfit)
     (λ flashes u listed.
-    let goes = c.in_ok-meet.ensures.honest loads.honest flashes (loaded_then c.args.table.now c.in_ok-journal.journal (V c.args.rig.now) (V c.load.new.rig) loads) (undoable_then c.args.table.now c.in_ok-journal.journal (V c.args.rig.now) (V c.load.new.rig) loads flashes u) (own_chip c.args.table.now c.in_ok-journal.journal (V c.args.rig.now) (V c.load.new.rig) loads some c.in-Some.id named c.step_laws.ensures c.in_ok-chip.chip.now c.in_ok-chip.ensures.chip c.in_ok-chip.ensures.accepted flashes u listed) in
-    let met = c.in_ok-meet.ensures.elsewhere loads.honest (loaded_then c.args.table.now c.in_ok-journal.journal (V c.args.rig.now) (V c.load.new.rig) loads) (harmless_then c.args.table.now c.in_ok-journal.journal (V c.args.rig.now) (V c.load.new.rig) loads some c.in-Some.id named c.step_laws.ensures c.in_ok-chip.chip.now c.in_ok-chip.ensures.chip c.in_ok-chip.ensures.accepted u.harmless) (owed_then c.args.table.now c.in_ok-journal.journal (V c.args.rig.now) (V c.load.new.rig) loads some c.in-Some.id named c.step_laws.ensures c.in_ok-chip.chip.now c.in_ok-chip.ensures.chip c.in_ok-chip.ensures.accepted u.owed) in
+    let goes = c.in_ok-meet.ensures.honest loads.honest (λ t. subst IsReset (sym loads.same_device) (said t)) flashes (loaded_then c.args.table.now c.in_ok-journal.journal (V c.args.rig.now) (V c.load.new.rig) loads) (undoable_then c.args.table.now c.in_ok-journal.journal (V c.args.rig.now) (V c.load.new.rig) loads flashes u) (own_chip c.args.table.now c.in_ok-journal.journal (V c.args.rig.now) (V c.load.new.rig) loads some c.in-Some.id named c.step_laws.ensures c.in_ok-chip.chip.now c.in_ok-chip.ensures.chip c.in_ok-chip.ensures.accepted flashes u listed) in
+    let met = c.in_ok-meet.ensures.elsewhere loads.honest (λ t. subst IsReset (sym loads.same_device) (said t)) (loaded_then c.args.table.now c.in_ok-journal.journal (V c.args.rig.now) (V c.load.new.rig) loads) (harmless_then c.args.table.now c.in_ok-journal.journal (V c.args.rig.now) (V c.load.new.rig) loads some c.in-Some.id named c.step_laws.ensures c.in_ok-chip.chip.now c.in_ok-chip.ensures.chip c.in_ok-chip.ensures.accepted u.harmless) (owed_then c.args.table.now c.in_ok-journal.journal (V c.args.rig.now) (V c.load.new.rig) loads some c.in-Some.id named c.step_laws.ensures c.in_ok-chip.chip.now c.in_ok-chip.ensures.chip c.in_ok-chip.ensures.accepted u.owed) in
     let settled = (elsewhere_back c.args.table.now c.in_ok-journal.journal (V c.args.rig.now) (V c.load.new.rig) loads some c.in-Some.id named c.step_laws.ensures c.in_ok-chip.chip.now c.in_ok-chip.ensures.chip c.in_ok-chip.ensures.accepted (V c.meet.new.rig).device (V c.meet.new.rig).journal met.left).flash in
     let model_b = g.met.R.Rig.model c.meet.new.rig goes.honest in
     let chip_b = (at_exit _ (V c.load.new.rig) (V c.meet.new.rig) model_b goes.moments).make.chip ∙ own_chip c.args.table.now c.in_ok-journal.journal (V c.args.rig.now) (V c.load.new.rig) loads some c.in-Some.id named c.step_laws.ensures c.in_ok-chip.chip.now c.in_ok-chip.ensures.chip c.in_ok-chip.ensures.accepted flashes u listed in
@@ -134,7 +134,7 @@ returns-in_err-meet-clause-puts g c =
     let V = g.R.Rig.view in
     let a = V c.args.rig.now in
     let d = V c.meet.new.rig in
-    let byte = settling_byte (intent_of c.in_ok-journal.journal.state) in
+    let byte = byte_of (undo_way c.args.is_fresh (intent_of c.in_ok-journal.journal.state)) in
     sends_failed c.args.table.now c.args.count a d _ c.from_residual-in_err-meet.result c.from_residual-in_err-meet.ensures.1
     (sends_met c.args.table.now c.args.count a byte (V c.load.new.rig) d _ c.in_ok-journal.ensures.calls c.in_err-meet.ensures.puts)
 
@@ -143,7 +143,7 @@ returns-in_err-go_back-clause-puts g c =
     let V = g.R.Rig.view in
     let a = V c.args.rig.now in
     let d = V c.go_back.new.rig in
-    let byte = settling_byte (intent_of c.in_ok-journal.journal.state) in
+    let byte = byte_of (undo_way c.args.is_fresh (intent_of c.in_ok-journal.journal.state)) in
     let taken = c.taken_count-taken in
     let limit : taken.result ≤ 65535 = omega (arith, taken.ensures.most, c.depth-depth.ensures.value, c.depth-depth.ensures.sound.depth) in
     sends_failed c.args.table.now c.args.count a d _ c.from_residual-in_err-go_back.result c.from_residual-in_err-go_back.ensures.1
@@ -155,7 +155,7 @@ returns-clause-puts g c =
     let V = g.R.Rig.view in
     let a = V c.args.rig.now in
     let d = V c.go_back.new.rig in
-    let byte = settling_byte (intent_of c.in_ok-journal.journal.state) in
+    let byte = byte_of (undo_way c.args.is_fresh (intent_of c.in_ok-journal.journal.state)) in
     let taken = c.taken_count-taken in
     let limit : taken.result ≤ 65535 = omega (arith, taken.ensures.most, c.depth-depth.ensures.value, c.depth-depth.ensures.sound.depth) in
     sends_back c.args.table.now c.args.count a byte c.in-Some.id taken.result c.in_ok-chip.chip.now (V c.load.new.rig) (V c.meet.new.rig) d _ c.in_ok-chip.ensures.chip limit taken.ensures.asked refl
@@ -168,7 +168,7 @@ pub returns-clause-order : goal.returns-clause-order
 returns-clause-order g c some =
     let V = g.R.Rig.view in
     let l = c.in_ok-journal.journal in
-    let byte = settling_byte (intent_of l.state) in
+    let way = undo_way c.args.is_fresh (intent_of l.state) in
     let a = (V c.args.rig.now).calls in
     let b = (V c.load.new.rig).calls in
     let d = (V c.meet.new.rig).calls in
@@ -185,31 +185,31 @@ returns-clause-order g c some =
       codes = met.1;
       steps = back.0;
       are_steps = back.1;
-      calls = fetched_then byte l.is_torn (asking ++ back.0) a b e c.in_ok-journal.ensures.calls (settled_then byte l.is_torn asking back.0 b d e refl met.2 back.2.acts);
+      calls = fetched_then way l.is_torn (asking ++ back.0) a b e c.in_ok-journal.ensures.calls (settled_then way l.is_torn asking back.0 b d e refl met.2 back.2.acts);
     }
 
 pub returns-in_err-journal-clause-stops : goal.returns-in_err-journal-clause-stops
 returns-in_err-journal-clause-stops g c =
     let V = g.R.Rig.view in
-    let P : Fault → Type 0 = λ e. UndoStops c.args.table.now c.args.count (V c.args.rig.now) (V c.load.new.rig) e in
+    let P : Fault → Type 0 = λ e. UndoStopsFrom c.args.is_fresh c.args.table.now c.args.count (V c.args.rig.now) (V c.load.new.rig) e in
     at_fault P _ c.from_residual.result c.from_residual.ensures.1 (inl c.in_err-journal.ensures.calls)
 
 pub returns-in_err-chip-clause-stops : goal.returns-in_err-chip-clause-stops
 returns-in_err-chip-clause-stops g c =
     let V = g.R.Rig.view in
-    let P : Fault → Type 0 = λ e. UndoStops c.args.table.now c.args.count (V c.args.rig.now) (V c.load.new.rig) e in
+    let P : Fault → Type 0 = λ e. UndoStopsFrom c.args.is_fresh c.args.table.now c.args.count (V c.args.rig.now) (V c.load.new.rig) e in
     at_fault P _ c.from_residual-in_err-chip.result c.from_residual-in_err-chip.ensures.1 (inl c.in_ok-journal.ensures.calls)
 
 pub returns-in_err-meet-clause-stops : goal.returns-in_err-meet-clause-stops
 returns-in_err-meet-clause-stops g c =
     let V = g.R.Rig.view in
     let l = c.in_ok-journal.journal in
-    let byte = settling_byte (intent_of l.state) in
+    let way = undo_way c.args.is_fresh (intent_of l.state) in
     let a = V c.args.rig.now in
     let b = V c.load.new.rig in
     let d = V c.meet.new.rig in
-    let P : Fault → Type 0 = λ e. UndoStops c.args.table.now c.args.count a d e in
-    let part = fetched_stops byte _ l.is_torn a.calls b.calls d.calls c.in_ok-journal.ensures.calls (c.in_err-meet.ensures.stops l.is_torn) in
+    let P : Fault → Type 0 = λ e. UndoStopsFrom c.args.is_fresh c.args.table.now c.args.count a d e in
+    let part = fetched_stops way _ l.is_torn a.calls b.calls d.calls c.in_ok-journal.ensures.calls (c.in_err-meet.ensures.stops l.is_torn) in
     at_fault P _ c.from_residual-in_err-meet.result c.from_residual-in_err-meet.ensures.1
     (inr (record {
       journal = l;
@@ -228,7 +228,7 @@ pub returns-in_err-go_back-clause-stops : goal.returns-in_err-go_back-clause-sto
 returns-in_err-go_back-clause-stops g c =
     let V = g.R.Rig.view in
     let l = c.in_ok-journal.journal in
-    let byte = settling_byte (intent_of l.state) in
+    let way = undo_way c.args.is_fresh (intent_of l.state) in
     let chip = c.in_ok-chip.chip.now in
     let a = V c.args.rig.now in
     let b = V c.load.new.rig in
@@ -239,8 +239,8 @@ returns-in_err-go_back-clause-stops g c =
     let cause = cause_of c.in_err-go_back.field-0.0 in
     let Back = Begin (AreAllTakenBack chip (intent_of l.state) taken.result (pages_of_segments l.state.stack)) in
     let Cut = AreCutShort (IsAfter (asking_steps met.0 met.1 chip.id) Back) cause l.is_torn in
-    let P : Fault → Type 0 = λ x. UndoStops c.args.table.now c.args.count a e x in
-    let back = fetched_and byte Cut a.calls b.calls e.calls c.in_ok-journal.ensures.calls (reached_stops byte chip.id met.0 met.1 Back cause l.is_torn b d e met.2 c.in_err-go_back.ensures.stops) in
+    let P : Fault → Type 0 = λ x. UndoStopsFrom c.args.is_fresh c.args.table.now c.args.count a e x in
+    let back = fetched_and way Cut a.calls b.calls e.calls c.in_ok-journal.ensures.calls (reached_stops way chip.id met.0 met.1 Back cause l.is_torn b d e met.2 c.in_err-go_back.ensures.stops) in
     at_fault P _ c.from_residual-in_err-go_back.result c.from_residual-in_err-go_back.ensures.1
     (inr (record {
       journal = l;
@@ -252,5 +252,5 @@ returns-in_err-go_back-clause-stops g c =
       asked = taken.ensures.asked;
       version = met.0;
       codes = met.1;
-      calls = GoesOn-weaker (SettlesThen byte Cut) _ a.calls e.calls back (λ xs x. inr x);
+      calls = GoesOn-weaker (SettlesThen way Cut) _ a.calls e.calls back (λ xs x. inr x);
     }))
