@@ -41,8 +41,8 @@ pty_boards = load("pty_boards.py")
 
 def find_python():
     """A Python that has pyserial, or None."""
-    for path in ("/usr/bin/python3", sys.executable):
-        if os.path.exists(path) and subprocess.run([path, "-c", "import serial"], stderr=subprocess.DEVNULL).returncode == 0:
+    for path in filter(os.path.exists, ("/usr/bin/python3", sys.executable)):
+        if subprocess.run([path, "-c", "from serial import Serial"], stderr=subprocess.DEVNULL).returncode == 0:
             return path
     return None
 

@@ -136,7 +136,7 @@ class Played(LinePlace):
 
 class Fresh(LinePlace):
     def test_a_board_that_was_reset(self):
-        """The session settles with 7F alone, and without the quiet waits of one that knows nothing."""
+        """The program takes the word that the board is fresh, and the session goes through."""
         board = self.board()
         self.assertEqual(board.store(), ERASED)
         wired = f"wired://{self.path('ttyUSB0')}?file={self.path('calls')}"
