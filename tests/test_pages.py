@@ -1,0 +1,82 @@
+"""The pages: their links lead somewhere, the pictures are well formed, the code that they name is there, and the version and the
+options are those of the program."""
+
+import glob
+import json
+import os
+import re
+import subprocess
+import xml.etree.ElementTree
+
+from place import TOP, Place
+from test_completions import options
+
+
+def held(*parts):
+    with open(os.path.join(TOP, *parts), encoding="utf-8") as file:
+        return file.read()
+
+
+def pages():
+    return sorted(glob.glob(os.path.join(TOP, "*.md")) + glob.glob(os.path.join(TOP, "docs", "*.md")))
+
+
+class Pages(Place):
+    def test_links_lead_somewhere(self):
+        for page in pages():
+            for link in re.findall(r"\]\(([^)#\s]+)(?:#[^)]*)?\)", held(page)):
+                if not re.match(r"[a-z]+:", link):
+                    with self.subTest(page=os.path.relpath(page, TOP), link=link):
+                        self.assertTrue(os.path.exists(os.path.join(os.path.dirname(page), link)))
+
+    def test_pictures_are_well_formed_and_for_dark_pages_too(self):
+        pictures = glob.glob(os.path.join(TOP, "docs", "pictures", "*.svg"))
+        self.assertGreaterEqual(len(pictures), 3)
+        for path in pictures:
+            with self.subTest(picture=os.path.basename(path)):
+                self.assertTrue(xml.etree.ElementTree.parse(path).getroot().tag.endswith("}svg"))
+                self.assertTrue("prefers-color-scheme: dark" in held(path))
+
+    def test_the_session_is_one(self):
+        """A header of asciinema's version 2, and then times that don't fall."""
+        header, *events = [json.loads(line) for line in held("docs", "pictures", "session.cast").splitlines()]
+        self.assertEqual(header["version"], 2)
+        times = [at for at, kind, words in events if kind == "o" and isinstance(words, str)]
+        self.assertEqual(len(times), len(events))
+        self.assertEqual(times, sorted(times))
+
+    def test_one_version(self):
+        said = self.call("--version").out.decode()
+        version = re.fullmatch(r"stmflash (\d+\.\d+\.\d+)\n", said)[1]
+        self.assertEqual(re.search(r"^## (\S+) ", held("CHANGELOG.md"), re.M)[1], version)
+        self.assertEqual(re.match(r"stmflash \((.*)-\d+\) ", held("packaging", "changelog"))[1], version)
+        for page in ("stmflash.1", os.path.join("line", "stmflash-line.1")):
+            self.assertRegex(held(page).split("\n")[0],
+                             rf'^\.TH STMFLASH\S* 1 \d{{4}}-\d\d-\d\d "stmflash {re.escape(version)}" "User Commands"$')
+
+    def test_the_manual_page_has_every_option(self):
+        page = held("stmflash.1").replace("\\", "")
+        told = self.call("--help").out.decode()
+        subcommands = set(re.findall(r"^  ([a-z]+) ", told.split("Commands:\n")[1].split("\n\n")[0], re.M)) - {"help"}
+        missing = [name for name in subcommands if not re.search(rf'\.(B|BI|BR) "?{name}\b', page)]
+        for name in subcommands:
+            told = options(self.call(name, "--help").out.decode()) - {"-h"}
+            missing += [f"{name} {option}" for option in told if option not in page]
+        self.assertEqual(missing, [])
+
+    def test_the_walk_names_code_that_is_there(self):
+        """Each file and each function that INSIDE names; a file without a folder is in that of the one before it."""
+        code = subprocess.run(["grep", "-rhoE", r"\bfn \w+|\b[A-Z]\w+\b", "--include=*.rt", os.path.join(TOP, "crates")],
+                              capture_output=True, text=True, check=True).stdout.split("\n")
+        functions = {words[3:] for words in code if words.startswith("fn ")}
+        for line in held("docs", "INSIDE.md").splitlines():
+            folder = ""
+            for named in re.findall(r"`([^`]+)`", line):
+                with self.subTest(named=named):
+                    if re.fullmatch(r"stm\w+/(src|specs)/[\w/]+(\.rt)?", named):
+                        folder = os.path.dirname(named)
+                        self.assertTrue(glob.glob(os.path.join(TOP, "crates", named + "*")))
+                    elif re.fullmatch(r"[\w/]+\.rt", named):
+                        self.assertTrue(os.path.exists(os.path.join(TOP, "crates", folder, named)))
+                    elif re.fullmatch(r"(\w+::)?[a-z]+(_[a-z]+)+|\w+::[a-z]\w*", named):
+                        self.assertTrue(named.split("::")[-1] in functions)
