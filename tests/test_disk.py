@@ -145,8 +145,8 @@ class Disk(Place):
                 self.assertHolds(flash, b"idle\n")
                 self.assertTold(self.use("undo"), "undone 1\n")
                 self.assertHolds(SMALL_FLASH, b"idle\n")
-                added = UNDONE if flash == SMALL_FLASH else GIVEN_BACK
-                self.assertFile("journal", VOID + mended(ENDED + GIVEN_BACK[:room]) + added)
+                # the page at work is written though it reads right
+                self.assertFile("journal", VOID + mended(ENDED + GIVEN_BACK[:room]) + GIVEN_BACK)
 
     def test_a_full_disk_keeps_the_simulators_files(self):
         """What the disk has no room for is told, and a flash of which a part alone was written isn't there."""
