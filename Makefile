@@ -18,7 +18,8 @@
 #               and srecord for the peers of HEX)
 #   make beside lets the real stm32flash drive our simulator (docs/BESIDE.md); skipped with a word where it isn't installed
 #   make soak   20,000 random sessions beside a second model (tools/soak; needs python3) of the proved program, where `make` left
-#               it, or of the one that `make demo` leaves, which takes 20 times as long; the seed is printed
+#               it, or of the one that `make demo` leaves, which takes 20 times as long; the seed is printed. Then a loss of power behind
+#               each stop of a write and an erase on four chips, the undo stopped and without power again (tools/power-losses)
 #   make clean  removes what was made
 
 PREFIX ?= /usr/local
@@ -67,6 +68,7 @@ test:
 soak:
 	@test -x bin/stmflash || test -x bin/stmflash-unproved || sh tools/demo.sh
 	python3 tools/soak $(SOAKED) --jobs $(JOBS)
+	python3 tools/power-losses $(SOAKED) --jobs $(JOBS)
 
 share = $(DESTDIR)$(PREFIX)/share
 lib = $(DESTDIR)$(PREFIX)/lib
