@@ -10,6 +10,8 @@ from served import Served
 # how many times two programs are started together; 100 are run by hand
 ROUNDS = int(os.environ.get("ROUNDS", "3"))
 BUSY = (b"stmflash: journal is in use\n", b"stmflash: simulator file is in use\n")
+# what a program may find that reaches the line while another has it
+WAITING = (b"stmflash: device does not follow the protocol\n", b"stmflash: no answer from the device\n")
 # what a device of chip 0412 answers to the frames of Get and of Get ID
 REPLIES = {
     b"\x00\xff": b"\x79\x09\x22\x00\x02\x11\x21\x31\x43\x73\x82\x92\x79",
@@ -132,11 +134,13 @@ class Locks(Served):
         return self.start(name, "--table", "table", "--device", device, "--journal", "journal", *rest)
 
     def assertTogether(self, first, second, device):
-        """Two uses that are started together: each is done, or finds the files in use."""
+        """Two uses that are started together: each is done, or finds the files in use; or, where no journal was there to be
+        locked before the line was opened, finds that the other has the line."""
+        allowed = BUSY if self.is_there("journal") or device != "board" else BUSY + WAITING
         started = [self.begin(words, device) for words in (first, second)]
         for use in started:
             out, err = use.communicate(timeout=PATIENCE)
-            if use.returncode != 0 and err not in BUSY:
+            if use.returncode != 0 and err not in allowed:
                 self.fail(f"{first} beside {second}: {use.returncode}, {out}, {err}")
 
     def assertRaces(self, device):
@@ -147,6 +151,8 @@ class Locks(Served):
         for first, second in ((write, other), (write, erase), (write, undo), (undo, undo)):
             for again in range(ROUNDS):
                 with self.subTest(first=first, second=second, again=again):
+                    if again % 2:
+                        self.store("journal", b"")
                     if undo in (first, second):
                         self.assertTold(self.use(*erase, device=device), "segment 1: 2 pages erased\n")
                     self.assertTogether(first, second, device)
