@@ -2,22 +2,34 @@
 
 import fcntl
 import os
+import select
 import socket
 
 from place import COUNTING, PATIENCE
-from served import Served
+from served import WAIT, Served
 
 # how many times two programs are started together; 100 are run by hand
 ROUNDS = int(os.environ.get("ROUNDS", "3"))
 BUSY = (b"stmflash: journal is in use\n", b"stmflash: simulator file is in use\n")
 # what a program may find that reaches the line while another has it
 WAITING = (b"stmflash: device does not follow the protocol\n", b"stmflash: no answer from the device\n")
-# what a device of chip 0412 answers to the frames of Get and of Get ID
-REPLIES = {
-    b"\x00\xff": b"\x79\x09\x22\x00\x02\x11\x21\x31\x43\x73\x82\x92\x79",
-    b"\x02\xfd": b"\x79\x01\x04\x12\x79",
-}
-READ = b"\x11\xee"
+
+
+def relay(line, board):
+    """Hands on what comes on either, until the line ends, and answers what was sent to the board."""
+    sent = b""
+    while True:
+        ready, _, _ = select.select([line, board], [], [], PATIENCE)
+        if not ready:
+            return sent
+        if board in ready:
+            line.sendall(board.recv(4096))
+        if line in ready:
+            came = line.recv(4096)
+            if not came:
+                return sent
+            sent += came
+            board.sendall(came)
 
 
 class Held:
@@ -88,46 +100,24 @@ class Locks(Served):
         listener.settimeout(PATIENCE)
         listener.bind(self.path("device"))
         listener.listen()
-        files = ("--table", "table", "--device", "device", "--journal", "journal", "--wait", "20000")
+        files = ("--table", "table", "--device", "device", "--journal", "journal", "--wait", WAIT)
+        self.store("flash", COUNTING)
+        self.serve(2)
         for made in (b"", b"stmjournal 2 0412\nopen 1\n"):
             with self.subTest(made=made):
                 host = self.start("erase", *files, "5")
                 line, _ = listener.accept()
-                with line:
-                    line.settimeout(PATIENCE)
-                    # the journal was looked for before the line was opened
-                    self.assertEqual(line.recv(1), b"\x7f")
-                    self.store("journal", made)
-                    line.sendall(b"\x79")
-                    sent = self.answer(line)
+                # the journal was looked for before the line was opened
+                self.store("journal", made)
+                with line, self.connect() as board:
+                    sent = relay(line, board)
                 out, err = host.communicate(timeout=PATIENCE)
                 self.assertEqual((host.returncode, out, err), (1, b"", BUSY[0]))
                 self.assertNotIn(b"\x43\xbc", sent)
                 self.assertFile("journal", made)
                 self.remove("journal")
-
-    def answer(self, line):
-        """Answers as a device whose flash is all 00 until the line ends, and answers what was sent."""
-        sent = held = b""
-        steps = []
-        while True:
-            came = line.recv(4096)
-            if not came:
-                return sent
-            sent, held = sent + came, held + came
-            while held:
-                if steps and len(held) >= steps[0]:
-                    size = steps.pop(0)
-                    line.sendall(b"\x79" + (b"" if steps else bytes(held[0] + 1)))
-                elif not steps and held[:2] in REPLIES:
-                    size = 2
-                    line.sendall(REPLIES[held[:2]])
-                elif not steps and held[:2] == READ:
-                    size, steps = 2, [5, 2]
-                    line.sendall(b"\x79")
-                else:
-                    break
-                held = held[size:]
+        self.assertServed()
+        self.assertFile("flash", COUNTING)
 
     def begin(self, words, device):
         name, *rest = words
