@@ -86,10 +86,10 @@ class Place(unittest.TestCase):
         """Runs a subcommand on a device, with these further words."""
         return self.call(name, "--table", "table", "--device", device, "--journal", journal, *words, before=before)
 
-    def use_image(self, name, image, *words):
+    def use_image(self, name, image, *words, device="sim:0412:flash"):
         """Runs a subcommand on an image of these bytes, with these words before its name."""
         self.store("image", image)
-        return self.use(name, *words, "image")
+        return self.use(name, *words, "image", device=device)
 
     def assertFault(self, said, text, status=1):
         """This one line was all that was said, with this status."""

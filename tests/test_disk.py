@@ -6,7 +6,8 @@ import signal
 import subprocess
 
 import syncs
-from place import ZEROS, Place, with_page
+from place import COUNTING, ZEROS, Place, with_page
+from served import WAIT, Served
 
 # a chip with a flash that is shorter than its journal
 SMALL_TABLE = b'[[chip]]\nid = 0x412\nbase = 0x08000000\npages = [[2, 256]]\nerase = "page"\n'
@@ -57,7 +58,7 @@ class Disk(Place):
     def begin_and_go_on(self, journal):
         """Keeps a page in a journal that isn't there, up to the midst of its line, and goes on with that."""
         self.store("flash", ZEROS)
-        self.assertTold(self.use("undo", journal=journal), "undone 0\n")
+        self.assertFault(self.use("undo", journal=journal), f"cannot read {journal}")
         self.assertFile(journal, None)
         torn = b"stmjournal 2 0412\nopen 1\npage 5 000"
         self.assertFault(self.use("erase", "--stop", str(27 + 25 + 1072 + 10), "5", journal=journal), "stopped", 3)
@@ -86,7 +87,8 @@ class Disk(Place):
                 self.assertFault(self.use("erase", "--stop", str(27 + added), "5"), "stopped", 3)
                 self.assertHolds(ZEROS, b"idle\n")
                 self.assertFile("journal", OPENED[:added] if added else None)
-                self.assertTold(self.use("undo"), "undone %d\n" % (added == len(OPENED)))
+                if added:
+                    self.assertTold(self.use("undo"), "undone %d\n" % (added == len(OPENED)))
                 self.assertHolds(ZEROS, b"idle\n")
 
     def test_a_missing_folder_is_not_made(self):
@@ -160,18 +162,18 @@ class Disk(Place):
         self.assertSilent(self.use("read", "out", before=files_up_to(512)))
         self.assertFile("out", SMALL_FLASH)
 
-    def test_a_file_that_cannot_be_synced_is_no_journal(self):
-        """/dev/null takes every byte, and refuses to be synced: so nothing is sent, and nothing is reported as done."""
-        with open("/dev/null", "wb", buffering=0) as null:
-            self.assertEqual(null.write(OPENED), len(OPENED))
-            with self.assertRaises(OSError):
-                os.fsync(null.fileno())
+    def test_a_journal_is_a_regular_file(self):
+        """A device takes every byte, and keeps none; a pipe without a writer would be waited for. Nothing is sent."""
+        os.mkfifo(self.path("pipe"))
         self.store("flash", ZEROS)
         self.store("image", IMAGE)
-        self.assertFault(self.use("erase", "5", journal="/dev/null"), "journal failed")
-        self.assertFault(self.use("write", "image", journal="/dev/null"), "journal failed")
-        self.assertHolds(ZEROS, b"idle\n")
-        self.assertTold(self.use("undo", journal="/dev/null"), "undone 0\n")
+        for journal in ("/dev/null", "/dev/zero", "/dev/full", "pipe"):
+            with self.subTest(journal=journal):
+                text = f"cannot read {journal}"
+                self.assertFault(self.use("erase", "5", journal=journal), text)
+                self.assertFault(self.use("write", "image", journal=journal), text)
+                self.assertFault(self.use("undo", journal=journal), text)
+                self.assertHolds(ZEROS, b"fresh\n")
 
     def use_unsynced(self, fails, *words):
         """Uses the program with its sync of this number failing, and answers what was said and which files were synced."""
@@ -187,7 +189,7 @@ class Disk(Place):
         the disk, is no line: the command behind it isn't sent, nothing more is added, although the disk works again, and an
         undo gives the flash back."""
         journal = [".", *["journal"] * 5]
-        simulator = ["flash.new", ".", "flash.line.new", "."]
+        simulator = ["flash.0.new", "flash.line.0.new", ".", "."]
         for fails, (added, flash) in enumerate((
             (b"", SMALL_FLASH),
             (OPENED, SMALL_FLASH),
@@ -207,8 +209,8 @@ class Disk(Place):
                 self.assertHolds(SMALL_FLASH, b"idle\n")
         for fails, (text, flash, line) in enumerate((
             ("cannot write flash", SMALL_FLASH, None),
+            ("cannot write flash.line", SMALL_FLASH, None),
             ("cannot write flash", WRITTEN, None),
-            ("cannot write flash.line", WRITTEN, None),
             ("cannot write flash.line", WRITTEN, b"idle\n"),
         ), len(journal)):
             with self.subTest(fails=fails):
@@ -224,19 +226,96 @@ class Disk(Place):
         self.assertEqual(synced, journal + simulator)
 
     def test_what_is_not_on_the_disk_is_not_taken_back(self):
-        """The same of an undo, and of the undo after it."""
+        """The same of an undo, and of the undo after it. The simulator's files stand before the line that says so."""
+        simulator = ["flash.0.new", "flash.line.0.new", ".", "."]
+        whole = [".", "journal", "journal", *simulator, "journal"]
+        # by now the line's file is there, and is removed first
+        whole += [*simulator[:2], ".", *simulator[2:]]
+        given_back = b"erase 0\nprogram 0\n"
         for fails, (added, flash) in enumerate((
             (b"", WRITTEN),
             (b"erase 0\n", WRITTEN),
-            (b"erase 0\nprogram 0\n", EMPTIED),
+            (given_back, EMPTIED),
+            (given_back, SMALL_FLASH),
+            (given_back, SMALL_FLASH),
+            (given_back, SMALL_FLASH),
+            (given_back, SMALL_FLASH),
             (GIVEN_BACK, SMALL_FLASH),
         )):
             with self.subTest(fails=fails):
                 self.begin_small(WRITTEN, ENDED)
                 said, synced = self.use_unsynced(fails, "undo")
                 self.assertFault(said, "journal failed")
-                self.assertEqual(synced[:fails + 2], [".", *["journal"] * fails, "flash.new"])
+                self.assertEqual(synced[:fails + 1], whole[:fails + 1])
                 self.assertFile("journal", ENDED + added)
                 self.assertHolds(flash, b"idle\n")
                 self.assertTold(self.use("undo"), "undone %d\n" % (added != GIVEN_BACK))
                 self.assertHolds(SMALL_FLASH, b"idle\n")
+        self.begin_small(WRITTEN, ENDED)
+        said, synced = self.use_unsynced(len(whole), "undo")
+        self.assertTold(said, "undone 1\n")
+        self.assertEqual(synced, whole)
+
+    def test_an_undo_is_told_once_the_flash_stands(self):
+        """The disk has room for the journal, and none for the flash: what was taken back in memory alone isn't said to be."""
+        for erases in (1, 2):
+            with self.subTest(erases=erases):
+                self.begin(COUNTING)
+                for page in range(erases):
+                    self.assertTold(self.use("erase", str(page)), f"segment {page + 1}: 1 pages erased\n")
+                journal, flash = self.held("journal"), self.held("flash")
+                for _ in range(2):
+                    self.assertFault(self.use("undo", before=files_up_to(20000)), "cannot write flash")
+                    self.assertNotIn(b"undone", self.held("journal"))
+                    self.assertTrue(self.held("journal").startswith(journal))
+                    self.assertFile("flash", flash)
+                self.assertTold(self.use("undo"), f"undone {erases}\n")
+                self.assertHolds(COUNTING, b"idle\n")
+
+
+class OverSocket(Served):
+    """The same over a socket: the program alone has no room, the simulator that it talks to has."""
+
+    def begin_served(self, clients):
+        self.store("table", SMALL_TABLE)
+        self.store("flash", SMALL_FLASH)
+        self.store("image", IMAGE)
+        self.serve(clients)
+
+    def assertTakenBack(self, added):
+        """What stands in the journal is this, and by it the flash is given back."""
+        self.assertFile("journal", added)
+        opened = len(added) >= len(OPENED)
+        self.assertTold(self.use("undo", "--wait", WAIT, device="board"), "undone %d\n" % opened)
+        self.remove("journal")
+        self.assertSilent(self.use("read", "--wait", WAIT, "out", device="board"))
+        self.assertFile("out", SMALL_FLASH)
+
+    def test_a_full_disk_ends_the_journal(self):
+        digits = range(len(OPENED) + 9, len(KEPT) - 2)
+        rooms = [room for room in range(len(ENDED)) if room not in digits or room % 64 == 0]
+        self.begin_served(3 * len(rooms))
+        for room in rooms:
+            with self.subTest(room=room):
+                said = self.use("write", "--wait", WAIT, "image", device="board", before=files_up_to(room))
+                self.assertFault(said, "journal failed")
+                self.assertTakenBack(ENDED[:room])
+        self.simulator.kill()
+        self.simulator.communicate()
+
+    def test_what_is_not_on_the_disk_is_not_answered(self):
+        journal = [".", *["journal"] * 5]
+        self.begin_served(3 * len(journal) + 1)
+        files = ("--table", "table", "--device", "board", "--journal", "journal", "--wait", WAIT)
+        for fails, added in enumerate((b"", OPENED, KEPT, ERASING, PROGRAMMING, ENDED, None)):
+            with self.subTest(fails=fails):
+                try:
+                    said, synced = syncs.call(self.folder, ("write", *files, "image"), fails)
+                except subprocess.SubprocessError:
+                    self.skipTest("this system lets no call of a program be held")
+                self.assertEqual(synced, journal[:fails + 1])
+                if added is None:
+                    self.assertTold(said, "segment 1: 1 pages written\n")
+                else:
+                    self.assertFault(said, "journal failed")
+                    self.assertTakenBack(added)

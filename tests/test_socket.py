@@ -1,6 +1,9 @@
 """Both ends of a socket: a served simulator and a plain client, the program and a plain device, and the two together."""
 
+import os
+import signal
 import socket
+import time
 
 from place import ERASED, PATIENCE, TABLE, ZEROS, with_page
 from served import WAIT, Served
@@ -90,6 +93,92 @@ class Socket(Served):
                         out, err = host.communicate(timeout=PATIENCE)
                     self.assertEqual((host.returncode, out, err), (1, b"", b"stmflash: line failed\n"))
                     self.assertFile("journal", None)
+
+    def test_takes_over_a_dead_socket(self):
+        """A socket that a killed simulator left is made anew; one on which somebody listens stays, as does any other file."""
+        self.serve(1)
+        self.simulator.kill()
+        self.simulator.communicate()
+        self.assertTrue(self.is_there("board"))
+        self.serve(2)
+        client = self.connect()
+        files = ("--table", "table", "--id", "0412", "--flash", "other", "--socket", "board")
+        self.assertFault(self.call("sim", *files), "cannot connect board")
+        self.assertReplies(client, b"\x7f", b"\x79")
+        # the one that was refused had asked whether somebody listens, which took the second turn
+        self.leave(client)
+        self.assertServed()
+        self.assertFile("other", None)
+
+    def test_a_socket_is_its_makers_alone(self):
+        self.serve(1)
+        self.assertEqual(os.stat(self.path("board")).st_mode & 0o777, 0o600)
+        self.leave(self.connect())
+        self.assertServed()
+
+    def test_a_store_that_fails_is_told(self):
+        """The flash's file can't be made where another one stands in its place."""
+        self.store("flash", ZEROS)
+        self.serve(1)
+        os.mkdir(self.path("room"))
+        os.rename(self.path("flash"), self.path("room/flash"))
+        os.mkdir(self.path("flash"))
+        client = self.connect()
+        client.close()
+        out, err = self.simulator.communicate(timeout=PATIENCE)
+        self.assertEqual((self.simulator.returncode, out, err), (1, b"", b"stmflash: cannot write flash\n"))
+        self.assertFalse(self.is_there("board"))
+        os.rmdir(self.path("flash"))
+
+    def test_another_socket_stays(self):
+        """What stands in its place at the end was made by somebody else."""
+        self.serve(1)
+        client = self.connect()
+        os.remove(self.path("board"))
+        self.store("board", b"another")
+        self.leave(client)
+        out, err = self.simulator.communicate(timeout=PATIENCE)
+        self.assertEqual((self.simulator.returncode, out, err), (0, b"", b""))
+        self.assertFile("board", b"another")
+
+    def test_a_simulator_in_use_is_not_used_again(self):
+        """Two that serve one simulator, or one that serves it beside one in the process."""
+        self.serve(1)
+        files = ("--table", "table", "--id", "0412", "--flash", "flash", "--socket", "second")
+        self.assertFault(self.call("sim", *files), "simulator file is in use")
+        self.assertFalse(self.is_there("second"))
+        self.assertFault(self.use("info"), "simulator file is in use")
+        self.leave(self.connect())
+        self.assertServed()
+        said = self.use("info")
+        self.assertEqual((said.status, said.err), (0, b""))
+
+    def test_a_stop_by_a_signal_is_no_end(self):
+        """SIGSTOP and SIGCONT while a client is waited for, while a byte of one is, and while the program waits for a reply."""
+        self.store("flash", ZEROS)
+        self.serve(2)
+        self.hold(self.simulator)
+        client = self.connect()
+        self.assertReplies(client, b"\x7f", b"\x79")
+        self.hold(self.simulator)
+        self.assertReplies(client, b"\x02\xfd", ID)
+        self.leave(client)
+        os.kill(self.simulator.pid, signal.SIGSTOP)
+        files = ("--table", "table", "--device", "board", "--journal", "journal")
+        host = self.start("erase", *files, "--wait", "20000", "5")
+        time.sleep(0.3)
+        self.hold(host)
+        os.kill(self.simulator.pid, signal.SIGCONT)
+        out, err = host.communicate(timeout=PATIENCE)
+        self.assertEqual((host.returncode, out, err), (0, b"segment 1: 1 pages erased\n", b""))
+        self.assertServed()
+
+    def hold(self, process):
+        """Stops a process for a moment, and lets it go on."""
+        time.sleep(0.1)
+        for number in (signal.SIGSTOP, signal.SIGCONT) * 3:
+            os.kill(process.pid, number)
+            time.sleep(0.03)
 
     def assertUnserved(self, chip, text):
         files = ("--table", "table", "--id", chip, "--flash", "flash", "--socket", "table")

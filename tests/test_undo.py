@@ -56,10 +56,15 @@ class Undo(Place):
         self.assertFile("journal", TAKEN)
 
     def test_takes_back_nothing(self):
-        """No byte is sent: the line stands as before, and no journal is made."""
-        self.assertTold(self.use("undo"), "undone 0\n")
+        """No byte is sent: the line stands as before. A journal that isn't there is none to take something back by, and isn't
+        made; every other subcommand goes on as with an empty one."""
+        self.assertFault(self.use("undo"), "cannot read journal")
         self.assertHolds(ERASED, b"fresh\n")
         self.assertFile("journal", None)
+        self.store("journal", b"")
+        self.assertTold(self.use("undo"), "undone 0\n")
+        self.assertHolds(ERASED, b"fresh\n")
+        self.assertFile("journal", b"")
         self.assertFault(self.use("undo", "4294967296"), "usage: bad number 4294967296", 2)
 
     def test_refuses_to_take_back(self):

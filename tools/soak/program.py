@@ -94,6 +94,8 @@ class World:
             check_words(use)
             image = read_image(use, self.files.get("I"))
             rig = Rig(self.device(use), self.files.get("J", b""), use.stop)
+            if use.name == "undo" and "J" not in self.files:
+                raise Fault("cannot read J")
             out = do(rig, self.table, use, image, self.files)
             said = 0, out, b""
         except Usage as fault:

@@ -4,3 +4,4 @@ pub mod Telling
 pub mod Waiting
 pub mod Acting
 pub mod Stored
+pub mod Whole

@@ -146,3 +146,15 @@ appended bytes answer result fault old new memory same is a =
       | inl e ↦ subst R (sym e) (appends bytes answer before after (rig_state old.memory) (rig_state memory) a)
       | inr e ↦ subst R (sym e) (refused bytes answer fault before after (rig_state old.memory) (rig_state memory) a)
     ])
+
+-- the same, of a fetch that goes to memory
+pub fetched : (at : ℕ) (buf after_buf : List ℕ) (answer result : Result ℕ RigFault) (old new : SimulatorState) (memory : MemoryData)
+    → new.memory ≡ memory → result ≡ answer
+    → FetchesHonestly at buf after_buf answer (rig_state old.memory) (rig_state memory)
+    → FetchesHonestly at buf after_buf result (simulator_rig_state old) (simulator_rig_state new)
+fetched at buf after_buf answer result old new memory same is f =
+    let before = old.journal_failures in
+    let after = new.journal_failures in
+    let R : Result ℕ RigFault → Type 0 = λ r. FetchesHonestly at buf after_buf r (simulator_rig_state old) (counted after (rig_state memory)) in
+    let M : MemoryData → Type 0 = λ m. FetchesHonestly at buf after_buf result (simulator_rig_state old) (counted after (rig_state m)) in
+    subst M (sym same) (subst R (sym is) (fetches at buf after_buf answer before after (rig_state old.memory) (rig_state memory) f))

@@ -14,7 +14,7 @@ pub enum Answer {
     Told(Info),
     /// What the device says itself.
     Identified(Told),
-    /// Bytes of the flash, for a file.
+    /// Bytes of the flash.
     Bytes(Vec<u8>),
     /// The number of a write's segment, and how many pages it changed.
     Written {
@@ -67,7 +67,8 @@ impl Answer {
             Answer::Undone(count) => writeln!(out, "undone {count}"),
             Answer::Logged(text) => out.write_all(text.as_slice()),
             Answer::Kept(count) => writeln!(out, "kept {count}"),
-            Answer::Nothing | Answer::Bytes(_) => Ok(()),
+            Answer::Bytes(bytes) => out.write_all(bytes.as_slice()),
+            Answer::Nothing => Ok(()),
         }
     }
 }

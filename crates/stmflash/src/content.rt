@@ -3,14 +3,21 @@ ghost use Rattle.std.specs.Prelude.{◌≡◌, Ok, IfOk, IfErr, List, ℕ};
 ghost use Rattle.stmflash.specs.Content.{ComesOf, ImageOn, IsNoPlace, IsPlace, has_room, is_hex};
 
 use crate::failure::Failure;
+use crate::files::read_file;
+use crate::foreign::foreign_form;
 use std::alloc::Global;
-use std::fs;
 use std::fs::Files;
 use stm_chip::Table;
 use stm_image::{Image, read_hex, read_raw};
 use stm_session::{Fault, info};
 use stm_wire::Rig;
 use stm_words::{ImageFile, Range, UsageFault};
+
+/// How many bytes a HEX text has at most.
+const HEX: u32 = 64 << 20;
+
+/// How many bytes a raw image has at most: as many as the largest flash that a table may name.
+const RAW: usize = 2 << 20;
 
 /// What HEX begins with.
 const COLON: u8 = b':';
@@ -32,9 +39,24 @@ pub fn read_content<'a, R: Files + AllocGlobal>(
     ensures { IfOk result (λ content. (bytes : List ℕ)
         × ComesOf (is_hex image.now.is_raw bytes) image.now.range bytes (Ok content)) }
 {
-    match fs::read(rt, image.name) {
-        Ok(bytes) => content_of(rt.alloc(), bytes, image.is_raw, image.range),
-        Err(e) => Err(Failure::of_file(&e, Failure::CannotRead(image.name))),
+    let bytes = match read_file(rt, image.name, HEX) {
+        Ok(bytes) => bytes,
+        Err(e) => return Err(Failure::of_file(&e, Failure::CannotRead(image.name))),
+    };
+    if !is_hex(bytes.as_slice(), image.is_raw) {
+        check_raw(bytes.as_slice(), image)?;
+    }
+    content_of(rt.alloc(), bytes, image.is_raw, image.range)
+}
+
+/// Refuses bytes that are more than any flash has, or, unless they are said to be raw, no raw image by how they begin.
+fn check_raw<'a>(bytes: &[u8], image: &ImageFile<'a>) -> Result<(), Failure<'a>> {
+    if bytes.len() > RAW {
+        return Err(Failure::CannotRead(image.name));
+    }
+    match foreign_form(bytes) {
+        Some(what) if !image.is_raw => Err(Failure::NotRaw(what)),
+        _ => Ok(()),
     }
 }
 

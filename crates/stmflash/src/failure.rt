@@ -2,6 +2,8 @@
 ghost use Rattle.std.specs.Prelude.{◌≡◌};
 ghost use Rattle.stmflash.specs.declared.failure.Failure.TheVariants.{Session, Hex, Raw};
 
+use crate::foreign::Foreign;
+use crate::journal_file::Unusable;
 use std::alloc::{AllocError, AllocFailed};
 use std::io;
 use std::io::ErrorKind;
@@ -26,6 +28,9 @@ pub enum Failure<'a> {
     /// The raw bytes of an image are refused.
     #[error("{0}")]
     Raw(RawFault),
+    /// The file of an image is no raw image, by how it begins.
+    #[error("image is not raw: {0}")]
+    NotRaw(Foreign),
     /// There was no memory for what the program keeps.
     #[error("out of memory")]
     Memory,
@@ -41,6 +46,12 @@ pub enum Failure<'a> {
     /// The file of a simulator's line can't be written.
     #[error("cannot write {0}.line")]
     CannotWriteLine(&'a str),
+    /// Another program has the journal.
+    #[error("journal is in use")]
+    JournalInUse,
+    /// Another program has the simulator's files.
+    #[error("simulator file is in use")]
+    SimulatorInUse,
     /// The flash has another length than the chip's, or the line's file another form.
     #[error("bad simulator file {0}")]
     BadSimulatorFile(&'a str),
@@ -74,6 +85,16 @@ impl<'a> Failure<'a> {
             Failure::Memory
         } else {
             named
+        }
+    }
+}
+
+impl<'a> Failure<'a> {
+    /// Why the journal of this name can't be used.
+    pub fn of_journal(why: &Unusable, name: &'a str) -> Failure<'a> {
+        match why {
+            Unusable::InUse => Failure::JournalInUse,
+            Unusable::Unread(e) => Failure::of_file(e, Failure::CannotRead(name)),
         }
     }
 }

@@ -1,9 +1,11 @@
 // A journal in a file, for a Rig with any line.
-ghost use Rattle.std.specs.Prelude.{◌≡◌, ◌≤◌, ◌-◌, ◌^◌, true, false, IfOk, OnErr, OnOk, length};
-ghost use Rattle.std.specs.Io.KnownBytes.{Appends};
-ghost use Rattle.stmflash.specs.JournalFile.{JournalBytes, journal_bytes};
+ghost use Rattle.std.specs.Prelude.{◌≡◌, ◌≤◌, ◌<◌, ◌-◌, ◌^◌, None, true, false, IfOk, OnErr, OnOk, length};
+ghost use Rattle.std.specs.Io.KnownBytes.{Appends, IsAtEnd};
+ghost use Rattle.stmflash.specs.JournalFile.{JournalBytes, IsNew, ahead_of, journal_bytes};
 
-use crate::files::{read_if_there, sync_folder};
+use crate::files::{open_if_there, sync_folder};
+use crate::locks::Locks;
+use crate::names::{is_named, is_one, resolve};
 use std::fs::{File, Files, OpenFile, OpenOptions};
 use std::io::{ErrorKind, Read, Seek, SeekFrom, Write};
 use std::marker::Model;
@@ -20,76 +22,111 @@ pub enum Writing<F> {
     Failed,
 }
 
-/// A journal in a file, which is made by the first append. After an append has failed, the file's end is not known, and
-/// nothing more is added: it has to be opened and read again.
+/// Why a journal can't be used.
+#[derive(Drop)]
+pub enum Unusable {
+    /// Another program has it.
+    InUse,
+    /// It can't be opened, or is no regular file.
+    Unread(io::Error),
+}
+
+/// A journal in a file, which is made by the first append. It is locked from before it is read until this is dropped. After
+/// an append has failed, the file's end is not known, and nothing more is added: it has to be opened and read again.
 #[derive(Drop)]
 pub struct JournalFile<'a, R: Files> {
     rt: &'a R,
     name: &'a str,
     writing: Writing<R::File>,
-    /// The file as it is read, once it is open for that.
+    /// The file as it is read, once it is there. This handle has the lock.
     reading: Option<R::File>,
+    /// Another program made the file before this one did.
+    is_in_use: bool,
 }
 
 impl<'a, R: Files> Model for JournalFile<'a, R> {
     ghost Value = { JournalBytes };
 
-    ghost view = { λ j. journal_bytes R.File.contents j.writing };
+    ghost view = { λ j. journal_bytes R.File.contents j.writing (ahead_of R.File.remaining j.reading) };
 }
 
-impl<'a, R: Files> JournalFile<'a, R> {
-    /// The journal in the file of this name, which is not touched yet.
-    pub fn new(rt: &'a R, name: &'a str) -> JournalFile<'a, R>
-        ensures { result ≡ journal_bytes R.File.contents Writing.Unopened }
+impl<'a, R: Locks + AllocGlobal> JournalFile<'a, R> {
+    /// The journal in the file of this name, which this program has for itself from now on.
+    pub fn open(rt: &'a R, name: &'a str) -> Result<JournalFile<'a, R>, Unusable>
+        ensures { IfOk result IsNew }
     {
-        JournalFile {
+        JournalFile::open_locked(rt, name, false)
+    }
+
+    /// The same, of a journal that is only read, together with other programs that do no more.
+    pub fn open_shared(rt: &'a R, name: &'a str) -> Result<JournalFile<'a, R>, Unusable>
+        ensures { IfOk result IsNew }
+    {
+        JournalFile::open_locked(rt, name, true)
+    }
+
+    fn open_locked(rt: &'a R, name: &'a str, is_shared: bool) -> Result<JournalFile<'a, R>, Unusable>
+        ensures { IfOk result IsNew }
+    {
+        let reading = match open_if_there(rt, name) {
+            Ok(reading) => reading,
+            Err(e) => return Err(Unusable::Unread(e)),
+        };
+        if let Some(file) = &reading {
+            let is_ours = if is_shared { rt.lock_shared(file) } else { rt.lock(file) };
+            if !is_ours || !is_named(rt, file, name) {
+                return Err(Unusable::InUse);
+            }
+        }
+        Ok(JournalFile {
             rt,
             name,
             writing: Writing::Unopened,
-            reading: None,
-        }
+            reading,
+            is_in_use: false,
+        })
     }
 
-    /// Reads from a place on, and answers how many bytes; 0 at or past the end. A file that is not there is empty.
-    pub fn fetch(&mut self, at: u64, buf: &mut [u8]) -> io::Result<usize>
-        ensures same { self.new ≡ self.old }
-        ensures length { length buf.new ≡ length buf.old }
-        ensures within { IfOk result (λ n. n ≤ length buf.old) }
-        ensures last { 2 ^ 63 - 1 ≤ at → IfOk result (λ n. n ≡ 0) }
+    /// Opens the file to add at its end, and makes it where it is not there. Its name is on the disk then.
+    fn begin(&mut self) -> io::Result<R::File>
+        ensures known { self.new.known ≡ self.old.known }
+        ensures failed { self.new.has_failed ≡ self.old.has_failed }
     {
-        if at >= i64::MAX as u64 {
-            return Ok(0);
+        let target = resolve(self.rt, self.name)?;
+        let path = target.as_path().as_str();
+        let mut options = OpenOptions::new();
+        options.append(true);
+        if self.reading.is_none() {
+            options.create_new(true);
         }
-        let mut file = match self.reading.take() {
-            Some(file) => file,
-            None => match File::open(self.rt, self.name) {
-                Ok(file) => file,
-                Err(e) if e.kind() == ErrorKind::NotFound => return Ok(0),
-                Err(e) => return Err(e),
-            },
+        let file = match options.open(self.rt, path) {
+            Ok(file) => file,
+            Err(e) => {
+                self.is_in_use = e.kind() == ErrorKind::AlreadyExists;
+                return Err(e);
+            }
         };
-        file.seek(SeekFrom::Start(at))?;
-        let count = file.read(buf)?;
-        self.reading = Some(file);
-        Ok(count)
-    }
-
-    /// The journal's bytes. A file that is not there is an empty journal.
-    pub fn read(&self) -> io::Result<Vec<u8>>
-    where
-        R: AllocGlobal,
-    {
-        match read_if_there(self.rt, self.name)? {
-            Some(bytes) => Ok(bytes),
-            None => Ok(Vec::new(self.rt.alloc())),
+        if self.reading.is_none() {
+            self.reading = Some(self.lock_new(path)?);
         }
+        match &self.reading {
+            Some(read) if is_one(&read.metadata()?, &file.metadata()?) => {}
+            _ => return Err(io::Error::from(ErrorKind::Other)),
+        }
+        sync_folder(self.rt, path)?;
+        Ok(file)
     }
 
-    /// Whether an append failed.
-    pub fn has_failed(&self) -> bool
-        ensures { result ≡ self.now.has_failed }
+    /// Opens a file that was just made, to read it, and locks it.
+    fn lock_new(&mut self, path: &str) -> io::Result<R::File>
+        ensures { self.new ≡ self.old }
     {
-        matches!(self.writing, Writing::Failed)
+        let file = File::open(self.rt, path)?;
+        if !self.rt.lock(&file) {
+            self.is_in_use = true;
+            return Err(io::Error::from(ErrorKind::AlreadyExists));
+        }
+        Ok(file)
     }
 
     /// Adds the bytes at the end of the file, and answers once they are on the disk. Where it fails, a beginning of them
@@ -100,7 +137,7 @@ impl<'a, R: Files> JournalFile<'a, R> {
         ensures err { OnErr result (self.new.has_failed ≡ true) }
     {
         let mut file = match mem::replace(&mut self.writing, Writing::Failed) {
-            Writing::Unopened => open_to_append(self.rt, self.name)?,
+            Writing::Unopened => self.begin()?,
             Writing::Open(file) => file,
             Writing::Failed => return Err(io::Error::from(ErrorKind::Other)),
         };
@@ -109,11 +146,79 @@ impl<'a, R: Files> JournalFile<'a, R> {
         self.writing = Writing::Open(file);
         Ok(())
     }
+
+    /// The journal's bytes. A file that is not there is an empty journal.
+    pub fn read(&mut self) -> io::Result<Vec<u8>>
+        ensures known { self.new.known ≡ self.old.known }
+        ensures failed { self.new.has_failed ≡ self.old.has_failed }
+        ensures end { OnOk result (IsAtEnd self.new.ahead) }
+    {
+        let mut bytes = Vec::new(self.rt.alloc());
+        if let Some(file) = &mut self.reading {
+            file.seek(SeekFrom::Start(0))?;
+            file.read_to_end(&mut bytes)?;
+        }
+        Ok(bytes)
+    }
 }
 
-/// Opens a file to add at its end, and makes it where it is not there. Its name is on the disk then.
-fn open_to_append<R: Files>(rt: &R, name: &str) -> io::Result<R::File> {
-    let file = OpenOptions::new().append(true).create(true).open(rt, name)?;
-    sync_folder(rt, name)?;
-    Ok(file)
+impl<'a, R: Files> JournalFile<'a, R> {
+    /// Reads from a place on, and answers how many bytes; 0 at or past the end. A file that is not there is empty.
+    pub fn fetch(&mut self, at: u64, buf: &mut [u8]) -> io::Result<usize>
+        ensures known { self.new.known ≡ self.old.known }
+        ensures failed { self.new.has_failed ≡ self.old.has_failed }
+        ensures length { length buf.new ≡ length buf.old }
+        ensures within { IfOk result (λ n. n ≤ length buf.old) }
+        ensures last { 2 ^ 63 - 1 ≤ at → IfOk result (λ n. n ≡ 0) }
+        ensures end { at < 2 ^ 63 - 1 → 0 < length buf.old
+            → IfOk result (λ n. n ≡ 0 → IsAtEnd self.new.ahead) }
+    {
+        if at >= i64::MAX as u64 {
+            return Ok(0);
+        }
+        match &mut self.reading {
+            Some(file) => fetch_from(file, at, buf),
+            None => Ok(0),
+        }
+    }
+
+    /// Whether the file is there.
+    pub fn is_there(&self) -> bool {
+        self.reading.is_some()
+    }
+
+    /// Whether another program has it: the file wasn't there at first, and was made before this program did.
+    pub fn is_in_use(&self) -> bool {
+        self.is_in_use
+    }
+
+    /// Adds nothing more, as after an append that failed.
+    pub fn give_up(&mut self)
+        ensures { self.new.has_failed ≡ true }
+    {
+        self.writing = Writing::Failed;
+    }
+
+    /// Whether an append failed.
+    pub fn has_failed(&self) -> bool
+        ensures { result ≡ self.now.has_failed }
+    {
+        matches!(self.writing, Writing::Failed)
+    }
+}
+
+/// Reads from a place on. A signal that comes while it is read is no end of it.
+fn fetch_from<F: Read + Seek>(file: &mut F, at: u64, buf: &mut [u8]) -> io::Result<usize>
+    ensures length { length buf.new ≡ length buf.old }
+    ensures within { IfOk result (λ n. n ≤ length buf.old) }
+    ensures end { 0 < length buf.old → IfOk result (λ n. n ≡ 0 → IsAtEnd (F.remaining file.new)) }
+{
+    file.seek(SeekFrom::Start(at))?;
+    for _ in 0..u64::MAX {
+        match file.read(buf) {
+            Err(e) if e.kind() == ErrorKind::Interrupted => {}
+            answer => return answer,
+        }
+    }
+    Err(io::Error::from(ErrorKind::Interrupted))
 }

@@ -3,9 +3,10 @@
 use crate::answer::Answer;
 use crate::failure::Failure;
 use crate::files::sync_folder;
-use crate::journal_file::JournalFile;
+use crate::journal_file::{JournalFile, Unusable};
 use crate::journal_rig::JournalRig;
 use crate::keeping::count_kept;
+use crate::locks::Locks;
 use crate::logging::log_lines;
 use std::fs::Files;
 use std::io::ErrorKind;
@@ -14,25 +15,33 @@ use stm_journal::{Journal, JournalFault};
 use stm_session::Fault;
 use stm_words::Kept;
 
-/// Reads the journal in a file. One that isn't there is empty.
-fn load<'a, R: Files + AllocGlobal>(rt: &R, name: &'a str) -> Result<Journal, Failure<'a>> {
-    let mut rig = JournalRig::new(JournalFile::new(rt, name));
+/// Reads the journal in a file that was opened. One that isn't there is empty.
+fn load<'a, 'b, R: Locks + AllocGlobal>(
+    rt: &R,
+    name: &'a str,
+    opened: Result<JournalFile<'b, R>, Unusable>,
+) -> Result<(Journal, JournalRig<'b, R>), Failure<'a>> {
+    let mut rig = match opened {
+        Ok(file) => JournalRig::new(file),
+        Err(why) => return Err(Failure::of_journal(&why, name)),
+    };
     match Journal::load(rt.alloc(), &mut rig) {
-        Ok(journal) => Ok(journal),
+        Ok(journal) => Ok((journal, rig)),
         Err(JournalFault::File) => Err(Failure::CannotRead(name)),
         Err(fault) => Err(Failure::Session(Fault::from(fault))),
     }
 }
 
 /// Tells what the journal in a file says.
-pub fn log<'a, R: Files + AllocGlobal>(rt: &R, name: &'a str) -> Result<Answer, Failure<'a>> {
-    let journal = load(rt, name)?;
+pub fn log<'a, R: Locks + AllocGlobal>(rt: &R, name: &'a str) -> Result<Answer, Failure<'a>> {
+    let (journal, _locked) = load(rt, name, JournalFile::open_shared(rt, name))?;
     Ok(Answer::Logged(log_lines(rt.alloc(), &journal)?))
 }
 
-/// Lets the writes and erases of a journal stay: the journal is removed, or renamed to a name that isn't there.
-pub fn keep<'a, R: Files + AllocGlobal>(rt: &R, kept: &Kept<'a>) -> Result<Answer, Failure<'a>> {
-    let journal = load(rt, kept.journal)?;
+/// Lets the writes and erases of a journal stay: the journal is removed, or renamed to a name that isn't there. It is locked
+/// until then.
+pub fn keep<'a, R: Locks + AllocGlobal>(rt: &R, kept: &Kept<'a>) -> Result<Answer, Failure<'a>> {
+    let (journal, _locked) = load(rt, kept.journal, JournalFile::open(rt, kept.journal))?;
     let count = count_kept(&journal)?;
     match kept.to {
         Some(to) => rename(rt, kept.journal, to)?,

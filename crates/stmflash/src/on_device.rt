@@ -3,27 +3,33 @@
 
 use crate::answer::Answer;
 use crate::failure::Failure;
-use crate::files::is_same_file;
-use crate::journal_file::JournalFile;
+use crate::files::read_file;
+use crate::journal_file::{JournalFile, Unusable};
+use crate::locks::Locks;
+use crate::named_files::NamedFiles;
+use crate::output::Output;
 use crate::progress_course::Course;
 use crate::progress_rig::ProgressRig;
 use crate::progress_screen::{Screen, Style};
-use crate::simulator_file::{line_name, load, store_rig};
+use crate::simulator_file::SimulatorFiles;
 use crate::simulator_rig::SimulatorRig;
 use crate::socket_line::SocketLine;
 use crate::socket_rig::SocketRig;
 use crate::work::Work;
-use std::fs;
 use std::fs::Files;
 use std::io::{IsTerminal, Write};
 use std::net::Net;
 use std::time::Clock;
 use stm_chip::{Table, read_table};
 use stm_session::Fault;
+use stm_wire::Chip;
 use stm_words::{Device, Options, Task};
 
+/// How many bytes the file of a chip table has at most.
+const TABLE: u32 = 1 << 20;
+
 /// Does a task on a device.
-pub fn use_device<'a, R: Files + Net + Clock + AllocGlobal, E: Write + IsTerminal>(
+pub fn use_device<'a, R: Locks + Net + Clock + AllocGlobal, E: Write + IsTerminal>(
     rt: &R,
     options: &Options<'a>,
     task: Task<'a>,
@@ -31,136 +37,152 @@ pub fn use_device<'a, R: Files + Net + Clock + AllocGlobal, E: Write + IsTermina
 ) -> Result<Answer, Failure<'a>> {
     let style = Style::of(rt, options, err);
     let screen = Screen::new(err, rt, rt.alloc(), style);
-    let out = match &task {
-        Task::Read { out, .. } => Some(*out),
-        _ => None,
-    };
     let table = read_chips(rt, options.table)?;
+    let files = NamedFiles::of(options, &task);
     let work = Work::of(rt, task)?;
-    if is_same_file(rt, options.journal, options.table)
-        || is_simulators(rt, options, options.journal)?
-    {
-        return Err(Failure::CannotWrite(options.journal));
-    }
-    if let Some(name) = out {
-        if is_in_use(rt, options, name)? {
-            return Err(Failure::CannotWrite(name));
-        }
-    }
+    files.check(rt)?;
+    let output = Output::open(rt, files.out())?;
     match options.device {
         Device::Simulator { id, file } => {
-            on_simulator(rt, options, work, &table, id, file, out, screen)
+            let Some(chip) = table.find(id) else {
+                return Err(Failure::Session(Fault::UnknownChip(id)));
+            };
+            on_simulator(rt, options, work, &table, file, chip.clone()?, output, screen)
         }
-        Device::Socket(path) => on_socket(rt, options, work, &table, path, out, screen),
+        Device::Socket(path) => on_socket(rt, options, work, &table, path, output, screen),
     }
 }
 
 /// The chips that a file names.
 pub fn read_chips<'a, R: Files + AllocGlobal>(rt: &R, name: &'a str) -> Result<Table, Failure<'a>> {
-    match fs::read(rt, name) {
+    match read_file(rt, name, TABLE) {
         Ok(text) => Ok(read_table(rt.alloc(), text.as_slice())?),
         Err(e) => Err(Failure::of_file(&e, Failure::CannotRead(name))),
     }
 }
 
-/// Whether the name is that of the table, the journal, or one of a simulator's two files.
-fn is_in_use<'a, R: Files + AllocGlobal>(
-    rt: &R,
-    options: &Options<'a>,
-    name: &str,
-) -> Result<bool, Failure<'a>> {
-    if is_same_file(rt, name, options.table) || is_same_file(rt, name, options.journal) {
-        return Ok(true);
+/// The journal that was opened, if it serves for the action: an undo wants one that is there.
+fn serving_journal<'a, 'b, R: Locks + AllocGlobal>(
+    opened: Result<JournalFile<'b, R>, Unusable>,
+    name: &'a str,
+    work: &Work,
+) -> Result<JournalFile<'b, R>, Failure<'a>> {
+    let mut journal = match opened {
+        Ok(journal) => journal,
+        Err(why) => return Err(Failure::of_journal(&why, name)),
+    };
+    if work.is_undo() && !journal.is_there() {
+        return Err(Failure::CannotRead(name));
     }
-    is_simulators(rt, options, name)
+    match journal.fetch(0, &mut [0]) {
+        Ok(_) => Ok(journal),
+        Err(e) => Err(Failure::of_file(&e, Failure::CannotRead(name))),
+    }
 }
 
-/// Whether the name is that of one of a simulator's two files.
-fn is_simulators<'a, R: Files + AllocGlobal>(
-    rt: &R,
-    options: &Options<'a>,
-    name: &str,
-) -> Result<bool, Failure<'a>> {
-    match options.device {
-        Device::Simulator { file, .. } => Ok(
-            is_same_file(rt, name, file)
-                || is_same_file(rt, name, line_name(rt.alloc(), file)?.as_str()),
-        ),
-        Device::Socket(_) => Ok(false),
+/// The same, with the journal's bytes.
+fn read_journal<'a, 'b, R: Locks + AllocGlobal>(
+    opened: Result<JournalFile<'b, R>, Unusable>,
+    name: &'a str,
+    work: &Work,
+) -> Result<(JournalFile<'b, R>, Vec<u8>), Failure<'a>> {
+    let mut journal = serving_journal(opened, name, work)?;
+    match journal.read() {
+        Ok(bytes) => Ok((journal, bytes)),
+        Err(e) => Err(Failure::of_file(&e, Failure::CannotRead(name))),
     }
 }
 
 /// Writes the bytes that are for a file, where there are some, and hands the answer on.
-fn write_out<'a, R: Files>(
+fn write_out<'a, R: Files + AllocGlobal>(
     rt: &R,
     answer: Answer,
-    out: Option<&'a str>,
+    output: Output<'a, R>,
 ) -> Result<Answer, Failure<'a>> {
-    match (&answer, out) {
-        (Answer::Bytes(bytes), Some(name)) => match fs::write(rt, name, bytes.as_slice()) {
-            Ok(()) => Ok(answer),
-            Err(e) => Err(Failure::of_file(&e, Failure::CannotWrite(name))),
-        },
-        _ => Ok(answer),
-    }
+    let is_written = match &answer {
+        Answer::Bytes(bytes) => output.write(rt, bytes.as_slice())?,
+        _ => false,
+    };
+    Ok(if is_written { Answer::Nothing } else { answer })
 }
 
 /// Does it on a simulator in the process.
-fn on_simulator<'a, R: Files + Clock + AllocGlobal, W: Write + Drop>(
+fn on_simulator<'a, R: Locks + Clock + AllocGlobal, W: Write + Drop>(
     rt: &R,
     options: &Options<'a>,
     work: Work,
     table: &Table,
-    id: u16,
     file: &'a str,
-    out: Option<&'a str>,
+    chip: Chip,
+    output: Output<'a, R>,
     screen: Screen<'_, W, R>,
 ) -> Result<Answer, Failure<'a>> {
-    let Some(chip) = table.find(id) else {
-        return Err(Failure::Session(Fault::UnknownChip(id)));
-    };
-    let loaded = load(rt, chip.clone()?, file)?;
-    let journal_file = JournalFile::new(rt, options.journal);
-    let (journal, unread) = match journal_file.read() {
-        Ok(bytes) => (bytes, None),
-        Err(e) => (Vec::new(rt.alloc()), Some(e)),
-    };
-    let Some(mut memory) = loaded.start(rt.alloc(), journal)? else {
-        return Err(Failure::BadSimulatorFile(file));
-    };
-    if let Some(steps) = options.stop {
-        memory.stop_after(u64::from(steps));
+    let opened = JournalFile::open(rt, options.journal);
+    if let Err(Unusable::InUse) = &opened {
+        return Err(Failure::JournalInUse);
     }
-    let rig = SimulatorRig::new(memory, journal_file);
-    if let Some(e) = unread {
-        let unread = Failure::of_file(&e, Failure::CannotRead(options.journal));
-        store_rig(rt, &rig.into_memory(), file)?;
-        return Err(unread);
+    let mut files = SimulatorFiles::open(rt, file)?;
+    let loaded = files.load(chip)?;
+    match read_journal(opened, options.journal, &work) {
+        Ok((journal, bytes)) => {
+            let mut memory = files.begin(loaded, bytes)?;
+            if let Some(steps) = options.stop {
+                memory.stop_after(u64::from(steps));
+            }
+            let rig = SimulatorRig::new(memory, journal, files);
+            use_simulator(rt, rig, work, table, output, screen)
+        }
+        Err(failure) => {
+            let memory = files.begin(loaded, Vec::new(rt.alloc()))?;
+            files.store_rig(&memory)?;
+            Err(failure)
+        }
     }
+}
+
+/// Does it on a simulator that is ready, and stores it.
+fn use_simulator<'a, R: Locks + Clock + AllocGlobal, W: Write + Drop>(
+    rt: &R,
+    rig: SimulatorRig<'_, 'a, R>,
+    work: Work,
+    table: &Table,
+    output: Output<'a, R>,
+    screen: Screen<'_, W, R>,
+) -> Result<Answer, Failure<'a>> {
     let mut rig = ProgressRig::new(rig, Course::new(table, work.goal()), screen);
     let done = work.run(rt.alloc(), &mut rig, table);
-    let memory = rig.finish(done.is_ok()).into_memory();
+    let rig = rig.finish(done.is_ok());
+    let is_unstored = rig.is_unstored();
+    let (memory, journal, mut files) = rig.into_parts();
     let done = match done {
-        Ok(answer) => write_out(rt, answer, out),
+        Ok(answer) => write_out(rt, answer, output),
         Err(_) if memory.has_stopped() => Err(Failure::Stopped),
+        Err(_) if journal.is_in_use() => Err(Failure::JournalInUse),
         Err(failure) => Err(failure),
     };
-    let stored = store_rig(rt, &memory, file);
+    let stored = files.store_rig(&memory);
+    if is_unstored {
+        // why the journal's line wasn't added
+        stored?;
+        return done;
+    }
     let answer = done?;
     stored?;
     Ok(answer)
 }
 
 /// Does it on what listens at a socket.
-fn on_socket<'a, R: Files + Net + Clock + AllocGlobal, W: Write + Drop>(
+fn on_socket<'a, R: Locks + Net + Clock + AllocGlobal, W: Write + Drop>(
     rt: &R,
     options: &Options<'a>,
     work: Work,
     table: &Table,
     path: &'a str,
-    out: Option<&'a str>,
+    output: Output<'a, R>,
     screen: Screen<'_, W, R>,
 ) -> Result<Answer, Failure<'a>> {
+    let opened = JournalFile::open(rt, options.journal);
+    let journal = serving_journal(opened, options.journal, &work)?;
     let line = match SocketLine::connect(
         rt,
         rt,
@@ -171,18 +193,16 @@ fn on_socket<'a, R: Files + Net + Clock + AllocGlobal, W: Write + Drop>(
         Ok(line) => line,
         Err(e) => return Err(Failure::of_file(&e, Failure::CannotConnect(path))),
     };
-    let mut journal = JournalFile::new(rt, options.journal);
-    if let Err(e) = journal.fetch(0, &mut [0]) {
-        return Err(Failure::of_file(&e, Failure::CannotRead(options.journal)));
-    }
     let rig = SocketRig::new(line, journal);
     let mut rig = ProgressRig::new(rig, Course::new(table, work.goal()), screen);
     let done = work.run(rt.alloc(), &mut rig, table);
     let rig = rig.finish(done.is_ok());
     let has_given_up = rig.has_given_up();
-    drop(rig);
+    let journal = rig.into_journal();
     match done {
+        Ok(answer) => write_out(rt, answer, output),
+        Err(_) if journal.is_in_use() => Err(Failure::JournalInUse),
         Err(_) if has_given_up => Err(Failure::NoAnswer),
-        done => write_out(rt, done?, out),
+        Err(failure) => Err(failure),
     }
 }

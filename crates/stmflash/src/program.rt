@@ -3,9 +3,9 @@
 use crate::answer::Answer;
 use crate::failure::Failure;
 use crate::journal_tasks::{keep, log};
+use crate::locks::Locks;
 use crate::on_device::use_device;
 use crate::serving::serve;
-use std::fs::Files;
 use std::io::{IsTerminal, Write};
 use std::net::Net;
 use std::time::Clock;
@@ -15,7 +15,7 @@ use stm_words::{Environment, Request, Unread, read_request};
 /// exit status: 0 where all was done or help was asked for, 1 after a fault, 2 where the words can't be done, 3 where a
 /// simulator was stopped. A fault is one line on `err`; of words that `clap` refuses its text stands there. While a line or a
 /// journal is open nothing is printed but what goes on, where that is shown.
-pub fn program<'a, R: Files + Net + Clock + AllocGlobal, O: Write, E: Write + IsTerminal>(
+pub fn program<'a, R: Locks + Net + Clock + AllocGlobal, O: Write, E: Write + IsTerminal>(
     rt: &R,
     environment: Environment<'a>,
     words: &'a [&'a str],

@@ -4,18 +4,25 @@ ghost use Rattle.std.specs.Io.KnownBytes.{Consumes};
 ghost use Rattle.stmflash.specs.Serving.{fed_all};
 
 use crate::answer::Answer;
+use crate::bound_socket::BoundSocket;
 use crate::failure::Failure;
+use crate::locks::Locks;
+use crate::names::is_same_file;
 use crate::on_device::read_chips;
-use crate::simulator_file::{load, store};
+use crate::simulator_file::{SimulatorFiles, line_name};
 use crate::standing::line_of;
-use std::fs;
 use std::fs::Files;
+use std::io;
 use std::io::{ErrorKind, Read, Write};
 use std::net::Net;
-use std::os::unix::net::UnixListener;
+use std::os::unix::net::{UnixListener, UnixStream};
+use std::time::Duration;
 use stm_session::Fault;
 use stm_wire::Simulator;
 use stm_words::Served;
+
+/// How long a client may take no reply, in seconds.
+const SLOW: u64 = 10;
 
 /// How many bytes are read and written at a time.
 const ROOM: usize = 512;
@@ -95,7 +102,7 @@ pub fn serve_bytes<R: Read, W: Write>(sim: &mut Simulator, reader: &mut R, write
 }
 
 /// Serves a simulator's clients, and removes its socket.
-pub fn serve<'a, R: Files + Net + AllocGlobal>(
+pub fn serve<'a, R: Locks + Net + AllocGlobal>(
     rt: &R,
     served: &Served<'a>,
 ) -> Result<Answer, Failure<'a>> {
@@ -103,45 +110,81 @@ pub fn serve<'a, R: Files + Net + AllocGlobal>(
     let Some(chip) = table.find(served.id) else {
         return Err(Failure::Session(Fault::UnknownChip(served.id)));
     };
-    let loaded = load(rt, chip.clone()?, served.flash)?;
-    let Some(memory) = loaded.start(rt.alloc(), Vec::new(rt.alloc()))? else {
-        return Err(Failure::BadSimulatorFile(served.flash));
-    };
-    let listener = match UnixListener::bind(rt, served.socket) {
-        Ok(listener) => listener,
+    check(rt, served)?;
+    let mut files = SimulatorFiles::open(rt, served.flash)?;
+    let loaded = files.load(chip.clone()?)?;
+    let memory = files.start(loaded, Vec::new(rt.alloc()))?;
+    let socket = match BoundSocket::bind(rt, served.socket, served.mode) {
+        Ok(socket) => socket,
         Err(e) => {
             return Err(Failure::of_file(&e, Failure::CannotConnect(served.socket)));
         }
     };
     let mut sim = memory.into_simulator();
-    let done = serve_clients(rt, &mut sim, &listener, served);
-    let _ = fs::remove_file(rt, served.socket);
+    let done = match files.make(sim.flash()) {
+        Ok(()) => serve_clients(rt, &mut sim, socket.listener(), &mut files, served),
+        Err(failure) => Err(failure),
+    };
+    socket.remove(rt);
     done?;
     Ok(Answer::Nothing)
 }
 
-/// Serves one client after the other, and writes the simulator's files after each. A client that goes leaves the device
-/// with its rest.
-fn serve_clients<'a, R: Files + AllocGlobal>(
+/// Refuses a socket that is one of the simulator's files, and files of which one is the table or the other.
+fn check<'a, R: Files + AllocGlobal>(rt: &R, served: &Served<'a>) -> Result<(), Failure<'a>> {
+    let line = line_name(rt.alloc(), served.flash)?;
+    if is_same_file(rt, served.flash, served.table) {
+        return Err(Failure::CannotWrite(served.flash));
+    }
+    if is_same_file(rt, line.as_str(), served.table)
+        || is_same_file(rt, line.as_str(), served.flash)
+    {
+        return Err(Failure::CannotWriteLine(served.flash));
+    }
+    if is_same_file(rt, served.socket, served.flash)
+        || is_same_file(rt, served.socket, line.as_str())
+    {
+        return Err(Failure::CannotWrite(served.socket));
+    }
+    Ok(())
+}
+
+/// Takes the next client. A signal that comes while it is waited for is no end.
+fn accept(listener: &UnixListener) -> io::Result<UnixStream> {
+    for _ in 0..u64::MAX {
+        match listener.accept() {
+            Ok((stream, _)) => return Ok(stream),
+            Err(e) if e.kind() == ErrorKind::Interrupted => {}
+            Err(e) => return Err(e),
+        }
+    }
+    Err(io::Error::from(ErrorKind::Interrupted))
+}
+
+/// Serves one client after the other, and writes the simulator's files after each. A client that goes, or takes no reply for a
+/// while, leaves the device with its rest.
+fn serve_clients<'a, R: Locks + AllocGlobal>(
     rt: &R,
     sim: &mut Simulator,
     listener: &UnixListener,
+    files: &mut SimulatorFiles<'_, 'a, R>,
     served: &Served<'a>,
 ) -> Result<(), Failure<'a>> {
     for _ in 0..served.clients {
-        let stream = match listener.accept() {
-            Ok((stream, _)) => stream,
+        let stream = match accept(listener) {
+            Ok(stream) => stream,
             Err(e) => {
                 return Err(Failure::of_file(&e, Failure::CannotConnect(served.socket)));
             }
         };
+        let _ = stream.set_write_timeout(Some(Duration::from_secs(SLOW)));
         for _ in 0..u64::MAX {
             if !serve_bytes(sim, &mut &stream, &mut &stream) {
                 break;
             }
         }
         let line = line_of(rt.alloc(), sim.is_gone(), sim.rest())?;
-        store(rt, served.flash, sim.flash(), line.as_slice())?;
+        files.store(sim.flash(), line.as_slice())?;
     }
     Ok(())
 }

@@ -5,12 +5,18 @@ ghost use Rattle.stmflash.specs.SimulatorFile.{StandsSo, simulator_at};
 ghost use Rattle.stmflash.specs.Standing.{phase_of};
 
 use crate::failure::Failure;
-use crate::files::{read_if_there, replace};
+use crate::files::{open_if_there, read_up_to, remove_if_there};
+use crate::locks::Locks;
+use crate::names::is_named;
+use crate::replacement::Replacement;
 use crate::restoring::stand;
 use crate::standing::{Standing, line_of};
 use std::alloc::{AllocError, Global};
 use std::fs::Files;
 use stm_wire::{Chip, MemoryRig};
+
+/// How many bytes the file that tells where a simulator stands is read to: more than any line has.
+const LINE: u64 = 65_536;
 
 /// The name of the file that tells where a simulator stands.
 pub fn line_name(alloc: Global, file: &str) -> Result<String, AllocError> {
@@ -26,33 +32,15 @@ pub struct StoredSimulator {
     ghost is_whole: { length flash.items ≡ flash_size chip },
 }
 
-/// The simulator that the two files hold. A flash that isn't there is erased, and without the other file the device is
-/// fresh.
-pub fn load<'a, R: Files + AllocGlobal>(
-    rt: &R,
-    chip: Chip,
+/// The two files of a simulator, which this program has for itself: the flash's is locked from before it is read until this is
+/// dropped.
+#[derive(Drop)]
+pub struct SimulatorFiles<'r, 'a, R: Files> {
+    rt: &'r R,
     file: &'a str,
-) -> Result<StoredSimulator, Failure<'a>> {
-    let alloc = rt.alloc();
-    let size = chip.flash_size() as usize;
-    let flash = match read_if_there(rt, file) {
-        Ok(Some(flash)) => flash,
-        Ok(None) => vec![in alloc; chip.erased(); size]?,
-        Err(e) => return Err(Failure::of_file(&e, Failure::CannotRead(file))),
-    };
-    let standing = match read_if_there(rt, line_name(alloc, file)?.as_str()) {
-        Ok(Some(line)) => Standing::parse(alloc, line.as_slice())?,
-        Ok(None) => Some(Standing::Fresh),
-        Err(e) => return Err(Failure::of_file(&e, Failure::CannotReadLine(file))),
-    };
-    match standing {
-        Some(standing) if flash.len() == size => Ok(StoredSimulator {
-            chip,
-            flash,
-            standing,
-        }),
-        _ => Err(Failure::BadSimulatorFile(file)),
-    }
+    line: String,
+    /// The flash's file, once it is there. This handle has the lock.
+    flash: Option<R::File>,
 }
 
 impl StoredSimulator {
@@ -78,29 +66,145 @@ impl StoredSimulator {
     }
 }
 
-/// Writes both files of a Rig in memory. Bytes owed are lost.
-pub fn store_rig<'a, R: Files + AllocGlobal>(
-    rt: &R,
-    rig: &MemoryRig,
-    file: &'a str,
-) -> Result<(), Failure<'a>> {
-    let line = line_of(rt.alloc(), rig.is_gone(), rig.rest())?;
-    store(rt, file, rig.flash(), line.as_slice())
-}
-
-/// Writes both files, the one that tells where the simulator stands last.
-pub fn store<'a, R: Files + AllocGlobal>(
-    rt: &R,
-    file: &'a str,
-    flash: &[u8],
-    line: &[u8],
-) -> Result<(), Failure<'a>> {
-    let name = line_name(rt.alloc(), file)?;
-    if let Err(e) = replace(rt, file, flash) {
-        return Err(Failure::of_file(&e, Failure::CannotWrite(file)));
+impl<'r, 'a, R: Locks + AllocGlobal> SimulatorFiles<'r, 'a, R> {
+    /// The files of the simulator of this name, which no other program has then.
+    pub fn open(rt: &'r R, file: &'a str) -> Result<SimulatorFiles<'r, 'a, R>, Failure<'a>> {
+        let line = line_name(rt.alloc(), file)?;
+        let flash = match open_if_there(rt, file) {
+            Ok(flash) => flash,
+            Err(e) => return Err(Failure::of_file(&e, Failure::CannotRead(file))),
+        };
+        if let Some(opened) = &flash {
+            if !rt.lock(opened) || !is_named(rt, opened, file) {
+                return Err(Failure::SimulatorInUse);
+            }
+        }
+        Ok(SimulatorFiles {
+            rt,
+            file,
+            line,
+            flash,
+        })
     }
-    match replace(rt, name.as_str(), line) {
-        Ok(()) => Ok(()),
-        Err(e) => Err(Failure::of_file(&e, Failure::CannotWriteLine(file))),
+
+    /// The simulator that the two files hold. A flash that isn't there is erased, and without the other file the device is
+    /// fresh.
+    pub fn load(&mut self, chip: Chip) -> Result<StoredSimulator, Failure<'a>> {
+        let alloc = self.rt.alloc();
+        let size = chip.flash_size() as usize;
+        // one more than it is to have
+        let room = u64::from(chip.flash_size()) + 1;
+        let flash = match &mut self.flash {
+            Some(file) => match read_up_to(alloc, file, room) {
+                Ok(flash) => flash,
+                Err(e) => return Err(Failure::of_file(&e, Failure::CannotRead(self.file))),
+            },
+            None => vec![in alloc; chip.erased(); size]?,
+        };
+        let standing = self.load_standing()?;
+        match standing {
+            Some(standing) if flash.len() == size => Ok(StoredSimulator {
+                chip,
+                flash,
+                standing,
+            }),
+            _ => Err(Failure::BadSimulatorFile(self.file)),
+        }
+    }
+
+    /// Where the simulator stands; none where the line's file has another form.
+    fn load_standing(&mut self) -> Result<Option<Standing>, Failure<'a>> {
+        let line = match open_if_there(self.rt, self.line.as_str()) {
+            Ok(Some(line)) => line,
+            Ok(None) => return Ok(Some(Standing::Fresh)),
+            Err(e) => return Err(Failure::of_file(&e, Failure::CannotReadLine(self.file))),
+        };
+        match read_up_to(self.rt.alloc(), line, LINE) {
+            Ok(line) => Ok(Standing::parse(self.rt.alloc(), line.as_slice())?),
+            Err(e) => Err(Failure::of_file(&e, Failure::CannotReadLine(self.file))),
+        }
+    }
+
+    /// The simulator, standing as it was left, beside a journal of these bytes.
+    pub fn start(
+        &self,
+        loaded: StoredSimulator,
+        journal: Vec<u8>,
+    ) -> Result<MemoryRig, Failure<'a>> {
+        match loaded.start(self.rt.alloc(), journal)? {
+            Some(memory) => Ok(memory),
+            None => Err(Failure::BadSimulatorFile(self.file)),
+        }
+    }
+
+    /// The same, and its flash's file is there from now on.
+    pub fn begin(
+        &mut self,
+        loaded: StoredSimulator,
+        journal: Vec<u8>,
+    ) -> Result<MemoryRig, Failure<'a>> {
+        let memory = self.start(loaded, journal)?;
+        self.make(memory.flash())?;
+        Ok(memory)
+    }
+
+    /// Makes the flash's file, where it wasn't there, so that this program has it.
+    pub fn make(&mut self, flash: &[u8]) -> Result<(), Failure<'a>> {
+        if self.flash.is_some() {
+            return Ok(());
+        }
+        let beside = match Replacement::prepare(self.rt, self.file, flash) {
+            Ok(beside) => beside,
+            Err(e) => return Err(Failure::of_file(&e, Failure::CannotWrite(self.file))),
+        };
+        let _ = self.rt.lock(beside.file());
+        match beside.place_new(self.rt) {
+            Ok(Some(file)) => {
+                self.flash = Some(file);
+                Ok(())
+            }
+            Ok(None) => Err(Failure::SimulatorInUse),
+            Err(e) => Err(Failure::of_file(&e, Failure::CannotWrite(self.file))),
+        }
+    }
+
+    /// Writes both files of a Rig in memory. Bytes owed are lost.
+    pub fn store_rig(&mut self, rig: &MemoryRig) -> Result<(), Failure<'a>> {
+        let line = line_of(self.rt.alloc(), rig.is_gone(), rig.rest())?;
+        self.store(rig.flash(), line.as_slice())
+    }
+
+    /// Writes both files. All bytes stand on the disk before either is replaced. Then the line's file is removed, the flash's
+    /// replaced, and the line's made again: whatever is left by a program that was killed in between, no line stands beside a
+    /// flash that it isn't of, and a device without a line is fresh.
+    pub fn store(&mut self, flash: &[u8], line: &[u8]) -> Result<(), Failure<'a>> {
+        let flash = match Replacement::prepare(self.rt, self.file, flash) {
+            Ok(beside) => beside,
+            Err(e) => return Err(Failure::of_file(&e, Failure::CannotWrite(self.file))),
+        };
+        let _ = self.rt.lock(flash.file());
+        let line = match Replacement::prepare(self.rt, self.line.as_str(), line) {
+            Ok(beside) => beside,
+            Err(e) => {
+                flash.discard(self.rt);
+                return Err(Failure::of_file(&e, Failure::CannotWriteLine(self.file)));
+            }
+        };
+        if let Err(e) = remove_if_there(self.rt, line.target()) {
+            flash.discard(self.rt);
+            line.discard(self.rt);
+            return Err(Failure::of_file(&e, Failure::CannotWriteLine(self.file)));
+        }
+        match flash.place(self.rt) {
+            Ok(file) => self.flash = Some(file),
+            Err(e) => {
+                line.discard(self.rt);
+                return Err(Failure::of_file(&e, Failure::CannotWrite(self.file)));
+            }
+        }
+        match line.place(self.rt) {
+            Ok(_) => Ok(()),
+            Err(e) => Err(Failure::of_file(&e, Failure::CannotWriteLine(self.file))),
+        }
     }
 }

@@ -8,8 +8,11 @@ ghost use Rattle.stmflash.specs.SimulatorRig.{SimulatorState, simulator_rig_stat
 ghost use Rattle.stmflash.specs.SimulatorRigLaws.{follows};
 
 use crate::journal_file::JournalFile;
+use crate::locks::Locks;
+use crate::simulator_file::SimulatorFiles;
 use std::fs::Files;
 use std::io;
+use std::io::ErrorKind;
 use std::marker::Model;
 use stm_wire::{MemoryRig, Patience, Rig, RigCall, RigFault};
 
@@ -20,21 +23,28 @@ use stm_wire::{MemoryRig, Patience, Rig, RigCall, RigFault};
 /// It follows the model, and the journal in memory is the model's. No contract says what a file holds: an append that the
 /// file refused stands whole in memory, and a beginning of it in the file.
 #[derive(Drop)]
-pub struct SimulatorRig<'a, R: Files> {
+pub struct SimulatorRig<'a, 'f, R: Files> {
     memory: MemoryRig,
     file: JournalFile<'a, R>,
     journal_failures: u64,
+    simulator: SimulatorFiles<'a, 'f, R>,
+    /// The simulator's files were to be written before a line of the journal, and couldn't be.
+    is_unstored: bool,
 }
 
-impl<'a, R: Files> Model for SimulatorRig<'a, R> {
+impl<'a, 'f, R: Files> Model for SimulatorRig<'a, 'f, R> {
     ghost Value = { SimulatorState };
 
     ghost view = { λ rig. record { memory = rig.memory; file = rig.file; journal_failures = rig.journal_failures } };
 }
 
-impl<'a, R: Files> SimulatorRig<'a, R> {
+impl<'a, 'f, R: Locks + AllocGlobal> SimulatorRig<'a, 'f, R> {
     /// A Rig with the device of this one in memory, whose journal has to be what the file holds.
-    pub fn new(memory: MemoryRig, file: JournalFile<'a, R>) -> SimulatorRig<'a, R>
+    pub fn new(
+        memory: MemoryRig,
+        file: JournalFile<'a, R>,
+        simulator: SimulatorFiles<'a, 'f, R>,
+    ) -> SimulatorRig<'a, 'f, R>
         ensures starts { result ≡ record { memory = memory; file = file.entry; journal_failures = 0 } }
         ensures honest { (rig_state memory).is_honest → (simulator_rig_state result).is_honest }
     {
@@ -42,14 +52,22 @@ impl<'a, R: Files> SimulatorRig<'a, R> {
             memory,
             file,
             journal_failures: 0,
+            simulator,
+            is_unstored: false,
         }
     }
 
-    /// The Rig in memory; the file is closed.
-    pub fn into_memory(self) -> MemoryRig
-        ensures { result ≡ self.entry.memory }
+    /// The Rig in memory, the journal's file and the simulator's.
+    pub fn into_parts(self) -> (MemoryRig, JournalFile<'a, R>, SimulatorFiles<'a, 'f, R>)
+        ensures memory { result.0 ≡ self.entry.memory }
+        ensures file { result.1 ≡ self.entry.file }
     {
-        self.memory
+        (self.memory, self.file, self.simulator)
+    }
+
+    /// Whether the simulator's files were to be written before a line of the journal, and couldn't be.
+    pub fn is_unstored(&self) -> bool {
+        self.is_unstored
     }
 
     /// Counts a failure of the journal, where the answer is one.
@@ -65,7 +83,8 @@ impl<'a, R: Files> SimulatorRig<'a, R> {
         answer
     }
 
-    /// Adds to the file what the journal in memory has from this place on.
+    /// Adds to the file what the journal in memory has from this place on. A line that says that a segment was taken back goes
+    /// there once the simulator's files hold the flash that this left: else the way back would be lost with them.
     fn append_to_file(&mut self, start: usize) -> io::Result<()>
         requires { start ≤ length self.old.memory.journal }
         ensures added { OnOk result (Appends
@@ -78,11 +97,26 @@ impl<'a, R: Files> SimulatorRig<'a, R> {
         if added.is_empty() {
             return Ok(());
         }
+        if says_undone(added) && self.simulator.store_rig(&self.memory).is_err() {
+            self.is_unstored = true;
+            self.file.give_up();
+            return Err(io::Error::from(ErrorKind::Other));
+        }
         self.file.append(added)
     }
 }
 
-impl<'a, R: Files> Rig for SimulatorRig<'a, R> {
+/// Whether bytes of a journal say that a segment was taken back, or begin to.
+fn says_undone(added: &[u8]) -> bool {
+    for line in added.split(|byte| *byte == b'\n') {
+        if line.first() == Some(&b'u') {
+            return true;
+        }
+    }
+    false
+}
+
+impl<'a, 'f, R: Locks + AllocGlobal> Rig for SimulatorRig<'a, 'f, R> {
     ghost view = { simulator_rig_state };
 
     ghost model = { λ rig honest. follows rig honest };

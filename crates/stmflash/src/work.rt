@@ -30,6 +30,11 @@ impl Work {
         }
     }
 
+    /// Whether it takes writes and erases back, by a journal that has to be there.
+    pub fn is_undo(&self) -> bool {
+        matches!(self, Work::Act(Action::Undo(_)))
+    }
+
     /// Which pages it goes through.
     pub fn goal(&self) -> Goal {
         match self {

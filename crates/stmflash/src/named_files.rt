@@ -1,0 +1,102 @@
+// The files that the words of one use name.
+
+use crate::failure::Failure;
+use crate::names::is_same_file;
+use crate::output::STANDARD;
+use crate::simulator_file::line_name;
+use std::fs::Files;
+use stm_words::{Device, Options, Task};
+
+/// The files that the words of one use name.
+#[derive(Clone, Copy)]
+pub struct NamedFiles<'a> {
+    table: &'a str,
+    journal: &'a str,
+    device: Device<'a>,
+    image: Option<&'a str>,
+    out: Option<&'a str>,
+}
+
+impl<'a> NamedFiles<'a> {
+    /// Those of a task and its options.
+    pub fn of(options: &Options<'a>, task: &Task<'a>) -> NamedFiles<'a> {
+        let (image, out) = match task {
+            Task::Read { out, .. } if *out != STANDARD => (None, Some(*out)),
+            Task::Write { image, .. } | Task::Verify(image) => (Some(image.name), None),
+            _ => (None, None),
+        };
+        NamedFiles {
+            table: options.table,
+            journal: options.journal,
+            device: options.device,
+            image,
+            out,
+        }
+    }
+
+    /// The file that the flash's bytes are for, where they aren't printed.
+    pub fn out(&self) -> Option<&'a str> {
+        self.out
+    }
+
+    /// Refuses a file that is to be written and is one of the others: the journal, then OUT, then the simulator's own two.
+    pub fn check<R: Files + AllocGlobal>(&self, rt: &R) -> Result<(), Failure<'a>> {
+        if self.is_read(rt, self.journal) || self.is_devices(rt, self.journal)? {
+            return Err(Failure::CannotWrite(self.journal));
+        }
+        if let Some(out) = self.out {
+            if is_same_file(rt, out, self.journal)
+                || self.is_read(rt, out)
+                || self.is_devices(rt, out)?
+            {
+                return Err(Failure::CannotWrite(out));
+            }
+        }
+        match self.device {
+            Device::Simulator { file, .. } => self.check_simulator(rt, file),
+            Device::Socket(_) => Ok(()),
+        }
+    }
+
+    /// Refuses a simulator's files of which one is a file that is read, or the other.
+    fn check_simulator<R: Files + AllocGlobal>(
+        &self,
+        rt: &R,
+        file: &'a str,
+    ) -> Result<(), Failure<'a>> {
+        let line = line_name(rt.alloc(), file)?;
+        if self.is_read(rt, file) {
+            return Err(Failure::CannotWrite(file));
+        }
+        if self.is_read(rt, line.as_str()) || is_same_file(rt, file, line.as_str()) {
+            return Err(Failure::CannotWriteLine(file));
+        }
+        Ok(())
+    }
+
+    /// Whether the name is that of the table or the image.
+    fn is_read<R: Files + AllocGlobal>(&self, rt: &R, name: &str) -> bool {
+        if is_same_file(rt, name, self.table) {
+            return true;
+        }
+        match self.image {
+            Some(image) => is_same_file(rt, name, image),
+            None => false,
+        }
+    }
+
+    /// Whether the name is that of one of a simulator's two files, or of the device's socket.
+    fn is_devices<R: Files + AllocGlobal>(
+        &self,
+        rt: &R,
+        name: &str,
+    ) -> Result<bool, Failure<'a>> {
+        match self.device {
+            Device::Simulator { file, .. } => {
+                Ok(is_same_file(rt, name, file)
+                    || is_same_file(rt, name, line_name(rt.alloc(), file)?.as_str()))
+            }
+            Device::Socket(path) => Ok(is_same_file(rt, name, path)),
+        }
+    }
+}

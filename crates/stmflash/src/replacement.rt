@@ -1,0 +1,162 @@
+// Bytes that stand on the disk beside a file, ready to take its place.
+
+use crate::files::sync_folder;
+use crate::names::resolve;
+use std::fs::{Files, Metadata, OpenFile, OpenOptions};
+use std::io::{ErrorKind, Write};
+use std::os::unix::fs::{MetadataExt, OpenOptionsExt, lchown};
+use std::path::PathBuf;
+use std::{fs, io};
+
+/// How many names are tried for the file beside.
+const NAMES: u32 = 10_000;
+
+/// Who may use a file before it has the mode of the one whose place it takes: nobody else.
+const ALONE: u32 = 0o600;
+
+/// Who may use a file that takes no other's place, as far as the process's mask lets them.
+const ANYONE: u32 = 0o666;
+
+/// Bytes that stand on the disk beside a file, ready to take its place: all of them, or, where that fails or never comes,
+/// none. What a symbolic link names is replaced, and the link stays.
+#[derive(Drop)]
+pub struct Replacement<R: Files> {
+    target: PathBuf,
+    beside: String,
+    file: R::File,
+}
+
+impl<R: Files + AllocGlobal> Replacement<R> {
+    /// Writes bytes beside the file of this name, and puts them on the disk. Where that file is there, its mode is kept, and
+    /// its owner and group as far as the system lets them.
+    pub fn prepare(rt: &R, name: &str, bytes: &[u8]) -> io::Result<Replacement<R>> {
+        let target = resolve(rt, name)?;
+        let (beside, mut file) = create_beside(rt, target.as_path().as_str())?;
+        match fill(rt, target.as_path().as_str(), beside.as_str(), &mut file, bytes) {
+            Ok(()) => Ok(Replacement {
+                target,
+                beside,
+                file,
+            }),
+            Err(e) => {
+                let _ = fs::remove_file(rt, beside.as_str());
+                Err(e)
+            }
+        }
+    }
+
+    /// The file that holds the bytes.
+    pub fn file(&self) -> &R::File {
+        &self.file
+    }
+
+    /// The path of the file whose place is taken.
+    pub fn target(&self) -> &str {
+        self.target.as_path().as_str()
+    }
+
+    /// Takes the place, also on the disk, and answers the file, open.
+    pub fn place(self, rt: &R) -> io::Result<R::File> {
+        let Replacement {
+            target,
+            beside,
+            file,
+        } = self;
+        if let Err(e) = fs::rename(rt, beside.as_str(), target.as_path()) {
+            let _ = fs::remove_file(rt, beside.as_str());
+            return Err(e);
+        }
+        sync_folder(rt, target.as_path().as_str())?;
+        Ok(file)
+    }
+
+    /// Takes the place where no file is, and answers the file, open; none where one was made there in the meantime.
+    pub fn place_new(self, rt: &R) -> io::Result<Option<R::File>> {
+        let Replacement {
+            target,
+            beside,
+            file,
+        } = self;
+        let made = fs::hard_link(rt, beside.as_str(), target.as_path().as_str());
+        let done = match made {
+            Ok(()) => Ok(Some(file)),
+            Err(e) if e.kind() == ErrorKind::AlreadyExists => Ok(None),
+            // a file system without hard links
+            Err(_) => match fs::rename(rt, beside.as_str(), target.as_path().as_str()) {
+                Ok(()) => return Ok(Some(file)),
+                Err(e) => Err(e),
+            },
+        };
+        let _ = fs::remove_file(rt, beside.as_str());
+        done
+    }
+
+    /// Leaves the file as it is.
+    pub fn discard(self, rt: &R) {
+        let _ = fs::remove_file(rt, self.beside.as_str());
+    }
+}
+
+/// Puts bytes in a file, in place of what it held: all of them, or, where this fails or is broken off, none.
+pub fn replace<R: Files + AllocGlobal>(rt: &R, name: &str, bytes: &[u8]) -> io::Result<()> {
+    let _file = Replacement::prepare(rt, name, bytes)?.place(rt)?;
+    Ok(())
+}
+
+/// Whether a file could be made beside this one. It is made, and removed.
+pub fn try_beside<R: Files + AllocGlobal>(rt: &R, name: &str) -> io::Result<()> {
+    let target = resolve(rt, name)?;
+    let (beside, _file) = create_beside(rt, target.as_path().as_str())?;
+    fs::remove_file(rt, beside.as_str())
+}
+
+/// Makes a file beside another, under a name that none has.
+fn create_beside<R: Files + AllocGlobal>(rt: &R, target: &str) -> io::Result<(String, R::File)> {
+    let mode = if fs::metadata(rt, target).is_ok() {
+        ALONE
+    } else {
+        ANYONE
+    };
+    for count in 0..NAMES {
+        let beside = format!(in rt.alloc(); "{target}.{count}.new")?;
+        let mut options = OpenOptions::new();
+        match options.write(true).create_new(true).mode(mode).open(rt, beside.as_str()) {
+            Ok(file) => return Ok((beside, file)),
+            Err(e) if e.kind() == ErrorKind::AlreadyExists => {}
+            Err(e) => return Err(e),
+        }
+    }
+    Err(io::Error::from(ErrorKind::AlreadyExists))
+}
+
+/// Writes the bytes, and answers once they are on the disk.
+fn fill<R: Files>(
+    rt: &R,
+    target: &str,
+    beside: &str,
+    file: &mut R::File,
+    bytes: &[u8],
+) -> io::Result<()> {
+    file.write_all(bytes)?;
+    if let Ok(told) = fs::metadata(rt, target) {
+        keep_rights(rt, &told, beside, file)?;
+    }
+    file.sync_all()
+}
+
+/// Gives a file the owner, the group and the mode that another has; the first two as far as the system lets them.
+fn keep_rights<R: Files>(
+    rt: &R,
+    told: &Metadata,
+    beside: &str,
+    file: &mut R::File,
+) -> io::Result<()> {
+    let made = file.metadata()?;
+    if made.uid() != told.uid() && lchown(rt, beside, Some(told.uid()), None).is_err() {
+        // the owner is who runs the program
+    }
+    if made.gid() != told.gid() && lchown(rt, beside, None, Some(told.gid())).is_err() {
+        // a group that its owner isn't in
+    }
+    file.set_permissions(told.permissions())
+}

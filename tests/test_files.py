@@ -1,0 +1,184 @@
+"""The files that a use names: which are one, how OUT and a simulator's files are written, and how long a file may be."""
+
+import os
+import subprocess
+import threading
+
+from place import COUNTING, ERASED, PATIENCE, SIZE, ZEROS, Place, Said, program
+from test_disk import files_up_to
+
+
+class Files(Place):
+    def test_names_that_mean_one_file(self):
+        """The journal in place of the simulator's files, of the image and of the table, whether these are there or not."""
+        self.store("image", b"\xaa")
+        for flash in (None, ZEROS):
+            if flash is not None:
+                self.store("N", flash)
+                os.link(self.path("N"), self.path("hard"))
+                os.symlink("N", self.path("soft"))
+            names = ["./N", "./N.line", self.path("N"), "image", "./image", "table"]
+            names += ["hard", "soft"] if flash else []
+            for journal in names:
+                with self.subTest(journal=journal, flash=flash is not None):
+                    said = self.use("write", "-S", "0x08000000", "image", device="sim:0412:N", journal=journal)
+                    self.assertFault(said, f"cannot write {journal}")
+                    self.assertFile("N", flash)
+                    self.assertFile("N.line", None)
+                    self.assertFile("image", b"\xaa")
+
+    def test_out_is_none_of_the_other_files(self):
+        self.store("flash", COUNTING)
+        self.assertTold(self.use("erase", "5"), "segment 1: 1 pages erased\n")
+        journal, flash = self.held("journal"), self.held("flash")
+        os.link(self.path("journal"), self.path("hard"))
+        os.symlink("flash.line", self.path("soft"))
+        for out in ("hard", "soft", "./journal", "./flash", "./flash.line", "table"):
+            with self.subTest(out=out):
+                self.assertFault(self.use("read", out), f"cannot write {out}")
+        self.assertFile("journal", journal)
+        self.assertHolds(flash, b"idle\n")
+
+    def test_a_simulator_is_none_of_the_other_files(self):
+        self.store("image", ZEROS)
+        self.assertFault(self.use("write", "image", device="sim:0412:image"), "cannot write image")
+        self.store("F.line", b"\xaa")
+        self.assertFault(self.use("write", "F.line", device="sim:0412:F"), "cannot write F.line")
+        os.symlink("G", self.path("G.line"))
+        self.assertFault(self.use("info", device="sim:0412:G"), "cannot write G.line")
+        self.assertFile("image", ZEROS)
+        self.assertFile("F.line", b"\xaa")
+        self.assertFalse(self.is_there("G"))
+        for socket in ("flash", "./flash", "flash.line"):
+            with self.subTest(socket=socket):
+                said = self.call("sim", "--table", "table", "--id", "0412", "--flash", "flash", "--socket", socket)
+                self.assertFault(said, f"cannot write {socket}")
+                self.assertHolds(None, None)
+
+    def test_names_that_end_in_new(self):
+        """What is written beside a file has a name that no file has, and follows no link."""
+        self.store("victim", b"mine")
+        for name in ("flash.new", "flash.0.new", "out.0.new", "flash.line.0.new"):
+            with self.subTest(name=name):
+                self.store("flash", COUNTING)
+                self.assertTold(self.use("erase", "5", journal=name), "segment 1: 1 pages erased\n")
+                self.assertTold(self.use("undo", journal=name), "undone 1\n")
+                self.assertFile("flash", COUNTING)
+                self.remove(name)
+                self.assertSilent(self.use("read", name))
+                self.assertFile(name, COUNTING)
+                self.remove(name)
+                os.symlink("victim", self.path(name))
+                self.assertSilent(self.use("read", "out"))
+                self.assertFile("out", COUNTING)
+                self.assertFile("victim", b"mine")
+                self.remove(name, "out")
+                os.mkfifo(self.path(name))
+                self.assertSilent(self.use("read", "out"))
+                self.assertFile("out", COUNTING)
+                self.remove(name, "out")
+
+    def test_out_is_replaced_whole_or_not_at_all(self):
+        older = b"older" * 20000
+        self.store("flash", COUNTING)
+        self.store("out", older)
+        for room in (0, 1, 20000):
+            with self.subTest(room=room):
+                self.assertFault(self.use("read", "out", before=files_up_to(room)), "cannot write out")
+                self.assertFile("out", older)
+        self.assertSilent(self.use("read", "out"))
+        self.assertFile("out", COUNTING)
+
+    def test_out_is_tried_first(self):
+        """What can't be written is told before anything is asked of a device that doesn't answer."""
+        for out in ("absent/out", "folder"):
+            with self.subTest(out=out):
+                os.makedirs(self.path("folder"), exist_ok=True)
+                self.assertFault(self.use("read", out, device="absent-board"), f"cannot write {out}")
+        self.store("out", b"older")
+        self.assertFault(self.use("read", "out", device="absent-board"), "cannot connect absent-board")
+        self.assertFile("out", b"older")
+        self.assertEqual([name for name in os.listdir(self.folder) if name.startswith("out")], ["out"])
+
+    def test_out_keeps_its_mode(self):
+        self.store("flash", COUNTING)
+        for name in ("out", "flash", "flash.line"):
+            self.store("flash.line", b"idle\n")
+            self.store("out", b"older")
+            for mode in (0o600, 0o640, 0o664):
+                with self.subTest(name=name, mode=mode):
+                    os.chmod(self.path(name), mode)
+                    self.assertSilent(self.use("read", "out"))
+                    self.assertEqual(os.stat(self.path(name)).st_mode & 0o7777, mode)
+                    self.assertFile("out", COUNTING)
+
+    def test_root_keeps_the_owner(self):
+        if os.geteuid() != 0:
+            self.skipTest("only root may give a file away")
+        self.store("flash", COUNTING)
+        for name in ("out", "flash", "flash.line"):
+            with self.subTest(name=name):
+                self.store("flash.line", b"idle\n")
+                self.store("out", b"older")
+                os.chmod(self.path(name), 0o600)
+                os.chown(self.path(name), 12345, 23456)
+                self.assertSilent(self.use("read", "out"))
+                held = os.stat(self.path(name))
+                self.assertEqual((held.st_mode & 0o7777, held.st_uid, held.st_gid), (0o600, 12345, 23456))
+
+    def test_makes_a_file_where_a_link_points(self):
+        os.mkdir(self.path("folder"))
+        for name, words in (("out", ("read", "out")), ("flash", ("info",)), ("flash.line", ("info",)), ("journal", ("erase", "5"))):
+            with self.subTest(name=name):
+                for stale in ("flash", "flash.line", "journal", "out"):
+                    if self.is_there(stale):
+                        self.remove(stale)
+                self.store("flash", ZEROS)
+                if name == "flash":
+                    self.remove("flash")
+                os.symlink("folder/" + name, self.path(name))
+                said = self.use(*words)
+                self.assertEqual((said.status, said.err), (0, b""))
+                self.assertTrue(os.path.islink(self.path(name)))
+                self.assertIsNotNone(self.held("folder/" + name))
+                os.remove(self.path("folder/" + name))
+
+    def test_out_may_be_a_pipe_a_device_or_standard_output(self):
+        self.store("flash", COUNTING)
+        os.mkfifo(self.path("pipe"))
+        came = []
+
+        def take():
+            with open(self.path("pipe"), "rb") as pipe:
+                came.append(pipe.read())
+
+        taker = threading.Thread(target=take)
+        taker.start()
+        self.assertSilent(self.use("read", "pipe"))
+        taker.join(PATIENCE)
+        self.assertEqual(came, [COUNTING])
+        self.assertSilent(self.use("read", "/dev/null"))
+        self.assertFault(self.use("read", "/dev/full"), "cannot write /dev/full")
+        for out in ("-", "/dev/stdout"):
+            with self.subTest(out=out):
+                self.assertEqual(self.use("read", out), Said(0, COUNTING, b""))
+        self.assertFalse(self.is_there("-"))
+        self.assertSilent(self.use("read", "./-"))
+        self.assertFile("-", COUNTING)
+
+    def test_files_without_an_end(self):
+        self.store("flash", COUNTING)
+        for word in ("/dev/zero", "/dev/full"):
+            with self.subTest(word=word):
+                self.assertFault(self.use("verify", "-f", word), f"cannot read {word}")
+                said = self.call("info", "--table", word, "--device", "sim:0412:flash", "--journal", "journal")
+                self.assertFault(said, f"cannot read {word}")
+                self.assertFault(self.use("info", device=f"sim:0412:{word}"), f"cannot read {word}")
+        self.store("table", b"#" * (1 << 20) + b"\n" + self.held("table"))
+        self.assertFault(self.use("info"), "cannot read table")
+
+    def test_a_table_of_a_mebibyte(self):
+        table = self.held("table")
+        self.store("table", table + b"#" * ((1 << 20) - len(table)))
+        said = self.use("info")
+        self.assertEqual((said.status, said.err), (0, b""))

@@ -1,0 +1,165 @@
+"""One journal, one program: what is locked, by whom, and that two programs at once leave nothing that can't be taken back."""
+
+import fcntl
+import os
+import select
+import socket
+
+from place import COUNTING, PATIENCE
+from served import WAIT, Served
+
+# how many times two programs are started together; 100 are run by hand
+ROUNDS = int(os.environ.get("ROUNDS", "3"))
+BUSY = (b"stmflash: journal is in use\n", b"stmflash: simulator file is in use\n")
+# what a program may find that reaches the line while another has it
+WAITING = (b"stmflash: device does not follow the protocol\n", b"stmflash: no answer from the device\n")
+
+
+def relay(line, board):
+    """Hands on what comes on either, until the line ends, and answers what was sent to the board."""
+    sent = b""
+    while True:
+        ready, _, _ = select.select([line, board], [], [], PATIENCE)
+        if not ready:
+            return sent
+        if board in ready:
+            line.sendall(board.recv(4096))
+        if line in ready:
+            came = line.recv(4096)
+            if not came:
+                return sent
+            sent += came
+            board.sendall(came)
+
+
+class Held:
+    """A file that this process has locked, and closes in the end."""
+
+    def __init__(self, path, how=fcntl.LOCK_EX):
+        self.path, self.how = path, how
+
+    def __enter__(self):
+        self.file = open(self.path, "rb")
+        fcntl.flock(self.file, self.how | fcntl.LOCK_NB)
+
+    def __exit__(self, *_):
+        self.file.close()
+
+
+class Locks(Served):
+    def test_a_journal_that_another_has_is_not_used(self):
+        """Whatever is asked for, nothing is sent and nothing written; once the other program is gone, all is as ever."""
+        self.store("flash", COUNTING)
+        self.assertTold(self.use("erase", "5"), "segment 1: 1 pages erased\n")
+        journal, flash = self.held("journal"), self.held("flash")
+        self.store("flash.line", b"fresh\n")
+        self.store("image", b"\xaa")
+        for name, *words in (("info",), ("read", "out"), ("write", "image"), ("verify", "image"), ("erase", "5"), ("undo",),
+                             ("go", "0x08000000"), ("protect", "write-unprotect")):
+            for how in (fcntl.LOCK_EX, fcntl.LOCK_SH):
+                with self.subTest(name=name, how=how), Held(self.path("journal"), how):
+                    self.assertFault(self.use(name, *words), "journal is in use")
+                    self.assertFault(self.use(name, *words, device="absent"), "journal is in use")
+                    self.assertHolds(flash, b"fresh\n")
+                    self.assertFile("journal", journal)
+                    self.assertFile("out", None)
+        self.assertTold(self.use("undo"), "undone 1\n")
+        self.assertHolds(COUNTING, b"idle\n")
+
+    def test_a_journal_that_another_reads_may_be_read(self):
+        self.assertTold(self.use("erase", "5"), "segment 1: 0 pages erased\n")
+        for name, how, status in (("log", fcntl.LOCK_SH, 0), ("log", fcntl.LOCK_EX, 1), ("keep", fcntl.LOCK_SH, 1)):
+            with self.subTest(name=name, how=how), Held(self.path("journal"), how):
+                said = self.call(name, "--journal", "journal")
+                self.assertEqual((said.status, said.err), (status, BUSY[0] if status else b""))
+
+    def test_a_journal_is_locked_by_whatever_name(self):
+        self.store("flash", COUNTING)
+        self.assertTold(self.use("erase", "5"), "segment 1: 1 pages erased\n")
+        os.symlink("journal", self.path("soft"))
+        os.link(self.path("journal"), self.path("hard"))
+        with Held(self.path("journal")):
+            for name in ("soft", "hard"):
+                self.assertFault(self.use("info", journal=name), "journal is in use")
+
+    def test_a_simulator_that_another_has_is_not_used(self):
+        self.store("flash", COUNTING)
+        with Held(self.path("flash")):
+            self.assertFault(self.use("erase", "5"), "simulator file is in use")
+            said = self.call("sim", "--table", "table", "--id", "0412", "--flash", "flash", "--socket", "board")
+            self.assertFault(said, "simulator file is in use")
+        self.assertHolds(COUNTING, None)
+        self.assertFile("journal", None)
+        self.assertFalse(self.is_there("board"))
+
+    def test_a_journal_made_meanwhile_is_not_used(self):
+        """The journal isn't there when the program begins, and is when it would make it: no erase is sent, and what the other
+        wrote stays."""
+        listener = socket.socket(socket.AF_UNIX, socket.SOCK_STREAM)
+        self.addCleanup(listener.close)
+        listener.settimeout(PATIENCE)
+        listener.bind(self.path("device"))
+        listener.listen()
+        files = ("--table", "table", "--device", "device", "--journal", "journal", "--wait", WAIT)
+        self.store("flash", COUNTING)
+        self.serve(2)
+        for made in (b"", b"stmjournal 2 0412\nopen 1\n"):
+            with self.subTest(made=made):
+                host = self.start("erase", *files, "5")
+                line, _ = listener.accept()
+                # the journal was looked for before the line was opened
+                self.store("journal", made)
+                with line, self.connect() as board:
+                    sent = relay(line, board)
+                out, err = host.communicate(timeout=PATIENCE)
+                self.assertEqual((host.returncode, out, err), (1, b"", BUSY[0]))
+                self.assertNotIn(b"\x43\xbc", sent)
+                self.assertFile("journal", made)
+                self.remove("journal")
+        self.assertServed()
+        self.assertFile("flash", COUNTING)
+
+    def begin(self, words, device):
+        name, *rest = words
+        return self.start(name, "--table", "table", "--device", device, "--journal", "journal", *rest)
+
+    def assertTogether(self, first, second, device):
+        """Two uses that are started together: each is done, or finds the files in use; or, where no journal was there to be
+        locked before the line was opened, finds that the other has the line."""
+        allowed = BUSY if self.is_there("journal") or device != "board" else BUSY + WAITING
+        started = [self.begin(words, device) for words in (first, second)]
+        for use in started:
+            out, err = use.communicate(timeout=PATIENCE)
+            if use.returncode != 0 and err not in allowed:
+                self.fail(f"{first} beside {second}: {use.returncode}, {out}, {err}")
+
+    def assertRaces(self, device):
+        """Pairs of uses, started together on one journal, which is there or not; and afterwards the flash is given back."""
+        self.store("one", b"\x11" * 3000)
+        self.store("two", b"\x22" * 3000)
+        write, other, erase, undo = ("write", "one"), ("write", "two"), ("erase", "0", "2"), ("undo",)
+        for first, second in ((write, other), (write, erase), (write, undo), (undo, undo)):
+            for again in range(ROUNDS):
+                with self.subTest(first=first, second=second, again=again):
+                    if again % 2:
+                        self.store("journal", b"")
+                    if undo in (first, second):
+                        self.assertTold(self.use(*erase, device=device), "segment 1: 2 pages erased\n")
+                    self.assertTogether(first, second, device)
+                    said = self.use("undo", device=device)
+                    self.assertEqual((said.status, said.err), (0, b""))
+                    self.assertSilent(self.use("read", "out", device=device))
+                    self.assertFile("out", COUNTING)
+                    self.remove("journal")
+
+    def test_two_programs_on_one_simulator(self):
+        self.store("flash", COUNTING)
+        self.assertRaces("sim:0412:flash")
+
+    def test_two_programs_on_one_board(self):
+        """Those that find the journal in use may have opened the line before."""
+        self.store("flash", COUNTING)
+        self.serve(100 * ROUNDS)
+        self.assertRaces("board")
+        self.simulator.kill()
+        self.simulator.communicate()
