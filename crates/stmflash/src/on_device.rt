@@ -36,7 +36,7 @@ pub fn use_device<'a, R: Files + Net + Clock + AllocGlobal, E: Write + IsTermina
         _ => None,
     };
     let table = read_chips(rt, options.table)?;
-    let work = Work::of(rt, task)?;
+    let work = Work::of(rt, task)?.on_fresh(options.is_fresh);
     if is_same_file(rt, options.journal, options.table)
         || is_simulators(rt, options, options.journal)?
     {

@@ -30,6 +30,14 @@ impl Work {
         }
     }
 
+    /// The same for a device that was reset since the last session, where that is said.
+    pub fn on_fresh(self, is_fresh: bool) -> Work {
+        match self {
+            Work::Identify => Work::Identify,
+            Work::Act(action) => Work::Act(action.on_fresh(is_fresh)),
+        }
+    }
+
     /// Which pages it goes through.
     pub fn goal(&self) -> Goal {
         match self {
