@@ -1,6 +1,8 @@
 """What `undo` takes back, from journals that were left by others."""
 
-from place import ERASED, TABLE, ZEROS, Place, with_page
+import subprocess
+
+from place import ERASED, PATIENCE, TABLE, ZEROS, Place, program, with_page
 
 HEAD = b"stmjournal 2 0412\nopen 1\npage 5 "
 # a journal that was left in the midst of a page's line, and the same after its segment was taken back
@@ -88,3 +90,32 @@ class Undo(Place):
         self.assertTold(self.use("undo"), "undone 1\n")
         self.assertSilent(self.use("read", "-S", "0x08001400:1024", "out"))
         self.assertFile("out", ZEROS[:1024])
+
+    def test_takes_back_on_a_fresh_device(self):
+        """A device that was reset is connected at once where that is said: settling it by the journal's intent takes 131,072 bytes."""
+        before = with_page(HEAD, b"0", b"\nerase 5\n")
+        mended = before + b"erase 5\nprogram 5\nundone 1\n"
+        self.store("journal", before)
+        self.assertFault(self.use("undo", "--stop", "3000"), "stopped", 3)
+        self.assertFile("journal", before)
+        self.store("flash.line", b"fresh\n")
+        self.assertTold(self.use("undo", "--fresh", "--stop", "3000"), "undone 1\n")
+        self.assertFile("journal", mended)
+        self.store("flash.line", b"fresh\n")
+        self.store("journal", before)
+        words = ("undo", "--table", "table", "--device", "sim:0412:flash", "--journal", "journal", "--stop", "3000")
+        ran = subprocess.run(["stmflash", *words], executable=program(), cwd=self.folder, env={"STMFLASH_FRESH": "1"},
+                             timeout=PATIENCE, stdin=subprocess.DEVNULL, capture_output=True)
+        self.assertEqual((ran.returncode, ran.stdout, ran.stderr), (0, b"undone 1\n", b""))
+        self.assertFile("journal", mended)
+
+    def test_takes_no_other_device_for_fresh(self):
+        """A device that is connected stays quiet at 7F: nothing is sent behind it, and nothing is added."""
+        before = with_page(HEAD, b"0", b"\nerase 5\n")
+        self.store("journal", before)
+        self.store("flash.line", b"idle\n")
+        self.assertFault(self.use("undo", "--fresh"), "device does not follow the protocol")
+        self.assertFile("flash.line", b"rest 7F\n")
+        self.assertFile("journal", before)
+        self.assertTold(self.use("undo"), "undone 1\n")
+        self.assertHolds(ERASED[:5 * 1024] + ZEROS[5 * 1024:6 * 1024] + ERASED[6 * 1024:], b"idle\n")

@@ -1,5 +1,5 @@
 -- Which action a task asks for, and what each does with a device.
-use Rattle.std.specs.Prelude.{◌≡◌, ℕ, true, false, List, [], ◌∷◌, Some, None, Result, Ok, Err, IfErr, IsTrue, OnOk, MatchResult}
+use Rattle.std.specs.Prelude.{◌≡◌, ℕ, Bool, true, false, List, [], ◌∷◌, Some, None, Result, Ok, Err, IfErr, IsTrue, OnOk, MatchResult}
 use Rattle.stm_image.specs.Pairs.{Pairs}
 use Rattle.stm_wire.specs.declared.protection.Protection.{Protection}
 use Rattle.stm_wire.specs.Chip.{ChipData, is_inside}
@@ -12,6 +12,7 @@ use Rattle.stm_journal.specs.Calls.{AreFetches, IsUntouched}
 use Rattle.stm_journal.specs.Journals.{journal_of}
 use Rattle.stm_session.specs.declared.fault.Fault.{Fault}
 use Rattle.stm_session.specs.Fault.{HasSessionCause, IsOutsideFault}
+use Rattle.stm_session.specs.Fresh.{IsReset}
 use Rattle.stm_session.specs.Leaving.{CanLeave, IsSettledThen, Leaves}
 use Rattle.stm_session.specs.Meaning.{erases, verifies, writes}
 use Rattle.stm_session.specs.Moments.{IsSafe}
@@ -52,6 +53,11 @@ IsFor (task.Undo count) does = does ≡ action.Undo count
 IsFor (task.Go address) does = does ≡ action.Go address
 IsFor (task.Protect word) does = (kind : Protection) × (does ≡ action.Protect kind) × (protection_of word.now ≡ Some kind)
 
+-- and the one on a device that is said to be fresh from reset: an undo of its own
+abbrev pub on_fresh : Bool → Action → Action
+on_fresh true (action.Undo count) = action.UndoFresh count
+on_fresh is_fresh does = does
+
 -- What a session answered is handed on.
 abbrev pub HandsOn : {T : Type 0} → (T → Answer) → Result T Fault → Result Answer Failure → Type 0
 HandsOn told (Ok x) result = result ≡ Ok (told x)
@@ -71,6 +77,12 @@ pub record PlacesFirst {R : Type 0} (view : R → RigState) (table : List ChipDa
 -- What `undo` promises.
 pub record TakesBack (table : List ChipData) (count : ℕ) (old new : RigState) (taken : Result ℕ Fault) : Type 0 where
   pub promised : UndoContract table count old new taken
+  pub cause : HasSessionCause old new taken
+  pub puts : SendsAsUndo table count old new taken
+
+-- And `undo_fresh`: the same of a device that is fresh from reset.
+pub record TakesBackFresh (table : List ChipData) (count : ℕ) (old new : RigState) (taken : Result ℕ Fault) : Type 0 where
+  pub promised : IsReset old.device → UndoContract table count old new taken
   pub cause : HasSessionCause old new taken
   pub puts : SendsAsUndo table count old new taken
 
@@ -97,6 +109,7 @@ Does view table (action.Verify content) old new result =
 Does view table (action.Erase pages) old new result = Calls (λ said. said) (λ a b said. RunsTold table (erases pages.items ∷ []) (view a) (view b) said) old new result
 Does view table action.EraseAll old new result = Calls (λ said. said) (ErasesAll view table) old new result
 Does view table (action.Undo count) old new result = Calls answer.Undone (λ a b said. TakesBack table count (view a) (view b) said) old new result
+Does view table (action.UndoFresh count) old new result = Calls answer.Undone (λ a b said. TakesBackFresh table count (view a) (view b) said) old new result
 Does view table (action.Go address) old new result =
     Calls (λ done. answer.Nothing) (λ a b said. Parts (go_turns address) (go_frame address) (λ d. CanLeave 0x21 d × IsTrue (is_inside d.chip address)) (view a) (view b) said) old new result
 Does view table (action.Protect kind) old new result =

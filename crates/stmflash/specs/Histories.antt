@@ -1,11 +1,12 @@
 -- What the program does with a device is a history of the headline: over any Rig, and from one run of it on a simulator to the next.
 use Rattle.std.specs.Prelude.{◌≡◌, ℕ, List, [], Result, Ok, IsSome}
 use Rattle.stm_wire.specs.Chip.{ChipData}
-use Rattle.stm_wire.specs.Device.{Phase, IsReadyPhase}
+use Rattle.stm_wire.specs.Device.{Device, Phase, IsReadyPhase}
 use Rattle.stm_wire.specs.Memory.{MemoryData, rig_state}
 use Rattle.stm_wire.specs.Rig.{RigState}
 use Rattle.stm_journal.specs.Journals.{journal_of}
 use Rattle.stm_session.specs.Events.{AllLead, Happening, Knows, Leads, World, end_of, lost_owed, lost_power, now_of}
+use Rattle.stm_session.specs.Fresh.{IsReset}
 use Rattle.stm_session.specs.Headline.{IsStart, oldest_of, oldest_start}
 use Rattle.stm_session.specs.Moments.{SameMake}
 use Rattle.stm_session.specs.Refusal.{open_refusal}
@@ -39,8 +40,14 @@ StaysInSession (action.Verify content) journal = Unit {0}
 StaysInSession (action.Erase pages) journal = Unit {0}
 StaysInSession action.EraseAll journal = Unit {0}
 StaysInSession (action.Undo count) journal = Unit {0}
+StaysInSession (action.UndoFresh count) journal = Unit {0}
 StaysInSession (action.Go address) journal = IsRefused journal
 StaysInSession (action.Protect kind) journal = IsRefused journal
+
+-- where the action says that the device is fresh from reset, it is
+abbrev pub IsSaidRightly : Action → Device → Type 0
+IsSaidRightly (action.UndoFresh count) d = IsReset d
+IsSaidRightly does d = Unit {0}
 
 -- an action can be done on this Rig: what was begun before can be taken back, and the table knows the device
 pub record CanAct {R : Type 0} (view : R → RigState) (table : List ChipData) (starts : List (List ℕ)) (does : Action) (old : R) : Type 0 where
@@ -48,6 +55,7 @@ pub record CanAct {R : Type 0} (view : R → RigState) (table : List ChipData) (
   pub start : IsStart starts (now_of (view old))
   pub knows : Knows table (now_of (view old))
   pub stays : StaysInSession does (view old).journal
+  pub said : IsSaidRightly does (view old).device
 
 -- Each action is a history.
 abbrev pub ActionsAreHistories : (R : Type 0) → (R → RigState) → Type 0

@@ -1,6 +1,6 @@
 // What is done on a device, over any Rig.
-ghost use Rattle.std.specs.Prelude.{IfOk};
-ghost use Rattle.stmflash.specs.Action.{Does, IsFor};
+ghost use Rattle.std.specs.Prelude.{◌≡◌, IfOk};
+ghost use Rattle.stmflash.specs.Action.{Does, IsFor, on_fresh};
 
 use crate::answer::Answer;
 use crate::changing::{erase, erase_all, verify, write, write_and_verify};
@@ -11,7 +11,7 @@ use crate::reading::read;
 use std::alloc::Global;
 use std::fs::Files;
 use stm_chip::Table;
-use stm_session::{go, info, protect, undo};
+use stm_session::{go, info, protect, undo, undo_fresh};
 use stm_wire::{Protection, Rig};
 use stm_words::{Range, Task, UsageFault};
 
@@ -34,6 +34,8 @@ pub enum Action {
     EraseAll,
     /// Takes back so many writes and erases, or, at 0, all.
     Undo(u32),
+    /// Does so on a device that is said to be fresh from reset.
+    UndoFresh(u32),
     /// Lets it run what stands at this address.
     Go(u32),
     /// Changes a protection.
@@ -71,6 +73,17 @@ impl Action {
         }
     }
 
+    /// The same for a device that was reset since the last session, where that is said: an undo settles it with 7F alone, as all
+    /// others do anyway.
+    pub fn on_fresh(self, is_fresh: bool) -> Action
+        ensures { result ≡ on_fresh is_fresh self }
+    {
+        match self {
+            Action::Undo(count) if is_fresh => Action::UndoFresh(count),
+            action => action,
+        }
+    }
+
     /// Does it.
     pub fn run<'a, L: Rig>(
         self,
@@ -98,6 +111,7 @@ impl Action {
             Action::Erase(pages) => Ok(erase(alloc, rig, table, pages)?),
             Action::EraseAll => Ok(erase_all(alloc, rig, table)?),
             Action::Undo(count) => Ok(Answer::Undone(undo(alloc, rig, table, count)?)),
+            Action::UndoFresh(count) => Ok(Answer::Undone(undo_fresh(alloc, rig, table, count)?)),
             Action::Go(address) => {
                 go(alloc, rig, address)?;
                 Ok(Answer::Nothing)

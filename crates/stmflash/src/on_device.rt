@@ -39,7 +39,7 @@ pub fn use_device<'a, R: Locks + Net + Clock + AllocGlobal, E: Write + IsTermina
     let screen = Screen::new(err, rt, rt.alloc(), style);
     let table = read_chips(rt, options.table)?;
     let files = NamedFiles::of(options, &task);
-    let work = Work::of(rt, task)?;
+    let work = Work::of(rt, task)?.on_fresh(options.is_fresh);
     files.check(rt)?;
     let output = Output::open(rt, files.out())?;
     match options.device {

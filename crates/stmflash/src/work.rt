@@ -32,7 +32,18 @@ impl Work {
 
     /// Whether it takes writes and erases back, by a journal that has to be there.
     pub fn is_undo(&self) -> bool {
-        matches!(self, Work::Act(Action::Undo(_)))
+        matches!(
+            self,
+            Work::Act(Action::Undo(_)) | Work::Act(Action::UndoFresh(_))
+        )
+    }
+
+    /// The same for a device that was reset since the last session, where that is said.
+    pub fn on_fresh(self, is_fresh: bool) -> Work {
+        match self {
+            Work::Identify => Work::Identify,
+            Work::Act(action) => Work::Act(action.on_fresh(is_fresh)),
+        }
     }
 
     /// Which pages it goes through.
