@@ -65,7 +65,11 @@ impl<'a, R: Locks + AllocGlobal> JournalFile<'a, R> {
         JournalFile::open_locked(rt, name, true)
     }
 
-    fn open_locked(rt: &'a R, name: &'a str, is_shared: bool) -> Result<JournalFile<'a, R>, Unusable>
+    fn open_locked(
+        rt: &'a R,
+        name: &'a str,
+        is_shared: bool,
+    ) -> Result<JournalFile<'a, R>, Unusable>
         ensures { IfOk result IsNew }
     {
         let reading = match open_if_there(rt, name) {
@@ -73,7 +77,11 @@ impl<'a, R: Locks + AllocGlobal> JournalFile<'a, R> {
             Err(e) => return Err(Unusable::Unread(e)),
         };
         if let Some(file) = &reading {
-            let is_ours = if is_shared { rt.lock_shared(file) } else { rt.lock(file) };
+            let is_ours = if is_shared {
+                rt.lock_shared(file)
+            } else {
+                rt.lock(file)
+            };
             if !is_ours || !is_named(rt, file, name) {
                 return Err(Unusable::InUse);
             }

@@ -86,15 +86,13 @@ impl<'a> NamedFiles<'a> {
     }
 
     /// Whether the name is that of one of a simulator's two files, or of the device's socket.
-    fn is_devices<R: Files + AllocGlobal>(
-        &self,
-        rt: &R,
-        name: &str,
-    ) -> Result<bool, Failure<'a>> {
+    fn is_devices<R: Files + AllocGlobal>(&self, rt: &R, name: &str) -> Result<bool, Failure<'a>> {
         match self.device {
             Device::Simulator { file, .. } => {
-                Ok(is_same_file(rt, name, file)
-                    || is_same_file(rt, name, line_name(rt.alloc(), file)?.as_str()))
+                Ok(
+                    is_same_file(rt, name, file)
+                        || is_same_file(rt, name, line_name(rt.alloc(), file)?.as_str()),
+                )
             }
             Device::Socket(path) => Ok(is_same_file(rt, name, path)),
         }

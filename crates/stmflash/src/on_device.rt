@@ -47,7 +47,16 @@ pub fn use_device<'a, R: Locks + Net + Clock + AllocGlobal, E: Write + IsTermina
             let Some(chip) = table.find(id) else {
                 return Err(Failure::Session(Fault::UnknownChip(id)));
             };
-            on_simulator(rt, options, work, &table, file, chip.clone()?, output, screen)
+            on_simulator(
+                rt,
+                options,
+                work,
+                &table,
+                file,
+                chip.clone()?,
+                output,
+                screen,
+            )
         }
         Device::Socket(path) => on_socket(rt, options, work, &table, path, output, screen),
     }

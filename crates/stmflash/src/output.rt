@@ -17,10 +17,7 @@ pub enum Output<'a, R: Files> {
     /// A file, whose bytes are replaced whole.
     Whole(&'a str),
     /// A pipe or a device, to which they are written as they come.
-    Straight {
-        name: &'a str,
-        file: R::File,
-    },
+    Straight { name: &'a str, file: R::File },
 }
 
 impl<'a, R: Files + AllocGlobal> Output<'a, R> {

@@ -32,7 +32,13 @@ impl<R: Files + AllocGlobal> Replacement<R> {
     pub fn prepare(rt: &R, name: &str, bytes: &[u8]) -> io::Result<Replacement<R>> {
         let target = resolve(rt, name)?;
         let (beside, mut file) = create_beside(rt, target.as_path().as_str())?;
-        match fill(rt, target.as_path().as_str(), beside.as_str(), &mut file, bytes) {
+        match fill(
+            rt,
+            target.as_path().as_str(),
+            beside.as_str(),
+            &mut file,
+            bytes,
+        ) {
             Ok(()) => Ok(Replacement {
                 target,
                 beside,
@@ -120,7 +126,12 @@ fn create_beside<R: Files + AllocGlobal>(rt: &R, target: &str) -> io::Result<(St
     for count in 0..NAMES {
         let beside = format!(in rt.alloc(); "{target}.{count}.new")?;
         let mut options = OpenOptions::new();
-        match options.write(true).create_new(true).mode(mode).open(rt, beside.as_str()) {
+        match options
+            .write(true)
+            .create_new(true)
+            .mode(mode)
+            .open(rt, beside.as_str())
+        {
             Ok(file) => return Ok((beside, file)),
             Err(e) if e.kind() == ErrorKind::AlreadyExists => {}
             Err(e) => return Err(e),

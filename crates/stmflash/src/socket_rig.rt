@@ -27,8 +27,9 @@ impl<'a, R: Files> Model for SocketRig<'a, R> {
     ghost Value = { SocketState };
 
     ghost view = { λ rig. record {
-        failures = record { line = rig.line_failures; journal = rig.journal_failures };
-        file = rig.file } };
+      failures = record { line = rig.line_failures; journal = rig.journal_failures };
+      file = rig.file;
+    } };
 }
 
 impl<'a, R: Locks + Clock + AllocGlobal> SocketRig<'a, R> {
