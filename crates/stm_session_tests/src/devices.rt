@@ -5,8 +5,8 @@ use stm_image::{Image, read_raw};
 use stm_session::{Command, Outcome};
 use stm_wire::{MemoryRig, Rig, RigCall};
 
-/// Chips 0410 and 0412 of the sample table, and three for tests: 0A01 and 0A02, erased by 44, and
-/// 0A03, whose erased byte is 00.
+/// Chips 0410 and 0412 of the sample table, and four for tests: 0A01 and 0A02, erased by 44, 0A03,
+/// whose erased byte is 00, and 0A05, whose pages have 2,048 bytes.
 const TABLE: &str = r#"
 [[chip]]
 id = 0x410
@@ -38,6 +38,12 @@ base = 0x08000000
 pages = [[4, 256]]
 erase = "page"
 erased = 0
+
+[[chip]]
+id = 0xA05
+base = 0x08000000
+pages = [[4, 2048]]
+erase = "page"
 "#;
 
 pub fn table(rt: &HostRuntime) -> Result<Table, Fail> {

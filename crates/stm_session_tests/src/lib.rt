@@ -34,6 +34,8 @@ mod laws;
 #[cfg(test)]
 mod old_journals;
 #[cfg(test)]
+mod power_losses;
+#[cfg(test)]
 mod repeated_undo;
 #[cfg(test)]
 mod sent_lists;

@@ -177,8 +177,9 @@ fn lose_page(rt: &HostRuntime, rig: &mut MemoryRig, n: u16, byte: u8) -> Result<
     Ok(())
 }
 
-/// The device loses its power, and the pages at risk hold this byte everywhere.
-fn lose_power(rt: &HostRuntime, rig: &mut MemoryRig, byte: u8, all: bool) -> Result<(), Fail> {
+/// The device loses its power, and the pages at risk hold this byte everywhere: the intent's, or all that
+/// the unfinished newest segment keeps.
+pub fn lose_power(rt: &HostRuntime, rig: &mut MemoryRig, byte: u8, all: bool) -> Result<(), Fail> {
     let Ok(journal) = Journal::load(rt.alloc(), rig) else {
         return Err(Fail::new("a bad journal"));
     };

@@ -49,8 +49,8 @@ fn undone(rt: &HostRuntime, write: u64, steps: u64, reset: bool) -> Result<(u32,
 const UNDOS: [(u64, u64, u64); 7] = [
     (52, 34, 36),
     (840, 302, 304),
-    (848, 686, 131_376),
-    (850, 979, 131_376),
+    (848, 981, 131_671),
+    (850, 979, 131_671),
     (857, 981, 131_671),
     (1000, 915, 131_671),
     (1135, 981, 131_671),
@@ -94,13 +94,13 @@ fn stopped_at_840_and_again(rt: HostRuntime) -> Result<(), Fail> {
 
 #[test]
 fn stopped_at_848_and_early(rt: HostRuntime) -> Result<(), Fail> {
-    assert_eq!(rt; first_failure(&rt, 848, 0, 343)?, None);
+    assert_eq!(rt; first_failure(&rt, 848, 0, 490)?, None);
     Ok(())
 }
 
 #[test]
 fn stopped_at_848_and_late(rt: HostRuntime) -> Result<(), Fail> {
-    assert_eq!(rt; first_failure(&rt, 848, 343, 686)?, None);
+    assert_eq!(rt; first_failure(&rt, 848, 490, 981)?, None);
     Ok(())
 }
 
