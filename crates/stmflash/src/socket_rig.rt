@@ -3,7 +3,7 @@ ghost use Rattle.std.specs.Prelude.{◌≡◌, ◌<◌, ◌-◌, ◌^◌, IfOk, 
 ghost use Rattle.std.specs.Io.KnownBytes.{IsAtEnd};
 ghost use Rattle.stmflash.specs.JournalFile.{AppendsIfTaken};
 ghost use Rattle.stmflash.specs.SocketRig.{SocketState, socket_rig_state};
-ghost use Rattle.stm_wire.specs.Rig.{FetchesWithin, HasCause, Records};
+ghost use Rattle.stm_wire.specs.Rig.{AppendsHonestly, FetchesHonestly, FetchesWithin, HasCause, Records};
 
 use crate::journal_file::JournalFile;
 use crate::locks::Locks;
@@ -12,7 +12,7 @@ use std::fs::Files;
 use std::io;
 use std::marker::Model;
 use std::time::Clock;
-use stm_wire::{Patience, Rig, RigFault};
+use stm_wire::{Patience, Rig, RigCall, RigFault};
 
 /// A device behind a socket, and a journal kept in a file.
 #[derive(Drop)]
@@ -107,6 +107,11 @@ impl<'a, R: Locks + Clock + AllocGlobal> Rig for SocketRig<'a, R> {
         ensures cause { HasCause
             self.old.failures.journal self.new.failures.journal result }
         ensures line_count { self.new.failures.line ≡ self.old.failures.line }
+        ensures recorded { Records (RigCall.Append (length bytes.now)) result
+            (socket_rig_state self.old.failures).calls (socket_rig_state self.new.failures).calls }
+        ensures honest { (socket_rig_state self.old.failures).is_honest
+            → AppendsHonestly bytes.now result
+            (socket_rig_state self.old.failures) (socket_rig_state self.new.failures) }
         ensures in_file { AppendsIfTaken bytes.now result self.old.file self.new.file }
     {
         // What was put goes out first: a line of the journal stands behind it.
@@ -122,6 +127,11 @@ impl<'a, R: Locks + Clock + AllocGlobal> Rig for SocketRig<'a, R> {
         ensures cause { HasCause
             self.old.failures.journal self.new.failures.journal result }
         ensures line_count { self.new.failures.line ≡ self.old.failures.line }
+        ensures recorded { Records RigCall.Fetch result
+            (socket_rig_state self.old.failures).calls (socket_rig_state self.new.failures).calls }
+        ensures honest { (socket_rig_state self.old.failures).is_honest
+            → FetchesHonestly at buf.old buf.new result
+            (socket_rig_state self.old.failures) (socket_rig_state self.new.failures) }
         ensures end { at < 2 ^ 63 - 1 → 0 < length buf.old
             → IfOk result (λ n. n ≡ 0 → IsAtEnd self.new.file.ahead) }
     {
