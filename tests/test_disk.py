@@ -288,12 +288,14 @@ class OverSocket(Served):
         opened = len(added) >= len(OPENED)
         self.assertTold(self.use("undo", "--wait", WAIT, device="board"), "undone %d\n" % opened)
         self.remove("journal")
-        self.assertSilent(self.use("read", "--wait", WAIT, "out", device="board"))
-        self.assertFile("out", SMALL_FLASH)
+        # once a further client is let go, what those before it left is stored
+        self.leave(self.connect())
+        self.assertFile("flash", SMALL_FLASH)
 
     def test_a_full_disk_ends_the_journal(self):
-        digits = range(len(OPENED) + 9, len(KEPT) - 2)
-        rooms = [room for room in range(len(ENDED)) if room not in digits or room % 64 == 0]
+        # in the midst of each line and before its end; at each byte in the process, above
+        ends = [0, *(len(text) for text in (HEADER, OPENED, KEPT, ERASING, PROGRAMMING, ENDED))]
+        rooms = [room for first, end in zip(ends, ends[1:]) for room in ((first + end) // 2, end - 1)]
         self.begin_served(3 * len(rooms))
         for room in rooms:
             with self.subTest(room=room):
@@ -319,3 +321,6 @@ class OverSocket(Served):
                 else:
                     self.assertFault(said, "journal failed")
                     self.assertTakenBack(added)
+        self.leave(self.connect())
+        self.simulator.kill()
+        self.simulator.communicate()

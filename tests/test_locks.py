@@ -161,5 +161,7 @@ class Locks(Served):
         self.store("flash", COUNTING)
         self.serve(100 * ROUNDS)
         self.assertRaces("board")
+        # what the last client left is stored, and nothing is written any more
+        self.leave(self.connect())
         self.simulator.kill()
         self.simulator.communicate()
