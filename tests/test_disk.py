@@ -307,7 +307,7 @@ class OverSocket(Served):
 
     def test_what_is_not_on_the_disk_is_not_answered(self):
         journal = [".", *["journal"] * 5]
-        self.begin_served(3 * len(journal) + 1)
+        self.begin_served(3 * (len(journal) + 1))
         files = ("--table", "table", "--device", "board", "--journal", "journal", "--wait", WAIT)
         for fails, added in enumerate((b"", OPENED, KEPT, ERASING, PROGRAMMING, ENDED, None)):
             with self.subTest(fails=fails):
