@@ -55,5 +55,9 @@ class Served(Place):
     def leave(self, client):
         """Goes, once the simulator has stored what was left."""
         client.shutdown(socket.SHUT_WR)
-        self.assertEqual(client.recv(1), b"")
+        try:
+            self.assertEqual(client.recv(1), b"")
+        except ConnectionResetError:
+            # it went while a byte for it was still on its way
+            pass
         client.close()
