@@ -1,12 +1,13 @@
 -- How long an open list of bytes can be.
-use Rattle.std.proofs.Common.{◌≡◌, ◌≢◌, ℕ, suc, ◌+◌, ◌*◌, ◌<◌, ◌≤◌, ⊎_elim, Bool, true, false, cond, ◌&&◌, eqb, leb, List, [], ◌∷◌, ◌++◌, length, get_or, take, refl, sym, ◌∙◌, arith, Option, Some, None}
+use Rattle.std.proofs.Common.{lit≤, ◌≡◌, ◌≢◌, ℕ, suc, ◌+◌, ◌-◌, ◌*◌, ◌<◌, ◌≤◌, ⊎_elim, Bool, true, false, cond, ◌&&◌, eqb, leb, List, [], ◌∷◌, ◌++◌, length, get_or, take, refl, sym, subst, ◌∙◌, arith, Option, Some, None}
 use Rattle.std.specs.List.{All, AllByRecursion}
 use Rattle.std.proofs.lemmas.List.Elements.{All-tail}
-use Rattle.std.proofs.lemmas.Bool.{eq-eqb, leb-false, cases_lt}
+use Rattle.std.proofs.lemmas.Bool.{and_parts, cond_both, eq-eqb, eqb-true, leb-false, cases_lt}
 use Rattle.std.proofs.lemmas.List.{length-take-le}
 use Rattle.stm_wire.specs.Chip.{ChipData, is_inside, fits_inside}
 use Rattle.stm_wire.specs.declared.verdict.Verdict.{Verdict}
 use Rattle.stm_wire.specs.declared.verdict.Verdict.TheVariants.{Done, Refused, Loose}
+use Rattle.stm_wire.specs.Settling.{longest_list}
 use Rattle.stm_wire.specs.Exchange.{IsOpen, complement, at_end, done_if, after_address, read_verdict, write_verdict, all_verdict, erase_verdict, pages_verdict, extended_verdict, command_verdict, is_listed, all_exist, xor, number_of, pair_of, pairs_of}
 
 -- each is a byte
@@ -59,7 +60,7 @@ exact v n ys e none = some≢none v (sym (yes (eqb (length ys) n) (eq-eqb (lengt
     yes : (t : Bool) → t ≡ true → cond t (Some v) None ≡ Some v
     yes t e = rw e refl
 
-opens_write : (chip : ChipData) (a : ℕ) (ys : List ℕ) → IsBytes ys → Opens (write_verdict chip a) 258 ys
+opens_write : (chip : ChipData) (a : ℕ) (ys : List ℕ) → IsBytes ys → Opens (write_verdict chip a) 257 ys
 opens_write chip a [] by = λ none. omega arith
 opens_write chip a (n ∷ ys) by = λ none. ⊎_elim (λ lt. omega arith) (λ le.
     let part = take (n + 2) ys in
@@ -108,21 +109,43 @@ opens_extended chip (h ∷ l ∷ ys) by = λ none.
     rest false few = let lt = few refl in opens_pages chip (h ∷ l ∷ []) (2 * (pair_of h l + 1)) 131040 ys (omega arith)
 opens_extended chip _ by = λ none. omega arith
 
-opens_command : (chip : ChipData) (c : ℕ) (ys : List ℕ) → IsBytes ys → Opens (command_verdict chip c) longest ys
-opens_command chip c ys by =
-    never_cond (eqb c 0x00) _ _ longest ys (opens_end Done longest ys)
-    (never_cond (eqb c 0x02) _ _ longest ys (opens_end Done longest ys)
-    (never_cond (eqb c 0x11) _ _ longest ys (opens_more (after_address chip (read_verdict chip)) 6 longest ys (omega arith) (opens_address chip (read_verdict chip) 1 (opens_read chip) ys by))
-    (never_cond (eqb c 0x21) _ _ longest ys (opens_more (after_address chip (λ a zs. at_end Done zs)) 5 longest ys (omega arith) (opens_address chip (λ a zs. at_end Done zs) 0 (λ a zs b. opens_end Done 0 zs) ys by))
-    (never_cond (eqb c 0x31) _ _ longest ys (opens_more (after_address chip (write_verdict chip)) 263 longest ys (omega arith) (opens_address chip (write_verdict chip) 258 (opens_write chip) ys by))
-    (never_cond (eqb c 0x43) _ _ longest ys (opens_more (erase_verdict chip) 258 longest ys (omega arith) (opens_erase chip ys by))
-    (never_cond (eqb c 0x44) _ _ longest ys (opens_extended chip ys by) (opens_end Loose longest ys)))))))
+-- in the branch that is taken, the test passed
+never_when : (t : Bool) (f g : ℕ → Option Verdict) (n : ℕ) (ys : List ℕ) → (t ≡ true → Never f n ys) → Never g n ys → Never (λ j. cond t (f j) (g j)) n ys
+never_when true f g n ys a b = a refl
+never_when false f g n ys a b = b
 
-pub open_short : (chip : ChipData) (codes bytes : List ℕ) → IsBytes bytes → IsOpen chip codes bytes → length bytes ≤ 131044
-open_short chip codes [] by = λ open'. omega arith
-open_short chip codes (c ∷ []) by = λ open'. omega arith
-open_short chip codes (c ∷ x ∷ ys) by = λ open'.
-    let h : length ys ≤ longest =
-    never_cond (eqb x (complement c) && is_listed codes c) _ _ longest ys
-    (opens_command chip c ys by.1.1) (opens_end Refused longest ys) (λ j. open' (suc (suc j)))
+opens_command : (chip : ChipData) (c n : ℕ) (ys : List ℕ) → IsBytes ys → 262 ≤ n → (eqb c 0x44 ≡ true → longest ≤ n) → Opens (command_verdict chip c) n ys
+opens_command chip c n ys by most extended =
+    never_cond (eqb c 0x00) _ _ n ys (opens_end Done n ys)
+    (never_cond (eqb c 0x02) _ _ n ys (opens_end Done n ys)
+    (never_cond (eqb c 0x11) _ _ n ys (opens_more (after_address chip (read_verdict chip)) 6 n ys (omega arith) (opens_address chip (read_verdict chip) 1 (opens_read chip) ys by))
+    (never_cond (eqb c 0x21) _ _ n ys (opens_more (after_address chip (λ a zs. at_end Done zs)) 5 n ys (omega arith) (opens_address chip (λ a zs. at_end Done zs) 0 (λ a zs b. opens_end Done 0 zs) ys by))
+    (never_cond (eqb c 0x31) _ _ n ys (opens_more (after_address chip (write_verdict chip)) 262 n ys most (opens_address chip (write_verdict chip) 257 (opens_write chip) ys by))
+    (never_cond (eqb c 0x43) _ _ n ys (opens_more (erase_verdict chip) 258 n ys (omega arith) (opens_erase chip ys by))
+    (never_when (eqb c 0x44) _ _ n ys (λ is. opens_more (extended_verdict chip) longest n ys (extended is) (opens_extended chip ys by)) (opens_end Loose n ys)))))))
+
+pub list_least : (codes : List ℕ) (c : ℕ) → 264 ≤ longest_list codes c
+list_least codes c = cond_both (is_listed codes 0x44 && eqb c 0x44) 131044 264 (λ n. 264 ≤ n) (λ _. lit≤ tt) (λ _. lit≤ tt)
+
+pub list_most : (codes : List ℕ) (c : ℕ) → longest_list codes c ≤ 131044
+list_most codes c = cond_both (is_listed codes 0x44 && eqb c 0x44) 131044 264 (λ n. n ≤ 131044) (λ _. lit≤ tt) (λ _. lit≤ tt)
+
+-- where no erase takes two bytes a page, all lists are short
+pub list_short : (codes : List ℕ) (c : ℕ) → is_listed codes 0x44 ≡ false → longest_list codes c ≡ 264
+list_short codes c none = rw none refl
+
+list_long : (codes : List ℕ) (c : ℕ) → is_listed codes c ≡ true → eqb c 0x44 ≡ true → longest_list codes c ≡ 131044
+list_long codes c listed is =
+    let same : c ≡ 0x44 = eqb-true c 0x44 is in
+    let here : is_listed codes 0x44 ≡ true = subst (λ (k : ℕ). is_listed codes k ≡ true) same listed in
+    rw (here, is) refl
+
+pub open_short : (chip : ChipData) (codes : List ℕ) (c x : ℕ) (ys : List ℕ) → IsBytes (c ∷ x ∷ ys) → IsOpen chip codes (c ∷ x ∷ ys) → length (c ∷ x ∷ ys) ≤ longest_list codes c
+open_short chip codes c x ys by open' =
+    let least = list_least codes c in
+    let n = longest_list codes c - 2 in
+    let h : length ys ≤ n =
+    never_when (eqb x (complement c) && is_listed codes c) _ _ n ys
+    (λ pair. opens_command chip c n ys by.1.1 (omega arith) (λ is. let l = list_long codes c (and_parts (eqb x (complement c)) (is_listed codes c) pair).1 is in omega arith))
+    (opens_end Refused n ys) (λ j. open' (suc (suc j)))
     in omega arith

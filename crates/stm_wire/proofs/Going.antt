@@ -8,10 +8,10 @@ use Rattle.stm_wire.specs.Exchange.{verdict}
 use Rattle.stm_wire.specs.Reply.{ack, nack, reply_to}
 use Rattle.stm_wire.specs.Device.{Device, Phase, Fresh, Connected, Gone, Takes, Receives, Feeds, LosesOwed, IsDevice, IsSettled}
 use Rattle.stm_wire.specs.Harmless.{SameOutside, IsListening, Harmless}
-use Rattle.stm_wire.specs.Settling.{IsSettling, IsWithin, IsGoing, with_nothing_owed}
+use Rattle.stm_wire.specs.Settling.{IsSettling, IsWithin, IsGoing, awaited, awaited_in, bytes_awaited, with_nothing_owed}
 use Rattle.stm_wire.proofs.Flash.{same_flash, then_same}
 use Rattle.stm_wire.proofs.Mild.{harmless, mild_empty, no_pair}
-use Rattle.stm_wire.proofs.Awaited.{awaited_most, awaited_some, due, fed, Refuses, Advances}
+use Rattle.stm_wire.proofs.Awaited.{awaited_some, due, fed, Refuses, Advances}
 use Rattle.stm_wire.proofs.Closed.{same_make, harmless_fed, unharmed_fed, harmless_owed, harmless_loses}
 
 -- what settling keeps is kept when owed bytes are lost
@@ -36,6 +36,10 @@ settling_fed byte pages start d new s f few = record {
   owed = few;
 }
 
+-- a list that is nearer its end, by the codes of the start
+nearer_start : (byte : ℕ) (pages : List ℕ) (start d : Device) (rest left : List ℕ) → IsSettling byte pages start d → awaited d.codes byte left < awaited d.codes byte rest → awaited start.codes byte left < awaited start.codes byte rest
+nearer_start byte pages start d rest left s nearer = subst (λ (codes : List ℕ). awaited codes byte left < awaited codes byte rest) s.same_codes nearer
+
 -- the reply says no
 pub record IsOver (d : Device) : Type 0 where
   pub reply : d.owed ≡ nack ∷ []
@@ -57,7 +61,7 @@ pub record Steps (byte : ℕ) (pages : List ℕ) (start : Device) (left : ℕ) (
   pub outcome : IsOver new ⊎ (IsNoRefusal new × IsGoing byte pages start left (with_nothing_owed new))
 
 steps : (byte : ℕ) (pages : List ℕ) (start : Device) (left : ℕ) (d new : Device) (phase : Phase) → IsDevice d → byte < 256 → IsSettling byte pages start d → d.owed ≡ [] →
-    d.phase ≡ phase → IsWithin byte (suc left) phase → Feeds byte d new → Steps byte pages start left new
+    d.phase ≡ phase → IsWithin start.codes byte (suc left) phase → Feeds byte d new → Steps byte pages start left new
 steps byte pages start left d new Fresh is small s quiet at w f = go (eqb byte 0x7F) refl (subst (λ (p : Phase). Receives d p byte new) at f.receives)
   where
     go : (t : Bool) → eqb byte 0x7F ≡ t → new ≡ cond t (record d { owed = d.owed ++ ack ∷ []; phase = Connected [] }) d → Steps byte pages start left new
@@ -74,7 +78,7 @@ steps byte pages start left d new Fresh is small s quiet at w f = go (eqb byte 0
             record {
               settling = settling_loses byte pages start new (with_nothing_owed new) now (1, ap (λ o. record new { owed = drop 1 o }) (sym owed));
               quiet = refl;
-              within = subst (IsWithin byte left) (sym (ap (λ (x : Device). x.phase) e)) (omega arith);
+              within = subst (IsWithin start.codes byte left) (sym (ap (λ (x : Device). x.phase) e)) (omega arith);
             },
           );
         }
@@ -90,7 +94,7 @@ steps byte pages start left d new Fresh is small s quiet at w f = go (eqb byte 0
             record {
               settling = settling_loses byte pages start new (with_nothing_owed new) now (1, ap (λ o. record new { owed = drop 1 o }) (sym owed));
               quiet = refl;
-              within = subst (IsWithin byte left) (sym (ap (λ (x : Device). x.phase) e ∙ at)) (λ same. absurd (let h = sym (eq-eqb byte 0x7F same) ∙ t in cc));
+              within = subst (IsWithin start.codes byte left) (sym (ap (λ (x : Device). x.phase) e ∙ at)) (λ same. absurd (let h = sym (eq-eqb byte 0x7F same) ∙ t in cc));
             },
           );
         }
@@ -111,7 +115,7 @@ steps byte pages start left d new (Connected rest) is small s quiet at w f = ⊎
         let none : length d.owed ≡ 0 = ap length quiet in
         let most = due_most byte rest in
         let owes = a.owes in
-        let nearer = a.nearer in
+        let nearer = nearer_start byte pages start d rest a.left s a.nearer in
         let awaits = w in
         let few : length new.owed ≤ 260 = omega arith in
         let now = settling_fed byte pages start d new s f (omega arith) in
@@ -123,7 +127,7 @@ steps byte pages start left d new (Connected rest) is small s quiet at w f = ⊎
             record {
               settling = settling_loses byte pages start new (with_nothing_owed new) now (length new.owed, ap (λ o. record new { owed = o }) (sym (drop_all (length new.owed) new.owed (omega arith))));
               quiet = refl;
-              within = subst (IsWithin byte left) (sym a.phase) (omega arith);
+              within = subst (IsWithin start.codes byte left) (sym a.phase) (omega arith);
             },
           );
         }
@@ -133,26 +137,26 @@ pub step : (byte : ℕ) (pages : List ℕ) (start : Device) (left : ℕ) (d new 
 step byte pages start left d new is small g f = steps byte pages start left d new d.phase is small g.settling g.quiet refl g.within f
 
 -- from a harmless device that owes nothing, with enough bytes to come
-pub going : (byte : ℕ) (pages : List ℕ) (d : Device) (left : ℕ) → 131047 ≤ left → Harmless d byte pages → length d.owed ≤ 4096 →
+pub going : (byte : ℕ) (pages : List ℕ) (d : Device) (left : ℕ) → bytes_awaited byte d ≤ left → Harmless d byte pages → length d.owed ≤ 4096 →
     IsGoing byte pages d left (with_nothing_owed d)
 going byte pages d left many h few = record {
   settling = record { same_chip = refl; same_version = refl; same_codes = refl; harmless = harmless_owed byte pages d [] h; flash = same_flash d.chip pages d.flash d.flash refl; owed = lit≤ tt };
   quiet = refl;
-  within = within d.phase refl;
+  within = within d.phase refl many;
 }
   where
-    within : (p : Phase) → d.phase ≡ p → IsWithin byte left p
-    within Fresh e = λ same. omega arith
-    within (Connected rest) e = let m = awaited_most byte rest in omega arith
-    within Gone e = subst IsListening e (h.each [] d refl).phase
+    within : (p : Phase) → d.phase ≡ p → awaited_in d.codes byte p ≤ left → IsWithin d.codes byte left p
+    within Fresh e enough = λ same. subst (λ (t : Bool). cond t 3 0 ≤ left) (eq-eqb byte 0x7F same) enough
+    within (Connected rest) e enough = enough
+    within Gone e enough = subst IsListening e (h.each [] d refl).phase
 
 -- after the last byte
 pub fresh_at_last : (byte : ℕ) (pages : List ℕ) (start d : Device) → IsGoing byte pages start 0 d → d.phase ≡ Fresh
 fresh_at_last byte pages start d g = go d.phase refl g.within
   where
-    go : (p : Phase) → d.phase ≡ p → IsWithin byte 0 p → d.phase ≡ Fresh
+    go : (p : Phase) → d.phase ≡ p → IsWithin start.codes byte 0 p → d.phase ≡ Fresh
     go Fresh e w = e
-    go (Connected rest) e w = absurd (let some = awaited_some byte rest in let none = w in omega arith)
+    go (Connected rest) e w = absurd (let some = awaited_some start.codes byte rest in let none = w in omega arith)
     go Gone e w = absurd w
 
 -- 7F connects a fresh device
@@ -193,14 +197,14 @@ due_at byte Gone = 0
 
 pub record InBatch (byte : ℕ) (pages : List ℕ) (start : Device) (left n : ℕ) (d : Device) : Type 0 where
   pub settling : IsSettling byte pages start d
-  pub within : IsWithin byte left d.phase
+  pub within : IsWithin start.codes byte left d.phase
   pub owes : length d.owed + due_at byte d.phase ≤ n
 
 pub batch_step : (byte : ℕ) (pages : List ℕ) (start : Device) (left n : ℕ) (d new : Device) → IsDevice d → byte < 256 → byte ≢ 0x7F → 2 ≤ left → n < 4096 →
     InBatch byte pages start (suc left) n d → Feeds byte d new → InBatch byte pages start left (suc n) new
 batch_step byte pages start left n d new is small not_connect two room b f = go d.phase refl b.within b.owes
   where
-    go : (p : Phase) → d.phase ≡ p → IsWithin byte (suc left) p → length d.owed + due_at byte p ≤ n → InBatch byte pages start left (suc n) new
+    go : (p : Phase) → d.phase ≡ p → IsWithin start.codes byte (suc left) p → length d.owed + due_at byte p ≤ n → InBatch byte pages start left (suc n) new
     go Fresh at w o =
         let r : Receives d Fresh byte new = subst (λ (p : Phase). Receives d p byte new) at f.receives in
         let t = ne_eqb byte 0x7F not_connect in
@@ -208,7 +212,7 @@ batch_step byte pages start left n d new is small not_connect two room b f = go 
         let few : length new.owed ≤ n = rw same (omega arith) in
         record {
           settling = settling_fed byte pages start d new b.settling f (omega arith);
-          within = subst (IsWithin byte left) (sym (ap (λ (x : Device). x.phase) same ∙ at)) (λ e. absurd (not_connect e));
+          within = subst (IsWithin start.codes byte left) (sym (ap (λ (x : Device). x.phase) same ∙ at)) (λ e. absurd (not_connect e));
           owes = rw (same, at) (omega arith);
         }
     go (Connected rest) at w o = ⊎_elim over on (fed byte pages rest d new is at small b.settling.harmless f)
@@ -220,19 +224,19 @@ batch_step byte pages start left n d new is small not_connect two room b f = go 
             let phase : new.phase ≡ Connected [] = ap (λ (x : Device). x.phase) r.is in
             record {
               settling = settling_fed byte pages start d new b.settling f (omega arith);
-              within = subst (IsWithin byte left) (sym phase) two;
+              within = subst (IsWithin start.codes byte left) (sym phase) two;
               owes = rw phase (omega arith);
             }
 
         on : Advances byte rest d new → InBatch byte pages start left (suc n) new
         on a =
             let owes = a.owes in
-            let nearer = a.nearer in
+            let nearer = nearer_start byte pages start d rest a.left b.settling a.nearer in
             let awaits = w in
             let phase = a.phase in
             record {
               settling = settling_fed byte pages start d new b.settling f (omega arith);
-              within = subst (IsWithin byte left) (sym phase) (omega arith);
+              within = subst (IsWithin start.codes byte left) (sym phase) (omega arith);
               owes = rw phase (omega arith);
             }
     go Gone at w o = absurd w

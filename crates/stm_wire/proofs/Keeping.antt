@@ -7,7 +7,7 @@ use Rattle.std.specs.Prelude.{MatchBool}
 use Rattle.stm_wire.specs.Rig.{RigState, IsModel, LeftByPut, LeftByGet, PutsHonestly, GetsHonestly, GetsFirst}
 use Rattle.stm_wire.specs.Harmless.{Harmless}
 use Rattle.stm_wire.proofs.Flash.{same_flash}
-use Rattle.stm_wire.specs.Settling.{IsSettling, IsGoing, LeftBySettling, KeepsSettling, with_nothing_owed}
+use Rattle.stm_wire.specs.Settling.{IsSettling, IsGoing, LeftBySettling, KeepsSettling, bytes_awaited, with_nothing_owed}
 use Rattle.stm_wire.specs.Command.{with_rest}
 use Rattle.stm_wire.specs.MomentLaws.{started, joined, elapsed}
 use Rattle.stm_wire.specs.Reply.{ack, nack}
@@ -166,7 +166,7 @@ going_begin byte left pages start d g =
     let P : ℕ → Type 0 = λ n. IsGoing byte pages start n d in
     subst P e g
 
-pub going_drained : (byte limit : ℕ) (pages : List ℕ) (d new : Device) → 131047 ≤ limit → Harmless d byte pages → length d.owed ≤ 4096 → new ≡ with_nothing_owed d → IsGoing byte pages d limit new
+pub going_drained : (byte limit : ℕ) (pages : List ℕ) (d new : Device) → bytes_awaited byte d ≤ limit → Harmless d byte pages → length d.owed ≤ 4096 → new ≡ with_nothing_owed d → IsGoing byte pages d limit new
 going_drained byte limit pages d new many h few e =
     let P : Device → Type 0 = IsGoing byte pages d limit in
     subst P (sym e) (going byte pages d limit many h few)

@@ -25,6 +25,9 @@ bad_line device journal line_failures journal_failures calls =
       moment = length calls;
       left_since = λ moment d left. ⊥;
       calls = Some calls;
+      has_room = ⊥;
+      long_gets = None;
+      told = None;
     }
 
 -- a line that answers from a list

@@ -1,6 +1,6 @@
 -- The device at first, and one that lost a byte owed, after one call more.
 use Rattle.std.proofs.Common.{if◌then◌else◌, Bool, true, false, ◌==◌, ◌||◌, ◌≡◌, ℕ, List, [], ◌∷◌}
-use Rattle.std.proofs.Common.{◌++◌, drop, Option, Some, None, refl, sym, ◌∙◌, ap, ap₂, subst}
+use Rattle.std.proofs.Common.{◌++◌, ◌-◌, drop, Option, Some, None, refl, sym, ◌∙◌, ap, ap₂, subst}
 use Rattle.stm_wire.specs.declared.past.PastStep.{PastStep}
 use Rattle.stm_wire.specs.declared.rig.RigCall.{RigCall}
 use Rattle.stm_wire.specs.declared.verdict.Verdict.{Verdict}
@@ -97,13 +97,15 @@ taken-device byte old new e is =
 
 -- these parts make the value after one call more
 pub is-with_call : (call : RigCall) (s : PastStep) (m : MemoryData) (device device' : Device)
-    (calls : List RigCall) (first : Device) (past : List PastStep)
-    → device ≡ device' → calls ≡ m.calls ++ call ∷ [] → first ≡ m.first → past ≡ m.past ++ s ∷ []
-    → record m { device = device; calls = calls; first = first; past = past }
+    (calls : List RigCall) (room : ℕ) (first : Device) (past : List PastStep)
+    → device ≡ device' → calls ≡ m.calls ++ call ∷ [] → room ≡ m.room - 1 → first ≡ m.first
+    → past ≡ m.past ++ s ∷ []
+    → record m { device = device; calls = calls; room = room; first = first; past = past }
     ≡ with_call call s device' m
-is-with_call call s m device device' calls first past d c f p =
+is-with_call call s m device device' calls room first past d c r f p =
     let one : Device → List RigCall → MemoryData =
-    λ x y. record m { device = x; calls = y; first = first; past = past } in
-    let two : Device → List PastStep → MemoryData =
-    λ x y. record m { device = device'; calls = m.calls ++ call ∷ []; first = x; past = y } in
-    ap₂ one d c ∙ ap₂ two f p
+    λ x y. record m { device = x; calls = y; room = room; first = first; past = past } in
+    let entered : ℕ → Device → List PastStep → MemoryData =
+    λ k x y.
+    record m { device = device'; calls = m.calls ++ call ∷ []; room = k; first = x; past = y } in
+    ap₂ one d c ∙ ap (λ k. entered k first past) r ∙ ap₂ (λ x y. entered (m.room - 1) x y) f p

@@ -1,5 +1,5 @@
 -- A Rig in memory follows the model: what its calls do is what an honest Rig's calls do.
-use Rattle.std.proofs.Common.{◌≡◌, inr, ⊎_elim, ℕ, zero, suc, ◌+◌, ◌-◌, ◌^◌, ◌≤◌, List, [], ◌∷◌}
+use Rattle.std.proofs.Common.{◌≡◌, ⊎_elim, ℕ, zero, suc, ◌+◌, ◌-◌, ◌^◌, ◌≤◌, List, [], ◌∷◌}
 use Rattle.std.proofs.Common.{◌++◌, length, take, drop, Result, Ok, Err, MatchResult, refl, sym}
 use Rattle.std.proofs.Common.{◌∙◌, ap, subst, arith, length-take, length-drop, append-nil, take_all}
 use Rattle.std.proofs.Math.Seq.{take-append-add}
@@ -144,7 +144,7 @@ append-honest bytes (Err Stopped) m n limit is p =
     }))
     (λ e.
     append-idles bytes Stopped m n
-    (idles (LeftByAppend bytes (rig_state m)) (Append (length bytes)) _ _ _ m n nothing is (inr e)))
+    (idles (LeftByAppend bytes (rig_state m)) (Append (length bytes)) _ _ _ m n nothing is e))
     p.1
 append-honest bytes (Err File) m n limit is p =
     append-idles bytes File m n

@@ -98,7 +98,7 @@ pub idles : (P : Device → List ℕ → Type 0) (call : RigCall) (lines journal
 idles P call lines journals plan m n p is fails =
     let I : MemoryData → Type 0 = λ x. Idles P m x in
     ⊎_elim (λ e. subst I (sym e) (idles-entry P call lines journals plan m p is))
-    (λ e. subst I (sym e) (idles-alone P lines journals plan m is)) fails
+    (λ e. subst I (sym e.0) (idles-alone P lines journals plan m is)) fails
 
 put-idles : (byte : ℕ) (fault : RigFault) (m n : MemoryData)
     → Idles (LeftByPut byte (rig_state m)) m n

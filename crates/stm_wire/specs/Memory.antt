@@ -1,6 +1,6 @@
 -- A Rig in memory: its device, its journal and its record, what it has been, and when it is to stop
 -- or fail.
-use Rattle.std.specs.Prelude.{◌≡◌, ◌⊎◌, ℕ, ◌+◌, ◌-◌, ◌^◌, ◌≤◌, nat_lt, Bool}
+use Rattle.std.specs.Prelude.{◌≡◌, ◌⊎◌, ℕ, ◌+◌, ◌-◌, ◌^◌, ◌<◌, ◌≤◌, nat_lt, Bool}
 use Rattle.std.specs.Prelude.{true, false, List, [], ◌∷◌, ◌++◌, min, length}
 use Rattle.std.specs.Prelude.{take, drop, Option, Some, None, Result, Ok, Err}
 use Rattle.stm_wire.specs.declared.fault.RigFault.{RigFault}
@@ -24,6 +24,8 @@ pub record MemoryData : Type 0 where
   pub line_failures : ℕ
   pub journal_failures : ℕ
   pub calls : List RigCall
+  -- for so many calls from now on there is room in the record, since it was asked for
+  pub room : ℕ
   -- when it is to stop, and which later call is to fail
   pub plan : Plan
   -- since it was made or last reset: the device and the journal's length at first, how many calls
@@ -89,6 +91,9 @@ rig_state m =
       moment = length m.calls;
       left_since = LeftSince m.journal m.first m.begun m.start m.past;
       calls = Some m.calls;
+      has_room = 0 < m.room;
+      long_gets = None;
+      told = None;
     }
 
 -- the flash at first, where it was kept; else it is as it was
@@ -99,15 +104,16 @@ first_flash (Some first) flash = first
 abbrev pub first_device : Option (List ℕ) → Device → Device
 first_device first d = record d { flash = first_flash first d.flash; owed = []; phase = Fresh }
 
-abbrev pub memory_of : Device → List ℕ → ℕ → ℕ → List RigCall → Plan → Option (List ℕ) → ℕ → ℕ
+abbrev pub memory_of : Device → List ℕ → ℕ → ℕ → List RigCall → ℕ → Plan → Option (List ℕ) → ℕ → ℕ
     → List PastStep → MemoryData
-memory_of device journal line_failures journal_failures calls plan first begun start past =
+memory_of device journal line_failures journal_failures calls room plan first begun start past =
     record {
       device = device;
       journal = journal;
       line_failures = line_failures;
       journal_failures = journal_failures;
       calls = calls;
+      room = room;
       plan = plan;
       first = first_device first device;
       begun = begun;
@@ -128,6 +134,7 @@ fresh_memory chip flash journal =
       line_failures = 0;
       journal_failures = 0;
       calls = [];
+      room = 0;
       plan = no_plan;
       first = device_of chip flash [] [] StageFresh;
       begun = length journal;
@@ -188,7 +195,12 @@ counts_journal m = record m { journal_failures = count_more m.journal_failures }
 -- the same with one call more, after which the device is this
 abbrev pub with_call : RigCall → PastStep → Device → MemoryData → MemoryData
 with_call call s device m =
-    record m { device = device; calls = m.calls ++ call ∷ []; past = m.past ++ s ∷ [] }
+    record m {
+      device = device;
+      calls = m.calls ++ call ∷ [];
+      room = m.room - 1;
+      past = m.past ++ s ∷ [];
+    }
 
 -- the same with one append more, of which these bytes were added
 abbrev pub with_append : ℕ → List ℕ → MemoryData → MemoryData
@@ -196,12 +208,14 @@ with_append handed_in bytes m =
     record m {
       journal = m.journal ++ bytes;
       calls = m.calls ++ Append handed_in ∷ [];
+      room = m.room - 1;
       past = m.past ++ Added (length bytes) ∷ [];
     }
 
--- a call that did nothing stands in the record, or there was no memory for its entry
+-- a call that did nothing stands in the record; or there was no room, and no memory, for its entry
 abbrev pub Fails : RigCall → MemoryData → MemoryData → Type 0
-Fails call old new = (new ≡ with_call call Nothing old.device old) ⊎ (new ≡ old)
+Fails call old new =
+    (new ≡ with_call call Nothing old.device old) ⊎ ((new ≡ old) × (old.room ≡ 0))
 
 -- A put is one step. It fails where one is to fail, or where memory is refused.
 abbrev pub PutsInMemory : ℕ → Result (Unit {0}) RigFault → MemoryData → MemoryData → Type 0
@@ -246,7 +260,7 @@ GetsInMemory (Err Line) old new =
 GetsInMemory (Err File) old new = ⊥
 
 -- An append is a step a byte. One that runs into the stop adds the bytes before it, where there is
--- memory for these and for its entry.
+-- memory for these and for its entry, or else nothing.
 abbrev pub AppendsInMemory : List ℕ → Result (Unit {0}) RigFault → MemoryData → MemoryData → Type 0
 AppendsInMemory bytes (Ok done) old new =
     (runs_into_stop (length bytes) old.plan.stop ≡ false) × (old.plan.append_fails ≡ 1 → ⊥)
@@ -255,7 +269,8 @@ AppendsInMemory bytes (Err Stopped) old new =
     (runs_into_stop (length bytes) old.plan.stop ≡ true)
     × ((new
     ≡ with_append (length bytes) (take (steps_left old.plan.stop) bytes)
-    (counts_journal (stopped old))) ⊎ (new ≡ counts_journal (stopped old)))
+    (counts_journal (stopped old)))
+    ⊎ Fails (Append (length bytes)) (counts_journal (stopped old)) new)
 AppendsInMemory bytes (Err File) old new =
     (runs_into_stop (length bytes) old.plan.stop ≡ false)
     × Fails (Append (length bytes)) (counts_journal (counts_append old)) new

@@ -2,6 +2,8 @@
 use Rattle.std.specs.Prelude.{◌≡◌, ◌⊎◌, ℕ, ◌+◌, ◌-◌, ◌^◌, ◌<◌, ◌≤◌, min, List}
 use Rattle.std.specs.Prelude.{[], ◌∷◌, ◌++◌, length, take, drop, Option, Some}
 use Rattle.std.specs.Prelude.{None, Result, Ok, Err, OnOk, OnErr, IfOk}
+use Rattle.stm_wire.specs.declared.rig.Patience.{Patience}
+use Rattle.stm_wire.specs.declared.rig.Patience.TheVariants.{Brief, Long}
 use Rattle.stm_wire.specs.declared.rig.RigCall.{RigCall}
 use Rattle.stm_wire.specs.declared.rig.RigCall.TheVariants.{Get}
 use Rattle.stm_wire.specs.declared.fault.RigFault.{RigFault}
@@ -21,6 +23,11 @@ pub record RigState : Type 1 where
   pub left_since : ℕ → Device → List ℕ → Type 0
   -- all calls so far, where it keeps a record
   pub calls : Option (List RigCall)
+  -- the record has room for one entry more: the next call stands in it, whatever it answers
+  pub has_room : Type 0
+  -- how many gets waited long, and the bytes that fetches brought, where it keeps these
+  pub long_gets : Option ℕ
+  pub told : Option (List ℕ)
 
 -- the count rose, or stands at its top
 abbrev pub Rises : ℕ → ℕ → Type 0
@@ -40,6 +47,38 @@ abbrev pub Records : {T : Type 0} → RigCall → Result T RigFault → Option (
 Records call result None new = new ≡ None
 Records call (Ok x) (Some past) new = new ≡ Some (past ++ call ∷ [])
 Records call (Err e) (Some past) new = (new ≡ Some (past ++ call ∷ [])) ⊎ (new ≡ Some past)
+
+-- where the record has room, the call stands in it, also one that fails
+abbrev pub Enters : RigCall → RigState → RigState → Type 0
+Enters call old new = old.has_room → Records {T = Unit {0}} call (Ok tt) old.calls new.calls
+
+-- a get counts where it waits long; the count stays at 2^64 - 1
+abbrev pub waited : Patience → Option ℕ → Option ℕ
+waited Brief count = count
+waited Long None = None
+waited Long (Some n) = Some (min (n + 1) (2 ^ 64 - 1))
+
+-- what a fetch brought stands behind what was brought before
+abbrev pub Tells : List ℕ → Result ℕ RigFault → Option (List ℕ) → Option (List ℕ) → Type 0
+Tells after result None new = new ≡ None
+Tells after (Ok n) (Some past) new = new ≡ Some (past ++ take n after)
+Tells after (Err e) (Some past) new = new ≡ Some past
+
+-- beside its entry, a put and an append leave no trace
+pub record PutsAside (old new : RigState) : Type 0 where
+  pub long_gets : new.long_gets ≡ old.long_gets
+  pub told : new.told ≡ old.told
+
+-- a get says how long it waited
+pub record GetsAside (patience : Patience) (old new : RigState) : Type 0 where
+  pub long_gets : new.long_gets ≡ waited patience old.long_gets
+  pub told : new.told ≡ old.told
+
+-- a fetch says what it brought
+pub record FetchesAside (after : List ℕ) (result : Result ℕ RigFault)
+    (old new : RigState) : Type 0 where
+  pub long_gets : new.long_gets ≡ old.long_gets
+  pub told : Tells after result old.told new.told
 
 -- the entry of a get
 abbrev pub entry_of_get : Result (Option ℕ) RigFault → RigCall

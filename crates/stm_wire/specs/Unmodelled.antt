@@ -28,4 +28,7 @@ unmodelled line journal =
       moment = 0;
       left_since = λ moment d journal. ⊥;
       calls = None;
+      has_room = ⊥;
+      long_gets = None;
+      told = None;
     }

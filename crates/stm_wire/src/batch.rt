@@ -1,5 +1,5 @@
 // Settling bytes in batches: a host waits once for many bytes.
-ghost use Rattle.std.specs.Prelude.{◌≢◌, ◌≤◌, ◌+◌, ℕ, List, IfOk, IfErr, replicate};
+ghost use Rattle.std.specs.Prelude.{◌≡◌, ◌≢◌, ◌≤◌, ◌+◌, ℕ, List, IfOk, IfErr, replicate};
 ghost use Rattle.stm_wire.specs.Device.{Device};
 ghost use Rattle.stm_wire.specs.Dialogue.{GoesOn};
 ghost use Rattle.stm_wire.specs.Settling.{IsGoing, Speaks, SpeaksBatches, SendsBatch, SendsBatches};
@@ -24,6 +24,7 @@ fn send_batch<R: Rig>(rig: &mut R, byte: u8, count: u32) -> Result<bool, WireFau
     requires { count ≤ 256 }
     ensures speaks { Speaks (replicate count byte) (count + 4097) result
         (R.view rig.old) (R.view rig.new) }
+    ensures brief { (R.view rig.new).long_gets ≡ (R.view rig.old).long_gets }
     ensures batch { IfOk result
         (λ seen. GoesOn (IsBatch byte count seen) (R.view rig.old).calls (R.view rig.new).calls) }
     ensures fails { IfErr result
@@ -43,6 +44,7 @@ fn send_batch<R: Rig>(rig: &mut R, byte: u8, count: u32) -> Result<bool, WireFau
 /// or all bytes of the limit were sent but those that are kept back; answers how many are left.
 pub fn send_batches<R: Rig>(rig: &mut R, byte: u8, limit: u32) -> Result<u32, WireFault>
     ensures speaks { SpeaksBatches byte limit result (R.view rig.old) (R.view rig.new) }
+    ensures brief { (R.view rig.new).long_gets ≡ (R.view rig.old).long_gets }
     ensures batches { IfOk result
         (λ left. GoesOn (IsBatched byte limit left)
         (R.view rig.old).calls (R.view rig.new).calls) }

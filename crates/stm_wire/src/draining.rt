@@ -12,6 +12,7 @@ use crate::{Patience, Rig, WireFault};
 /// Takes bytes until it is quiet, and answers whether one of them was NACK.
 pub fn drain<R: Rig>(rig: &mut R) -> Result<bool, WireFault>
     ensures speaks { Speaks [] 4097 result (R.view rig.old) (R.view rig.new) }
+    ensures brief { (R.view rig.new).long_gets ≡ (R.view rig.old).long_gets }
     ensures drained { IfOk result
         (λ seen. GoesOn (IsDrained seen) (R.view rig.old).calls (R.view rig.new).calls) }
     ensures fails { IfErr result

@@ -2,7 +2,8 @@
 ghost use Rattle.std.specs.Prelude.{◌≡◌, ◌≤◌, ◌-◌, ◌==◌, ◌++◌, ◌∷◌, [], if◌then◌else◌, length};
 ghost use Rattle.std.proofs.Common.{refl};
 ghost use Rattle.stm_wire.specs.Exchange.{complement};
-ghost use Rattle.stm_wire.specs.Rig.{HasCause, Rises, Records, entry_of_get, PutsHonestly};
+ghost use Rattle.stm_wire.specs.Rig.{PutsAside, GetsAside, FetchesAside};
+ghost use Rattle.stm_wire.specs.Rig.{HasCause, Rises, Records, Enters, entry_of_get, PutsHonestly};
 ghost use Rattle.stm_wire.specs.Rig.{GetsHonestly, AppendsHonestly, FetchesHonestly, FetchesWithin};
 ghost use Rattle.stm_wire.specs.BadLines.{FlipData, flip_data, flip_state, given_for};
 ghost use Rattle.stm_wire.specs.BadLines.{flips_after, counts_line_of, counts_journal_of};
@@ -97,6 +98,8 @@ impl Rig for FlipRig {
             new.journal_failures ≡ old.journal_failures }
         ensures recorded { let old = flip_state self.old in let new = flip_state self.new in
             Records (RigCall.Put byte) result old.calls new.calls }
+        ensures entered { Enters (RigCall.Put byte) (flip_state self.old) (flip_state self.new) }
+        ensures aside { PutsAside (flip_state self.old) (flip_state self.new) }
         ensures honest { let old = flip_state self.old in let new = flip_state self.new in
             old.is_honest → PutsHonestly byte result old new }
         ensures handed_on { PutsOn byte result self.old self.new }
@@ -120,6 +123,8 @@ impl Rig for FlipRig {
             new.journal_failures ≡ old.journal_failures }
         ensures recorded { let old = flip_state self.old in let new = flip_state self.new in
             Records (entry_of_get result) result old.calls new.calls }
+        ensures entered { Enters (entry_of_get result) (flip_state self.old) (flip_state self.new) }
+        ensures aside { GetsAside patience (flip_state self.old) (flip_state self.new) }
         ensures honest { let old = flip_state self.old in let new = flip_state self.new in
             old.is_honest → GetsHonestly result old new }
         ensures handed_on { GetsOn result self.old self.new }
@@ -149,6 +154,8 @@ impl Rig for FlipRig {
             new.line_failures ≡ old.line_failures }
         ensures recorded { let old = flip_state self.old in let new = flip_state self.new in
             Records (RigCall.Append (length bytes.now)) result old.calls new.calls }
+        ensures entered { Enters (RigCall.Append (length bytes.now)) (flip_state self.old) (flip_state self.new) }
+        ensures aside { PutsAside (flip_state self.old) (flip_state self.new) }
         ensures honest { let old = flip_state self.old in let new = flip_state self.new in
             old.is_honest → AppendsHonestly bytes.now result old new }
         ensures handed_on { AppendsOn bytes.now result self.old self.new }
@@ -174,6 +181,8 @@ impl Rig for FlipRig {
             new.line_failures ≡ old.line_failures }
         ensures recorded { let old = flip_state self.old in let new = flip_state self.new in
             Records RigCall.Fetch result old.calls new.calls }
+        ensures entered { Enters RigCall.Fetch (flip_state self.old) (flip_state self.new) }
+        ensures aside { FetchesAside buf.new result (flip_state self.old) (flip_state self.new) }
         ensures honest { let old = flip_state self.old in let new = flip_state self.new in
             old.is_honest → FetchesHonestly at buf.old buf.new result old new }
         ensures handed_on { FetchesOn at buf.old buf.new result self.old self.new }

@@ -1,4 +1,5 @@
 //! Laws of stopped hosts: each is the contract of a function that does nothing.
+ghost use Rattle.stm_wire.specs.Settling.{AwaitedIsLimited};
 ghost use Rattle.stm_wire.specs.Stopped.{AskingChangesNothing, FreshIsHarmless};
 ghost use Rattle.stm_wire.specs.Stopped.{SendingIsHarmless, StoppedIsHarmless};
 ghost use Rattle.stm_wire.specs.Stopped.{FedStaysHarmless, LossStaysHarmless};
@@ -27,6 +28,12 @@ pub fn harmless_is_kept()
     ensures reset { ResetStaysHarmless }
     ensures lost { LossStaysHarmless }
     ensures more_pages { MorePagesStayHarmless }
+{}
+
+/// How many bytes of a kind a device awaits at most before it refuses one, wherever it is in its
+/// exchange: 267 where its pages are erased by numbers of one byte, and 131,047 where they have two.
+pub fn awaited_is_limited()
+    ensures { AwaitedIsLimited }
 {}
 
 /// The pages of a chip are its flash: what lies in one lies in the flash, and two flashes that

@@ -1,7 +1,8 @@
 // A bad line for tests: it answers what it was told to, whatever is sent.
 ghost use Rattle.std.specs.Prelude.{◌≡◌, ◌+◌, ◌++◌, ◌∷◌, [], drop, length};
 ghost use Rattle.std.proofs.Common.{refl};
-ghost use Rattle.stm_wire.specs.Rig.{HasCause, Records, entry_of_get, PutsHonestly, GetsHonestly};
+ghost use Rattle.stm_wire.specs.Rig.{PutsAside, GetsAside, FetchesAside};
+ghost use Rattle.stm_wire.specs.Rig.{HasCause, Records, Enters, entry_of_get, PutsHonestly, GetsHonestly};
 ghost use Rattle.stm_wire.specs.Rig.{AppendsHonestly, FetchesHonestly, FetchesWithin};
 ghost use Rattle.stm_wire.specs.BadLines.{ListData, list_data, list_state, next_reply};
 ghost use Rattle.stm_wire.specs.BadLines.{ListsLineCall, ListsJournalCall};
@@ -114,6 +115,8 @@ impl Rig for ListRig {
             new.journal_failures ≡ old.journal_failures }
         ensures recorded { let old = list_state self.old in let new = list_state self.new in
             Records (RigCall.Put byte) result old.calls new.calls }
+        ensures entered { Enters (RigCall.Put byte) (list_state self.old) (list_state self.new) }
+        ensures aside { PutsAside (list_state self.old) (list_state self.new) }
         ensures honest { let old = list_state self.old in let new = list_state self.new in
             old.is_honest → PutsHonestly byte result old new }
         ensures listed { ListsLineCall (RigCall.Put byte) result self.old self.new }
@@ -121,13 +124,15 @@ impl Rig for ListRig {
         self.enter_line_call(RigCall::Put(byte))
     }
 
-    fn get(&mut self, _patience: Patience) -> Result<Option<u8>, RigFault>
+    fn get(&mut self, patience: Patience) -> Result<Option<u8>, RigFault>
         ensures cause { let old = list_state self.old in let new = list_state self.new in
             HasCause old.line_failures new.line_failures result }
         ensures journal_count { let old = list_state self.old in let new = list_state self.new in
             new.journal_failures ≡ old.journal_failures }
         ensures recorded { let old = list_state self.old in let new = list_state self.new in
             Records (entry_of_get result) result old.calls new.calls }
+        ensures entered { Enters (entry_of_get result) (list_state self.old) (list_state self.new) }
+        ensures aside { GetsAside patience (list_state self.old) (list_state self.new) }
         ensures honest { let old = list_state self.old in let new = list_state self.new in
             old.is_honest → GetsHonestly result old new }
         ensures listed { GetsFromList result self.old self.new }
@@ -144,6 +149,8 @@ impl Rig for ListRig {
             new.line_failures ≡ old.line_failures }
         ensures recorded { let old = list_state self.old in let new = list_state self.new in
             Records (RigCall.Append (length bytes.now)) result old.calls new.calls }
+        ensures entered { Enters (RigCall.Append (length bytes.now)) (list_state self.old) (list_state self.new) }
+        ensures aside { PutsAside (list_state self.old) (list_state self.new) }
         ensures honest { let old = list_state self.old in let new = list_state self.new in
             old.is_honest → AppendsHonestly bytes.now result old new }
         ensures listed { let call = RigCall.Append (length bytes.now) in
@@ -160,6 +167,8 @@ impl Rig for ListRig {
             new.line_failures ≡ old.line_failures }
         ensures recorded { let old = list_state self.old in let new = list_state self.new in
             Records RigCall.Fetch result old.calls new.calls }
+        ensures entered { Enters RigCall.Fetch (list_state self.old) (list_state self.new) }
+        ensures aside { FetchesAside buf.new result (list_state self.old) (list_state self.new) }
         ensures honest { let old = list_state self.old in let new = list_state self.new in
             old.is_honest → FetchesHonestly at buf.old buf.new result old new }
         ensures listed { FetchesNothing buf.old buf.new result self.old self.new }

@@ -1,6 +1,8 @@
 // A Rig in memory: a simulator, a journal, and a record of all calls.
-ghost use Rattle.std.specs.Prelude.{◌≡◌, ◌↔◌, ℕ, ◌-◌, ◌^◌, ◌<◌, ◌≤◌, [], ◌∷◌, List};
-ghost use Rattle.std.specs.Prelude.{length, IsSome, IfSome, IsTrue, MatchOption};
+ghost use Rattle.std.specs.Prelude.{◌≡◌, ◌↔◌, ℕ, ◌+◌, ◌-◌, ◌^◌, ◌<◌, ◌≤◌, [], ◌∷◌, List};
+ghost use Rattle.std.specs.Prelude.{length, vec_len, IsSome, IfSome, IsTrue, MatchOption};
+ghost use Rattle.std.specs.Prelude.{OnOk, OnErr};
+ghost use Rattle.std.specs.Vec.{vec_capacity};
 ghost use Rattle.std.specs.Option.{option_map};
 ghost use Rattle.stm_wire.specs.Chip.{flash_size, page_count, page_size};
 ghost use Rattle.stm_wire.specs.Device.{Connected, Gone, reset};
@@ -17,7 +19,7 @@ mod rig;
 
 use crate::simulator::{Simulator, Stage};
 use crate::{Chip, PastStep, Plan, RigCall, Stop};
-use std::alloc::Global;
+use std::alloc::{AllocError, Global};
 use std::marker::Model;
 
 /// A simulator and a journal in memory, which follow the model. It keeps a record of all calls, and
@@ -26,7 +28,7 @@ use std::marker::Model;
 ///
 /// A step is one byte put, one byte got, or one journal byte appended; a quiet get is none. A call
 /// that finds no memory fails; where there is no memory for its entry in the record either, it
-/// isn't there.
+/// isn't there, unless room for it was asked for.
 #[derive(Drop)]
 pub struct MemoryRig {
     alloc: Global,
@@ -35,6 +37,8 @@ pub struct MemoryRig {
     line_failures: u64,
     journal_failures: u64,
     calls: Vec<RigCall>,
+    /// For so many calls more there is room in the record, since it was asked for.
+    room: usize,
     plan: Plan,
     /// The flash at first, where a put may have changed it since.
     first: Option<Vec<u8>>,
@@ -47,11 +51,15 @@ impl Model for MemoryRig {
     ghost Value = { MemoryData };
 
     ghost view = { λ m. memory_of m.simulator m.journal.items m.line_failures m.journal_failures
-        m.calls.items m.plan (option_map (λ v. v.items) m.first) m.begun m.start m.past.items };
+        m.calls.items m.room m.plan (option_map (λ v. v.items) m.first) m.begun m.start
+        m.past.items };
 
     ghost invariant = { λ m.
         IsMemory (memory_of m.simulator m.journal.items m.line_failures m.journal_failures
-        m.calls.items m.plan (option_map (λ v. v.items) m.first) m.begun m.start m.past.items) };
+        m.calls.items m.room m.plan (option_map (λ v. v.items) m.first) m.begun m.start
+        m.past.items)
+        × (m.room + vec_len m.calls ≤ vec_capacity m.calls)
+        × (m.room + vec_len m.past ≤ vec_capacity m.past) };
 }
 
 impl MemoryRig {
@@ -74,6 +82,7 @@ impl MemoryRig {
             line_failures: 0,
             journal_failures: 0,
             calls: Vec::new(alloc),
+            room: 0,
             plan: Plan {
                 stop: Stop::Never,
                 put_fails: 0,
@@ -144,6 +153,19 @@ impl MemoryRig {
         ensures { result.now ≡ self.now.calls }
     {
         &self.calls
+    }
+
+    /// Makes room in the record for so many calls from now on: each of them stands there, also one
+    /// that fails for want of memory.
+    pub fn reserve_calls(&mut self, count: usize) -> Result<(), AllocError>
+        ensures ok { OnOk result (self.new ≡ record self.old { room = count }) }
+        ensures err { OnErr result (self.new ≡ self.old) }
+        ensures honest { (rig_state self.old).is_honest → (rig_state self.new).is_honest }
+    {
+        self.calls.reserve(count)?;
+        self.past.reserve(count)?;
+        self.room = count;
+        Ok(())
     }
 
     /// Resets the device: it is fresh, with the same flash, and owes nothing.

@@ -1,6 +1,7 @@
 // A device on a line, and the journal beside it.
 ghost use Rattle.std.specs.Prelude.{◌≡◌, ◌≤◌, ℕ, length};
-ghost use Rattle.stm_wire.specs.Rig.{RigState, HasCause, Records, entry_of_get};
+ghost use Rattle.stm_wire.specs.Rig.{RigState, HasCause, Records, Enters, entry_of_get};
+ghost use Rattle.stm_wire.specs.Rig.{PutsAside, GetsAside, FetchesAside};
 ghost use Rattle.stm_wire.specs.Rig.{PutsHonestly, GetsHonestly, AppendsHonestly};
 ghost use Rattle.stm_wire.specs.Rig.{FetchesHonestly, FetchesWithin, IsModel, IsPlace};
 
@@ -37,7 +38,8 @@ pub enum RigCall {
 /// owed bytes from the front; a fetch changes nothing and tells the journal's bytes.
 pub trait Rig {
     /// What it is now: whether it follows the model, its device, its journal, its counts of
-    /// failures, the moment, what a stop since a moment may have left, and its record.
+    /// failures, the moment, what a stop since a moment may have left, its record and whether that
+    /// has room, how many gets waited long, and what fetches brought.
     ghost view: { Self → RigState };
 
     /// Sends a byte.
@@ -48,6 +50,8 @@ pub trait Rig {
             ≡ (view self.old).journal_failures }
         ensures recorded { Records (RigCall.Put byte) result
             (view self.old).calls (view self.new).calls }
+        ensures entered { Enters (RigCall.Put byte) (view self.old) (view self.new) }
+        ensures aside { PutsAside (view self.old) (view self.new) }
         ensures honest { (view self.old).is_honest
             → PutsHonestly byte result (view self.old) (view self.new) };
 
@@ -59,6 +63,8 @@ pub trait Rig {
             ≡ (view self.old).journal_failures }
         ensures recorded { Records (entry_of_get result) result
             (view self.old).calls (view self.new).calls }
+        ensures entered { Enters (entry_of_get result) (view self.old) (view self.new) }
+        ensures aside { GetsAside patience (view self.old) (view self.new) }
         ensures honest { (view self.old).is_honest
             → GetsHonestly result (view self.old) (view self.new) };
 
@@ -69,6 +75,9 @@ pub trait Rig {
         ensures line_count { (view self.new).line_failures ≡ (view self.old).line_failures }
         ensures recorded { Records (RigCall.Append (length bytes.now)) result
             (view self.old).calls (view self.new).calls }
+        ensures entered { Enters (RigCall.Append (length bytes.now))
+            (view self.old) (view self.new) }
+        ensures aside { PutsAside (view self.old) (view self.new) }
         ensures honest { (view self.old).is_honest
             → AppendsHonestly bytes.now result (view self.old) (view self.new) };
 
@@ -81,6 +90,8 @@ pub trait Rig {
         ensures line_count { (view self.new).line_failures ≡ (view self.old).line_failures }
         ensures recorded { Records RigCall.Fetch result
             (view self.old).calls (view self.new).calls }
+        ensures entered { Enters RigCall.Fetch (view self.old) (view self.new) }
+        ensures aside { FetchesAside buf.new result (view self.old) (view self.new) }
         ensures honest { (view self.old).is_honest
             → FetchesHonestly at buf.old buf.new result (view self.old) (view self.new) };
 

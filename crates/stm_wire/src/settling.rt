@@ -6,10 +6,12 @@ ghost use Rattle.stm_wire.specs.declared.rig.RigCall.TheVariants.{Put, Get};
 ghost use Rattle.stm_wire.specs.Device.{Device, Fresh, Connected};
 ghost use Rattle.stm_wire.specs.Dialogue.{Adds, GoesOn};
 ghost use Rattle.stm_wire.specs.Harmless.{Harmless};
+ghost use Rattle.stm_wire.specs.Rig.{waited};
 ghost use Rattle.stm_wire.specs.Reply.{ack, nack};
 ghost use Rattle.stm_wire.specs.SentList.{settling_run};
 ghost use Rattle.stm_wire.specs.Settling.{IsSettling, IsGoing, LeadsTo, SendsOnce, Settles};
 ghost use Rattle.stm_wire.specs.Settling.{PutsPart, SettlesWithin, HasLineCause, Speaks};
+ghost use Rattle.stm_wire.specs.Settling.{WaitsOnce, bytes_awaited};
 ghost use Rattle.stm_wire.specs.SettlingCalls.{AreUnrefused, IsRefused, reconnecting, EndsSingly};
 ghost use Rattle.stm_wire.specs.SettlingCalls.{EndsSettled, EndsQuiet, EndsGarbled, FailsAs};
 ghost use Rattle.stm_wire.specs.SettlingCalls.{Never, Floods, IsAnswer, IsAnswerTo};
@@ -23,6 +25,7 @@ use crate::{Patience, Rig, WireFault};
 /// Sends the byte once, and answers whether it was refused.
 fn send_once<R: Rig>(rig: &mut R, byte: u8) -> Result<bool, WireFault>
     ensures speaks { Speaks (byte ∷ []) 4099 result (R.view rig.old) (R.view rig.new) }
+    ensures brief { (R.view rig.new).long_gets ≡ (R.view rig.old).long_gets }
     ensures refused { let old = (R.view rig.old).calls in let new = (R.view rig.new).calls in
         IfOk result (λ refused. MatchBool refused
         (GoesOn (IsRefused byte) old new) (GoesOn (AreUnrefused byte 1) old new)) }
@@ -45,6 +48,7 @@ fn send_once<R: Rig>(rig: &mut R, byte: u8) -> Result<bool, WireFault>
 /// Nothing comes.
 fn expect_quiet<R: Rig>(rig: &mut R) -> Result<(), WireFault>
     ensures speaks { Speaks [] 1 result (R.view rig.old) (R.view rig.new) }
+    ensures brief { (R.view rig.new).long_gets ≡ (R.view rig.old).long_gets }
     ensures quiet { OnOk result
         (Adds (Get None ∷ []) (R.view rig.old).calls (R.view rig.new).calls) }
     ensures fails { IfErr result
@@ -69,6 +73,9 @@ fn expect_quiet<R: Rig>(rig: &mut R) -> Result<(), WireFault>
 /// another byte than ACK came.
 pub fn connect<R: Rig>(rig: &mut R) -> Result<(), WireFault>
     ensures speaks { Speaks (0x7F ∷ []) 2 result (R.view rig.old) (R.view rig.new) }
+    ensures waits { WaitsOnce (R.view rig.old).long_gets (R.view rig.new).long_gets }
+    ensures long { OnOk result
+        ((R.view rig.new).long_gets ≡ waited Patience.Long (R.view rig.old).long_gets) }
     ensures answered { OnOk result
         (Adds (Put 0x7F ∷ Get (Some ack) ∷ []) (R.view rig.old).calls (R.view rig.new).calls) }
     ensures fails { IfErr result
@@ -90,6 +97,7 @@ pub fn connect<R: Rig>(rig: &mut R) -> Result<(), WireFault>
 /// Sends the byte to a connected device, which then waits for the other byte of a pair.
 fn probe<R: Rig>(rig: &mut R, byte: u8) -> Result<(), WireFault>
     ensures speaks { Speaks (byte ∷ []) 2 result (R.view rig.old) (R.view rig.new) }
+    ensures brief { (R.view rig.new).long_gets ≡ (R.view rig.old).long_gets }
     ensures quiet { OnOk result
         (Adds (Put byte ∷ Get None ∷ []) (R.view rig.old).calls (R.view rig.new).calls) }
     ensures fails { IfErr result
@@ -107,6 +115,7 @@ fn probe<R: Rig>(rig: &mut R, byte: u8) -> Result<(), WireFault>
 /// Sends the byte again, which makes no pair.
 fn confirm<R: Rig>(rig: &mut R, byte: u8) -> Result<(), WireFault>
     ensures speaks { Speaks (byte ∷ []) 3 result (R.view rig.old) (R.view rig.new) }
+    ensures brief { (R.view rig.new).long_gets ≡ (R.view rig.old).long_gets }
     ensures refused { OnOk result (Adds (Put byte ∷ Get (Some nack) ∷ Get None ∷ [])
         (R.view rig.old).calls (R.view rig.new).calls) }
     ensures fails { IfErr result
@@ -129,6 +138,7 @@ fn confirm<R: Rig>(rig: &mut R, byte: u8) -> Result<(), WireFault>
 fn reconnect<R: Rig>(rig: &mut R, byte: u8) -> Result<(), WireFault>
     ensures speaks { Speaks (0x7F ∷ byte ∷ byte ∷ []) 7 result
         (R.view rig.old) (R.view rig.new) }
+    ensures waits { WaitsOnce (R.view rig.old).long_gets (R.view rig.new).long_gets }
     ensures settled { OnOk result
         (Adds (reconnecting byte) (R.view rig.old).calls (R.view rig.new).calls) }
     ensures fails { IfErr result (FailsAs IsUnanswered (IsGarbled byte)
@@ -149,6 +159,7 @@ fn send_bytes<R: Rig>(rig: &mut R, byte: u8, limit: u32) -> Result<(), WireFault
     ensures cause { HasLineCause result (R.view rig.old) (R.view rig.new) }
     ensures calls { GoesOn (PutsPart (settling_run byte limit) (4099 * limit + 7))
         (R.view rig.old).calls (R.view rig.new).calls }
+    ensures waits { WaitsOnce (R.view rig.old).long_gets (R.view rig.new).long_gets }
     ensures settled { OnOk result
         (GoesOn (EndsSingly byte limit) (R.view rig.old).calls (R.view rig.new).calls) }
     ensures fails { IfErr result (FailsAs (EndsQuiet byte limit) (EndsGarbled byte limit)
@@ -179,12 +190,13 @@ fn send_bytes<R: Rig>(rig: &mut R, byte: u8, limit: u32) -> Result<(), WireFault
 /// On any line that keeps a record, what it puts is a beginning of the byte `limit` times, 7F, and
 /// the byte twice. It answers Ok at the first refusal of a single byte: after each of those before
 /// it one reply was asked for next, which was no NACK. Where it fails otherwise than by the line,
-/// the record ends as the fault says.
+/// the record ends as the fault says. One get waits long at most: the one for the reply to 7F.
 ///
 /// On a line that follows the model, from a device that is harmless for the byte and some pages and
-/// owes at most 4,096 bytes, with a limit of 131,047 or more, each moment leaves such a device,
-/// with the same chip, version and codes, the same flash outside these pages and the same journal;
-/// it answers Ok, and the device is then settled, or `Line`.
+/// owes at most 4,096 bytes, with a limit of as many bytes as it awaits or more, each moment leaves
+/// such a device, with the same chip, version and codes, the same flash outside these pages and the
+/// same journal; it answers Ok, and the device is then settled, or `Line`. A device whose pages are
+/// erased by numbers of one byte awaits 267 bytes at most, any other 131,047.
 ///
 /// # Errors
 /// `Line` where a call of the Rig failed, `Quiet` where 7F stayed without an answer, `Garbled`
@@ -194,10 +206,16 @@ pub fn settle<R: Rig>(rig: &mut R, byte: u8, limit: u32) -> Result<(), WireFault
     ensures cause { HasLineCause result (R.view rig.old) (R.view rig.new) }
     ensures calls { GoesOn (SettlesWithin byte limit)
         (R.view rig.old).calls (R.view rig.new).calls }
+    ensures waits { WaitsOnce (R.view rig.old).long_gets (R.view rig.new).long_gets }
     ensures settled { OnOk result
         (GoesOn (EndsSettled byte limit) (R.view rig.old).calls (R.view rig.new).calls) }
     ensures fails { IfErr result (FailsAs (EndsQuiet byte limit) (EndsGarbled byte limit)
         (R.view rig.old).calls (R.view rig.new).calls) }
+    ensures awaited { (R.view rig.old).is_honest
+        → bytes_awaited byte (R.view rig.old).device ≤ limit → (pages : List ℕ)
+        → Harmless (R.view rig.old).device byte pages
+        → length (R.view rig.old).device.owed ≤ 4096
+        → Settles byte pages (R.view rig.old).device result (R.view rig.old) (R.view rig.new) }
     ensures honest { (R.view rig.old).is_honest → 131047 ≤ limit → (pages : List ℕ)
         → Harmless (R.view rig.old).device byte pages
         → length (R.view rig.old).device.owed ≤ 4096

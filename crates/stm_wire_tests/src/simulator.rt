@@ -211,6 +211,19 @@ fn fails(rt: HostRuntime) -> Result<(), Fail> {
 }
 
 #[test]
+fn keeps_room_for_calls(rt: HostRuntime) -> Result<(), Fail> {
+    let mut rig = rig_of(rt.alloc(), EraseKind::Page, 0xFF)?;
+    rig.reserve_calls(3)?;
+    assert!(rt; rig.calls().is_empty());
+    rig.fail_put(1);
+    assert_eq!(rt; rig.put(0x7F), Err(RigFault::Line));
+    assert_eq!(rt; rig.get(Patience::Brief), Ok(None));
+    let made = [RigCall::Put(0x7F), RigCall::Get(None)];
+    assert_eq!(rt; rig.calls(), made.as_slice());
+    Ok(())
+}
+
+#[test]
 fn wants_the_flash_whole(rt: HostRuntime) -> Result<(), Fail> {
     let alloc = rt.alloc();
     let sizes = vec![in alloc; 1024; 32]?;

@@ -64,7 +64,9 @@ impl MemoryRig {
             let done = part(bytes, 0, self.left() as usize);
             self.stop();
             self.count_journal();
-            let _ = self.try_append(done, size);
+            if self.try_append(done, size).is_err() {
+                self.add_failed(RigCall::Append(size));
+            }
             return Err(RigFault::Stopped);
         }
         if !self.count_append() && self.try_append(bytes, size).is_ok() {
@@ -86,7 +88,7 @@ impl MemoryRig {
             self.fail_journal(RigCall::Fetch);
             return Err(RigFault::Stopped);
         }
-        if self.try_fetch().is_ok() {
+        if self.try_enter(RigCall::Fetch).is_ok() {
             return Ok(copy_from(self.journal(), at, buf));
         }
         self.fail_journal(RigCall::Fetch);

@@ -17,6 +17,10 @@ fn reserve_entry(calls: &mut Vec<RigCall>, past: &mut Vec<PastStep>) -> Result<(
     ensures past { past.new.items ≡ past.old.items }
     ensures room { OnOk result ((vec_len calls.new < vec_capacity calls.new)
         × (vec_len past.new < vec_capacity past.new)) }
+    ensures length { (vec_len calls.new ≡ vec_len calls.old)
+        × (vec_len past.new ≡ vec_len past.old) }
+    ensures kept { (vec_capacity calls.old ≤ vec_capacity calls.new)
+        × (vec_capacity past.old ≤ vec_capacity past.new) }
     ensures full { OnErr result ((vec_capacity calls.old ≤ vec_len calls.old)
         ⊎ (vec_capacity past.old ≤ vec_len past.old)) }
 {
@@ -37,28 +41,26 @@ fn keep_first(alloc: Global, first: &mut Option<Vec<u8>>, flash: &[u8]) -> Resul
     Ok(())
 }
 
-/// Enters a call that did nothing in the record: left out is none for which there is room.
-fn enter_failed(calls: &mut Vec<RigCall>, past: &mut Vec<PastStep>, call: RigCall)
-    ensures { let steps = past.old.items ++ PastStep.Nothing ∷ [] in
-        let entered = (calls.new.items ≡ calls.old.items ++ call ∷ [])
-        × (past.new.items ≡ steps) in
-        let left_out = (calls.new.items ≡ calls.old.items)
-        × (past.new.items ≡ past.old.items) in
-        entered ⊎ (left_out × ((vec_capacity calls.old ≤ vec_len calls.old)
-        ⊎ (vec_capacity past.old ≤ vec_len past.old))) }
-{
-    if reserve_entry(calls, past).is_ok() {
-        calls.push_reserved(call);
-        past.push_reserved(PastStep::Nothing);
-    }
-}
-
 impl MemoryRig {
-    /// Adds the entry of a call that did nothing, where there is memory for it.
+    /// Adds the entry of a call that did nothing, or changes nothing where there is no memory for it.
+    pub(super) fn try_enter(&mut self, call: RigCall) -> Result<(), AllocError>
+        ensures ok { OnOk result
+            (self.new ≡ with_call call PastStep.Nothing self.old.device self.old) }
+        ensures err { OnErr result ((self.new ≡ self.old) × (self.old.room ≡ 0)) }
+    {
+        reserve_entry(&mut self.calls, &mut self.past)?;
+        self.calls.push_reserved(call);
+        self.past.push_reserved(PastStep::Nothing);
+        self.room = self.room.saturating_sub(1);
+        Ok(())
+    }
+
+    /// Adds the entry of a call that failed and did nothing: left out is none for which there is
+    /// room.
     pub(super) fn add_failed(&mut self, call: RigCall)
         ensures { Fails call self.old self.new }
     {
-        enter_failed(&mut self.calls, &mut self.past, call);
+        let _ = self.try_enter(call);
     }
 
     /// Feeds a byte to the device, or changes nothing.
@@ -73,6 +75,7 @@ impl MemoryRig {
         self.simulator.feed(byte)?;
         self.calls.push_reserved(RigCall::Put(byte));
         self.past.push_reserved(PastStep::Fed(byte));
+        self.room = self.room.saturating_sub(1);
         Ok(())
     }
 
@@ -82,6 +85,7 @@ impl MemoryRig {
         ensures err { OnErr result (self.new ≡ self.old) }
     {
         reserve_entry(&mut self.calls, &mut self.past)?;
+        self.room = self.room.saturating_sub(1);
         match self.simulator.take() {
             Some(byte) => {
                 self.calls.push_reserved(RigCall::Get(Some(byte)));
@@ -106,18 +110,7 @@ impl MemoryRig {
         self.journal.extend_from_slice(bytes)?;
         self.calls.push_reserved(RigCall::Append(handed_in));
         self.past.push_reserved(PastStep::Added(bytes.len() as u64));
-        Ok(())
-    }
-
-    /// Adds the entry of a fetch, or changes nothing.
-    pub(super) fn try_fetch(&mut self) -> Result<(), AllocError>
-        ensures ok { OnOk result
-            (self.new ≡ with_call RigCall.Fetch PastStep.Nothing self.old.device self.old) }
-        ensures err { OnErr result (self.new ≡ self.old) }
-    {
-        reserve_entry(&mut self.calls, &mut self.past)?;
-        self.calls.push_reserved(RigCall::Fetch);
-        self.past.push_reserved(PastStep::Nothing);
+        self.room = self.room.saturating_sub(1);
         Ok(())
     }
 }

@@ -2,7 +2,8 @@
 // whole value.
 ghost use Rattle.std.specs.Prelude.{◌≡◌, length};
 ghost use Rattle.std.proofs.Common.{refl};
-ghost use Rattle.stm_wire.specs.Rig.{HasCause, Records, entry_of_get, PutsHonestly, GetsHonestly};
+ghost use Rattle.stm_wire.specs.Rig.{PutsAside, GetsAside, FetchesAside};
+ghost use Rattle.stm_wire.specs.Rig.{HasCause, Records, Enters, entry_of_get, PutsHonestly, GetsHonestly};
 ghost use Rattle.stm_wire.specs.Rig.{AppendsHonestly, FetchesHonestly, FetchesWithin};
 ghost use Rattle.stm_wire.specs.Memory.{rig_state, PutsInMemory, GetsInMemory};
 ghost use Rattle.stm_wire.specs.Memory.{AppendsInMemory, FetchesInMemory};
@@ -25,6 +26,8 @@ impl Rig for MemoryRig {
             ≡ (rig_state self.old).journal_failures }
         ensures recorded { Records (RigCall.Put byte) result
             (rig_state self.old).calls (rig_state self.new).calls }
+        ensures entered { Enters (RigCall.Put byte) (rig_state self.old) (rig_state self.new) }
+        ensures aside { PutsAside (rig_state self.old) (rig_state self.new) }
         ensures honest { (rig_state self.old).is_honest
             → PutsHonestly byte result (rig_state self.old) (rig_state self.new) }
         ensures simulated { PutsInMemory byte result self.old self.new }
@@ -32,13 +35,15 @@ impl Rig for MemoryRig {
         self.put_byte(byte)
     }
 
-    fn get(&mut self, _patience: Patience) -> Result<Option<u8>, RigFault>
+    fn get(&mut self, patience: Patience) -> Result<Option<u8>, RigFault>
         ensures cause { HasCause
             (rig_state self.old).line_failures (rig_state self.new).line_failures result }
         ensures journal_count { (rig_state self.new).journal_failures
             ≡ (rig_state self.old).journal_failures }
         ensures recorded { Records (entry_of_get result) result
             (rig_state self.old).calls (rig_state self.new).calls }
+        ensures entered { Enters (entry_of_get result) (rig_state self.old) (rig_state self.new) }
+        ensures aside { GetsAside patience (rig_state self.old) (rig_state self.new) }
         ensures honest { (rig_state self.old).is_honest
             → GetsHonestly result (rig_state self.old) (rig_state self.new) }
         ensures simulated { GetsInMemory result self.old self.new }
@@ -53,6 +58,8 @@ impl Rig for MemoryRig {
             ≡ (rig_state self.old).line_failures }
         ensures recorded { Records (RigCall.Append (length bytes.now)) result
             (rig_state self.old).calls (rig_state self.new).calls }
+        ensures entered { Enters (RigCall.Append (length bytes.now)) (rig_state self.old) (rig_state self.new) }
+        ensures aside { PutsAside (rig_state self.old) (rig_state self.new) }
         ensures honest { (rig_state self.old).is_honest
             → AppendsHonestly bytes.now result (rig_state self.old) (rig_state self.new) }
         ensures simulated { AppendsInMemory bytes.now result self.old self.new }
@@ -68,6 +75,8 @@ impl Rig for MemoryRig {
             ≡ (rig_state self.old).line_failures }
         ensures recorded { Records RigCall.Fetch result
             (rig_state self.old).calls (rig_state self.new).calls }
+        ensures entered { Enters RigCall.Fetch (rig_state self.old) (rig_state self.new) }
+        ensures aside { FetchesAside buf.new result (rig_state self.old) (rig_state self.new) }
         ensures honest { (rig_state self.old).is_honest
             → FetchesHonestly at buf.old buf.new result
             (rig_state self.old) (rig_state self.new) }

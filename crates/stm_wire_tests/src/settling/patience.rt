@@ -1,5 +1,5 @@
 // How long each get waits: the replies of a command may take as long as an erase, and a device that waits stays silent.
-ghost use Rattle.std.specs.Prelude.{◌^◌, ◌-◌};
+ghost use Rattle.std.specs.Prelude.{◌^◌, ◌-◌, Some};
 ghost use Rattle.stm_wire.specs.Unmodelled.{unmodelled};
 
 use crate::simulator::rig_of;
@@ -18,7 +18,7 @@ struct Watch {
     /// How many gets waited briefly,
     brief: u32,
     /// how many long,
-    long: u32,
+    long: u64,
     /// and how many of these came after 7F.
     long_after_connect: u32,
 }
@@ -35,7 +35,7 @@ impl Watch {
     }
 
     /// How many gets waited briefly, long, and long after 7F, since it was asked last.
-    fn waits(&mut self) -> (u32, u32, u32) {
+    fn waits(&mut self) -> (u32, u64, u32) {
         let waits = (self.brief, self.long, self.long_after_connect);
         self.brief = 0;
         self.long = 0;
@@ -45,7 +45,8 @@ impl Watch {
 }
 
 impl Rig for Watch {
-    ghost view = { λ watch. unmodelled (2 ^ 64 - 1) (2 ^ 64 - 1) };
+    ghost view = { λ watch.
+        record (unmodelled (2 ^ 64 - 1) (2 ^ 64 - 1)) { long_gets = Some watch.long } };
 
     ghost model = { λ watch honest. absurd honest };
 

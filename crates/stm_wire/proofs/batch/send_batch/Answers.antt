@@ -1,4 +1,4 @@
-use Rattle.std.proofs.Common.{rules, [], ◌≡◌, ◌+◌, ◌-◌, arith, refl, replicate}
+use Rattle.std.proofs.Common.{rules, [], ◌≡◌, ◌∙◌, ◌+◌, ◌-◌, arith, refl, replicate}
 use Rattle.std.proofs.lemmas.Result.{on_ok_weaker, IfOk-weaker}
 use Rattle.stm_wire.specs.declared.rig.RigCall.TheVariants.{Put}
 use Rattle.stm_wire.specs.Settling.{PutsAll}
@@ -16,6 +16,7 @@ loop-sent-init g c =
     let V = g.R.Rig.view in
     record {
       went = went_nowhere (V c.args.rig.now);
+      brief = refl;
       copies = goes_nowhere (λ zs. zs ≡ []) (V c.args.rig.now).calls refl;
       honest = λ h other pages start left two going.
           (keeps_start c.args.byte pages start (V c.args.rig.now) (g.met.R.Rig.model c.args.rig.now h) h going.settling, batch_first c.args.byte pages start left c.args.count (V c.args.rig.now).device going);
@@ -24,6 +25,7 @@ loop-sent-init g c =
 pub loop-sent-preserved : goal.loop-sent-preserved
 loop-sent-preserved g c =
     record {
+      brief = c.in_ok-put.ensures.aside.long_gets ∙ c.loop-sent.invariant.brief;
       went = (let V = g.R.Rig.view in
           let e = c.in_ok-put.ensures in
           let u : Unit {0} = tt in

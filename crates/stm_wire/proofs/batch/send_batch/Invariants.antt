@@ -10,6 +10,7 @@ use Rattle.stm_wire.proofs.batch.send_batch.Given as goal
 abbrev pub invariant-loop-sent : goal.invariant-loop-sent
 invariant-loop-sent g l = record {
   went : Went (replicate l._sent l.byte) l._sent (g.R.Rig.view l.fn.rig) (g.R.Rig.view l.rig);
+  brief : (g.R.Rig.view l.rig).long_gets ≡ (g.R.Rig.view l.fn.rig).long_gets;
   copies : GoesOn (λ zs. zs ≡ replicate l._sent (Put l.byte)) (g.R.Rig.view l.fn.rig).calls (g.R.Rig.view l.rig).calls;
   honest : (g.R.Rig.view l.fn.rig).is_honest → l.byte ≢ 0x7F → (pages : List ℕ) (start : Device) (left : ℕ) → 2 ≤ left
       → IsGoing l.byte pages start (left + l.count) (g.R.Rig.view l.fn.rig).device

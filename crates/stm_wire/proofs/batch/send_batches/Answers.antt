@@ -1,4 +1,4 @@
-use Rattle.std.proofs.Common.{rules, ◌≡◌, ◌≤◌, ◌<◌, ◌-◌, ◌+◌, ◌*◌, Bool, true, false, min, arith, subst, replicate}
+use Rattle.std.proofs.Common.{rules, ◌≡◌, ◌≤◌, ◌<◌, ◌-◌, ◌+◌, ◌*◌, Bool, true, false, min, arith, refl, ◌∙◌, subst, replicate}
 use Rattle.stm_wire.specs.Dialogue.{GoesOn}
 use Rattle.stm_wire.specs.Settling.{PutsAll}
 use Rattle.stm_wire.specs.SettlingCalls.{IsBatch, Floods, Never}
@@ -30,6 +30,7 @@ loop-left-init g c =
     let V = g.R.Rig.view in
     record {
       within = omega arith;
+      brief = refl;
       went = batches_nowhere c.args.byte c.args.limit (V c.args.rig.now);
       batches = no_batches c.args.byte c.args.limit (V c.args.rig.now).calls;
       honest = λ h pages start going. (keeps_start c.args.byte pages start (V c.args.rig.now) (g.met.R.Rig.model c.args.rig.now h) h going.settling, going);
@@ -52,6 +53,7 @@ loop-left-preserved g c =
     let none = subst (λ (t : Bool). GoesOn (IsBatch c.args.byte count t) b.calls d.calls) c.if-branch.false e.batch in
     record {
       within = omega (arith, i.within);
+      brief = e.brief ∙ i.brief;
       went = batches_went_on c.args.byte c.args.limit left count a b d some (omega arith) i.within i.went (speaks_went (replicate count c.args.byte) (count + 4097) c.in_ok-send_batch.field-0 b d e.speaks);
       batches = batches_more c.args.byte c.args.limit left count false a.calls b.calls d.calls more is i.batches none;
       honest = λ h pages start going.

@@ -16,6 +16,7 @@ loop-taken-init g c =
     let V = g.R.Rig.view in
     record {
       went = went_nowhere (V c.args.rig.now);
+      brief = refl;
       took = took_nothing (V c.args.rig.now).calls;
       honest = λ h. h;
       taken = λ h. record { within = omega arith; is = refl };
@@ -34,6 +35,7 @@ loop-taken-preserved g c =
     let d = V c.get.new.self in
     let seen : (c.loop-taken.seen || eqb byte nack) ≡ c.if-seen.seen = elim c.if-seen.branch [ then-seen w ↦ ap (λ t. t || eqb byte nack) w.if-seen.true ∙ sym w.if-seen.true ∙ sym w.seen-is | else-seen w ↦ ap (λ t. t || eqb byte nack) w.if-seen.false ∙ sym w.seen-is ] in
     record {
+      brief = e.aside.long_gets ∙ i.brief;
       went = went_then [] [] n 1 a b d i.went (went_get c.in_ok-get.field-0 b d e.cause e.journal_count e.recorded);
       took = subst (λ (t : Bool). GoesOn (TookSoFar (n + 1) t) a.calls d.calls) seen
           (took_more n c.loop-taken.seen byte a.calls b.calls d.calls i.took (adds_get c.in_ok-get.field-0 (Some byte) b.calls d.calls c.in-Some.is e.recorded));

@@ -1,4 +1,4 @@
-use Rattle.std.proofs.Common.{rules, ◌≡◌, ◌+◌, ◌-◌, ◌*◌, arith, subst, Result, Err, Bool, ℕ, [], ◌∷◌, replicate}
+use Rattle.std.proofs.Common.{rules, ◌≡◌, ◌+◌, ◌-◌, ◌*◌, arith, refl, ◌∙◌, subst, Result, Err, Bool, ℕ, [], ◌∷◌, replicate}
 use Rattle.stm_wire.specs.declared.fault.WireFault.{WireFault}
 use Rattle.stm_wire.specs.Dialogue.{GoesOn}
 use Rattle.stm_wire.specs.SentList.{settling_run}
@@ -21,6 +21,7 @@ loop-sent-init g c =
     let V = g.R.Rig.view in
     record {
       went = went_nowhere (V c.args.rig.now);
+      brief = refl;
       unrefused = unrefused_nowhere c.args.byte (V c.args.rig.now).calls;
       honest = λ h pages start going. (
         keeps_start c.args.byte pages start (V c.args.rig.now) (g.met.R.Rig.model c.args.rig.now h) h going.settling,
@@ -62,6 +63,7 @@ returns-then-branch-clause-honest g c h pages start going =
 pub loop-sent-preserved : goal.loop-sent-preserved
 loop-sent-preserved g c =
     record {
+      brief = c.in_ok-send_once.ensures.brief ∙ c.loop-sent.invariant.brief;
       went = (let V = g.R.Rig.view in
           went_more c.args.byte c.loop-sent._sent (V c.args.rig.now) (V c.loop-sent.rig) (V c.send_once.new.rig) c.loop-sent.invariant.went
           (speaks_went (c.args.byte ∷ []) 4099 c.in_ok-send_once.field-0 (V c.loop-sent.rig) (V c.send_once.new.rig) c.in_ok-send_once.ensures.speaks));

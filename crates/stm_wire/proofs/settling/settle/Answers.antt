@@ -4,6 +4,7 @@ use Rattle.stm_wire.specs.declared.fault.WireFault.{WireFault}
 use Rattle.stm_wire.specs.SentList.{settling_run}
 use Rattle.stm_wire.specs.Settling.{PutsAll}
 use Rattle.stm_wire.specs.SettlingCalls.{EndsQuiet, EndsGarbled, IsUnanswered, Floods, Never}
+use Rattle.stm_wire.proofs.Awaited.{awaited_most}
 use Rattle.stm_wire.proofs.Keeping.{keeps_then, settling_start, going_drained}
 use Rattle.stm_wire.proofs.SettlingCalls.{settled_calls}
 use Rattle.stm_wire.proofs.SettlingFaults.{fails_on, fails_all_weaker, never_so, never_after, floods_after, garbled_flood, garbled_after, past_after}
@@ -64,8 +65,15 @@ returns-in_err-left-clause-fails g c =
     (λ p. never_after before (EndsQuiet byte limit) a b d drained p) (λ p. garbled_flood byte limit a d (floods_after before a b d drained p))
     c.in_err-left.ensures.fails c.from_residual-in_err-left.ensures.1
 
-pub returns-in_err-left-clause-honest : goal.returns-in_err-left-clause-honest
-returns-in_err-left-clause-honest g c h many pages harmless few =
+pub returns-in_err-drain-clause-awaited : goal.returns-in_err-drain-clause-awaited
+returns-in_err-drain-clause-awaited g c h many pages harmless few =
+    let a = g.R.Rig.view c.args.rig.now in
+    let k = c.drain.ensures.keeps h c.args.byte pages a.device (settling_start c.args.byte pages a.device harmless few) in
+    let line = c.in_err-drain.ensures.line h in
+    record { keeps = k; ok = search rules; fails = search (rules, line) }
+
+pub returns-in_err-left-clause-awaited : goal.returns-in_err-left-clause-awaited
+returns-in_err-left-clause-awaited g c h many pages harmless few =
     let V = g.R.Rig.view in
     let a = V c.args.rig.now in
     let b = V c.drain.new.rig in
@@ -133,8 +141,8 @@ returns-clause-fails g c =
     (λ p. garbled_after byte (limit - left) left limit most a d e all before p)
     c.send_bytes.ensures.fails
 
-pub returns-clause-honest : goal.returns-clause-honest
-returns-clause-honest g c h many pages harmless few =
+pub returns-clause-awaited : goal.returns-clause-awaited
+returns-clause-awaited g c h many pages harmless few =
     let V = g.R.Rig.view in
     let a = V c.args.rig.now in
     let b = V c.drain.new.rig in
@@ -147,3 +155,13 @@ returns-clause-honest g c h many pages harmless few =
     let md = g.met.R.Rig.model c.send_batches.new.rig two.honest in
     let m = c.send_bytes.ensures.honest two.honest pages a.device l.ok in
     record { keeps = keeps_then c.args.byte pages a.device a d (V c.send_bytes.new.rig) md two m.keeps; ok = m.ok; fails = m.fails }
+
+pub returns-in_err-left-clause-honest : goal.returns-in_err-left-clause-honest
+returns-in_err-left-clause-honest g c h many pages harmless few =
+    let most = awaited_most c.args.byte (g.R.Rig.view c.args.rig.now).device in
+    returns-in_err-left-clause-awaited g c h (omega (arith, most, many)) pages harmless few
+
+pub returns-clause-honest : goal.returns-clause-honest
+returns-clause-honest g c h many pages harmless few =
+    let most = awaited_most c.args.byte (g.R.Rig.view c.args.rig.now).device in
+    returns-clause-awaited g c h (omega (arith, most, many)) pages harmless few

@@ -1,4 +1,4 @@
-use Rattle.std.proofs.Common.{rules, ◌≡◌, List, [], ◌∷◌, None, refl, sym, ◌∙◌, ap, subst}
+use Rattle.std.proofs.Common.{rules, arith, ◌≡◌, List, [], ◌∷◌, None, refl, sym, ◌∙◌, ap, subst}
 use Rattle.stm_wire.specs.declared.past.PastStep.{PastStep}
 use Rattle.stm_wire.specs.Chip.{page_size}
 use Rattle.stm_wire.specs.Device.{Device}
@@ -14,14 +14,17 @@ invariant_of-self c =
     let steps : List PastStep = c.clear.new.self.items in
     let none : steps ≡ [] = c.clear.ensures.items in
     let First : Device → Type 0 = λ d. d ≡ replay [] (first_device None d) in
-    let Replayed : List PastStep → Type 0 = λ past. new ≡ replay past (first_device None new) in
-    record {
-      is_device = c.lose_power.ensures.device;
-      places = search rules;
-      replayed = subst Replayed (sym none) (subst First (sym c.lose_power.ensures.lost) refl);
-      added = search rules;
-      limit = c.self.invariant.limit;
-    }
+    let Replayed : List PastStep → Type 0 = λ past. new ≡ replay past (first_device None new) in (
+      record {
+        is_device = c.lose_power.ensures.device;
+        places = search rules;
+        replayed = subst Replayed (sym none) (subst First (sym c.lose_power.ensures.lost) refl);
+        added = search rules;
+        limit = c.self.invariant.0.limit;
+      },
+      omega arith,
+      omega arith,
+    )
 
 pub returns-clause-outside : goal.returns-clause-outside
 returns-clause-outside c =
@@ -32,7 +35,7 @@ returns-clause-outside c =
     let New : Device → Type 0 = λ d. SameOutside c.args.self.now.device.chip (n ∷ []) c.args.self.now.device.flash d.flash in
     let Old : Device → Type 0 = λ d. SameOutside d.chip (n ∷ []) d.flash (powered_again n page old).flash in
     subst New (sym c.lose_power.ensures.lost)
-    (subst Old (sym at) (powered-outside n page old c.self.invariant.is_device (c.requires.size ∙ ap (λ (d : Device). page_size d.chip n) at)))
+    (subst Old (sym at) (powered-outside n page old c.self.invariant.0.is_device (c.requires.size ∙ ap (λ (d : Device). page_size d.chip n) at)))
 
 pub returns-clause-honest : goal.returns-clause-honest
-returns-clause-honest c = λ old. invariant_of-self c
+returns-clause-honest c = λ old. (invariant_of-self c).0
