@@ -28,3 +28,4 @@ mod Kepts
 mod Pairs
 mod FirstLF
 mod PageReads
+mod Bringing

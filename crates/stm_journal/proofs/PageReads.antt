@@ -68,12 +68,16 @@ take-further (suc at) n (x ∷ xs) =
     let e : suc at + n ≡ suc (at + n) = omega arith in
     ap (λ (ys : List ℕ). x ∷ ys) (take-further at n xs) ∙ sym (ap (λ (k : ℕ). take k (x ∷ xs)) e)
 
+pub filled-behind : (done n : ℕ) (buf part post : List ℕ) → done ≤ length buf → n ≤ length part → take (done + n) (take done buf ++ (part ++ post)) ≡ take done buf ++ take n part
+filled-behind done n buf part post within fits =
+    let size : length (take done buf) ≡ done = length-take-le done buf within in
+    take-behind (take done buf) (part ++ post) n (done + n) (omega (arith, size)) ∙ ap (λ (xs : List ℕ). take done buf ++ xs) (take-append-le n part post fits)
+
 pub filled-further : (done n : ℕ) (buf part post src : List ℕ) → done ≤ length buf → n ≤ length part → take done buf ≡ take done src → take n part ≡ take n (drop done src)
     → take (done + n) (take done buf ++ (part ++ post)) ≡ take (done + n) src
 filled-further done n buf part post src within fits front back =
-    let size : length (take done buf) ≡ done = length-take-le done buf within in
-    take-behind (take done buf) (part ++ post) n (done + n) (omega (arith, size))
-    ∙ ap (λ (xs : List ℕ). take done buf ++ xs) (take-append-le n part post fits ∙ back)
+    filled-behind done n buf part post within fits
+    ∙ ap (λ (xs : List ℕ). take done buf ++ xs) back
     ∙ ap (λ (xs : List ℕ). xs ++ take n (drop done src)) front
     ∙ take-further done n src
 

@@ -1,5 +1,5 @@
 -- Reading the digits of a page from an honest Rig's journal.
-use Rattle.std.specs.Prelude.{◌≡◌, ℕ, ◌+◌, ◌*◌, ◌≤◌, Bool, true, List, length, Result, Ok, Err}
+use Rattle.std.specs.Prelude.{◌≡◌, ℕ, ◌+◌, ◌*◌, ◌≤◌, Bool, true, List, ◌++◌, length, Option, Some, None, Result, Ok, Err}
 use Rattle.std.specs.List.{list_all}
 use Rattle.hex.specs.Hex.{decode_sized}
 use Rattle.stm_wire.specs.Rig.{RigState}
@@ -10,6 +10,11 @@ use Rattle.stm_journal.specs.declared.fault.JournalFault.TheVariants.{File}
 use Rattle.stm_journal.specs.Entries.{is_upper_digit}
 use Rattle.stm_journal.specs.Places.{cut}
 use Rattle.stm_journal.specs.Calls.{IsUntouched}
+
+-- fetches brought these bytes, one after another, where the Rig keeps what they bring
+abbrev pub Brings : List ℕ → Option (List ℕ) → Option (List ℕ) → Type 0
+Brings bytes None new = new ≡ None
+Brings bytes (Some past) new = new ≡ Some (past ++ bytes)
 
 -- nothing was changed
 pub record Looks (old new : RigState) : Type 0 where

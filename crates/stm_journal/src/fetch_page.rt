@@ -1,13 +1,13 @@
 // The bytes of a kept page, read from the journal.
 ghost use Rattle.std.specs.Prelude.{◌≡◌, ◌+◌, ◌*◌, ◌<◌, ◌≤◌, true, length, take, drop, List, ℕ, Ok, Some, IfOk, IfErr, OnOk};
 ghost use Rattle.std.specs.List.{list_all};
-ghost use Rattle.hex.specs.Hex.{decode_sized};
+ghost use Rattle.hex.specs.Hex.{decode_sized, encode_upper};
 ghost use Rattle.stm_wire.specs.Dialogue.{GoesOn};
 ghost use Rattle.stm_journal.specs.Entries.{is_upper_digit, hex_bytes_of};
 ghost use Rattle.stm_journal.specs.KeptPlaces.{IsPlaceIn};
 ghost use Rattle.stm_journal.specs.Places.{cut};
 ghost use Rattle.stm_journal.specs.Journals.{IsLoaded};
-ghost use Rattle.stm_journal.specs.PageFetching.{FillsFrom, FetchesBytes, SaysAt};
+ghost use Rattle.stm_journal.specs.PageFetching.{Brings, FillsFrom, FetchesBytes, SaysAt};
 ghost use Rattle.stm_journal.specs.Calls.{HasJournalCause, AreFetches, IsFetchAnswer, FetchesPage};
 
 use crate::line::are_all_upper;
@@ -24,6 +24,8 @@ fn fill<R: Rig>(rig: &mut R, at: u64, buf: &mut [u8]) -> Result<bool, JournalFau
     ensures answers { IfErr result (λ e. e ≡ JournalFault.File) }
     ensures cause { HasJournalCause (R.view rig.old) (R.view rig.new) result }
     ensures calls { GoesOn AreFetches (R.view rig.old).calls (R.view rig.new).calls }
+    ensures told { IfOk result (λ full. full ≡ true
+        → Brings buf.new (R.view rig.old).told (R.view rig.new).told) }
     ensures honest { let old = R.view rig.old in let new = R.view rig.new in
         old.is_honest → at + length buf.old ≤ length old.journal
         → FillsFrom at buf.old buf.new old new result }
@@ -41,9 +43,10 @@ fn fill<R: Rig>(rig: &mut R, at: u64, buf: &mut [u8]) -> Result<bool, JournalFau
 
 /// The bytes of upper-case digits, two a byte, where they are such and so many.
 fn decode_upper(digits: &[u8], out: &mut [u8]) -> bool
-    ensures { (bytes : List ℕ) → list_all is_upper_digit digits.now ≡ true
+    ensures decoded { (bytes : List ℕ) → list_all is_upper_digit digits.now ≡ true
         → decode_sized digits.now (length out.old) ≡ Ok bytes
         → (result ≡ true) × (out.new ≡ bytes) }
+    ensures said { result ≡ true → digits.now ≡ encode_upper out.new }
 {
     are_all_upper(digits) && hex::decode_to_slice(digits, out).is_ok()
 }
@@ -54,6 +57,8 @@ fn fetch_piece<R: Rig>(rig: &mut R, at: u64, line: u64, out: &mut [u8]) -> Resul
     ensures answers { IfErr result (IsFetchAnswer line) }
     ensures cause { HasJournalCause (R.view rig.old) (R.view rig.new) result }
     ensures calls { GoesOn AreFetches (R.view rig.old).calls (R.view rig.new).calls }
+    ensures told { OnOk result
+        (Brings (encode_upper out.new) (R.view rig.old).told (R.view rig.new).told) }
     ensures honest { let old = R.view rig.old in let new = R.view rig.new in
         old.is_honest → (bytes : List ℕ) → length bytes ≡ length out.old
         → SaysAt at bytes old.journal → FetchesBytes bytes out.new old new result }
@@ -73,6 +78,8 @@ fn fetch_digits<R: Rig>(rig: &mut R, place: PagePlace, buf: &mut [u8]) -> Result
     ensures answers { IfErr result (IsFetchAnswer place.line) }
     ensures cause { HasJournalCause (R.view rig.old) (R.view rig.new) result }
     ensures calls { GoesOn AreFetches (R.view rig.old).calls (R.view rig.new).calls }
+    ensures told { OnOk result
+        (Brings (encode_upper buf.new) (R.view rig.old).told (R.view rig.new).told) }
     ensures honest { (R.view rig.old).is_honest → (page : List ℕ) → length page ≡ place.length
         → place.at + 2 * place.length ≤ length (R.view rig.old).journal
         → hex_bytes_of (cut place.at (2 * place.length) (R.view rig.old).journal) ≡ Some page
@@ -92,7 +99,8 @@ fn fetch_digits<R: Rig>(rig: &mut R, place: PagePlace, buf: &mut [u8]) -> Result
 impl Journal {
     /// Reads the bytes of a kept page, whose place came from `page` or `kept_place`, into a buffer of its length.
     ///
-    /// The digits are read in pieces of at most 512, and decoded; no memory is taken. `File` comes only where the Rig's
+    /// The digits are read in pieces of at most 512, and decoded; no memory is taken. On any Rig it answers Ok only where
+    /// what the fetches brought is just the bytes' digits, upper-case and two a byte. `File` comes only where the Rig's
     /// count of journal failures rose. `Bad` with the page's line says that no such digits stand there any more, which
     /// never happens on an honest Rig. Nothing is added; after a fault the buffer may hold anything.
     pub fn fetch_page<R: Rig>(
@@ -106,6 +114,8 @@ impl Journal {
         ensures answers { IfErr result (IsFetchAnswer place.line) }
         ensures cause { HasJournalCause (R.view rig.old) (R.view rig.new) result }
         ensures calls { GoesOn AreFetches (R.view rig.old).calls (R.view rig.new).calls }
+        ensures told { OnOk result
+            (Brings (encode_upper buf.new) (R.view rig.old).told (R.view rig.new).told) }
         ensures honest { (R.view rig.old).is_honest → IsLoaded self.now (R.view rig.old).journal
             → FetchesPage place buf.new (R.view rig.old) (R.view rig.new) result }
     {

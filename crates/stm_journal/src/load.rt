@@ -1,9 +1,10 @@
 // Reading the journal of a Rig.
-ghost use Rattle.std.specs.Prelude.{◌≡◌, ◌⊎◌, ◌+◌, ◌-◌, ◌^◌, ◌<◌, ◌≤◌, ◌∷◌, ◌++◌, [], ℕ, List, Result, ◌==◌, position, OnOk, IfOk, IfErr, length};
+ghost use Rattle.std.specs.Prelude.{◌≡◌, ◌⊎◌, ◌+◌, ◌-◌, ◌^◌, ◌<◌, ◌≤◌, ◌∷◌, ◌++◌, [], ℕ, List, Result, ◌==◌, position, OnOk, IfOk, IfErr, length, take};
 ghost use Rattle.stm_wire.specs.Dialogue.{GoesOn};
 ghost use Rattle.stm_journal.specs.Journals.{Loaded, IsLoaded, capped};
 ghost use Rattle.stm_journal.specs.Text.{HasNoLF};
 ghost use Rattle.stm_journal.specs.Loading.{IsRead, IsLoadFault, TakesBytes, Fetches};
+ghost use Rattle.stm_journal.specs.PageFetching.{Brings};
 ghost use Rattle.stm_journal.specs.Calls.{HasJournalCause, AreFetches, IsLoadAnswer, Loads};
 
 use crate::summary::LineSummary;
@@ -116,6 +117,8 @@ pub(crate) fn fetch<R: Rig>(rig: &mut R, at: u64, buf: &mut [u8]) -> Result<usiz
     ensures cause { HasJournalCause (R.view rig.old) (R.view rig.new) result }
     ensures calls { GoesOn AreFetches (R.view rig.old).calls (R.view rig.new).calls }
     ensures answers { IfErr result (λ e. e ≡ JournalFault.File) }
+    ensures told { IfOk result
+        (λ n. Brings (take n buf.new) (R.view rig.old).told (R.view rig.new).told) }
     ensures honest { let old = R.view rig.old in let new = R.view rig.new in
         old.is_honest → Fetches at buf.old buf.new old new result }
 {

@@ -1,10 +1,12 @@
-use Rattle.std.proofs.Common.{◌≡◌, ◌+◌, ◌-◌, ◌*◌, ◌≤◌, ◌∙◌, ℕ, List, length, take, drop, ap, subst, sym, arith, length-drop, take_all}
+use Rattle.std.proofs.Common.{rules, [], ◌≡◌, ◌+◌, ◌-◌, ◌*◌, ◌≤◌, ◌∙◌, ◌++◌, ℕ, List, length, take, drop, ap, subst, sym, arith, length-drop, take_all}
 use borrow.Rule.Slice.PartMut.{post_of, same_len_mid}
 use Rattle.std.proofs.lemmas.List.{length-take-le}
 use Rattle.std.proofs.lemmas.Result.{err_from_is_err_and}
+use Rattle.hex.specs.Hex.{encode_upper}
 use Rattle.stm_journal.specs.PageFetching.{SaysAt}
 use Rattle.stm_journal.proofs.Fetching.{GoesOn-fetches}
-use Rattle.stm_journal.proofs.PageReads.{looks-more, looks-vain, filled-further, says-piece}
+use Rattle.stm_journal.proofs.PageReads.{looks-more, looks-vain, filled-behind, filled-further, says-piece}
+use Rattle.stm_journal.proofs.Bringing.{brings-more, brings-none, brings-same, encode-append, encode-none}
 use Rattle.stm_journal.proofs.fetch_page.fetch_digits.Goals as goal
 
 pub returns-in_err-fetch_piece-clause-calls : goal.returns-in_err-fetch_piece-clause-calls
@@ -37,6 +39,18 @@ returns-in_err-fetch_piece-clause-honest g c = λ honest page size room is.
     let p = err_from_is_err_and c.from_residual.result c.from_residual.ensures.1 in
     rw (p.1, p.2) (got.0, looks-vain a b d has.0 got.1)
 
+pub loop-done-init : goal.loop-done-init
+loop-done-init g c =
+    let told = (g.R.Rig.view c.args.rig.now).told in
+    record {
+      within = search rules;
+      size = search rules;
+      cause = search rules;
+      calls = search rules;
+      told = brings-same [] (encode_upper []) told told (sym encode-none) (brings-none told);
+      read = search rules;
+    }
+
 pub loop-done-preserved : goal.loop-done-preserved
 loop-done-preserved g c =
     let V = g.R.Rig.view in
@@ -63,6 +77,12 @@ loop-done-preserved g c =
         line_count = c.in_ok-fetch_piece.ensures.cause.line_count ∙ c.loop-done.invariant.cause.line_count;
       };
       calls = GoesOn-fetches a.calls b.calls d.calls c.loop-done.invariant.calls c.in_ok-fetch_piece.ensures.calls;
+      told =
+          let long : count ≤ length out = omega (arith, c.fetch_piece.auto.out, slot, same_k) in
+          let few : length out ≤ count = omega (arith, c.fetch_piece.auto.out, slot, same_k) in
+          let whole = filled-behind done count buf out (post_of done k buf) c.loop-done.invariant.within long ∙ ap (λ (xs : List ℕ). take done buf ++ xs) (take_all count out few) in
+          brings-more (encode_upper (take done buf)) (encode_upper out) _ a.told b.told d.told
+          (ap (λ (xs : List ℕ). encode_upper xs) whole ∙ encode-append (take done buf) out) c.loop-done.invariant.told c.in_ok-fetch_piece.ensures.told;
       read = λ honest page size room is.
           let has = c.loop-done.invariant.read honest page size room is in
           let model = g.met.R.Rig.model c.args.rig.now honest in

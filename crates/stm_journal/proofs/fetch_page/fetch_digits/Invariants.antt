@@ -1,9 +1,10 @@
 use Rattle.std.proofs.Common.{◌≡◌, ◌+◌, ◌-◌, ◌*◌, ◌≤◌, List, ℕ, length, take, Some, Ok}
+use Rattle.hex.specs.Hex.{encode_upper}
 use Rattle.stm_wire.specs.Dialogue.{GoesOn}
 use Rattle.stm_journal.specs.Entries.{hex_bytes_of}
 use Rattle.stm_journal.specs.Places.{cut}
 use Rattle.stm_journal.specs.Calls.{HasJournalCause, AreFetches}
-use Rattle.stm_journal.specs.PageFetching.{Looks}
+use Rattle.stm_journal.specs.PageFetching.{Brings, Looks}
 use Rattle.stm_journal.proofs.fetch_page.fetch_digits.Given as goal
 
 abbrev pub invariant-loop-done : goal.invariant-loop-done
@@ -12,6 +13,7 @@ invariant-loop-done g l = record {
   size : length l.buf ≡ l.place.length;
   cause : HasJournalCause {T = Unit {0}} (g.R.Rig.view l.fn.rig) (g.R.Rig.view l.rig) (Ok tt);
   calls : GoesOn AreFetches (g.R.Rig.view l.fn.rig).calls (g.R.Rig.view l.rig).calls;
+  told : Brings (encode_upper (take l.done l.buf)) (g.R.Rig.view l.fn.rig).told (g.R.Rig.view l.rig).told;
   read : (g.R.Rig.view l.fn.rig).is_honest → (page : List ℕ) → length page ≡ l.place.length
       → l.place.at + 2 * l.place.length ≤ length (g.R.Rig.view l.fn.rig).journal
       → hex_bytes_of (cut l.place.at (2 * l.place.length) (g.R.Rig.view l.fn.rig).journal) ≡ Some page

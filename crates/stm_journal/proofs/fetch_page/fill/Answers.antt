@@ -1,9 +1,10 @@
-use Rattle.std.proofs.Common.{◌≡◌, ◌+◌, ◌-◌, ◌≤◌, ◌∙◌, ℕ, List, length, take, drop, ap, subst, sym, arith, Ok, length-drop}
+use Rattle.std.proofs.Common.{◌≡◌, ◌+◌, ◌-◌, ◌≤◌, ◌∙◌, ◌++◌, ℕ, List, length, take, drop, ap, subst, sym, arith, Ok, length-drop}
 use borrow.Rule.Slice.PartMut.{post_of, same_len_mid}
 use Rattle.std.proofs.lemmas.List.{drop-drop, length-take-le}
 use Rattle.stm_journal.specs.Loading.{Fetches}
 use Rattle.stm_journal.proofs.Fetching.{GoesOn-fetches}
-use Rattle.stm_journal.proofs.PageReads.{looks-more, fetched-looks, filled-further}
+use Rattle.stm_journal.proofs.PageReads.{looks-more, fetched-looks, filled-behind, filled-further}
+use Rattle.stm_journal.proofs.Bringing.{brings-more, brings-none, brings-same}
 use Rattle.stm_journal.proofs.fetch_page.fill.Goals as goal
 
 pub returns-in_err-n-clause-calls : goal.returns-in_err-n-clause-calls
@@ -41,6 +42,9 @@ loop-done-preserved g c =
         line_count = c.in_ok-n.ensures.cause.line_count ∙ c.loop-done.invariant.cause.line_count;
       };
       calls = GoesOn-fetches a.calls b.calls d.calls c.loop-done.invariant.calls c.in_ok-n.ensures.calls;
+      told =
+          brings-more (take done buf) (take n part) (take (done + n) (take done buf ++ (part ++ post_of done k buf))) a.told b.told d.told
+          (filled-behind done n buf part (post_of done k buf) c.loop-done.invariant.within fits) c.loop-done.invariant.told c.in_ok-n.ensures.told;
       read = λ honest room.
           let has = c.loop-done.invariant.read honest room in
           let model = g.met.R.Rig.model c.args.rig.now honest in

@@ -1,7 +1,7 @@
 use Rattle.std.proofs.Common.{◌≡◌, ◌+◌, ◌-◌, ◌≤◌, length, take, drop, Ok}
 use Rattle.stm_wire.specs.Dialogue.{GoesOn}
 use Rattle.stm_journal.specs.Calls.{HasJournalCause, AreFetches}
-use Rattle.stm_journal.specs.PageFetching.{Looks}
+use Rattle.stm_journal.specs.PageFetching.{Brings, Looks}
 use Rattle.stm_journal.proofs.fetch_page.fill.Given as goal
 
 abbrev pub invariant-loop-done : goal.invariant-loop-done
@@ -10,6 +10,7 @@ invariant-loop-done g l = record {
   size : length l.buf ≡ length l.fn.buf;
   cause : HasJournalCause {T = Unit {0}} (g.R.Rig.view l.fn.rig) (g.R.Rig.view l.rig) (Ok tt);
   calls : GoesOn AreFetches (g.R.Rig.view l.fn.rig).calls (g.R.Rig.view l.rig).calls;
+  told : Brings (take l.done l.buf) (g.R.Rig.view l.fn.rig).told (g.R.Rig.view l.rig).told;
   read : (g.R.Rig.view l.fn.rig).is_honest → l.at + length l.fn.buf ≤ length (g.R.Rig.view l.fn.rig).journal
       → Looks (g.R.Rig.view l.fn.rig) (g.R.Rig.view l.rig) × (take l.done l.buf ≡ take l.done (drop l.at (g.R.Rig.view l.fn.rig).journal));
 }

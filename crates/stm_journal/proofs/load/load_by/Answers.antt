@@ -1,7 +1,7 @@
-use Rattle.std.proofs.Common.{◌<◌, ◌≤◌, ℕ, ◌∙◌, subst, arith, length, take, Ok, refl}
+use Rattle.std.proofs.Common.{◌≡◌, ◌<◌, ◌≤◌, ℕ, ◌∙◌, subst, arith, length, take, Ok, refl}
 use Rattle.std.proofs.lemmas.Result.{err_from_is_err_and}
 use Rattle.stm_journal.specs.Loading.{Fetches}
-use Rattle.stm_journal.proofs.Fetching.{GoesOn-fetches, HasRead-more, Loads-stopped, short-read}
+use Rattle.stm_journal.proofs.Fetching.{GoesOn-fetches, HasRead-more, Loads-done, Loads-stopped, short-read}
 use Rattle.stm_journal.proofs.load.load_by.Goals as goal
 
 pub returns-in_err-n-clause-calls : goal.returns-in_err-n-clause-calls
@@ -68,3 +68,20 @@ loop-loader-preserved g c =
       some = omega (arith, c.loop-loader.invariant.some, c.fetch.auto.buf);
       few = omega (arith, c.loop-loader.invariant.few, c.fetch.auto.buf);
     }
+
+pub returns-then-n-eq0-clause-honest : goal.returns-then-n-eq0-clause-honest
+returns-then-n-eq0-clause-honest g c = λ honest.
+    let V = g.R.Rig.view in
+    let l = c.loop-loader.loader.journal in
+    let tail = c.loop-loader.loader.tail in
+    let n = c.in_ok-n.n in
+    let before = c.loop-loader.buf in
+    let after = c.fetch.new.buf in
+    let a = V c.args.rig.now in
+    let b = V c.loop-loader.rig in
+    let d = V c.fetch.new.rig in
+    let has = c.loop-loader.invariant.read honest in
+    let F : ℕ → Type 0 = λ at. Fetches at before after b d (Ok n) in
+    let got = subst F c.size.ensures (c.in_ok-n.ensures.honest has.honest) in
+    let none : n ≡ 0 = omega (arith, c.if-n-eq0.true) in
+    Loads-done l c.finish.result tail n before after a b d has got c.loop-loader.invariant.some none (c.finish.ensures (take l.size a.journal) has.read)
