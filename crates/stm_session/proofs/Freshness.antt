@@ -3,42 +3,65 @@ use Rattle.std.proofs.Common.{◌≡◌, ◌≤◌, ◌&&◌, ℕ, zero, suc, Bo
 use Rattle.std.specs.Prelude.{is_some}
 use Rattle.std.proofs.Math.Seq.{take-nil}
 use Rattle.std.proofs.lemmas.Bool.{false≢true}
+use Rattle.stm_wire.specs.declared.chip.EraseKind.{EraseKind}
+use Rattle.stm_wire.specs.declared.chip.EraseKind.TheVariants.{Page, Extended}
 use Rattle.stm_wire.specs.declared.intent.Intent.{Intent}
 use Rattle.stm_wire.specs.declared.rig.RigCall.{RigCall}
 use Rattle.stm_wire.specs.Command.{with_rest}
-use Rattle.stm_wire.specs.Device.{Device, IsSettled}
+use Rattle.stm_wire.specs.Chip.{ChipData}
+use Rattle.stm_wire.specs.Device.{Device, IsDevice, IsSettled}
 use Rattle.stm_wire.specs.Dialogue.{GoesOn}
 use Rattle.stm_wire.specs.DialogueLaws.{GoesOn-weaker}
 use Rattle.stm_wire.specs.Harmless.{Harmless}
 use Rattle.stm_wire.specs.Intents.{settling_byte}
 use Rattle.stm_wire.specs.SentList.{IsSettlingRun}
-use Rattle.stm_wire.specs.Settling.{IsSettling, PutsPart, SettlesWithin}
-use Rattle.stm_session.specs.Fresh.{Connects, Settles, undo_way}
+use Rattle.stm_wire.specs.Settling.{IsSettling, PutsPart, SettlesWithin, bytes_awaited, most_awaited}
+use Rattle.stm_wire.specs.Rig.{RigState}
+use Rattle.stm_journal.specs.States.{intent_of}
+use Rattle.stm_session.specs.Fresh.{Connects, Settles, settling_limit, undo_way}
+use Rattle.stm_session.specs.StepLaws.{StepLaws}
+use Rattle.stm_session.specs.Undoable.{state_at}
+use Rattle.stm_session.specs.Undoes.{IsWithinLimit, byte_at_journal}
 
-pub fresh_way : (f : Bool) (o : Option Intent) → (f && is_some o) ≡ true → undo_way f o ≡ Connects
-fresh_way true None h = absurd (false≢true h)
-fresh_way true (Some i) h = refl
-fresh_way false o h = absurd (false≢true h)
+pub fresh_way : (f : Bool) (kind : EraseKind) (o : Option Intent) → (f && is_some o) ≡ true → undo_way f kind o ≡ Connects
+fresh_way true kind None h = absurd (false≢true h)
+fresh_way true kind (Some i) h = refl
+fresh_way false kind o h = absurd (false≢true h)
 
 pub said_fresh : (f : Bool) (o : Option Intent) → (f && is_some o) ≡ true → f ≡ true
 said_fresh true o h = refl
 said_fresh false o h = absurd (false≢true h)
 
-pub plain_way : (f : Bool) (o : Option Intent) → (f && is_some o) ≡ false → Settles (settling_byte o) ≡ undo_way f o
-plain_way true None h = refl
-plain_way true (Some i) h = absurd (false≢true (sym h))
-plain_way false o h = refl
+pub plain_way : (f : Bool) (kind : EraseKind) (o : Option Intent) → (f && is_some o) ≡ false → Settles (settling_byte o) (settling_limit kind o) ≡ undo_way f kind o
+plain_way true kind None h = refl
+plain_way true kind (Some i) h = absurd (false≢true (sym h))
+plain_way false kind o h = refl
+
+-- the limit is enough for every device of such chips
+pub limit_suffices : (kind : EraseKind) (o : Option Intent) → most_awaited kind ≤ settling_limit kind o
+limit_suffices Page None = lit≤ tt
+limit_suffices Page (Some i) = lit≤ tt
+limit_suffices Extended None = lit≤ tt
+limit_suffices Extended (Some i) = lit≤ tt
+
+-- so for the journal's own
+pub own_within : (laws : StepLaws) (chip : ChipData) (old : RigState) → IsDevice old.device → old.device.chip ≡ chip → IsWithinLimit chip old
+own_within laws chip old is same =
+    let o = intent_of (state_at old.journal) in
+    let all : bytes_awaited (byte_at_journal old.journal) old.device ≤ most_awaited chip.kind =
+    subst (λ (c : ChipData). bytes_awaited (byte_at_journal old.journal) old.device ≤ most_awaited c.kind) same (laws.awaited old.device is (byte_at_journal old.journal)) in
+    let enough = limit_suffices chip.kind o in
+    omega (arith, all, enough)
 
 -- 7F once begins a settling run
-connect_run : (limit n : ℕ) → 1 ≤ limit → IsSettlingRun 0x7F limit (take n (0x7F ∷ []))
-connect_run zero n le = absurd (omega (arith, le))
-connect_run (suc k) zero le = (0, refl)
-connect_run (suc k) (suc n) le = (1, ap (λ (xs : List ℕ). 0x7F ∷ xs) (take-nil n))
+connect_run : (n : ℕ) → IsSettlingRun 0x7F 0 (take n (0x7F ∷ []))
+connect_run zero = (0, refl)
+connect_run (suc n) = (1, ap (λ (xs : List ℕ). 0x7F ∷ xs) (take-nil n))
 
-pub connect_settles : (a b : Option (List RigCall)) → GoesOn (PutsPart (0x7F ∷ []) 2) a b → GoesOn (SettlesWithin 0x7F 131072) a b
+pub connect_settles : (a b : Option (List RigCall)) → GoesOn (PutsPart (0x7F ∷ []) 2) a b → GoesOn (SettlesWithin 0x7F 0) a b
 connect_settles a b p =
-    GoesOn-weaker (PutsPart (0x7F ∷ []) 2) (SettlesWithin 0x7F 131072) a b p
-    (λ xs t. record { line = t.line; puts = subst (IsSettlingRun 0x7F 131072) (sym t.puts.1) (connect_run 131072 t.puts.0 (lit≤ tt)); few = omega (arith, t.few) })
+    GoesOn-weaker (PutsPart (0x7F ∷ []) 2) (SettlesWithin 0x7F 0) a b p
+    (λ xs t. record { line = t.line; puts = subst (IsSettlingRun 0x7F 0) (sym t.puts.1) (connect_run t.puts.0); few = omega (arith, t.few) })
 
 -- the start of a settling
 pub settling_starts : (byte : ℕ) (pages : List ℕ) (d : Device) → Harmless d byte pages → length d.owed ≤ 4096 → IsSettling byte pages d d

@@ -1,6 +1,5 @@
 -- Calls after which nothing is promised of the device.
-use Rattle.std.proofs.Common.{◌≡◌, ℕ, ⊎_elim, inl, inr, List, ◌++◌, length, Option, Some, None, Result, Ok, Err, IsErrAnd, IfErr, IsTrue, refl, sym, ◌∙◌, ap, subst}
-use Rattle.std.proofs.lemmas.List.{append_assoc}
+use Rattle.std.proofs.Common.{◌≡◌, ℕ, ⊎_elim, inl, inr, List, ◌++◌, length, Option, None, Result, Ok, Err, IsErrAnd, IfErr, IsTrue, refl, sym, ◌∙◌, ap, subst}
 use Rattle.std.proofs.Math.Seq.{take-length}
 use Rattle.stm_wire.specs.declared.fault.WireFault.{WireFault}
 use Rattle.stm_wire.specs.declared.fault.WireFault.TheVariants.{Line, Nack, Quiet, Garbled}
@@ -14,7 +13,9 @@ use Rattle.stm_wire.specs.Moments.{FedAndTaken, LeavesOnly, LeftBySending, Partl
 use Rattle.stm_wire.specs.MomentLaws.{joined, weaker}
 use Rattle.stm_wire.specs.Rig.{RigState}
 use Rattle.stm_wire.specs.Sending.{BreaksOff, Holds}
+use Rattle.stm_wire.specs.DialogueLaws.{GoesOn-adds, GoesOn-append}
 use Rattle.stm_wire.specs.Settling.{SettlesWithin}
+use Rattle.stm_wire.specs.SettlingCalls.{EndsSettled}
 use Rattle.stm_wire.specs.Stopped.{LossStaysHarmless}
 use Rattle.stm_journal.specs.Calls.{AreFetches}
 use Rattle.stm_session.specs.declared.fault.Fault.{Fault}
@@ -23,23 +24,24 @@ use Rattle.stm_session.specs.Leaving.{CanLeave, IsSettledSame, IsSettledThen, Le
 use Rattle.stm_session.specs.Moments.{BeginsNothing, IsSafe, IsUnbegun}
 use Rattle.stm_session.specs.Opening.{LoadsUnless}
 use Rattle.stm_session.proofs.Asking.{line_outside}
+use Rattle.stm_session.proofs.Orders.{GoesOn-both}
 use Rattle.stm_session.proofs.Openings.{left_by_loading, moments_of_asking, moments_of_loading, refused_nothing, unsent_outside, untouched_is_unbegun}
 use Rattle.stm_session.proofs.Unbegun.{further}
 
 -- the journal was read, the device settled, and then came a dialogue
-pub settled_then : (turns : List Turn) (a b c d : Option (List RigCall)) → GoesOn AreFetches a b → GoesOn (SettlesWithin 0x7F 131072) b c → Adds (calls_of turns) c d → GoesOn (IsSettledThen turns) a d
-settled_then turns None b c d fetched settled said =
-    let c_is : c ≡ None = subst (λ x. GoesOn (SettlesWithin 0x7F 131072) x c) fetched settled in
-    subst (λ x. Adds (calls_of turns) x d) c_is said
-settled_then turns (Some past) b c d fetched settled said =
-    let fetches = fetched.0 in
-    let s : GoesOn (SettlesWithin 0x7F 131072) (Some (past ++ fetches)) c = subst (λ x. GoesOn (SettlesWithin 0x7F 131072) x c) fetched.1 settled in
-    let settling = s.0 in
-    let t : d ≡ Some (past ++ fetches ++ settling ++ calls_of turns) = subst (λ x. Adds (calls_of turns) x d) s.1 said in (
-      fetches ++ (settling ++ calls_of turns),
-      t ∙ ap (λ (xs : List RigCall). Some xs) (append_assoc (past ++ fetches) settling (calls_of turns) ∙ append_assoc past fetches (settling ++ calls_of turns)),
-      record { fetches = fetches; are_fetches = fetched.2; settling = settling; settles = s.2; is = refl },
-    )
+pub settled_then : (turns : List Turn) (a b c d : Option (List RigCall)) → GoesOn AreFetches a b → GoesOn (SettlesWithin 0x7F 131072) b c → GoesOn (EndsSettled 0x7F 131072) b c → Adds (calls_of turns) c d
+    → GoesOn (IsSettledThen turns) a d
+settled_then turns a b c d fetched settles settled said =
+    GoesOn-append AreFetches Then (IsSettledThen turns) a b d fetched
+    (GoesOn-append Both (λ xs. xs ≡ calls_of turns) Then b c d (GoesOn-both (SettlesWithin 0x7F 131072) (EndsSettled 0x7F 131072) b c settles settled)
+    (GoesOn-adds (λ xs. xs ≡ calls_of turns) (calls_of turns) c d said refl) (λ xs ys x y. (xs, ap (λ (l : List RigCall). xs ++ l) y, x)))
+    (λ fetches rest are x. record { fetches = fetches; are_fetches = are; settling = x.0; settles = x.2.0; settled = x.2.1; is = ap (λ (l : List RigCall). fetches ++ l) x.1 })
+  where
+    Both : List RigCall → Type 0
+    Both xs = SettlesWithin 0x7F 131072 xs × EndsSettled 0x7F 131072 xs
+
+    Then : List RigCall → Type 0
+    Then xs = (settling : List RigCall) × (xs ≡ settling ++ calls_of turns) × Both settling
 
 -- a fault of talking to a device is none of the journal or of memory
 heard_or_not : (cause : Cause) → IsHeard cause → IsUnheard cause → ⊥

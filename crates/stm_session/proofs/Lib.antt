@@ -68,3 +68,6 @@ pub mod RunContracts
 pub mod ReadRuns
 pub mod OneCommands
 pub mod RunOrders
+pub mod KeptSteps
+pub mod KeptRuns
+pub mod KeptUndoes

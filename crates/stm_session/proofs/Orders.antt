@@ -9,12 +9,12 @@ use Rattle.stm_wire.specs.declared.chip.EraseKind.{EraseKind}
 use Rattle.stm_wire.specs.declared.rig.RigCall.{RigCall}
 use Rattle.stm_wire.specs.declared.rig.RigCall.TheVariants.{Put, Get, Append, Fetch}
 use Rattle.stm_wire.specs.Chip.{ChipData, erased_byte}
-use Rattle.stm_wire.specs.Dialogue.{Turn, Says, Acknowledged, Expects, Learns, Adds as AddsCalls, AreLineCalls, GoesOn, calls_of}
+use Rattle.stm_wire.specs.Dialogue.{Turn, Adds as AddsCalls, AreLineCalls, GoesOn, calls_of}
 use Rattle.stm_wire.specs.DialogueLaws.{GoesOn-adds, GoesOn-append, GoesOn-nothing, GoesOn-weaker, calls_of-are_line}
 use Rattle.stm_wire.specs.Frames.{erase_turns, read_turns, write_turns}
 use Rattle.stm_wire.specs.Rig.{RigState}
 use Rattle.stm_wire.specs.Settling.{SettlesWithin}
-use Rattle.stm_session.specs.Fresh.{EndsWell, Way, byte_of}
+use Rattle.stm_session.specs.Fresh.{EndsWell, Way, byte_of, limit_of}
 use Rattle.stm_chip.specs.declared.plan.Frame.{Frame}
 use Rattle.stm_chip.specs.Plan.{frames_of}
 use Rattle.stm_journal.specs.declared.entry.Entry.{Entry}
@@ -186,13 +186,13 @@ GoesOn-both P Q (Some past) b p q =
     list_in None = []
     list_in (Some l) = l
 
-pub settles_and : (way : Way) (P Then : List RigCall → Type 0) (a b c : Option (List RigCall)) → GoesOn (SettlesWithin (byte_of way) 131072) a b → GoesOn (EndsWell way) a b → GoesOn P b c → ((xs : List RigCall) → P xs → Then (acts_of xs))
+pub settles_and : (way : Way) (P Then : List RigCall → Type 0) (a b c : Option (List RigCall)) → GoesOn (SettlesWithin (byte_of way) (limit_of way)) a b → GoesOn (EndsWell way) a b → GoesOn P b c → ((xs : List RigCall) → P xs → Then (acts_of xs))
     → GoesOn (SettlesThen way Then) a c
 settles_and way P Then a b c p e q f =
-    GoesOn-append (λ xs. SettlesWithin (byte_of way) 131072 xs × EndsWell way xs) P (SettlesThen way Then) a b c (GoesOn-both (SettlesWithin (byte_of way) 131072) (EndsWell way) a b p e) q
+    GoesOn-append (λ xs. SettlesWithin (byte_of way) (limit_of way) xs × EndsWell way xs) P (SettlesThen way Then) a b c (GoesOn-both (SettlesWithin (byte_of way) (limit_of way)) (EndsWell way) a b p e) q
     (λ xs ys x y. (xs, acts_of ys, x.0, x.1, acts-append xs ys ∙ ap (λ (l : List RigCall). l ++ acts_of ys) (acts-line xs x.0.line), f ys y))
 
-pub settles_then : (way : Way) (torn : Bool) (steps : List Step) (a b c : Option (List RigCall)) → GoesOn (SettlesWithin (byte_of way) 131072) a b → GoesOn (EndsWell way) a b → GoesOn (IsInOrder torn steps) b c
+pub settles_then : (way : Way) (torn : Bool) (steps : List Step) (a b c : Option (List RigCall)) → GoesOn (SettlesWithin (byte_of way) (limit_of way)) a b → GoesOn (EndsWell way) a b → GoesOn (IsInOrder torn steps) b c
     → GoesOn (SettlesFirst way torn steps) a c
 settles_then way torn steps a b c p e q = settles_and way (IsInOrder torn steps) (λ rest. rest ≡ acts_of_steps torn steps) a b c p e q (λ xs x. x)
 

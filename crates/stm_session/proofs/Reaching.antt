@@ -6,13 +6,13 @@ use Rattle.stm_wire.specs.Dialogue.{GoesOn}
 use Rattle.stm_wire.specs.DialogueLaws.{GoesOn-append, GoesOn-weaker}
 use Rattle.stm_wire.specs.Rig.{RigState}
 use Rattle.stm_wire.specs.Settling.{SettlesWithin}
-use Rattle.stm_session.specs.Fresh.{EndsWell, Way, byte_of}
+use Rattle.stm_session.specs.Fresh.{EndsWell, Way, byte_of, limit_of}
 use Rattle.stm_journal.specs.Calls.{AreFetches}
 use Rattle.stm_session.specs.declared.fault.Fault.{Fault}
 use Rattle.stm_session.specs.Fault.{Cause, IsHeard, IsRefusedLater, of_file, of_line, of_memory, of_protocol, of_refusal, of_session}
 use Rattle.stm_session.specs.Order.{Step, AreCutShort, Begin, FailsBy, IsAfter, IsAsking, ReachesInOrder, ReachesInPart, Sends, SettlesFirst, SettlesThen, StopsBy, acts_of, acts_of_steps, asking_steps, id_turns}
 use Rattle.stm_session.proofs.CutShort.{begin_all, cut_after}
-use Rattle.stm_session.proofs.Orders.{acts-append, acts-line, fetched_and, fetches-act, settled_and, settles_and}
+use Rattle.stm_session.proofs.Orders.{acts-append, acts-line, fetches-act, settled_and, settles_and}
 
 -- what follows at a fault from what holds there
 pub err_then : {T : Type 0} (r : Result T Fault) (A B : Fault → Type 0) → ((e : Fault) → A e → B e) → IfErr r A → IfErr r B
@@ -29,13 +29,13 @@ told_then (Err e) A B then p = tt
 
 module _ (way : Way) (cause : Cause) (torn : Bool) where
   -- settling ends
-  pub settle_stops : (a b : Option (List RigCall)) → IsHeard cause → GoesOn (SettlesWithin (byte_of way) 131072) a b → GoesOn (ReachesInPart way cause torn) a b
+  pub settle_stops : (a b : Option (List RigCall)) → IsHeard cause → GoesOn (SettlesWithin (byte_of way) (limit_of way)) a b → GoesOn (ReachesInPart way cause torn) a b
   settle_stops a b heard settles =
-      GoesOn-weaker (SettlesWithin (byte_of way) 131072) (ReachesInPart way cause torn) a b settles
-      (λ xs s. inr (inl (heard, subst (λ (l : List RigCall). SettlesWithin (byte_of way) 131072 l) (sym (acts-line xs s.line)) s)))
+      GoesOn-weaker (SettlesWithin (byte_of way) (limit_of way)) (ReachesInPart way cause torn) a b settles
+      (λ xs s. inr (inl (heard, subst (λ (l : List RigCall). SettlesWithin (byte_of way) (limit_of way) l) (sym (acts-line xs s.line)) s)))
 
   -- the questions do
-  pub asks_stop : (a b c : RigState) → GoesOn (SettlesWithin (byte_of way) 131072) a.calls b.calls → GoesOn (EndsWell way) a.calls b.calls → StopsBy (Begin IsAsking) cause torn b c → GoesOn (ReachesInPart way cause torn) a.calls c.calls
+  pub asks_stop : (a b c : RigState) → GoesOn (SettlesWithin (byte_of way) (limit_of way)) a.calls b.calls → GoesOn (EndsWell way) a.calls b.calls → StopsBy (Begin IsAsking) cause torn b c → GoesOn (ReachesInPart way cause torn) a.calls c.calls
   asks_stop a b c settles ends stops =
       let Cut : List RigCall → Type 0 = λ acts. AreCutShort (Begin IsAsking) cause torn acts in
       GoesOn-weaker (SettlesThen way Cut) (ReachesInPart way cause torn) a.calls c.calls (settles_and way (λ calls. Cut (acts_of calls)) Cut a.calls b.calls c.calls settles ends stops (λ xs x. x)) (λ xs s. inr (inr s))
@@ -51,7 +51,7 @@ module _ (way : Way) (cause : Cause) (torn : Bool) where
       (λ xs ys x y.
       let same : acts_of (xs ++ ys) ≡ acts_of ys = acts-append xs ys ∙ ap (λ (l : List RigCall). l ++ acts_of ys) (fetches-act xs x) in
       ⊎_elim (λ none. inl (same ∙ none))
-      (λ some. ⊎_elim (λ part. inr (inl (part.0, subst (λ (l : List RigCall). SettlesWithin (byte_of way) 131072 l) (sym same) part.1))) (λ s. inr (inr (s.0, s.1, s.2, s.3, same ∙ s.4, s.5))) some) y)
+      (λ some. ⊎_elim (λ part. inr (inl (part.0, subst (λ (l : List RigCall). SettlesWithin (byte_of way) (limit_of way) l) (sym same) part.1))) (λ s. inr (inr (s.0, s.1, s.2, s.3, same ∙ s.4, s.5))) some) y)
 
   idle_later : (k : Cause) (t : Bool) → IsRefusedLater k → FailsBy k t None []
   idle_later of_refusal t is = refl

@@ -1,6 +1,7 @@
 -- What an undo puts on any line.
-use Rattle.std.proofs.Common.{◌≡◌, ℕ, ◌+◌, ◌<◌, ◌≤◌, true, List, Some, None, Result, Ok, Err, IsErrAnd, refl, sym, ◌∙◌, subst, arith}
+use Rattle.std.proofs.Common.{◌≡◌, ℕ, ◌+◌, ◌<◌, ◌≤◌, Bool, true, List, Option, Some, None, Result, Ok, Err, IsErrAnd, refl, sym, ◌∙◌, subst, arith}
 use Rattle.std.specs.Prelude.{IfOk}
+use Rattle.stm_wire.specs.declared.intent.Intent.{Intent}
 use Rattle.stm_wire.specs.Chip.{ChipData}
 use Rattle.stm_wire.specs.Dialogue.{GoesOn}
 use Rattle.stm_wire.specs.Parts.{IsPart, IsSession}
@@ -9,7 +10,8 @@ use Rattle.stm_wire.specs.Rig.{RigState}
 use Rattle.stm_chip.specs.Document.{IsChipWith}
 use Rattle.stm_journal.specs.Calls.{AreFetches}
 use Rattle.stm_session.specs.declared.fault.Fault.{Fault}
-use Rattle.stm_session.specs.Sending.{SendsAsUndo, is_whole, most_calls, most_of_undo}
+use Rattle.stm_session.specs.Fresh.{byte_of, limit_of, undo_way}
+use Rattle.stm_session.specs.Sending.{SendsAsUndo, is_whole, most_of_reaching, most_of_undo}
 use Rattle.stm_session.proofs.Sending.{fetches_get, fetches_put}
 
 -- a fault that is passed on
@@ -28,43 +30,55 @@ module _ (table : List ChipData) (count : ℕ) (old : RigState) where
       record {
         chip = None;
         listed = tt;
-        byte = 0x7F;
+        is_fresh = true;
+        intent = None;
         taken = 0;
         limit = omega arith;
         asked = λ some. omega arith;
         told = none;
-        calls = silent_is_session None 0x7F 131072 (is_whole result) (most_calls 0 + most_of_undo 0) AreFetches old.calls new.calls fetches_put fetches_get fetches;
+        calls = silent_is_session None 0x7F 0 (is_whole result) (most_of_reaching 0 + most_of_undo 0) AreFetches old.calls new.calls fetches_put fetches_get fetches;
       }
 
-  -- a device was met, or not
-  pub sends_met : (byte : ℕ) (mid new : RigState) (e : Fault) → GoesOn AreFetches old.calls mid.calls → GoesOn (IsSession None byte 131072 (is_whole {T = ℕ} (Err e)) (most_calls 0)) mid.calls new.calls
-      → SendsAsUndo table count old new (Err e)
-  sends_met byte mid new e fetches meets =
-      record {
-        chip = None;
-        listed = tt;
-        byte = byte;
-        taken = 0;
-        limit = omega arith;
-        asked = λ some. omega arith;
-        told = tt;
-        calls = session_longer None byte 131072 (is_whole {T = ℕ} (Err e)) (most_calls 0) (most_calls 0 + most_of_undo 0) old.calls new.calls (omega arith)
-            (silent_then_session None byte 131072 (is_whole {T = ℕ} (Err e)) (most_calls 0) AreFetches old.calls mid.calls new.calls fetches_put fetches_get fetches meets);
-      }
+  -- the journal is one of a chip of the table
+  module _ (is_fresh : Bool) (intent : Option Intent) (id : ℕ) (chip : ChipData) (listed : IsChipWith table id chip) where
+    -- a device was met, or not
+    pub sends_met : (mid new : RigState) (e : Fault) → GoesOn AreFetches old.calls mid.calls
+        → (let way = undo_way is_fresh chip.kind intent in GoesOn (IsSession None (byte_of way) (limit_of way) (is_whole {T = ℕ} (Err e)) (most_of_reaching (limit_of way))) mid.calls new.calls) → SendsAsUndo table count old new (Err e)
+    sends_met mid new e fetches meets =
+        let way = undo_way is_fresh chip.kind intent in
+        let byte = byte_of way in
+        let limit = limit_of way in
+        let whole = is_whole {T = ℕ} (Err e) in
+        record {
+          chip = Some chip;
+          listed = own-id table id chip listed;
+          is_fresh = is_fresh;
+          intent = intent;
+          taken = 0;
+          limit = omega arith;
+          asked = λ some. omega arith;
+          told = tt;
+          calls = session_longer (Some chip) byte limit whole (most_of_reaching limit) (most_of_reaching limit + most_of_undo 0) old.calls new.calls (omega arith)
+              (session_of_any (Some chip) byte limit whole (most_of_reaching limit) old.calls new.calls (silent_then_session None byte limit whole (most_of_reaching limit) AreFetches old.calls mid.calls new.calls fetches_put fetches_get fetches meets));
+        }
 
-  -- and segments were taken back
-  pub sends_back : (byte id taken : ℕ) (chip : ChipData) (mid met new : RigState) (result : Result ℕ Fault) → IsChipWith table id chip → taken ≤ 65535 → (0 < count → taken ≤ count) → IfOk result (λ n. n ≡ taken)
-      → GoesOn AreFetches old.calls mid.calls → GoesOn (IsSession None byte 131072 true (most_calls 0)) mid.calls met.calls
-      → GoesOn (IsPart (Some chip) (is_whole result) (most_of_undo taken)) met.calls new.calls → SendsAsUndo table count old new result
-  sends_back byte id taken chip mid met new result is limit asked told fetches meets back =
-      record {
-        chip = Some chip;
-        listed = own-id table id chip is;
-        byte = byte;
-        taken = taken;
-        limit = limit;
-        asked = asked;
-        told = told;
-        calls = session_joins (Some chip) byte 131072 (is_whole result) (most_calls 0) (most_of_undo taken) old.calls met.calls new.calls
-            (session_of_any (Some chip) byte 131072 true (most_calls 0) old.calls met.calls (silent_then_session None byte 131072 true (most_calls 0) AreFetches old.calls mid.calls met.calls fetches_put fetches_get fetches meets)) back;
-      }
+    -- and segments were taken back
+    pub sends_back : (taken : ℕ) (mid met new : RigState) (result : Result ℕ Fault) → taken ≤ 65535 → (0 < count → taken ≤ count) → IfOk result (λ n. n ≡ taken)
+        → GoesOn AreFetches old.calls mid.calls → (let way = undo_way is_fresh chip.kind intent in GoesOn (IsSession None (byte_of way) (limit_of way) true (most_of_reaching (limit_of way))) mid.calls met.calls)
+        → GoesOn (IsPart (Some chip) (is_whole result) (most_of_undo taken)) met.calls new.calls → SendsAsUndo table count old new result
+    sends_back taken mid met new result most asked told fetches meets back =
+        let way = undo_way is_fresh chip.kind intent in
+        let byte = byte_of way in
+        let limit = limit_of way in
+        record {
+          chip = Some chip;
+          listed = own-id table id chip listed;
+          is_fresh = is_fresh;
+          intent = intent;
+          taken = taken;
+          limit = most;
+          asked = asked;
+          told = told;
+          calls = session_joins (Some chip) byte limit (is_whole result) (most_of_reaching limit) (most_of_undo taken) old.calls met.calls new.calls
+              (session_of_any (Some chip) byte limit true (most_of_reaching limit) old.calls met.calls (silent_then_session None byte limit true (most_of_reaching limit) AreFetches old.calls mid.calls met.calls fetches_put fetches_get fetches meets)) back;
+        }

@@ -108,7 +108,7 @@ module _ (table : List ChipData) (l : Loaded) (old a : RigState) (loads : Loads 
         refused_calls = λ h refusal r. calls;
         nothing = λ h s g z. record { moments = loads.moments; honest = loads.honest; left = left; answer = refl; fails = tt };
         nothing_calls = λ h s g z. calls;
-        elsewhere = λ h accepted some header chip named listed harmless owed refusal misfit.
+        elsewhere = λ h accepted some header chip named listed harmless owed within refusal misfit.
             absurd (omega (arith, some, depth_is, none));
         undoes = λ h flashes u listed.
             let depth = flashes_depth flashes u in
@@ -172,7 +172,7 @@ module _ (table : List ChipData) (l : Loaded) (old a : RigState) (loads : Loads 
           refused_calls = λ h refusal r. calls;
           nothing = λ h s g z. let d = depth_of s g in absurd (omega (arith, d, z, some));
           nothing_calls = λ h s g z. calls;
-          elsewhere = λ h accepted least header2 chip named2 listed harmless owed refusal misfit. none_some (undo_refusal (journal_of old.journal) table) e accepted said;
+          elsewhere = λ h accepted least header2 chip named2 listed harmless owed within refusal misfit. none_some (undo_refusal (journal_of old.journal) table) e accepted said;
           undoes = λ h flashes u listed.
               let own : id ≡ old.device.chip.id = own_id id old.device.chip.id named u.own in
               let fits = fits-unrefused old.device.chip (state_at old.journal) u.fits in

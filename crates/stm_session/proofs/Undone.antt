@@ -8,11 +8,14 @@ use Rattle.stm_wire.specs.Harmless.{Harmless, SameOutside}
 use Rattle.stm_wire.specs.Moments.{LeavesOnly}
 use Rattle.stm_wire.specs.MomentLaws.{joined}
 use Rattle.stm_wire.specs.Rig.{RigState, IsModel}
+use Rattle.stm_wire.specs.Settling.{bytes_awaited}
 use Rattle.stm_journal.specs.declared.header.JournalHeader.{JournalHeader}
 use Rattle.stm_journal.specs.Calls.{IsUntouched, Loads}
 use Rattle.stm_journal.specs.Journals.{Loaded, journal_of}
+use Rattle.stm_journal.specs.States.{intent_of}
 use Rattle.stm_session.specs.declared.fault.Fault.{Fault}
 use Rattle.stm_session.specs.Fault.{IsOutsideFault}
+use Rattle.stm_session.specs.Fresh.{settling_limit}
 use Rattle.stm_session.specs.GoingBack.{AmidBackBy, GoesBackBy, undo_lines}
 use Rattle.stm_session.specs.Lines.{is_torn_at, text_added}
 use Rattle.stm_session.specs.Meeting.{Meets}
@@ -23,7 +26,7 @@ use Rattle.stm_session.specs.Refusals.{undo_misfit, undo_refusal}
 use Rattle.stm_session.specs.StepLaws.{StepLaws}
 use Rattle.stm_session.specs.Steps.{Stands, Goes}
 use Rattle.stm_session.specs.Undoable.{Undoable, state_at}
-use Rattle.stm_session.specs.Undoes.{AmidUndo, IsElsewhere, IsFlashSettled, Undoes, byte_at_journal, risked_at, taken_count, undo_text}
+use Rattle.stm_session.specs.Undoes.{AmidUndo, IsElsewhere, IsFlashSettled, IsWithinLimit, Undoes, byte_at_journal, risked_at, taken_count, undo_text}
 use Rattle.stm_session.proofs.Going.{at_exit}
 use Rattle.stm_session.proofs.GoingAll.{flash_at}
 use Rattle.stm_session.proofs.Keeping.{good_at}
@@ -151,6 +154,13 @@ module _ (table : List ChipData) (l : Loaded) (old a : RigState) (loads : Loads 
         let J : List ℕ → Type 0 = λ j. Harmless a.device (byte_at_journal j) (risked_at j) in
         subst J (sym loads.journal) (subst D (sym loads.same_device) h)
 
+    pub within_then : IsWithinLimit chip old → IsWithinLimit chip a
+    within_then within =
+        let at : bytes_awaited (byte_at_journal a.journal) a.device ≡ bytes_awaited (byte_at_journal old.journal) old.device =
+        ap₂ (λ (j : List ℕ) (d : Device). bytes_awaited (byte_at_journal j) d) loads.journal loads.same_device in
+        let most : settling_limit chip.kind (intent_of (state_at a.journal)) ≡ settling_limit chip.kind (intent_of (state_at old.journal)) = ap (λ (j : List ℕ). settling_limit chip.kind (intent_of (state_at j))) loads.journal in
+        omega (arith, at, most, within)
+
     pub owed_then : length old.device.owed ≤ 4096 → length a.device.owed ≤ 4096
     owed_then le = let e = ap (λ (d : Device). length d.owed) loads.same_device in omega (arith, e, le)
 
@@ -162,10 +172,18 @@ module _ (table : List ChipData) (l : Loaded) (old a : RigState) (loads : Loads 
         let chips : chip2 ≡ chip = listed_chip.only chip2 listed2.held (listed2.id_is ∙ own) in
         ap (λ (d : Device). undo_misfit chip chip.id d) loads.same_device ∙ ap (λ (n : ℕ). undo_misfit chip n old.device) (listed_chip.id_is ∙ sym own) ∙ ap (λ (p : ChipData). undo_misfit p header2.id old.device) (sym chips) ∙ misfit
 
+    limit_then : (header2 : JournalHeader) (chip2 : ChipData) → (state_at old.journal).header ≡ Some header2 → IsChipWith table header2.id chip2 → IsWithinLimit chip2 old → IsWithinLimit chip old
+    limit_then header2 chip2 named2 listed2 within =
+        let both : Some header2.id ≡ Some id = sym (ap (λ (o : Option JournalHeader). option_map (λ h. h.id) o) (header_text table l old a loads ∙ named2)) ∙ named in
+        let own : header2.id ≡ id = cc in
+        let chips : chip2 ≡ chip = listed_chip.only chip2 listed2.held (listed2.id_is ∙ own) in
+        let P : ChipData → Type 0 = λ c. IsWithinLimit c old in
+        subst P chips within
+
     module _ (count : ℕ) (new : RigState) where
       -- what doesn't come to this
       pub contract_after : (result : Result ℕ Fault)
-          → ((refusal : Fault) → Harmless old.device (byte_at_journal old.journal) (risked_at old.journal) → length old.device.owed ≤ 4096 → undo_misfit chip chip.id a.device ≡ Some refusal → Refuses (IsElsewhere old) refusal old new result)
+          → ((refusal : Fault) → Harmless old.device (byte_at_journal old.journal) (risked_at old.journal) → length old.device.owed ≤ 4096 → IsWithinLimit chip old → undo_misfit chip chip.id a.device ≡ Some refusal → Refuses (IsElsewhere old) refusal old new result)
           → ((flashes : List (List ℕ)) → Undoable flashes old.device old.journal → IsChipWith table old.device.chip.id old.device.chip → Undoes (taken_count count (length flashes)) flashes old new result)
           → UndoContract table count old new result
       contract_after result elsewhere undoes =
@@ -174,8 +192,8 @@ module _ (table : List ChipData) (l : Loaded) (old a : RigState) (loads : Loads 
             refused_calls = λ h refusal r. none_some (undo_refusal (journal_of old.journal) table) refusal unrefused r;
             nothing = λ h s g z. let d = depth_of table l old a loads s g in absurd (omega (arith, d, z, some));
             nothing_calls = λ h s g z. let d = depth_of table l old a loads s g in absurd (omega (arith, d, z, some));
-            elsewhere = λ h accepted least header2 chip2 named2 listed2 harmless owed refusal misfit.
-                elsewhere refusal harmless owed (misfit_then header2 chip2 refusal named2 listed2 misfit);
+            elsewhere = λ h accepted least header2 chip2 named2 listed2 harmless owed within refusal misfit.
+                elsewhere refusal harmless owed (limit_then header2 chip2 named2 listed2 within) (misfit_then header2 chip2 refusal named2 listed2 misfit);
             undoes = λ h flashes u listed. undoes flashes u listed;
             spared = λ h empty. absurd (not_empty table l old a loads some empty);
           }

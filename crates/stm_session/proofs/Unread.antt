@@ -123,7 +123,7 @@ contract_unread laws table count old new e (Err x) loads calls is =
       nothing = λ h s g none.
           record { moments = (loads h).moments; honest = (loads h).honest; left = left h; answer = tt; fails = subst IsJournalOrMemory (sym is) (unless_bad h s g (by_fault old.journal e (loads h).faults)) };
       nothing_calls = λ h s g none. calls;
-      elsewhere = λ h accepted some header chip named listed harmless owed refusal misfit.
+      elsewhere = λ h accepted some header chip named listed harmless owed within refusal misfit.
           record {
             moments = weaker (IsUntouched old) (IsElsewhere old) old new (loads h).moments (untouched_stray laws old harmless owed);
             honest = (loads h).honest;

@@ -1,5 +1,5 @@
 -- The faults of a session, and what they say of a Rig on any line.
-use Rattle.std.specs.Prelude.{◌≤◌, Result, IfErr}
+use Rattle.std.specs.Prelude.{◌≡◌, ◌≤◌, Result, OnOk, IfErr}
 use Rattle.stm_wire.specs.declared.fault.WireFault.{WireFault}
 use Rattle.stm_wire.specs.declared.fault.WireFault.TheVariants as wire
 use Rattle.stm_wire.specs.Rig.{RigState, Rises}
@@ -101,8 +101,19 @@ RisesBy old new _ = Unit {0}
 abbrev pub RisesFor : RigState → RigState → Fault → Type 0
 RisesFor old new e = RisesBy old new (cause_of e)
 
--- On any line: a fault of the line or of the journal is answered only where the count of such failures rose.
+-- the count of the file's failures is as it was, unless this is what the fault came of
+abbrev pub KeepsFileCountBy : RigState → RigState → Cause → Type 0
+KeepsFileCountBy old new of_file = Unit {0}
+KeepsFileCountBy old new _ = new.journal_failures ≡ old.journal_failures
+
+abbrev pub KeepsFileCount : RigState → RigState → Fault → Type 0
+KeepsFileCount old new e = KeepsFileCountBy old new (cause_of e)
+
+-- On any line: a fault of the line or of the journal is answered only where the count of such failures rose. Where the journal's
+-- count changed, that fault is answered and no other, nor Ok.
 pub record HasSessionCause {T : Type 0} (old new : RigState) (result : Result T Fault) : Type 0 where
   pub line_later : old.line_failures ≤ new.line_failures
   pub journal_later : old.journal_failures ≤ new.journal_failures
   pub failed : IfErr result (RisesFor old new)
+  pub journal_done : OnOk result (new.journal_failures ≡ old.journal_failures)
+  pub journal_kept : IfErr result (KeepsFileCount old new)

@@ -1,5 +1,7 @@
 -- How a session settles its device; and a device that was reset since the last session, and is said to be.
 use Rattle.std.specs.Prelude.{◌≡◌, ℕ, Bool, true, false, List, [], ◌∷◌, Option, Some, None, IsTrue}
+use Rattle.stm_wire.specs.declared.chip.EraseKind.{EraseKind}
+use Rattle.stm_wire.specs.declared.chip.EraseKind.TheVariants.{Page, Extended}
 use Rattle.stm_wire.specs.declared.intent.Intent.{Intent}
 use Rattle.stm_wire.specs.declared.rig.RigCall.{RigCall}
 use Rattle.stm_wire.specs.declared.rig.RigCall.TheVariants.{Put, Get}
@@ -17,23 +19,35 @@ pub record IsReset (d : Device) : Type 0 where
 abbrev pub IsAsSaid : Bool → Device → Type 0
 IsAsSaid is_fresh d = IsTrue is_fresh → IsReset d
 
--- with this byte until it is refused; or it is connected, with 7F once
+-- with this byte until it is refused, so often at most; or it is connected, with 7F once
 pub data Way : Type 0 where
-  Settles : ℕ → Way
+  Settles : ℕ → ℕ → Way
   Connects : Way
 
 -- the byte that is put
 abbrev pub byte_of : Way → ℕ
-byte_of (Settles byte) = byte
+byte_of (Settles byte limit) = byte
 byte_of Connects = 0x7F
+
+-- and how often at most, before 7F connects a device that has refused none
+abbrev pub limit_of : Way → ℕ
+limit_of (Settles byte limit) = limit
+limit_of Connects = 0
 
 -- how that ends where the device is settled
 abbrev pub EndsWell : Way → List RigCall → Type 0
-EndsWell (Settles byte) calls = EndsSettled byte 131072 calls
+EndsWell (Settles byte limit) calls = EndsSettled byte limit calls
 EndsWell Connects calls = calls ≡ Put 0x7F ∷ Get (Some ack) ∷ []
 
+-- How often an undo sends its settling byte at most, by the kind of the journal's chip and the journal's intent: more often than
+-- any such device awaits it. Two batches are enough where a list of pages has one byte for each.
+abbrev pub settling_limit : EraseKind → Option Intent → ℕ
+settling_limit kind None = 131072
+settling_limit Page (Some intent) = 512
+settling_limit Extended (Some intent) = 131072
+
 -- how an undo settles its device: one that is said to be fresh is connected, unless 7F is the byte anyway
-abbrev pub undo_way : Bool → Option Intent → Way
-undo_way false intent = Settles (settling_byte intent)
-undo_way true None = Settles 0x7F
-undo_way true (Some intent) = Connects
+abbrev pub undo_way : Bool → EraseKind → Option Intent → Way
+undo_way false kind intent = Settles (settling_byte intent) (settling_limit kind intent)
+undo_way true kind None = Settles 0x7F (settling_limit kind None)
+undo_way true kind (Some intent) = Connects

@@ -6,18 +6,20 @@ use Rattle.stm_wire.specs.Exchange.{is_listed}
 use Rattle.stm_wire.specs.Moments.{FedAndTaken, LeavesOnly, PartlyFed}
 use Rattle.stm_wire.specs.Rig.{RigState}
 use Rattle.stm_wire.specs.Settling.{SettlesWithin}
+use Rattle.stm_wire.specs.SettlingCalls.{EndsSettled}
 use Rattle.stm_wire.specs.declared.rig.RigCall.{RigCall}
 use Rattle.stm_journal.specs.Calls.{AreFetches, IsUntouched}
 use Rattle.stm_session.specs.declared.fault.Fault.{Fault}
 use Rattle.stm_session.specs.Fault.{IsJournalOrMemory}
 use Rattle.stm_session.specs.Moments.{IsSafe, IsUnbegun, SameMake}
 
--- the journal was read, the device was settled with 7F, and then came this dialogue, whole
+-- the journal was read, the device was settled with 7F, which it refused or it was fresh, and then came this dialogue, whole
 pub record IsSettledThen (turns : List Turn) (calls : List RigCall) : Type 0 where
   pub fetches : List RigCall
   pub are_fetches : AreFetches fetches
   pub settling : List RigCall
   pub settles : SettlesWithin 0x7F 131072 settling
+  pub settled : EndsSettled 0x7F 131072 settling
   pub is : calls ≡ fetches ++ (settling ++ calls_of turns)
 
 -- a safe device that lists the command of this code

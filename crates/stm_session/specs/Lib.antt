@@ -35,3 +35,4 @@ pub mod ChangeOrder
 pub mod Segments
 pub mod Doing
 pub mod RunOrder
+pub mod Kept

@@ -11,7 +11,7 @@ use Rattle.stm_wire.specs.Dialogue.{Turn, GoesOn, IsBrokenOff, calls_of}
 use Rattle.stm_wire.specs.Frames.{erase_turns, get_id_turns, get_turns, read_turns, write_turns}
 use Rattle.stm_wire.specs.Rig.{RigState}
 use Rattle.stm_wire.specs.Settling.{SettlesWithin}
-use Rattle.stm_session.specs.Fresh.{EndsWell, Way, byte_of, undo_way}
+use Rattle.stm_session.specs.Fresh.{EndsWell, Way, byte_of, limit_of, undo_way}
 use Rattle.stm_chip.specs.declared.plan.Frame.{Frame}
 use Rattle.stm_chip.specs.Document.{IsChipWith}
 use Rattle.stm_chip.specs.Plan.{frames_of}
@@ -215,7 +215,7 @@ pub record AreAllTakenBack (chip : ChipData) (intent : Option Intent) (taken : �
 -- a device was settled, and it showed that it is; and then came such calls
 abbrev pub SettlesThen : Way → (List RigCall → Type 0) → List RigCall → Type 0
 SettlesThen way Then calls =
-    (settling rest : List RigCall) × SettlesWithin (byte_of way) 131072 settling × EndsWell way settling × (acts_of calls ≡ settling ++ rest) × Then rest
+    (settling rest : List RigCall) × SettlesWithin (byte_of way) (limit_of way) settling × EndsWell way settling × (acts_of calls ≡ settling ++ rest) × Then rest
 
 -- and then these steps
 abbrev pub SettlesFirst : Way → Bool → List Step → List RigCall → Type 0
@@ -259,7 +259,7 @@ ReachesInOrder way id torn old new = (version : ℕ) × (codes : List ℕ) × Go
 -- the line or the device ended; or it was settled, and then asked, or asked in part.
 abbrev pub ReachesInPart : Way → Cause → Bool → List RigCall → Type 0
 ReachesInPart way cause torn calls =
-    (acts_of calls ≡ []) ⊎ ((IsHeard cause × SettlesWithin (byte_of way) 131072 (acts_of calls)) ⊎ SettlesThen way (AreCutShort (Begin IsAsking) cause torn) calls)
+    (acts_of calls ≡ []) ⊎ ((IsHeard cause × SettlesWithin (byte_of way) (limit_of way) (acts_of calls)) ⊎ SettlesThen way (AreCutShort (Begin IsAsking) cause torn) calls)
 
 abbrev pub StopsShort : {T : Type 0} → Way → Bool → RigState → RigState → Result T Fault → Type 0
 StopsShort way torn old new result = IfErr result (λ fault. GoesOn (ReachesInPart way (cause_of fault) torn) old.calls new.calls)
@@ -275,7 +275,7 @@ pub record UndoesInOrderFrom (is_fresh : Bool) (table : List ChipData) (taken : 
   pub codes : List ℕ
   pub steps : List Step
   pub are_steps : AreAllTakenBack chip (intent_of journal.state) taken (pages_of_segments journal.state.stack) steps
-  pub calls : GoesOn (SettlesFirst (undo_way is_fresh (intent_of journal.state)) journal.is_torn (asking_steps version codes chip.id ++ steps)) old.calls new.calls
+  pub calls : GoesOn (SettlesFirst (undo_way is_fresh chip.kind (intent_of journal.state)) journal.is_torn (asking_steps version codes chip.id ++ steps)) old.calls new.calls
 
 abbrev pub UndoesInOrder : List ChipData → ℕ → RigState → RigState → Type 0
 UndoesInOrder table taken old new = UndoesInOrderFrom false table taken old new
@@ -293,8 +293,8 @@ pub record UndoIsCutShort (is_fresh : Bool) (table : List ChipData) (count : ℕ
   pub asked : 0 < count → taken ≤ count
   pub version : ℕ
   pub codes : List ℕ
-  pub calls : GoesOn (λ calls. ReachesInPart (undo_way is_fresh (intent_of journal.state)) cause journal.is_torn calls
-      ⊎ SettlesThen (undo_way is_fresh (intent_of journal.state))
+  pub calls : GoesOn (λ calls. ReachesInPart (undo_way is_fresh chip.kind (intent_of journal.state)) cause journal.is_torn calls
+      ⊎ SettlesThen (undo_way is_fresh chip.kind (intent_of journal.state))
       (AreCutShort (IsAfter (asking_steps version codes chip.id) (Begin (AreAllTakenBack chip (intent_of journal.state) taken (pages_of_segments journal.state.stack)))) cause journal.is_torn) calls) old.calls new.calls
 
 -- An undo that is broken off: nothing was done but reading the journal; or so.

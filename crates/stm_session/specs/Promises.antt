@@ -22,7 +22,7 @@ use Rattle.stm_session.specs.Lines.{depth_at}
 use Rattle.stm_session.specs.Refusal.{RefusesUnsent}
 use Rattle.stm_session.specs.Refusals.{run_refusal, undo_refusal, undo_misfit}
 use Rattle.stm_session.specs.Runs.{Runs}
-use Rattle.stm_session.specs.Undoes.{Undoes, UndoesNothing, IsElsewhere, taken_count, byte_at_journal, risked_at}
+use Rattle.stm_session.specs.Undoes.{Undoes, UndoesNothing, IsElsewhere, IsWithinLimit, taken_count, byte_at_journal, risked_at}
 
 pub record RunContract {T : Type 0} (table : List ChipData) (commands : List CommandData) (old new : RigState) (result : Result T Fault) (outcomes_of : T → List OutcomeData) : Type 0 where
   -- what is refused before a byte is sent, of any device
@@ -52,11 +52,12 @@ pub record UndoContract (table : List ChipData) (count : ℕ) (old new : RigStat
   -- a journal without a segment, of any device
   pub nothing : old.is_honest → (s : StateData) → journal_of old.journal ≡ good s → length s.stack ≡ 0 → UndoesNothing old new result
   pub nothing_calls : old.is_honest → (s : StateData) → journal_of old.journal ≡ good s → length s.stack ≡ 0 → GoesOn AreFetches old.calls new.calls
-  -- a device that isn't the journal's, and that settling does no harm outside the pages at risk
+  -- a device that isn't the journal's, that settling does no harm outside the pages at risk, and that awaits no longer list than
+  -- one of the journal's chip may
   pub elsewhere : old.is_honest → undo_refusal (journal_of old.journal) table ≡ None → 1 ≤ depth_at old.journal
       → (header : JournalHeader) (chip : ChipData) → (state_at old.journal).header ≡ Some header → IsChipWith table header.id chip
       → Harmless old.device (byte_at_journal old.journal) (risked_at old.journal) → length old.device.owed ≤ 4096
-      → (refusal : Fault) → undo_misfit chip header.id old.device ≡ Some refusal
+      → IsWithinLimit chip old → (refusal : Fault) → undo_misfit chip header.id old.device ≡ Some refusal
       → Refuses (IsElsewhere old) refusal old new result
   pub undoes : old.is_honest → (flashes : List (List ℕ)) → Undoable flashes old.device old.journal
       → IsChipWith table old.device.chip.id old.device.chip → Undoes (taken_count count (length flashes)) flashes old new result

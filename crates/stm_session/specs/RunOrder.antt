@@ -58,7 +58,7 @@ pub record RunsInOrder (table : List ChipData) (commands : List CommandData) (ol
   pub last : StateData
   pub steps : List Step
   pub are_steps : AreDone chip commands journal.state last steps
-  pub calls : GoesOn (SettlesFirst (Settles 0x7F) journal.is_torn (asking_steps version codes chip.id ++ steps)) old.calls new.calls
+  pub calls : GoesOn (SettlesFirst (Settles 0x7F 131072) journal.is_torn (asking_steps version codes chip.id ++ steps)) old.calls new.calls
 
 -- At a fault:
 
@@ -96,9 +96,9 @@ pub record RunIsCutShort (table : List ChipData) (commands : List CommandData) (
   pub listed : IsChipWith table chip.id chip
   pub version : ℕ
   pub codes : List ℕ
-  pub calls : GoesOn (SettlesThen (Settles 0x7F) (AreCutShort (IsAfter (asking_steps version codes chip.id) (AreBegun chip commands journal.state)) cause journal.is_torn)) old.calls new.calls
+  pub calls : GoesOn (SettlesThen (Settles 0x7F 131072) (AreCutShort (IsAfter (asking_steps version codes chip.id) (AreBegun chip commands journal.state)) cause journal.is_torn)) old.calls new.calls
 
 -- A run that is broken off: its device isn't reached, or isn't one for it; or its commands are cut short.
 abbrev pub RunStops : List ChipData → List CommandData → RigState → RigState → Fault → Type 0
 RunStops table commands old new fault =
-    ((torn : Bool) → GoesOn (ReachesInPart (Settles 0x7F) (cause_of fault) torn) old.calls new.calls) ⊎ RunIsCutShort table commands (cause_of fault) old new
+    ((torn : Bool) → GoesOn (ReachesInPart (Settles 0x7F 131072) (cause_of fault) torn) old.calls new.calls) ⊎ RunIsCutShort table commands (cause_of fault) old new

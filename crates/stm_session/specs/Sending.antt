@@ -1,5 +1,6 @@
 -- What a session puts on any line, honest or not, and in how many calls.
 use Rattle.std.specs.Prelude.{◌≡◌, ◌⊎◌, ℕ, ◌+◌, ◌*◌, ◌<◌, ◌≤◌, ◌==◌, nat_lt, if◌then◌else◌, Bool, true, false, List, [], ◌++◌, Option, Some, None, Result, Ok, Err, IfOk}
+use Rattle.stm_wire.specs.declared.intent.Intent.{Intent}
 use Rattle.stm_wire.specs.declared.rig.RigCall.{RigCall}
 use Rattle.stm_wire.specs.declared.fault.WireFault.{WireFault}
 use Rattle.stm_wire.specs.Chip.{ChipData, flash_size, page_offset, page_size}
@@ -11,6 +12,7 @@ use Rattle.stm_chip.specs.Document.{IsChipWith}
 use Rattle.stm_journal.specs.Calls.{AreFetches}
 use Rattle.stm_session.specs.declared.fault.Fault.{Fault}
 use Rattle.stm_session.specs.Fault.{Cause, of_line, of_protocol, cause_of}
+use Rattle.stm_session.specs.Fresh.{Connects, Way, byte_of, limit_of, undo_way}
 
 -- puts and gets of one command at most: each byte of the greatest flash, read by a frame of its own
 abbrev pub most_of_command : ℕ
@@ -19,6 +21,10 @@ most_of_command = 13 * 2097152
 -- of a session with so many commands: settling, Get and Get ID, and the commands
 abbrev pub most_calls : ℕ → ℕ
 most_calls n = 4100 * 131076 + 268 + n * most_of_command
+
+-- of settling with so many bytes at most, Get and Get ID
+abbrev pub most_of_reaching : ℕ → ℕ
+most_of_reaching limit = 4100 * (limit + 4) + 268
 
 -- of an undo of so many segments: a page is written first, and none is larger than the greatest flash
 abbrev pub most_of_undo : ℕ → ℕ
@@ -60,17 +66,24 @@ pub record SendsAsRun (table : List ChipData) (whole : Bool) (n : ℕ) (old new 
   pub listed : IsOfTable table chip
   pub calls : GoesOn (IsSession chip 0x7F 131072 whole (most_calls n)) old.calls new.calls
 
--- Settling with some byte, and then frames of one chip of the table, in the calls of so many segments taken back: no more
--- than were asked for, and at Ok those that the answer tells.
+-- how an undo settles its device, whose journal is one of this chip; where there is none it sends no settling byte
+abbrev pub way_of_undo : Bool → Option ChipData → Option Intent → Way
+way_of_undo is_fresh None intent = Connects
+way_of_undo is_fresh (Some chip) intent = undo_way is_fresh chip.kind intent
+
+-- Settling by some intent, as often as its journal's chip needs at most, and then frames of that chip, which is one of the table,
+-- in the calls of so many segments taken back: no more than were asked for, and at Ok those that the answer tells.
 pub record SendsAsUndo (table : List ChipData) (count : ℕ) (old new : RigState) (result : Result ℕ Fault) : Type 0 where
   pub chip : Option ChipData
   pub listed : IsOfTable table chip
-  pub byte : ℕ
+  pub is_fresh : Bool
+  pub intent : Option Intent
   pub taken : ℕ
   pub limit : taken ≤ 65535
   pub asked : 0 < count → taken ≤ count
   pub told : IfOk result (λ n. n ≡ taken)
-  pub calls : GoesOn (IsSession chip byte 131072 (is_whole result) (most_calls 0 + most_of_undo taken)) old.calls new.calls
+  pub calls : let way = way_of_undo is_fresh chip intent in
+      GoesOn (IsSession chip (byte_of way) (limit_of way) (is_whole result) (most_of_reaching (limit_of way) + most_of_undo taken)) old.calls new.calls
 
 -- nothing of a dialogue, or all of it, or it was broken off
 abbrev pub IsBegun : List Turn → List RigCall → Type 0

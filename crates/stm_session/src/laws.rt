@@ -1,5 +1,5 @@
 //! Laws of what can be taken back: each is the contract of a function that does nothing.
-ghost use Rattle.std.specs.Prelude.{◌≡◌, ℕ, List, [], Result, Some, None, false, true};
+ghost use Rattle.std.specs.Prelude.{◌≡◌, Bool, ℕ, List, [], Result, Some, None, false, true};
 ghost use Rattle.std.specs.List.{list_all};
 ghost use Rattle.stm_wire.specs.Chip.{ChipData};
 ghost use Rattle.stm_wire.specs.Device.{Device, IsDevice, IsReady, reset};
@@ -12,8 +12,10 @@ ghost use Rattle.stm_session.specs.declared.fault.Fault.{Fault};
 ghost use Rattle.stm_session.specs.declared.outcome.Report.{Report};
 ghost use Rattle.stm_session.specs.Answers.{outcomes_in};
 ghost use Rattle.stm_session.specs.Events.{OutcomesAreTheRun};
+ghost use Rattle.stm_session.specs.Kept.{RunKeeps, RunStopsKept, UndoPutsBack, UndoStopsBack};
 ghost use Rattle.stm_session.specs.Meaning.{CommandData, commands_in};
 ghost use Rattle.stm_session.specs.Moments.{IsSafe, SameMake};
+ghost use Rattle.stm_session.specs.Order.{UndoStopsFrom, UndoesInOrderFrom};
 ghost use Rattle.stm_session.specs.PowerLoss.{
   AnyBytesAreLeft,
   FinishedLosesNothing,
@@ -24,9 +26,11 @@ ghost use Rattle.stm_session.specs.PowerLoss.{
 ghost use Rattle.stm_session.specs.Refusal.{chip_with, misfit_refusal, opening_refusal};
 ghost use Rattle.stm_session.specs.Refusals.{is_in_flash, run_refusal};
 ghost use Rattle.stm_session.specs.Running.{RunsReads, is_read};
+ghost use Rattle.stm_session.specs.RunOrder.{RunStops, RunsInOrder};
 ghost use Rattle.stm_session.specs.Runs.{Runs};
 ghost use Rattle.stm_session.specs.Undoable.{IsJournalOf, Undoable, is_unfinished_at, state_at};
 
+use stm_image::laying_by_parts;
 use stm_journal::{a_journal_is_sound, changes_of_kept_pages_keep_the_flashes};
 use stm_wire::{Rig, harmless_is_kept, pages_are_the_flash, stopped_is_harmless};
 
@@ -134,3 +138,30 @@ pub fn reads_in_the_flash_are_not_refused()
 {
     a_journal_is_sound();
 }
+
+/// On any line, whatever it answers, a run has appended a page's line, in the segment that it is in, before it appends the intent
+/// to erase or write the page, and before it sends such a frame; and it sends no other frames but those that read. It ends a
+/// segment behind the last of these, each of which was acknowledged. That holds of all that was done, and of what failed.
+pub fn a_run_keeps_pages_before_it_changes_them<R: Rig>()
+    ensures done { (table : List ChipData) (commands : List CommandData) (old new : R)
+        → RunsInOrder table commands (R.view old) (R.view new)
+        → RunKeeps table (R.view old) (R.view new) }
+    ensures stopped { (table : List ChipData) (commands : List CommandData) (old new : R)
+        (fault : Fault) → RunStops table commands (R.view old) (R.view new) fault
+        → RunStopsKept table (R.view old) (R.view new) fault }
+{
+    laying_by_parts();
+}
+
+/// On any line, whatever it answers, an undo erases and writes only pages of the newest segment that it hasn't taken off yet, or at
+/// first the page of the journal's intent, and appends intents only for these; and it sends no other frames but those that read. It
+/// takes a segment off behind the last of these, each of which was acknowledged. That holds of all that was done, and of what
+/// failed.
+pub fn an_undo_changes_only_pages_that_it_takes_back<R: Rig>()
+    ensures done { (is_fresh : Bool) (table : List ChipData) (taken : ℕ) (old new : R)
+        → UndoesInOrderFrom is_fresh table taken (R.view old) (R.view new)
+        → UndoPutsBack is_fresh table (R.view old) (R.view new) }
+    ensures stopped { (is_fresh : Bool) (table : List ChipData) (count : ℕ) (old new : R)
+        (fault : Fault) → UndoStopsFrom is_fresh table count (R.view old) (R.view new) fault
+        → UndoStopsBack is_fresh table (R.view old) (R.view new) fault }
+{}

@@ -6,7 +6,7 @@ use stm_journal::{
     an_entry_leaves_the_old_state_or_the_new, changes_of_kept_pages_keep_the_flashes,
     keeping_a_page_keeps_the_flashes, restored_pages_are_the_flash_before,
 };
-use stm_wire::{harmless_is_kept, pages_are_the_flash, sending_is_harmless};
+use stm_wire::{awaited_is_limited, harmless_is_kept, pages_are_the_flash, sending_is_harmless};
 
 /// All laws of the line and of the journal that a step needs.
 pub fn step_laws()
@@ -15,6 +15,7 @@ pub fn step_laws()
     sending_is_harmless();
     harmless_is_kept();
     pages_are_the_flash();
+    awaited_is_limited();
     a_journal_is_sound();
     an_entry_leaves_the_old_state_or_the_new();
     a_beginning_leaves_the_old_segments_or_one_more();

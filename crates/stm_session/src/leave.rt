@@ -70,7 +70,7 @@ pub fn go<R: Rig>(alloc: Global, rig: &mut R, address: u32) -> Result<(), Fault>
 {
     harmless_is_kept();
     check_closed(alloc, rig)?;
-    settle_safe(rig)?;
+    settle_safe(rig)?; // only a settled device takes the frame for what it is
     stm_wire::go(rig, address)?;
     Ok(())
 }

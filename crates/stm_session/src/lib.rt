@@ -52,7 +52,8 @@ pub use laws::{
     a_chip_is_looked_up_by_its_id, a_journal_of_the_chip_is_not_refused,
     a_power_loss_keeps_what_can_be_taken_back, a_ready_device_can_begin,
     a_reset_keeps_what_can_be_taken_back, a_run_is_known_by_its_outcomes,
-    a_run_of_reads_begins_no_segment, an_unrefused_journal_can_be_taken_back,
+    a_run_keeps_pages_before_it_changes_them, a_run_of_reads_begins_no_segment,
+    an_undo_changes_only_pages_that_it_takes_back, an_unrefused_journal_can_be_taken_back,
     asking_keeps_what_can_be_taken_back, lost_bytes_keep_what_can_be_taken_back,
     reads_in_the_flash_are_not_refused,
 };

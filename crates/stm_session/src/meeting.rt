@@ -9,14 +9,14 @@ ghost use Rattle.stm_journal.specs.Journals.{IsLoaded};
 ghost use Rattle.stm_journal.specs.States.{intent_of};
 ghost use Rattle.stm_session.specs.Asking.{Asks};
 ghost use Rattle.stm_session.specs.Fault.{HasSessionCause, IsLaterRefusal, cause_of};
-ghost use Rattle.stm_session.specs.Fresh.{IsAsSaid, byte_of, undo_way};
+ghost use Rattle.stm_session.specs.Fresh.{IsAsSaid, byte_of, limit_of, undo_way};
 ghost use Rattle.stm_session.specs.Meeting.{Meets};
 ghost use Rattle.stm_session.specs.Refusals.{can_erase, undo_misfit};
 ghost use Rattle.stm_session.specs.Order.{AsksInOrder, Begin, IsAsking, IsGet, IsInOrder, ReachesInOrder, Sends, Stops, StopsBy, StopsShort};
-ghost use Rattle.stm_session.specs.Sending.{is_whole, most_calls};
+ghost use Rattle.stm_session.specs.Sending.{is_whole, most_of_reaching};
 ghost use Rattle.stm_session.specs.Steps.{Goes};
 ghost use Rattle.stm_session.specs.Undoable.{Undoable};
-ghost use Rattle.stm_session.specs.Undoes.{byte_at_journal, risked_at};
+ghost use Rattle.stm_session.specs.Undoes.{IsWithinLimit, byte_at_journal, risked_at};
 
 use crate::Fault;
 use crate::contact::{ask_commands, ask_id};
@@ -82,13 +82,14 @@ pub fn meet<R: Rig>(
 ) -> Result<(), Fault>
     ensures cause { HasSessionCause (R.view rig.old) (R.view rig.new) result }
     ensures puts { let old = R.view rig.old in let new = R.view rig.new in
-        let byte = byte_of (undo_way is_fresh (intent_of journal.now.state)) in
-        GoesOn (IsSession None byte 131072 (is_whole result) (most_calls 0)) old.calls new.calls }
+        let way = undo_way is_fresh chip.now.kind (intent_of journal.now.state) in
+        GoesOn (IsSession None (byte_of way) (limit_of way) (is_whole result)
+        (most_of_reaching (limit_of way))) old.calls new.calls }
     ensures order { let old = R.view rig.old in let new = R.view rig.new in
-        let way = undo_way is_fresh (intent_of journal.now.state) in
+        let way = undo_way is_fresh chip.now.kind (intent_of journal.now.state) in
         (torn : Bool) → OnOk result (ReachesInOrder way chip.now.id torn old new) }
     ensures stops { let old = R.view rig.old in let new = R.view rig.new in
-        let way = undo_way is_fresh (intent_of journal.now.state) in
+        let way = undo_way is_fresh chip.now.kind (intent_of journal.now.state) in
         (torn : Bool) → StopsShort way torn old new result }
     ensures honest { let old = R.view rig.old in let new = R.view rig.new in
         old.is_honest → IsAsSaid is_fresh old.device → (flashes : List (List ℕ))
@@ -98,10 +99,10 @@ pub fn meet<R: Rig>(
     ensures elsewhere { let old = R.view rig.old in let new = R.view rig.new in
         old.is_honest → IsAsSaid is_fresh old.device → IsLoaded journal.now old.journal
         → Harmless old.device (byte_at_journal old.journal) (risked_at old.journal)
-        → length old.device.owed ≤ 4096 → Meets chip.now old new result }
+        → length old.device.owed ≤ 4096 → IsWithinLimit chip.now old → Meets chip.now old new result }
 {
     step_laws();
-    settle_intended(rig, journal, is_fresh)?;
+    settle_intended(rig, journal, chip, is_fresh)?;
     let misfit = ask_misfit(rig, chip)?;
     match misfit {
         Some(fault) => Err(fault),

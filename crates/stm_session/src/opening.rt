@@ -61,9 +61,9 @@ pub fn reach<R: Rig>(rig: &mut R) -> Result<Told, Fault>
     ensures puts { let old = R.view rig.old in let new = R.view rig.new in
         GoesOn (IsSession None 0x7F 131072 (is_whole result) (most_calls 0)) old.calls new.calls }
     ensures order { let old = R.view rig.old in let new = R.view rig.new in
-        (torn : Bool) → IfOk result (λ told. ReachesInOrder (Settles 0x7F) told.id torn old new) }
+        (torn : Bool) → IfOk result (λ told. ReachesInOrder (Settles 0x7F 131072) told.id torn old new) }
     ensures stops { let old = R.view rig.old in let new = R.view rig.new in
-        (torn : Bool) → StopsShort (Settles 0x7F) torn old new result }
+        (torn : Bool) → StopsShort (Settles 0x7F 131072) torn old new result }
     ensures sent { IfErr result IsOfLine }
     ensures honest { let old = R.view rig.old in let new = R.view rig.new in
         old.is_honest → IsSafe old.device → BeginsNothing old new result (Tells old.device) }
@@ -115,9 +115,9 @@ pub fn open<'t, R: Rig>(alloc: Global, rig: &mut R, table: &'t Table) -> Result<
         GoesOn (IsSession None 0x7F 131072 (is_whole result) (most_calls 0)) old.calls new.calls }
     ensures order { let old = R.view rig.old in let new = R.view rig.new in
         (torn : Bool)
-        → IfOk result (λ opened. ReachesInOrder (Settles 0x7F) opened.chip.now.id torn old new) }
+        → IfOk result (λ opened. ReachesInOrder (Settles 0x7F 131072) opened.chip.now.id torn old new) }
     ensures stops { let old = R.view rig.old in let new = R.view rig.new in
-        (torn : Bool) → StopsShort (Settles 0x7F) torn old new result }
+        (torn : Bool) → StopsShort (Settles 0x7F 131072) torn old new result }
     ensures loaded { let old = R.view rig.old in
         old.is_honest → IfOk result (λ opened. IsLoaded opened.journal old.journal) }
     ensures coherent { IfOk result (IsCoherent table.now) }

@@ -6,19 +6,36 @@ ghost use Rattle.stm_wire.specs.Settling.{SettlesWithin};
 ghost use Rattle.stm_journal.specs.Journals.{IsLoaded};
 ghost use Rattle.stm_journal.specs.States.{intent_of};
 ghost use Rattle.stm_session.specs.Fault.{HasSessionCause, IsOfLine};
-ghost use Rattle.stm_session.specs.Fresh.{EndsWell, IsAsSaid, byte_of, undo_way};
+ghost use Rattle.stm_session.specs.Fresh.{EndsWell, IsAsSaid, byte_of, limit_of, settling_limit, undo_way};
 ghost use Rattle.stm_session.specs.Meeting.{Strays};
 ghost use Rattle.stm_session.specs.Steps.{Goes};
 ghost use Rattle.stm_session.specs.Undoable.{Undoable};
-ghost use Rattle.stm_session.specs.Undoes.{byte_at_journal, risked_at};
+ghost use Rattle.stm_session.specs.Undoes.{IsWithinLimit, byte_at_journal, risked_at};
 
 use crate::Fault;
 use crate::laws_of_steps::step_laws;
 use stm_journal::Journal;
-use stm_wire::{Rig, connect, settle, settling_byte};
+use stm_wire::{Chip, EraseKind, Rig, connect, settle, settling_byte};
 
-/// How often the settling byte is sent at most: more often than any list of bytes is long that a device waits for.
+/// How often the settling byte is sent at most: more often than any device awaits it.
 const SETTLING_LIMIT: u32 = 131_072;
+
+/// And where the chip's pages are erased by numbers of one byte: two batches, and no list of such a device is as long.
+const SHORT_LIMIT: u32 = 512;
+
+/// How often the settling byte of the journal's intent is sent at most, to a device that may be this chip. Without an intent
+/// it is 7F, of which a fresh device refuses the third.
+fn settling_limit(journal: &Journal, chip: &Chip) -> u32
+    ensures { result ≡ settling_limit chip.now.kind (intent_of journal.now.state) }
+{
+    if journal.last_intent().is_none() {
+        return SETTLING_LIMIT;
+    }
+    match chip.kind() {
+        EraseKind::Page => SHORT_LIMIT,
+        EraseKind::Extended => SETTLING_LIMIT,
+    }
+}
 
 /// Whether 7F alone is sent: where the device is said to be fresh, and 7F isn't the byte anyway.
 fn connects(journal: &Journal, is_fresh: bool) -> bool
@@ -28,22 +45,28 @@ fn connects(journal: &Journal, is_fresh: bool) -> bool
 }
 
 /// Settles a device by the intent of the journal that was loaded, from wherever a session was stopped; one that is said to be
-/// fresh from reset with 7F alone.
-pub fn settle_intended<R: Rig>(rig: &mut R, journal: &Journal, is_fresh: bool) -> Result<(), Fault>
+/// fresh from reset with 7F alone. The journal is one of this chip.
+pub fn settle_intended<R: Rig>(
+    rig: &mut R,
+    journal: &Journal,
+    chip: &Chip,
+    is_fresh: bool,
+) -> Result<(), Fault>
     ensures cause { HasSessionCause (R.view rig.old) (R.view rig.new) result }
-    ensures calls { let byte = byte_of (undo_way is_fresh (intent_of journal.now.state)) in
-        GoesOn (SettlesWithin byte 131072) (R.view rig.old).calls (R.view rig.new).calls }
-    ensures settled { let way = undo_way is_fresh (intent_of journal.now.state) in
+    ensures calls { let way = undo_way is_fresh chip.now.kind (intent_of journal.now.state) in
+        GoesOn (SettlesWithin (byte_of way) (limit_of way)) (R.view rig.old).calls (R.view rig.new).calls }
+    ensures settled { let way = undo_way is_fresh chip.now.kind (intent_of journal.now.state) in
         OnOk result (GoesOn (EndsWell way) (R.view rig.old).calls (R.view rig.new).calls) }
     ensures sent { IfErr result IsOfLine }
     ensures honest { let old = R.view rig.old in let new = R.view rig.new in
         old.is_honest → IsAsSaid is_fresh old.device → (flashes : List (List ℕ))
         → IsLoaded journal.now old.journal → Undoable flashes old.device old.journal
+        → old.device.chip ≡ chip.now
         → Goes flashes [] journal.now old new result (λ _. ⊤) }
     ensures strays { let old = R.view rig.old in let new = R.view rig.new in
         old.is_honest → IsAsSaid is_fresh old.device → IsLoaded journal.now old.journal
         → Harmless old.device (byte_at_journal old.journal) (risked_at old.journal)
-        → length old.device.owed ≤ 4096 → Strays old new result }
+        → length old.device.owed ≤ 4096 → IsWithinLimit chip.now old → Strays old new result }
 {
     step_laws();
     if connects(journal, is_fresh) {
@@ -51,6 +74,7 @@ pub fn settle_intended<R: Rig>(rig: &mut R, journal: &Journal, is_fresh: bool) -
         return Ok(());
     }
     let byte = settling_byte(journal.last_intent());
-    settle(rig, byte, SETTLING_LIMIT)?;
+    let limit = settling_limit(journal, chip);
+    settle(rig, byte, limit)?;
     Ok(())
 }

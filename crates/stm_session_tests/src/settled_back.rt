@@ -82,7 +82,35 @@ fn a_write_is_refused(rt: HostRuntime) -> Result<(), Fail> {
     Ok(())
 }
 
-// Two replies are taken, and three bytes 05 put. A device that was reset ignores 131,070 bytes in
+// The longest list of such a chip: a count FF and 256 bytes, and then their check, which is refused.
+// The second batch ends in the midst of a pair, and a single byte ends that.
+#[test]
+fn a_write_of_256_bytes_is_refused(rt: HostRuntime) -> Result<(), Fail> {
+    let acts = [
+        Send(&[0x31, 0xCE, 0x08, 0x00, 0x14, 0x00, 0x1C, 0xFF]),
+        Undo(0, Ok(1)),
+        Begins(&[(0x02, 511), (0x00, 1), (0xFF, 1)]),
+        Flash(&[(b"\0", 32768)]),
+        Ends(b"\nerase 5\nprogram 5\nerase 5\nprogram 5\nundone 1\n"),
+    ];
+    assert_eq!(rt;
+        first_wrong_of(
+            &rt,
+            0x0412,
+            0x00,
+            &[
+                (b"stmjournal 2 0412\nopen 1\npage 5 ", 1),
+                (b"00", 1024),
+                (b"\nerase 5\nprogram 5\n", 1)
+            ],
+            &acts
+        )?,
+        None
+    );
+    Ok(())
+}
+
+// Two replies are taken, and three bytes 05 put. A device that was reset ignores 510 bytes in two
 // batches and two single ones; 7F connects it, and the byte twice is refused.
 #[test]
 fn a_reset_device_is_connected_first(rt: HostRuntime) -> Result<(), Fail> {
@@ -94,7 +122,7 @@ fn a_reset_device_is_connected_first(rt: HostRuntime) -> Result<(), Fail> {
         Reset,
         Undo(0, Ok(1)),
         Flash(&[(b"\0", 32768)]),
-        Begins(&[(0x05, 131_072), (0x7F, 1), (0x05, 2), (0x00, 1), (0xFF, 1)]),
+        Begins(&[(0x05, 512), (0x7F, 1), (0x05, 2), (0x00, 1), (0xFF, 1)]),
     ];
     assert_eq!(rt; first_wrong_of(&rt, 0x0412, 0x00, ERASE_5, &acts)?, None);
     Ok(())

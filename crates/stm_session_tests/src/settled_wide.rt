@@ -1,6 +1,6 @@
 // Stopped sessions with a chip of 512 pages: the settling byte of an erase from page 256 on, and
 // page 257, which page 1's byte can erase.
-use crate::stories::Act::{Begins, Ends, Flash, Send, Undo};
+use crate::stories::Act::{Begins, Ends, Flash, Reset, Send, Undo};
 use crate::stories::first_wrong_of;
 use std::test::Fail;
 
@@ -43,6 +43,33 @@ fn an_erase_of_page_256_is_settled_with_02(rt: HostRuntime) -> Result<(), Fail> 
         Send(&[0x44, 0xBB]),
         Undo(0, Ok(1)),
         Begins(&[(0x02, 1281), (0x00, 1), (0xFF, 1)]),
+        Flash(&[(b"\0", 131_072)]),
+        Ends(b"\nerase 256\nerase 256\nprogram 256\nundone 1\n"),
+    ];
+    assert_eq!(rt;
+        first_wrong_of(
+            &rt,
+            0x0A02,
+            0x00,
+            &[
+                (b"stmjournal 2 0A02\nopen 1\npage 256 ", 1),
+                (b"00", 256),
+                (b"\nerase 256\n", 1)
+            ],
+            &acts
+        )?,
+        None
+    );
+    Ok(())
+}
+
+// A device that was reset ignores all 131,072 bytes, since a list of such a chip may be as long.
+#[test]
+fn a_reset_device_is_connected_late(rt: HostRuntime) -> Result<(), Fail> {
+    let acts = [
+        Reset,
+        Undo(0, Ok(1)),
+        Begins(&[(0x02, 131_072), (0x7F, 1), (0x02, 2), (0x00, 1), (0xFF, 1)]),
         Flash(&[(b"\0", 131_072)]),
         Ends(b"\nerase 256\nerase 256\nprogram 256\nundone 1\n"),
     ];

@@ -154,13 +154,13 @@ fn lost_replies_do_no_harm(rt: HostRuntime) -> Result<(), Fail> {
     Ok(())
 }
 
-// A page at risk holds bytes that nobody wrote. Few stops, since a reset device is settled by 131,072 bytes.
+// A page at risk holds bytes that nobody wrote, and the device is fresh: two batches, and it is connected.
 #[test]
 fn pages_that_lost_their_power_come_back(rt: HostRuntime) -> Result<(), Fail> {
     for between in [Between::Power(0xA5, false), Between::Power(0x5A, true)] {
         for (change, parts) in ZEROS {
             let case = zeros(change, parts);
-            assert_eq!(rt; first_failure(&rt, &case, between, 0, 0, 0)?, None);
+            assert_eq!(rt; first_failure(&rt, &case, between, 0, 1, 31)?, None);
         }
     }
     Ok(())

@@ -22,7 +22,7 @@ loop-block-init g c =
       record {
         within = omega arith;
         line = omega arith;
-        journal = omega arith;
+        journal = refl;
         parts = nothing_is_part (Some c.args.chip.now) true 0 (V c.args.rig.now).calls;
         reads = reads_nothing c.args.chip.now (V c.args.rig.now);
         honest = λ h settled chip.
@@ -48,7 +48,7 @@ loop-block-preserved g c =
       record {
         within = omega (arith, base, block_within chip image c.loop-block.done block a b d so_far next);
         line = omega (arith, so_far.line, c.in_ok-found.ensures.cause.line_later);
-        journal = omega (arith, so_far.journal, c.in_ok-found.ensures.cause.journal_later);
+        journal = c.in_ok-found.ensures.cause.journal_done ∙ so_far.journal;
         parts = subst (λ (n : ℕ). GoesOn (IsPart (Some chip) true (13 * (block.address - n + block.size))) a.calls d.calls) (sym base)
             (compared_part chip image c.loop-block.done block a b d so_far next true c.in_ok-found.ensures.puts);
         reads = compared_reads chip image c.loop-block.done block a b d so_far next c.in_ok-found.ensures.order.0 c.in_ok-found.ensures.order.1;

@@ -25,7 +25,7 @@ loop-i-init g c =
     record {
       rest = refl;
       line = omega arith;
-      journal = omega arith;
+      journal = refl;
       puts = nothing_is_part (Some c.args.chip.now) true _ (V c.args.rig.now).calls;
       order = ([], refl, does_nothing c.args.journal.now (V c.args.rig.now));
       honest = λ flashes steady chip. goes_back_nowhere c.step_laws.ensures flashes c.args.journal.now (V c.args.rig.now) (g.met.R.Rig.model c.args.rig.now steady.honest) steady;
@@ -76,7 +76,7 @@ loop-i-preserved g c =
     record {
       rest = rest_next i _ _ _ c.loop-i.invariant.rest c.in_ok-take_back.ensures.rest;
       line = omega (arith, c.loop-i.invariant.line, c.in_ok-take_back.ensures.cause.line_later);
-      journal = omega (arith, c.loop-i.invariant.journal, c.in_ok-take_back.ensures.cause.journal_later);
+      journal = c.in_ok-take_back.ensures.cause.journal_done ∙ c.loop-i.invariant.journal;
       puts = commands_next c.args.chip.now i true a.calls b.calls d.calls c.loop-i.invariant.puts c.in_ok-take_back.ensures.puts;
       order =
           let all = pages_of_segments l.state.stack in

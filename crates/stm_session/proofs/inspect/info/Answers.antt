@@ -32,10 +32,10 @@ returns-in_err-opened-clause-puts g c =
 pub returns-clause-order : goal.returns-clause-order
 returns-clause-order g c torn =
     let V = g.R.Rig.view in
-    let P : ℕ → Type 0 = λ id. ReachesInOrder (Settles 0x7F) id torn (V c.args.rig.now) (V c.open.new.rig) in
+    let P : ℕ → Type 0 = λ id. ReachesInOrder (Settles 0x7F 131072) id torn (V c.args.rig.now) (V c.open.new.rig) in
     subst P (sym c.id.ensures) (c.in_ok-opened.ensures.order torn)
 
 pub returns-in_err-opened-clause-stops : goal.returns-in_err-opened-clause-stops
 returns-in_err-opened-clause-stops g c torn =
     let V = g.R.Rig.view in
-    by_fault (λ (k : Cause). GoesOn (ReachesInPart (Settles 0x7F) k torn) (V c.args.rig.now).calls (V c.open.new.rig).calls) _ c.from_residual.result c.from_residual.ensures.1 (c.in_err-opened.ensures.stops torn)
+    by_fault (λ (k : Cause). GoesOn (ReachesInPart (Settles 0x7F 131072) k torn) (V c.args.rig.now).calls (V c.open.new.rig).calls) _ c.from_residual.result c.from_residual.ensures.1 (c.in_err-opened.ensures.stops torn)

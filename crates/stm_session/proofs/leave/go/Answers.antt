@@ -71,7 +71,7 @@ pub returns-clause-sent : goal.returns-clause-sent
 returns-clause-sent g c =
     let V = g.R.Rig.view in
     settled_then (go_turns c.args.address) (V c.args.rig.now).calls (V c.check_closed.new.rig).calls (V c.settle_safe.new.rig).calls (V c.go.new.rig).calls
-    c.in_ok-check_closed.ensures.calls c.in_ok-settle_safe.ensures.calls c.in_ok-go.ensures.held.recorded
+    c.in_ok-check_closed.ensures.calls c.in_ok-settle_safe.ensures.calls c.in_ok-settle_safe.ensures.settled c.in_ok-go.ensures.held.recorded
 
 pub returns-in_err-check_closed-clause-puts : goal.returns-in_err-check_closed-clause-puts
 returns-in_err-check_closed-clause-puts g c =

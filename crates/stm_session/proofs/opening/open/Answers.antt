@@ -87,23 +87,23 @@ returns-clause-order g c torn =
     let a = V c.args.rig.now in
     let d = V c.reach.new.rig in
     let told = c.in_ok-told.ensures.order torn in
-    let P : ℕ → Type 0 = λ id. ReachesInOrder (Settles 0x7F) id torn a d in
-    subst P (sym c.in_ok-chip.ensures.id) (told.0, told.1, fetched_then (Settles 0x7F) torn (asking_steps told.0 told.1 _) a.calls (V c.load_finished.new.rig).calls d.calls c.load_finished.ensures.calls told.2)
+    let P : ℕ → Type 0 = λ id. ReachesInOrder (Settles 0x7F 131072) id torn a d in
+    subst P (sym c.in_ok-chip.ensures.id) (told.0, told.1, fetched_then (Settles 0x7F 131072) torn (asking_steps told.0 told.1 _) a.calls (V c.load_finished.new.rig).calls d.calls c.load_finished.ensures.calls told.2)
 
 pub returns-in_err-journal-clause-stops : goal.returns-in_err-journal-clause-stops
 returns-in_err-journal-clause-stops g c torn =
     let V = g.R.Rig.view in
     let a = (V c.args.rig.now).calls in
     let b = (V c.load_finished.new.rig).calls in
-    by_fault (λ (k : Cause). GoesOn (ReachesInPart (Settles 0x7F) k torn) a b) _ c.from_residual.result c.from_residual.ensures.1 (unread_stops (Settles 0x7F) _ torn a b c.load_finished.ensures.calls)
+    by_fault (λ (k : Cause). GoesOn (ReachesInPart (Settles 0x7F 131072) k torn) a b) _ c.from_residual.result c.from_residual.ensures.1 (unread_stops (Settles 0x7F 131072) _ torn a b c.load_finished.ensures.calls)
 
 pub returns-in_err-told-clause-stops : goal.returns-in_err-told-clause-stops
 returns-in_err-told-clause-stops g c torn =
     let V = g.R.Rig.view in
     let a = (V c.args.rig.now).calls in
     let d = (V c.reach.new.rig).calls in
-    by_fault (λ (k : Cause). GoesOn (ReachesInPart (Settles 0x7F) k torn) a d) _ c.from_residual-in_err-told.result c.from_residual-in_err-told.ensures.1
-    (fetched_stops (Settles 0x7F) _ torn a (V c.load_finished.new.rig).calls d c.load_finished.ensures.calls (c.in_err-told.ensures.stops torn))
+    by_fault (λ (k : Cause). GoesOn (ReachesInPart (Settles 0x7F 131072) k torn) a d) _ c.from_residual-in_err-told.result c.from_residual-in_err-told.ensures.1
+    (fetched_stops (Settles 0x7F 131072) _ torn a (V c.load_finished.new.rig).calls d c.load_finished.ensures.calls (c.in_err-told.ensures.stops torn))
 
 pub returns-in_err-chip-clause-stops : goal.returns-in_err-chip-clause-stops
 returns-in_err-chip-clause-stops g c torn =
@@ -111,8 +111,8 @@ returns-in_err-chip-clause-stops g c torn =
     let a = V c.args.rig.now in
     let b = V c.load_finished.new.rig in
     let d = V c.reach.new.rig in
-    by_fault (λ (k : Cause). GoesOn (ReachesInPart (Settles 0x7F) k torn) a.calls d.calls) _ c.from_residual-in_err-chip.result c.from_residual-in_err-chip.ensures.1
-    (fetched_stops (Settles 0x7F) _ torn a.calls b.calls d.calls c.load_finished.ensures.calls (told_stops (Settles 0x7F) _ torn _ b d c.in_err-chip.ensures.named (c.in_ok-told.ensures.order torn)))
+    by_fault (λ (k : Cause). GoesOn (ReachesInPart (Settles 0x7F 131072) k torn) a.calls d.calls) _ c.from_residual-in_err-chip.result c.from_residual-in_err-chip.ensures.1
+    (fetched_stops (Settles 0x7F 131072) _ torn a.calls b.calls d.calls c.load_finished.ensures.calls (told_stops (Settles 0x7F 131072) _ torn _ b d c.in_err-chip.ensures.named (c.in_ok-told.ensures.order torn)))
 
 pub returns-in_err-journal-clause-unwritten : goal.returns-in_err-journal-clause-unwritten
 returns-in_err-journal-clause-unwritten g c =

@@ -6,7 +6,6 @@ use Rattle.std.proofs.Common.{arith, None, true}
 use Rattle.stm_wire.specs.PartLaws.{session_joins, session_longer, settling_is_session}
 use Rattle.stm_session.specs.Sending.{is_whole, most_calls}
 use Rattle.stm_session.proofs.Orders.{settles_then}
-use Rattle.stm_session.proofs.RunOrders.{ok_then}
 use Rattle.stm_wire.specs.Dialogue.{GoesOn}
 use Rattle.stm_session.specs.Fault.{Cause, cause_of}
 use Rattle.stm_session.specs.Order.{Begin, IsAsking, ReachesInPart, StopsBy, asking_steps}
@@ -48,14 +47,14 @@ returns-clause-order g c torn =
     let a = (V c.args.rig.now).calls in
     let b = (V c.settle_safe.new.rig).calls in
     let d = (V c.ask.new.rig).calls in
-    told_then c.ask.result _ _ (λ told asks. (asks.0, asks.1, settles_then (Settles 0x7F) torn (asking_steps asks.0 asks.1 told.id) a b d c.settle_safe.ensures.calls c.in_ok-settle_safe.ensures.settled asks.2)) (c.ask.ensures.order torn)
+    told_then c.ask.result _ _ (λ told asks. (asks.0, asks.1, settles_then (Settles 0x7F 131072) torn (asking_steps asks.0 asks.1 told.id) a b d c.settle_safe.ensures.calls c.in_ok-settle_safe.ensures.settled asks.2)) (c.ask.ensures.order torn)
 
 pub returns-in_err-settle_safe-clause-stops : goal.returns-in_err-settle_safe-clause-stops
 returns-in_err-settle_safe-clause-stops g c torn =
     let V = g.R.Rig.view in
     let a = (V c.args.rig.now).calls in
     let b = (V c.settle_safe.new.rig).calls in
-    by_fault (λ (k : Cause). GoesOn (ReachesInPart (Settles 0x7F) k torn) a b) _ c.from_residual.result c.from_residual.ensures.1 (settle_stops (Settles 0x7F) _ torn a b c.in_err-settle_safe.ensures.sent c.settle_safe.ensures.calls)
+    by_fault (λ (k : Cause). GoesOn (ReachesInPart (Settles 0x7F 131072) k torn) a b) _ c.from_residual.result c.from_residual.ensures.1 (settle_stops (Settles 0x7F 131072) _ torn a b c.in_err-settle_safe.ensures.sent c.settle_safe.ensures.calls)
 
 pub returns-clause-stops : goal.returns-clause-stops
 returns-clause-stops g c torn =
@@ -63,8 +62,8 @@ returns-clause-stops g c torn =
     let a = V c.args.rig.now in
     let b = V c.settle_safe.new.rig in
     let d = V c.ask.new.rig in
-    err_then c.ask.result (λ e. StopsBy (Begin IsAsking) (cause_of e) torn b d) (λ e. GoesOn (ReachesInPart (Settles 0x7F) (cause_of e) torn) a.calls d.calls)
-    (λ e stops. asks_stop (Settles 0x7F) (cause_of e) torn a b d c.settle_safe.ensures.calls c.in_ok-settle_safe.ensures.settled stops) (c.ask.ensures.stops torn)
+    err_then c.ask.result (λ e. StopsBy (Begin IsAsking) (cause_of e) torn b d) (λ e. GoesOn (ReachesInPart (Settles 0x7F 131072) (cause_of e) torn) a.calls d.calls)
+    (λ e stops. asks_stop (Settles 0x7F 131072) (cause_of e) torn a b d c.settle_safe.ensures.calls c.in_ok-settle_safe.ensures.settled stops) (c.ask.ensures.stops torn)
 
 pub returns-in_err-settle_safe-clause-unwritten : goal.returns-in_err-settle_safe-clause-unwritten
 returns-in_err-settle_safe-clause-unwritten g c =

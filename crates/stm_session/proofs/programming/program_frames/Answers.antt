@@ -24,7 +24,7 @@ loop-frame-init g c =
     let V = g.R.Rig.view in
     record {
       line = omega arith;
-      journal = omega arith;
+      journal = refl;
       puts = nothing_is_part (Some c.args.chip.now) true _ (V c.args.rig.now).calls;
       order = λ torn. GoesOn-nothing (IsInOrder torn []) (V c.args.rig.now).calls refl;
       honest = λ flashes l base steady chip under whole erased.
@@ -59,7 +59,7 @@ loop-frame-preserved g c =
     let i = c.loop-frame.frame-index in
     record {
       line = omega (arith, so_far.line, c.in_ok-program_frame.ensures.cause.line_later);
-      journal = omega (arith, so_far.journal, c.in_ok-program_frame.ensures.cause.journal_later);
+      journal = c.in_ok-program_frame.ensures.cause.journal_done ∙ so_far.journal;
       puts = frames_next c.args.chip.now c.args.frames.now i true (V c.args.rig.now).calls (V c.loop-frame.rig).calls (V c.program_frame.new.rig).calls c.loop-frame-test.true so_far.puts c.in_ok-program_frame.ensures.puts;
       order = λ torn.
           writes_next c.args.chip.now c.args.n c.args.page.now torn c.args.frames.now (frame_with 0 0) i (V c.args.rig.now).calls (V c.loop-frame.rig).calls (V c.program_frame.new.rig).calls c.loop-frame-test.true

@@ -32,7 +32,7 @@ loop-done-init g c =
       record {
         within = omega arith;
         line = omega arith;
-        journal = omega arith;
+        journal = refl;
         parts = nothing_is_part (Some c.args.chip.now) true 0 (V c.args.rig.now).calls;
         few = λ page within. record { most = 0; within = omega arith; blocks = λ lt. omega arith; parts = nothing_is_part (Some c.args.chip.now) true 0 (V c.args.rig.now).calls };
         reads = reads_nothing c.args.chip.now (V c.args.rig.now);
@@ -50,7 +50,7 @@ loop-done-preserved g c =
       record {
         within = omega (arith, c.block_size-block.ensures.cut, c.loop-done-test.true);
         line = omega (arith, so_far.line, c.in_ok-read_block.ensures.cause.line_later);
-        journal = omega (arith, so_far.journal, c.in_ok-read_block.ensures.cause.journal_later);
+        journal = c.in_ok-read_block.ensures.cause.journal_done ∙ so_far.journal;
         parts = block_part c.args.chip.now c.args.start c.args.size c.loop-done.done c.block_size-block.result c.loop-done.bytes.items (V c.args.rig.now) (V c.loop-done.rig) (V c.read_block.new.rig) true
             c.loop-done-test.true so_far c.block_size-block.ensures c.in_ok-read_block.ensures.puts;
         few = λ page within.

@@ -2,13 +2,14 @@ use Rattle.std.proofs.Common.{◌≡◌, ◌∙◌, ◌≤◌, ℕ, Some, Ok, Er
 use Rattle.stm_session.specs.declared.fault.Fault.{Fault}
 use Rattle.stm_session.specs.Promises.{UndoContract}
 use Rattle.stm_session.specs.Undoes.{Undoes, taken_count}
+use Rattle.stm_session.proofs.Freshness.{own_within}
 use Rattle.stm_session.proofs.Going.{at_exit}
-use Rattle.stm_session.specs.Fresh.{IsReset, byte_of, undo_way}
+use Rattle.stm_session.specs.Fresh.{IsReset, undo_way}
 use Rattle.stm_journal.specs.States.{intent_of}
 use Rattle.stm_session.proofs.SentUndo.{sends_back, sends_failed, sends_met, sends_nothing}
 use Rattle.stm_session.proofs.Unread.{contract_unread, none_some}
 use Rattle.stm_session.proofs.UndoStarts.{contract_none, contract_unfound, flashes_depth, loaded_then, undoable_then}
-use Rattle.stm_session.proofs.Undone.{contract_when, contract_after, refuses_elsewhere, undoes_unmet, undoes_stopped, undoes_all, elsewhere_back, harmless_then, owed_then, own_chip, err_as}
+use Rattle.stm_session.proofs.Undone.{contract_when, contract_after, refuses_elsewhere, undoes_unmet, undoes_stopped, undoes_all, elsewhere_back, harmless_then, owed_then, own_chip, within_then, err_as}
 use Rattle.std.proofs.Common.{◌++◌}
 use Rattle.std.proofs.Common.{inl, inr, []}
 use Rattle.stm_wire.specs.DialogueLaws.{GoesOn-weaker}
@@ -52,9 +53,9 @@ returns-in_err-meet-clause-promised g c said =
     let P : Result ℕ Fault → Type 0 = λ r. UndoContract c.args.table.now c.args.count (V c.args.rig.now) (V c.meet.new.rig) r in
     err_as P c.from_residual-in_err-meet.result _ c.from_residual-in_err-meet.ensures.1 (λ x is.
     contract_after c.args.table.now c.in_ok-journal.journal (V c.args.rig.now) (V c.load.new.rig) loads some c.in-Some.id named c.step_laws.ensures c.in_ok-chip.chip.now c.in_ok-chip.ensures.chip c.in_ok-chip.ensures.accepted c.args.count (V c.meet.new.rig) (Err x)
-    (λ refusal harmless owed misfit.
+    (λ refusal harmless owed within misfit.
     refuses_elsewhere c.args.table.now c.in_ok-journal.journal (V c.args.rig.now) (V c.load.new.rig) loads some c.in-Some.id named c.step_laws.ensures c.in_ok-chip.chip.now c.in_ok-chip.ensures.chip c.in_ok-chip.ensures.accepted c.args.count (V c.meet.new.rig) refusal _ x is harmless owed misfit
-    (c.in_err-meet.ensures.elsewhere loads.honest (λ t. subst IsReset (sym loads.same_device) (said t)) (loaded_then c.args.table.now c.in_ok-journal.journal (V c.args.rig.now) (V c.load.new.rig) loads) (harmless_then c.args.table.now c.in_ok-journal.journal (V c.args.rig.now) (V c.load.new.rig) loads some c.in-Some.id named c.step_laws.ensures c.in_ok-chip.chip.now c.in_ok-chip.ensures.chip c.in_ok-chip.ensures.accepted harmless) (owed_then c.args.table.now c.in_ok-journal.journal (V c.args.rig.now) (V c.load.new.rig) loads some c.in-Some.id named c.step_laws.ensures c.in_ok-chip.chip.now c.in_ok-chip.ensures.chip c.in_ok-chip.ensures.accepted owed)))
+    (c.in_err-meet.ensures.elsewhere loads.honest (λ t. subst IsReset (sym loads.same_device) (said t)) (loaded_then c.args.table.now c.in_ok-journal.journal (V c.args.rig.now) (V c.load.new.rig) loads) (harmless_then c.args.table.now c.in_ok-journal.journal (V c.args.rig.now) (V c.load.new.rig) loads some c.in-Some.id named c.step_laws.ensures c.in_ok-chip.chip.now c.in_ok-chip.ensures.chip c.in_ok-chip.ensures.accepted harmless) (owed_then c.args.table.now c.in_ok-journal.journal (V c.args.rig.now) (V c.load.new.rig) loads some c.in-Some.id named c.step_laws.ensures c.in_ok-chip.chip.now c.in_ok-chip.ensures.chip c.in_ok-chip.ensures.accepted owed) (within_then c.args.table.now c.in_ok-journal.journal (V c.args.rig.now) (V c.load.new.rig) loads some c.in-Some.id named c.step_laws.ensures c.in_ok-chip.chip.now c.in_ok-chip.ensures.chip c.in_ok-chip.ensures.accepted within)))
     (λ flashes u listed.
     let goes = c.in_err-meet.ensures.honest loads.honest (λ t. subst IsReset (sym loads.same_device) (said t)) flashes (loaded_then c.args.table.now c.in_ok-journal.journal (V c.args.rig.now) (V c.load.new.rig) loads) (undoable_then c.args.table.now c.in_ok-journal.journal (V c.args.rig.now) (V c.load.new.rig) loads flashes u) (own_chip c.args.table.now c.in_ok-journal.journal (V c.args.rig.now) (V c.load.new.rig) loads some c.in-Some.id named c.step_laws.ensures c.in_ok-chip.chip.now c.in_ok-chip.ensures.chip c.in_ok-chip.ensures.accepted flashes u listed) in
     undoes_unmet c.args.table.now c.in_ok-journal.journal (V c.args.rig.now) (V c.load.new.rig) loads some c.in-Some.id named c.step_laws.ensures c.in_ok-chip.chip.now c.in_ok-chip.ensures.chip c.in_ok-chip.ensures.accepted (taken_count c.args.count (length flashes)) flashes u (V c.meet.new.rig) c.in_ok-journal.journal _ x (g.met.R.Rig.model c.meet.new.rig goes.honest) goes is)))
@@ -69,12 +70,12 @@ returns-in_err-go_back-clause-promised g c said =
     let P : Result ℕ Fault → Type 0 = λ r. UndoContract c.args.table.now c.args.count (V c.args.rig.now) (V c.go_back.new.rig) r in
     err_as P c.from_residual-in_err-go_back.result _ c.from_residual-in_err-go_back.ensures.1 (λ x is.
     contract_after c.args.table.now c.in_ok-journal.journal (V c.args.rig.now) (V c.load.new.rig) loads some c.in-Some.id named c.step_laws.ensures c.in_ok-chip.chip.now c.in_ok-chip.ensures.chip c.in_ok-chip.ensures.accepted c.args.count (V c.go_back.new.rig) (Err x)
-    (λ refusal harmless owed misfit.
-    let meets = c.in_ok-meet.ensures.elsewhere loads.honest (λ t. subst IsReset (sym loads.same_device) (said t)) (loaded_then c.args.table.now c.in_ok-journal.journal (V c.args.rig.now) (V c.load.new.rig) loads) (harmless_then c.args.table.now c.in_ok-journal.journal (V c.args.rig.now) (V c.load.new.rig) loads some c.in-Some.id named c.step_laws.ensures c.in_ok-chip.chip.now c.in_ok-chip.ensures.chip c.in_ok-chip.ensures.accepted harmless) (owed_then c.args.table.now c.in_ok-journal.journal (V c.args.rig.now) (V c.load.new.rig) loads some c.in-Some.id named c.step_laws.ensures c.in_ok-chip.chip.now c.in_ok-chip.ensures.chip c.in_ok-chip.ensures.accepted owed) in
+    (λ refusal harmless owed within misfit.
+    let meets = c.in_ok-meet.ensures.elsewhere loads.honest (λ t. subst IsReset (sym loads.same_device) (said t)) (loaded_then c.args.table.now c.in_ok-journal.journal (V c.args.rig.now) (V c.load.new.rig) loads) (harmless_then c.args.table.now c.in_ok-journal.journal (V c.args.rig.now) (V c.load.new.rig) loads some c.in-Some.id named c.step_laws.ensures c.in_ok-chip.chip.now c.in_ok-chip.ensures.chip c.in_ok-chip.ensures.accepted harmless) (owed_then c.args.table.now c.in_ok-journal.journal (V c.args.rig.now) (V c.load.new.rig) loads some c.in-Some.id named c.step_laws.ensures c.in_ok-chip.chip.now c.in_ok-chip.ensures.chip c.in_ok-chip.ensures.accepted owed) (within_then c.args.table.now c.in_ok-journal.journal (V c.args.rig.now) (V c.load.new.rig) loads some c.in-Some.id named c.step_laws.ensures c.in_ok-chip.chip.now c.in_ok-chip.ensures.chip c.in_ok-chip.ensures.accepted within) in
     none_some _ refusal meets.accepted misfit)
     (λ flashes u listed.
     let goes = c.in_ok-meet.ensures.honest loads.honest (λ t. subst IsReset (sym loads.same_device) (said t)) flashes (loaded_then c.args.table.now c.in_ok-journal.journal (V c.args.rig.now) (V c.load.new.rig) loads) (undoable_then c.args.table.now c.in_ok-journal.journal (V c.args.rig.now) (V c.load.new.rig) loads flashes u) (own_chip c.args.table.now c.in_ok-journal.journal (V c.args.rig.now) (V c.load.new.rig) loads some c.in-Some.id named c.step_laws.ensures c.in_ok-chip.chip.now c.in_ok-chip.ensures.chip c.in_ok-chip.ensures.accepted flashes u listed) in
-    let met = c.in_ok-meet.ensures.elsewhere loads.honest (λ t. subst IsReset (sym loads.same_device) (said t)) (loaded_then c.args.table.now c.in_ok-journal.journal (V c.args.rig.now) (V c.load.new.rig) loads) (harmless_then c.args.table.now c.in_ok-journal.journal (V c.args.rig.now) (V c.load.new.rig) loads some c.in-Some.id named c.step_laws.ensures c.in_ok-chip.chip.now c.in_ok-chip.ensures.chip c.in_ok-chip.ensures.accepted u.harmless) (owed_then c.args.table.now c.in_ok-journal.journal (V c.args.rig.now) (V c.load.new.rig) loads some c.in-Some.id named c.step_laws.ensures c.in_ok-chip.chip.now c.in_ok-chip.ensures.chip c.in_ok-chip.ensures.accepted u.owed) in
+    let met = c.in_ok-meet.ensures.elsewhere loads.honest (λ t. subst IsReset (sym loads.same_device) (said t)) (loaded_then c.args.table.now c.in_ok-journal.journal (V c.args.rig.now) (V c.load.new.rig) loads) (harmless_then c.args.table.now c.in_ok-journal.journal (V c.args.rig.now) (V c.load.new.rig) loads some c.in-Some.id named c.step_laws.ensures c.in_ok-chip.chip.now c.in_ok-chip.ensures.chip c.in_ok-chip.ensures.accepted u.harmless) (owed_then c.args.table.now c.in_ok-journal.journal (V c.args.rig.now) (V c.load.new.rig) loads some c.in-Some.id named c.step_laws.ensures c.in_ok-chip.chip.now c.in_ok-chip.ensures.chip c.in_ok-chip.ensures.accepted u.owed) (own_within c.step_laws.ensures c.in_ok-chip.chip.now (V c.load.new.rig) (g.met.R.Rig.model c.load.new.rig loads.honest).device (own_chip c.args.table.now c.in_ok-journal.journal (V c.args.rig.now) (V c.load.new.rig) loads some c.in-Some.id named c.step_laws.ensures c.in_ok-chip.chip.now c.in_ok-chip.ensures.chip c.in_ok-chip.ensures.accepted flashes u listed)) in
     let settled = (elsewhere_back c.args.table.now c.in_ok-journal.journal (V c.args.rig.now) (V c.load.new.rig) loads some c.in-Some.id named c.step_laws.ensures c.in_ok-chip.chip.now c.in_ok-chip.ensures.chip c.in_ok-chip.ensures.accepted (V c.meet.new.rig).device (V c.meet.new.rig).journal met.left).flash in
     let model_b = g.met.R.Rig.model c.meet.new.rig goes.honest in
     let chip_b = (at_exit _ (V c.load.new.rig) (V c.meet.new.rig) model_b goes.moments).make.chip ∙ own_chip c.args.table.now c.in_ok-journal.journal (V c.args.rig.now) (V c.load.new.rig) loads some c.in-Some.id named c.step_laws.ensures c.in_ok-chip.chip.now c.in_ok-chip.ensures.chip c.in_ok-chip.ensures.accepted flashes u listed in
@@ -93,12 +94,12 @@ returns-clause-promised g c said =
     contract_when c.args.table.now c.args.count (V c.args.rig.now) (V c.go_back.new.rig) _ (λ h.
     let loads = c.in_ok-journal.ensures.honest h in
     contract_after c.args.table.now c.in_ok-journal.journal (V c.args.rig.now) (V c.load.new.rig) loads some c.in-Some.id named c.step_laws.ensures c.in_ok-chip.chip.now c.in_ok-chip.ensures.chip c.in_ok-chip.ensures.accepted c.args.count (V c.go_back.new.rig) _
-    (λ refusal harmless owed misfit.
-    let meets = c.in_ok-meet.ensures.elsewhere loads.honest (λ t. subst IsReset (sym loads.same_device) (said t)) (loaded_then c.args.table.now c.in_ok-journal.journal (V c.args.rig.now) (V c.load.new.rig) loads) (harmless_then c.args.table.now c.in_ok-journal.journal (V c.args.rig.now) (V c.load.new.rig) loads some c.in-Some.id named c.step_laws.ensures c.in_ok-chip.chip.now c.in_ok-chip.ensures.chip c.in_ok-chip.ensures.accepted harmless) (owed_then c.args.table.now c.in_ok-journal.journal (V c.args.rig.now) (V c.load.new.rig) loads some c.in-Some.id named c.step_laws.ensures c.in_ok-chip.chip.now c.in_ok-chip.ensures.chip c.in_ok-chip.ensures.accepted owed) in
+    (λ refusal harmless owed within misfit.
+    let meets = c.in_ok-meet.ensures.elsewhere loads.honest (λ t. subst IsReset (sym loads.same_device) (said t)) (loaded_then c.args.table.now c.in_ok-journal.journal (V c.args.rig.now) (V c.load.new.rig) loads) (harmless_then c.args.table.now c.in_ok-journal.journal (V c.args.rig.now) (V c.load.new.rig) loads some c.in-Some.id named c.step_laws.ensures c.in_ok-chip.chip.now c.in_ok-chip.ensures.chip c.in_ok-chip.ensures.accepted harmless) (owed_then c.args.table.now c.in_ok-journal.journal (V c.args.rig.now) (V c.load.new.rig) loads some c.in-Some.id named c.step_laws.ensures c.in_ok-chip.chip.now c.in_ok-chip.ensures.chip c.in_ok-chip.ensures.accepted owed) (within_then c.args.table.now c.in_ok-journal.journal (V c.args.rig.now) (V c.load.new.rig) loads some c.in-Some.id named c.step_laws.ensures c.in_ok-chip.chip.now c.in_ok-chip.ensures.chip c.in_ok-chip.ensures.accepted within) in
     none_some _ refusal meets.accepted misfit)
     (λ flashes u listed.
     let goes = c.in_ok-meet.ensures.honest loads.honest (λ t. subst IsReset (sym loads.same_device) (said t)) flashes (loaded_then c.args.table.now c.in_ok-journal.journal (V c.args.rig.now) (V c.load.new.rig) loads) (undoable_then c.args.table.now c.in_ok-journal.journal (V c.args.rig.now) (V c.load.new.rig) loads flashes u) (own_chip c.args.table.now c.in_ok-journal.journal (V c.args.rig.now) (V c.load.new.rig) loads some c.in-Some.id named c.step_laws.ensures c.in_ok-chip.chip.now c.in_ok-chip.ensures.chip c.in_ok-chip.ensures.accepted flashes u listed) in
-    let met = c.in_ok-meet.ensures.elsewhere loads.honest (λ t. subst IsReset (sym loads.same_device) (said t)) (loaded_then c.args.table.now c.in_ok-journal.journal (V c.args.rig.now) (V c.load.new.rig) loads) (harmless_then c.args.table.now c.in_ok-journal.journal (V c.args.rig.now) (V c.load.new.rig) loads some c.in-Some.id named c.step_laws.ensures c.in_ok-chip.chip.now c.in_ok-chip.ensures.chip c.in_ok-chip.ensures.accepted u.harmless) (owed_then c.args.table.now c.in_ok-journal.journal (V c.args.rig.now) (V c.load.new.rig) loads some c.in-Some.id named c.step_laws.ensures c.in_ok-chip.chip.now c.in_ok-chip.ensures.chip c.in_ok-chip.ensures.accepted u.owed) in
+    let met = c.in_ok-meet.ensures.elsewhere loads.honest (λ t. subst IsReset (sym loads.same_device) (said t)) (loaded_then c.args.table.now c.in_ok-journal.journal (V c.args.rig.now) (V c.load.new.rig) loads) (harmless_then c.args.table.now c.in_ok-journal.journal (V c.args.rig.now) (V c.load.new.rig) loads some c.in-Some.id named c.step_laws.ensures c.in_ok-chip.chip.now c.in_ok-chip.ensures.chip c.in_ok-chip.ensures.accepted u.harmless) (owed_then c.args.table.now c.in_ok-journal.journal (V c.args.rig.now) (V c.load.new.rig) loads some c.in-Some.id named c.step_laws.ensures c.in_ok-chip.chip.now c.in_ok-chip.ensures.chip c.in_ok-chip.ensures.accepted u.owed) (own_within c.step_laws.ensures c.in_ok-chip.chip.now (V c.load.new.rig) (g.met.R.Rig.model c.load.new.rig loads.honest).device (own_chip c.args.table.now c.in_ok-journal.journal (V c.args.rig.now) (V c.load.new.rig) loads some c.in-Some.id named c.step_laws.ensures c.in_ok-chip.chip.now c.in_ok-chip.ensures.chip c.in_ok-chip.ensures.accepted flashes u listed)) in
     let settled = (elsewhere_back c.args.table.now c.in_ok-journal.journal (V c.args.rig.now) (V c.load.new.rig) loads some c.in-Some.id named c.step_laws.ensures c.in_ok-chip.chip.now c.in_ok-chip.ensures.chip c.in_ok-chip.ensures.accepted (V c.meet.new.rig).device (V c.meet.new.rig).journal met.left).flash in
     let model_b = g.met.R.Rig.model c.meet.new.rig goes.honest in
     let chip_b = (at_exit _ (V c.load.new.rig) (V c.meet.new.rig) model_b goes.moments).make.chip ∙ own_chip c.args.table.now c.in_ok-journal.journal (V c.args.rig.now) (V c.load.new.rig) loads some c.in-Some.id named c.step_laws.ensures c.in_ok-chip.chip.now c.in_ok-chip.ensures.chip c.in_ok-chip.ensures.accepted flashes u listed in
@@ -134,20 +135,22 @@ returns-in_err-meet-clause-puts g c =
     let V = g.R.Rig.view in
     let a = V c.args.rig.now in
     let d = V c.meet.new.rig in
-    let byte = byte_of (undo_way c.args.is_fresh (intent_of c.in_ok-journal.journal.state)) in
+    let intent = intent_of c.in_ok-journal.journal.state in
+    let chip = c.in_ok-chip.chip.now in
     sends_failed c.args.table.now c.args.count a d _ c.from_residual-in_err-meet.result c.from_residual-in_err-meet.ensures.1
-    (sends_met c.args.table.now c.args.count a byte (V c.load.new.rig) d _ c.in_ok-journal.ensures.calls c.in_err-meet.ensures.puts)
+    (sends_met c.args.table.now c.args.count a c.args.is_fresh intent c.in-Some.id chip c.in_ok-chip.ensures.chip (V c.load.new.rig) d _ c.in_ok-journal.ensures.calls c.in_err-meet.ensures.puts)
 
 pub returns-in_err-go_back-clause-puts : goal.returns-in_err-go_back-clause-puts
 returns-in_err-go_back-clause-puts g c =
     let V = g.R.Rig.view in
     let a = V c.args.rig.now in
     let d = V c.go_back.new.rig in
-    let byte = byte_of (undo_way c.args.is_fresh (intent_of c.in_ok-journal.journal.state)) in
+    let intent = intent_of c.in_ok-journal.journal.state in
+    let chip = c.in_ok-chip.chip.now in
     let taken = c.taken_count-taken in
     let limit : taken.result ≤ 65535 = omega (arith, taken.ensures.most, c.depth-depth.ensures.value, c.depth-depth.ensures.sound.depth) in
     sends_failed c.args.table.now c.args.count a d _ c.from_residual-in_err-go_back.result c.from_residual-in_err-go_back.ensures.1
-    (sends_back c.args.table.now c.args.count a byte c.in-Some.id taken.result c.in_ok-chip.chip.now (V c.load.new.rig) (V c.meet.new.rig) d _ c.in_ok-chip.ensures.chip limit taken.ensures.asked tt
+    (sends_back c.args.table.now c.args.count a c.args.is_fresh intent c.in-Some.id chip c.in_ok-chip.ensures.chip taken.result (V c.load.new.rig) (V c.meet.new.rig) d _ limit taken.ensures.asked tt
     c.in_ok-journal.ensures.calls c.in_ok-meet.ensures.puts c.in_err-go_back.ensures.puts)
 
 pub returns-clause-puts : goal.returns-clause-puts
@@ -155,10 +158,11 @@ returns-clause-puts g c =
     let V = g.R.Rig.view in
     let a = V c.args.rig.now in
     let d = V c.go_back.new.rig in
-    let byte = byte_of (undo_way c.args.is_fresh (intent_of c.in_ok-journal.journal.state)) in
+    let intent = intent_of c.in_ok-journal.journal.state in
+    let chip = c.in_ok-chip.chip.now in
     let taken = c.taken_count-taken in
     let limit : taken.result ≤ 65535 = omega (arith, taken.ensures.most, c.depth-depth.ensures.value, c.depth-depth.ensures.sound.depth) in
-    sends_back c.args.table.now c.args.count a byte c.in-Some.id taken.result c.in_ok-chip.chip.now (V c.load.new.rig) (V c.meet.new.rig) d _ c.in_ok-chip.ensures.chip limit taken.ensures.asked refl
+    sends_back c.args.table.now c.args.count a c.args.is_fresh intent c.in-Some.id chip c.in_ok-chip.ensures.chip taken.result (V c.load.new.rig) (V c.meet.new.rig) d _ limit taken.ensures.asked refl
     c.in_ok-journal.ensures.calls c.in_ok-meet.ensures.puts c.in_ok-go_back.ensures.puts
 
 pub returns-then-depth-eq0-clause-order : goal.returns-then-depth-eq0-clause-order
@@ -168,7 +172,7 @@ pub returns-clause-order : goal.returns-clause-order
 returns-clause-order g c some =
     let V = g.R.Rig.view in
     let l = c.in_ok-journal.journal in
-    let way = undo_way c.args.is_fresh (intent_of l.state) in
+    let way = undo_way c.args.is_fresh c.in_ok-chip.chip.now.kind (intent_of l.state) in
     let a = (V c.args.rig.now).calls in
     let b = (V c.load.new.rig).calls in
     let d = (V c.meet.new.rig).calls in
@@ -204,7 +208,7 @@ pub returns-in_err-meet-clause-stops : goal.returns-in_err-meet-clause-stops
 returns-in_err-meet-clause-stops g c =
     let V = g.R.Rig.view in
     let l = c.in_ok-journal.journal in
-    let way = undo_way c.args.is_fresh (intent_of l.state) in
+    let way = undo_way c.args.is_fresh c.in_ok-chip.chip.now.kind (intent_of l.state) in
     let a = V c.args.rig.now in
     let b = V c.load.new.rig in
     let d = V c.meet.new.rig in
@@ -228,7 +232,7 @@ pub returns-in_err-go_back-clause-stops : goal.returns-in_err-go_back-clause-sto
 returns-in_err-go_back-clause-stops g c =
     let V = g.R.Rig.view in
     let l = c.in_ok-journal.journal in
-    let way = undo_way c.args.is_fresh (intent_of l.state) in
+    let way = undo_way c.args.is_fresh c.in_ok-chip.chip.now.kind (intent_of l.state) in
     let chip = c.in_ok-chip.chip.now in
     let a = V c.args.rig.now in
     let b = V c.load.new.rig in

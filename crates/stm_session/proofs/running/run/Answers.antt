@@ -113,7 +113,7 @@ returns-clause-order g c =
       last = c.run_commands.new.journal.state;
       steps = done.0;
       are_steps = done.1;
-      calls = settled_then (Settles 0x7F) l.is_torn (asking_steps reached.0 reached.1 _) done.0 a b d refl reached.2 done.2.acts;
+      calls = settled_then (Settles 0x7F 131072) l.is_torn (asking_steps reached.0 reached.1 _) done.0 a b d refl reached.2 done.2.acts;
     }
 
 pub returns-in_err-opened-clause-stops : goal.returns-in_err-opened-clause-stops
@@ -131,7 +131,7 @@ returns-in_err-check_commands-clause-stops g c =
     let cs = commands_in c.args.commands.now in
     let P : Fault → Type 0 = λ e. RunStops c.args.table.now cs a b e in
     at_fault P _ c.from_residual-in_err-check_commands.result c.from_residual-in_err-check_commands.ensures.1
-    (inl (λ torn. told_stops (Settles 0x7F) _ torn _ a b c.in_err-check_commands.ensures.named (c.in_ok-opened.ensures.order torn)))
+    (inl (λ torn. told_stops (Settles 0x7F 131072) _ torn _ a b c.in_err-check_commands.ensures.named (c.in_ok-opened.ensures.order torn)))
 
 pub returns-in_err-outcomes-clause-stops : goal.returns-in_err-outcomes-clause-stops
 returns-in_err-outcomes-clause-stops g c =
@@ -152,7 +152,7 @@ returns-in_err-outcomes-clause-stops g c =
       listed = c.in_ok-opened.ensures.coherent.chip;
       version = reached.0;
       codes = reached.1;
-      calls = reached_stops (Settles 0x7F) chip.id reached.0 reached.1 (AreBegun chip cs l.state) _ l.is_torn a b d reached.2 c.in_err-outcomes.ensures.stops;
+      calls = reached_stops (Settles 0x7F 131072) chip.id reached.0 reached.1 (AreBegun chip cs l.state) _ l.is_torn a b d reached.2 c.in_err-outcomes.ensures.stops;
     }))
 
 pub returns-in_err-opened-clause-puts : goal.returns-in_err-opened-clause-puts

@@ -30,7 +30,7 @@ loop-i-init g c =
     record {
       same = KeepsSame-refl c.args.journal.now.state;
       line = omega arith;
-      journal = omega arith;
+      journal = refl;
       puts = nothing_is_part (Some c.args.chip.now) true _ (V c.args.rig.now).calls;
       order = ([], refl, does_nothing c.args.journal.now (V c.args.rig.now));
       honest = λ flashes steady chip. goes_nowhere c.step_laws.ensures flashes c.args.journal.now (V c.args.rig.now) (tt {0}) _ (g.met.R.Rig.model c.args.rig.now steady.honest) steady refl;
@@ -85,7 +85,7 @@ loop-i-preserved g c =
     record {
       same = KeepsSame-trans c.args.journal.now.state c.loop-i.journal.state c.restore_line.new.journal.state so_far.same c.in_ok-restore_line.ensures.same;
       line = omega (arith, so_far.line, c.in_ok-restore_line.ensures.cause.line_later);
-      journal = omega (arith, so_far.journal, c.in_ok-restore_line.ensures.cause.journal_later);
+      journal = c.in_ok-restore_line.ensures.cause.journal_done ∙ so_far.journal;
       puts =
           let lt : c.loop-i.i < kept_count c.args.journal.now.state c.depth-newest.result = omega (arith, c.loop-i-test.true, c.kept_count-count.ensures) in
           let kept = the_kept c.args.journal.now.state c.loop-i.journal.state c.depth-newest.result c.loop-i.i so_far.same c.depth-newest.ensures.value lt c.args.chip.now c.in-Some-kept.n c.in-Some-kept.field-0-1

@@ -38,7 +38,7 @@ loop-n-init g c =
       puts = nothing_is_part (Some c.args.chip.now) true _ (V c.args.rig.now).calls;
       order = ([], none, does_nothing c.args.journal.now (V c.args.rig.now));
       line = omega arith;
-      journal = omega arith;
+      journal = refl;
       honest = λ flashes steady chip.
           let model = g.met.R.Rig.model c.args.rig.now steady.honest in
           let old = (V c.args.rig.now).device.flash in
@@ -105,7 +105,7 @@ loop-n-preserved g c =
             does_then before.0 own.0 c.args.journal.now c.loop-n.journal c.turn_page.new.journal (V c.args.rig.now) (V c.loop-n.rig) (V c.turn_page.new.rig) before.2 own.2,
           );
       line = omega (arith, so_far.line, c.in_ok-changed.ensures.cause.line_later);
-      journal = omega (arith, so_far.journal, c.in_ok-changed.ensures.cause.journal_later);
+      journal = c.in_ok-changed.ensures.cause.journal_done ∙ so_far.journal;
       honest = λ flashes steady chip.
           let laws : LayLaws = record { length = c.laying_by_parts.ensures.length; front = c.laying_by_parts.ensures.front; back = c.laying_by_parts.ensures.back } in
           let a = V c.args.rig.now in
