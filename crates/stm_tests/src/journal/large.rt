@@ -1,15 +1,20 @@
 // Journals of real size: longer than a loader reads at once, and with the longest page.
+ghost use Rattle.std.specs.Prelude.{◌<◌, length, AllPairs};
+
 use crate::journal::call_order::write_pages;
 use crate::journal::rig_with;
 use std::alloc::{AllocError, Global};
 use std::test::Fail;
 use stm_journal::{Journal, JournalFault};
+use stm_wire::MemoryRig;
 
-/// The bytes of a page, each another one than its neighbours.
+/// The bytes of a page, each another one than its neighbours: from 0 to 250, and again.
 fn page(alloc: Global, count: u32) -> Result<Vec<u8>, AllocError> {
     let mut bytes = Vec::new(alloc);
-    for place in 0..count {
-        bytes.push((place % 251) as u8)?;
+    let mut byte: u8 = 0;
+    for _ in 0..count {
+        bytes.push(byte)?;
+        byte = if byte == 250 { 0 } else { byte.wrapping_add(1) };
     }
     Ok(bytes)
 }
@@ -25,56 +30,76 @@ fn digits_of(alloc: Global, bytes: &[u8]) -> Result<Vec<u8>, AllocError> {
     Ok(text)
 }
 
-#[test]
-fn two_pages_of_1024_bytes(rt: HostRuntime) -> Result<(), Fail> {
-    let mut rig = rig_with(rt.alloc(), b"")?;
+/// A Rig with this journal, behind which a command has written these pages.
+fn written(rt: &HostRuntime, lines: &[u8], pages: &[u16], held: &[u8]) -> Result<MemoryRig, Fail>
+    requires rising { AllPairs (λ m n. m < n) pages.now }
+    requires some { 0 < length held.now }
+{
+    let mut rig = rig_with(rt.alloc(), lines)?;
     let mut journal = Journal::load(rt.alloc(), &mut rig)?;
     let depth = journal.depth();
-    assert!(rt; depth < 65535);
     let unfinished = journal.is_unfinished();
-    assert!(rt; !unfinished);
+    if depth >= 65535 || unfinished {
+        return Err(Fail::from("no command can begin"));
+    }
+    write_pages(&mut journal, &mut rig, pages, held)?;
+    Ok(rig)
+}
+
+#[test]
+fn two_pages_of_1024_bytes(rt: HostRuntime) -> Result<(), Fail> {
     let held = page(rt.alloc(), 1024)?;
     assert_eq!(rt; held.len(), 1024);
-    write_pages(&mut journal, &mut rig, &[0, 1], &held)?;
-    assert_eq!(rt; rig.journal().len(), 4179);
+    let mut rig = written(&rt, b"", &[0, 1], &held)?;
+    let length = rig.journal().len();
     let journal = Journal::load(rt.alloc(), &mut rig)?;
-    assert_eq!(rt; journal.depth(), 1);
-    assert!(rt; !journal.is_unfinished());
-    assert_eq!(rt; journal.kept(1, 0), Some((0, 3)));
-    assert_eq!(rt; journal.kept(1, 1), Some((1, 6)));
+    let found = (length, journal.depth(), journal.is_unfinished());
+    let kept = (journal.kept(1, 0), journal.kept(1, 1));
+    assert_eq!(rt;
+        (found, kept),
+        ((4179, 1, false), (Some((0, 3)), Some((1, 6))))
+    );
     Ok(())
 }
 
 #[test]
 fn a_page_of_131072_bytes(rt: HostRuntime) -> Result<(), Fail> {
-    let mut rig = rig_with(rt.alloc(), b"stmjournal 1 0412\n")?;
-    let mut journal = Journal::load(rt.alloc(), &mut rig)?;
-    let depth = journal.depth();
-    assert!(rt; depth < 65535);
-    let unfinished = journal.is_unfinished();
-    assert!(rt; !unfinished);
     let held = page(rt.alloc(), 131_072)?;
     assert_eq!(rt; held.len(), 131_072);
-    write_pages(&mut journal, &mut rig, &[5], &held)?;
+    let mut rig = written(&rt, b"stmjournal 1 0412\n", &[5], &held)?;
     let mut text = Vec::from_slice(rt.alloc(), b"stmjournal 1 0412\nopen 1\npage 5 ")?;
     text.extend_from_slice(&digits_of(rt.alloc(), &held)?)?;
     text.extend_from_slice(b"\nerase 5\nprogram 5\nend 1\n")?;
-    assert!(rt; rig.journal() == text.as_slice());
+    let is_same = rig.journal() == text.as_slice();
     let journal = Journal::load(rt.alloc(), &mut rig)?;
-    assert_eq!(rt; journal.kept(1, 0), Some((5, 3)));
-    assert!(rt; !journal.is_unfinished());
+    let found = (is_same, journal.is_unfinished(), journal.kept(1, 0));
+    assert_eq!(rt; found, (true, false, Some((5, 3))));
     Ok(())
+}
+
+/// Adds a line of a word, a number and what stands behind it.
+fn put_line(
+    alloc: Global,
+    text: &mut String,
+    word: &str,
+    number: u32,
+    rest: &str,
+) -> Result<(), AllocError> {
+    let digits = format!(in alloc; "{number}")?;
+    text.push_str(word)?;
+    text.push_str(&digits)?;
+    text.push_str(rest)
 }
 
 /// Whole segments of one page each, as many as are told, and a line.
 fn segments(alloc: Global, count: u32, last: &str) -> Result<String, AllocError> {
-    let mut text = format!(in alloc; "stmjournal 1 0412\n")?;
+    let mut text = String::from_str(alloc, "stmjournal 1 0412\n")?;
     for k in 1..=count {
-        let page = k % 32;
-        let lines = format!(in alloc;
-            "open {k}\npage {page} 00FF5A\nerase {page}\nprogram {page}\nend {k}\n"
-        )?;
-        text.push_str(&lines)?;
+        put_line(alloc, &mut text, "open ", k, "\n")?;
+        put_line(alloc, &mut text, "page ", k % 32, " 00FF5A\n")?;
+        put_line(alloc, &mut text, "erase ", k % 32, "\n")?;
+        put_line(alloc, &mut text, "program ", k % 32, "\n")?;
+        put_line(alloc, &mut text, "end ", k, "\n")?;
     }
     text.push_str(last)?;
     Ok(text)
@@ -85,15 +110,20 @@ fn a_journal_of_several_buffers(rt: HostRuntime) -> Result<(), Fail> {
     let text = segments(rt.alloc(), 500, "open 501\n")?;
     let mut rig = rig_with(rt.alloc(), text.as_bytes())?;
     let journal = Journal::load(rt.alloc(), &mut rig)?;
-    assert_eq!(rt; journal.depth(), 501);
-    assert!(rt; journal.is_unfinished());
-    assert_eq!(rt; journal.kept(1, 0), Some((1, 3)));
-    assert_eq!(rt; journal.kept(500, 0), Some((20, 2498)));
+    let found = (journal.depth(), journal.is_unfinished());
+    let kept = (journal.kept(1, 0), journal.kept(500, 0));
+    assert_eq!(rt;
+        (found, kept),
+        ((501, true), (Some((1, 3)), Some((20, 2498))))
+    );
+    Ok(())
+}
+
+#[test]
+fn a_journal_of_several_buffers_with_a_number_twice(rt: HostRuntime) -> Result<(), Fail> {
     let text = segments(rt.alloc(), 500, "open 500\n")?;
     let mut rig = rig_with(rt.alloc(), text.as_bytes())?;
-    assert_eq!(rt;
-        Journal::load(rt.alloc(), &mut rig).err(),
-        Some(JournalFault::Bad(2502))
-    );
+    let fault = Journal::load(rt.alloc(), &mut rig).err();
+    assert_eq!(rt; fault, Some(JournalFault::Bad(2502)));
     Ok(())
 }

@@ -125,10 +125,10 @@ fn add_page(text: &mut Vec<u8>, n: &[u8]) -> Result<(), AllocError> {
     text.extend_from_slice(b"page ")?;
     text.extend_from_slice(n)?;
     text.push(b' ')?;
-    for place in 0..2048 {
-        text.push(if place == 2047 { b'C' } else { b'0' })?;
+    for _ in 0..2047 {
+        text.push(b'0')?;
     }
-    text.extend_from_slice(b"\nerase ")?;
+    text.extend_from_slice(b"C\nerase ")?;
     text.extend_from_slice(n)?;
     text.extend_from_slice(b"\nprogram ")?;
     text.extend_from_slice(n)?;
