@@ -4,9 +4,18 @@ use Rattle.std.proofs.Math.Seq.{drop-append_seam}
 use Rattle.std.specs.Io.KnownBytes.{Appends}
 use Rattle.stm_wire.specs.declared.fault.RigFault.{RigFault}
 use Rattle.stm_wire.specs.declared.fault.RigFault.TheVariants.{Line, File, Stopped}
-use Rattle.stm_wire.specs.Memory.{MemoryData, AppendsInMemory}
+use Rattle.stm_wire.specs.declared.rig.RigCall.TheVariants.{Append}
+use Rattle.stm_wire.specs.Memory.{MemoryData, AppendsInMemory, Fails, counts_append, counts_journal, stopped}
 use Rattle.stmflash.specs.JournalFile.{JournalBytes}
 use Rattle.stmflash.specs.SimulatorRig.{SimulatorState, AppendsToBoth, AppendsToFile}
+
+-- a call that did nothing left the journal
+nothing-grown : (bytes : List ℕ) (old new : MemoryData) → Fails (Append (length bytes)) old new → (added : List ℕ) × (new.journal ≡ old.journal ++ added)
+nothing-grown bytes old new fails =
+    ⊎_elim
+    (λ entry. ([], ap (λ m. m.journal) entry ∙ sym (append-nil old.journal)))
+    (λ none. ([], ap (λ m. m.journal) none.0 ∙ sym (append-nil old.journal)))
+    fails
 
 -- the journal only grows
 grown-by : (bytes : List ℕ) (answer : Result (Unit {0}) RigFault) (old new : MemoryData) → AppendsInMemory bytes answer old new
@@ -15,13 +24,9 @@ grown-by bytes (Ok done) old new does = (bytes, ap (λ m. m.journal) does.2)
 grown-by bytes (Err Stopped) old new does =
     ⊎_elim
     (λ some. (_, ap (λ m. m.journal) some))
-    (λ none. ([], ap (λ m. m.journal) none ∙ sym (append-nil old.journal)))
+    (nothing-grown bytes (counts_journal (stopped old)) new)
     does.1
-grown-by bytes (Err File) old new does =
-    ⊎_elim
-    (λ entry. ([], ap (λ m. m.journal) entry ∙ sym (append-nil old.journal)))
-    (λ none. ([], ap (λ m. m.journal) none ∙ sym (append-nil old.journal)))
-    does.1
+grown-by bytes (Err File) old new does = nothing-grown bytes (counts_journal (counts_append old)) new does.1
 grown-by bytes (Err Line) old new does = absurd does
 
 -- by what stands there from the old end on

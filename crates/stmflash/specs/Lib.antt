@@ -2,6 +2,7 @@ pub mod Action
 pub mod Answer
 pub mod Conduct
 pub mod Content
+pub mod FalseErase
 pub mod JournalFile
 pub mod Logging
 pub mod Outgoing
@@ -13,6 +14,7 @@ pub mod SimulatorRig
 pub mod SimulatorRigLaws
 pub mod Protections
 pub mod Reading
+pub mod SocketLine
 pub mod SocketRig
 pub mod Standing
 pub mod Histories

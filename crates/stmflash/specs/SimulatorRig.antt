@@ -15,9 +15,10 @@ pub record SimulatorState : Type 0 where
   pub journal_failures : ℕ
 
 -- What it tells of itself: it follows the model as the Rig in memory does, whose device and journal are its own. So the
--- model's journal is the one in memory; what of it stands in the file is said by `AppendsToFile`.
+-- model's journal is the one in memory; what of it stands in the file is said by `AppendsToFile`. It promises no room in the
+-- record, since a call that is refused once the file failed doesn't stand there.
 abbrev pub simulator_rig_state : SimulatorState → RigState
-simulator_rig_state s = record (rig_state s.memory) { journal_failures = s.journal_failures }
+simulator_rig_state s = record (rig_state s.memory) { journal_failures = s.journal_failures; has_room = ⊥ }
 
 -- the journal grew by the same bytes in memory and, where the file's bytes are known, there
 abbrev pub GrowsAlike : SimulatorState → SimulatorState → Type 0

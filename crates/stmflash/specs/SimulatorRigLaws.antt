@@ -8,9 +8,9 @@ use Rattle.stm_wire.specs.Memory.{MemoryData, IsMemory, rig_state}
 use Rattle.stm_wire.specs.Past.{model}
 use Rattle.stmflash.specs.SimulatorRig.{SimulatorState, simulator_rig_state}
 
--- what a Rig tells, with another count of journal failures
+-- what a Rig tells, with another count of journal failures and no room in its record
 abbrev pub counted : ℕ → RigState → RigState
-counted count rig = record rig { journal_failures = count }
+counted count rig = record rig { journal_failures = count; has_room = ⊥ }
 
 pub follows : (s : SimulatorState) → IsMemory s.memory → IsModel (simulator_rig_state s)
 follows s is =

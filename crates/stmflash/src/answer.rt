@@ -1,5 +1,7 @@
 // What came of the words, and how it is told.
 
+use crate::escaped::Escaped;
+use std::alloc::{AllocError, Global};
 use std::io;
 use std::io::Write;
 use stm_session::{Info, Told};
@@ -14,6 +16,11 @@ pub enum Answer {
     Told(Info),
     /// What the device says itself.
     Identified(Told),
+    /// The same, and the chip table that was read, by its name as it is printed.
+    IdentifiedBeside {
+        told: Told,
+        table: String,
+    },
     /// Bytes of the flash.
     Bytes(Vec<u8>),
     /// The number of a write's segment, and how many pages it changed.
@@ -43,13 +50,25 @@ pub enum Answer {
 }
 
 impl Answer {
+    /// What the device says itself, with the name of the chip table that was read; any other answer as it is.
+    pub fn beside(self, alloc: Global, table: &str) -> Result<Answer, AllocError> {
+        match self {
+            Answer::Identified(told) => Ok(Answer::IdentifiedBeside {
+                told,
+                table: format!(in alloc; "{}", Escaped(table))?,
+            }),
+            answer => Ok(answer),
+        }
+    }
+
     /// Prints what is told on standard output.
     pub fn print<O: Write>(&self, out: &mut O) -> io::Result<()> {
         match self {
             Answer::Told(info) => print_info(info, out),
-            Answer::Identified(told) => {
-                writeln!(out, "id {:04X}", told.id)?;
-                print_commands(&told.commands, out)
+            Answer::Identified(told) => print_told(told, out),
+            Answer::IdentifiedBeside { told, table } => {
+                print_told(told, out)?;
+                writeln!(out, "table {table}")
             }
             Answer::Written { segment, pages } => print_written(*segment, *pages, out),
             Answer::WrittenAndVerified {
@@ -96,6 +115,12 @@ fn print_info<O: Write>(info: &Info, out: &mut O) -> io::Result<()> {
     writeln!(out, "erase {erase:02X}")?;
     writeln!(out, "erased {:02X}", info.erased)?;
     print_commands(&info.commands, out)
+}
+
+/// Prints what the device says itself, a line each.
+fn print_told<O: Write>(told: &Told, out: &mut O) -> io::Result<()> {
+    writeln!(out, "id {:04X}", told.id)?;
+    print_commands(&told.commands, out)
 }
 
 /// Prints the bootloader's version and the codes of its commands.

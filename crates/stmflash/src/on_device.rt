@@ -23,10 +23,15 @@ use std::time::Clock;
 use stm_chip::{Table, read_table};
 use stm_session::Fault;
 use stm_wire::Chip;
-use stm_words::{Device, Options, Task};
+use stm_words::{Device, Options, Progress, Task};
 
 /// How many bytes the file of a chip table has at most.
 const TABLE: u32 = 1 << 20;
+
+/// What is said on a terminal before an image is written that has bytes of an erase.
+const FALSE_ERASES: &str =
+    "note: the image holds bytes that a device which loses power in the midst would take for an erase; \
+    use -v, and reset before an undo";
 
 /// Does a task on a device.
 pub fn use_device<'a, R: Locks + Net + Clock + AllocGlobal, E: Write + IsTerminal>(
@@ -36,13 +41,16 @@ pub fn use_device<'a, R: Locks + Net + Clock + AllocGlobal, E: Write + IsTermina
     err: &mut E,
 ) -> Result<Answer, Failure<'a>> {
     let style = Style::of(rt, options, err);
-    let screen = Screen::new(err, rt, rt.alloc(), style);
     let table = read_chips(rt, options.table)?;
     let files = NamedFiles::of(options, &task);
     let work = Work::of(rt, task)?.on_fresh(options.is_fresh);
     files.check(rt)?;
     let output = Output::open(rt, files.out())?;
-    match options.device {
+    if work.writes_false_erases() && options.progress != Progress::Silent && err.is_terminal() {
+        let _ = writeln!(err, "{FALSE_ERASES}");
+    }
+    let screen = Screen::new(err, rt, rt.alloc(), style);
+    let answer = match options.device {
         Device::Simulator { id, file } => {
             let Some(chip) = table.find(id) else {
                 return Err(Failure::Session(Fault::UnknownChip(id)));
@@ -56,10 +64,11 @@ pub fn use_device<'a, R: Locks + Net + Clock + AllocGlobal, E: Write + IsTermina
                 chip.clone()?,
                 output,
                 screen,
-            )
+            )?
         }
-        Device::Socket(path) => on_socket(rt, options, work, &table, path, output, screen),
-    }
+        Device::Socket(path) => on_socket(rt, options, work, &table, path, output, screen)?,
+    };
+    Ok(answer.beside(rt.alloc(), options.table)?)
 }
 
 /// The chips that a file names.

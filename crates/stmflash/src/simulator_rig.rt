@@ -4,6 +4,7 @@ ghost use Rattle.std.specs.Io.KnownBytes.{Appends};
 ghost use Rattle.std.proofs.Common.{refl};
 ghost use Rattle.stm_wire.specs.Memory.{PutsInMemory, GetsInMemory, rig_state};
 ghost use Rattle.stm_wire.specs.Rig.{AppendsHonestly, FetchesHonestly, FetchesWithin, GetsHonestly, HasCause, PutsHonestly, Records, entry_of_get};
+ghost use Rattle.stm_wire.specs.Rig.{Enters, FetchesAside, GetsAside, PutsAside};
 ghost use Rattle.stmflash.specs.SimulatorRig.{SimulatorState, simulator_rig_state, AppendsToFile, FetchesUnlessFailed};
 ghost use Rattle.stmflash.specs.SimulatorRigLaws.{follows};
 
@@ -131,6 +132,8 @@ impl<'a, 'f, R: Locks + AllocGlobal> Rig for SimulatorRig<'a, 'f, R> {
             ≡ (simulator_rig_state self.old).journal_failures }
         ensures recorded { Records (RigCall.Put byte) result
             (simulator_rig_state self.old).calls (simulator_rig_state self.new).calls }
+        ensures entered { Enters (RigCall.Put byte) (simulator_rig_state self.old) (simulator_rig_state self.new) }
+        ensures aside { PutsAside (simulator_rig_state self.old) (simulator_rig_state self.new) }
         ensures honest { (simulator_rig_state self.old).is_honest
             → PutsHonestly byte result
             (simulator_rig_state self.old) (simulator_rig_state self.new) }
@@ -148,6 +151,8 @@ impl<'a, 'f, R: Locks + AllocGlobal> Rig for SimulatorRig<'a, 'f, R> {
             ≡ (simulator_rig_state self.old).journal_failures }
         ensures recorded { Records (entry_of_get result) result
             (simulator_rig_state self.old).calls (simulator_rig_state self.new).calls }
+        ensures entered { Enters (entry_of_get result) (simulator_rig_state self.old) (simulator_rig_state self.new) }
+        ensures aside { GetsAside patience (simulator_rig_state self.old) (simulator_rig_state self.new) }
         ensures honest { (simulator_rig_state self.old).is_honest
             → GetsHonestly result
             (simulator_rig_state self.old) (simulator_rig_state self.new) }
@@ -165,6 +170,8 @@ impl<'a, 'f, R: Locks + AllocGlobal> Rig for SimulatorRig<'a, 'f, R> {
             ≡ (simulator_rig_state self.old).line_failures }
         ensures recorded { Records (RigCall.Append (length bytes.now)) result
             (simulator_rig_state self.old).calls (simulator_rig_state self.new).calls }
+        ensures entered { Enters (RigCall.Append (length bytes.now)) (simulator_rig_state self.old) (simulator_rig_state self.new) }
+        ensures aside { PutsAside (simulator_rig_state self.old) (simulator_rig_state self.new) }
         ensures honest { (simulator_rig_state self.old).is_honest
             → AppendsHonestly bytes.now result
             (simulator_rig_state self.old) (simulator_rig_state self.new) }
@@ -191,6 +198,8 @@ impl<'a, 'f, R: Locks + AllocGlobal> Rig for SimulatorRig<'a, 'f, R> {
             ≡ (simulator_rig_state self.old).line_failures }
         ensures recorded { Records RigCall.Fetch result
             (simulator_rig_state self.old).calls (simulator_rig_state self.new).calls }
+        ensures entered { Enters RigCall.Fetch (simulator_rig_state self.old) (simulator_rig_state self.new) }
+        ensures aside { FetchesAside buf.new result (simulator_rig_state self.old) (simulator_rig_state self.new) }
         ensures honest { (simulator_rig_state self.old).is_honest
             → FetchesHonestly at buf.old buf.new result
             (simulator_rig_state self.old) (simulator_rig_state self.new) }

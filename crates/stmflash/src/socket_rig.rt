@@ -1,13 +1,16 @@
 // A device behind a socket, and a journal kept in a file.
-ghost use Rattle.std.specs.Prelude.{◌≡◌, ◌<◌, ◌-◌, ◌^◌, IfOk, MatchResult, Err, Ok, length};
+ghost use Rattle.std.specs.Prelude.{◌≡◌, ◌<◌, ◌-◌, ◌^◌, IfOk, OnOk, MatchResult, Err, Ok, length};
 ghost use Rattle.std.specs.Io.KnownBytes.{IsAtEnd};
 ghost use Rattle.stmflash.specs.JournalFile.{AppendsIfTaken};
 ghost use Rattle.stmflash.specs.SocketRig.{SocketState, socket_rig_state};
-ghost use Rattle.stm_wire.specs.Rig.{AppendsHonestly, FetchesHonestly, FetchesWithin, HasCause, Records};
+ghost use Rattle.stmflash.specs.SocketLine.{PutsOnLine, ReadsNothing, SendsAll, TakesFromLine};
+ghost use Rattle.stm_wire.specs.Rig.{AppendsHonestly, Enters, FetchesAside, FetchesHonestly};
+ghost use Rattle.stm_wire.specs.Rig.{FetchesWithin, GetsAside, GetsHonestly, HasCause};
+ghost use Rattle.stm_wire.specs.Rig.{PutsAside, PutsHonestly, Records, entry_of_get};
 
 use crate::journal_file::JournalFile;
 use crate::locks::Locks;
-use crate::socket_line::SocketLine;
+use crate::socket_line::{SocketLine, Timed};
 use std::fs::Files;
 use std::io;
 use std::marker::Model;
@@ -16,25 +19,29 @@ use stm_wire::{Patience, Rig, RigCall, RigFault};
 
 /// A device behind a socket, and a journal kept in a file.
 #[derive(Drop)]
-pub struct SocketRig<'a, R: Files> {
-    line: SocketLine<'a, R>,
+pub struct SocketRig<'a, S: Timed, R: Files> {
+    line: SocketLine<'a, S, R>,
     file: JournalFile<'a, R>,
     line_failures: u64,
     journal_failures: u64,
 }
 
-impl<'a, R: Files> Model for SocketRig<'a, R> {
+impl<'a, S: Timed, R: Files> Model for SocketRig<'a, S, R> {
     ghost Value = { SocketState };
 
     ghost view = { λ rig. record {
       failures = record { line = rig.line_failures; journal = rig.journal_failures };
+      line = rig.line;
       file = rig.file;
     } };
 }
 
-impl<'a, R: Locks + Clock + AllocGlobal> SocketRig<'a, R> {
+impl<'a, S: Timed + Drop, R: Locks + Clock + AllocGlobal> SocketRig<'a, S, R> {
     /// A Rig with this line and this journal.
-    pub fn new(line: SocketLine<'a, R>, file: JournalFile<'a, R>) -> SocketRig<'a, R> {
+    pub fn new(line: SocketLine<'a, S, R>, file: JournalFile<'a, R>) -> SocketRig<'a, S, R>
+        ensures line { result.line ≡ line.entry }
+        ensures file { result.file ≡ file.entry }
+    {
         SocketRig {
             line,
             file,
@@ -59,6 +66,7 @@ impl<'a, R: Locks + Clock + AllocGlobal> SocketRig<'a, R> {
         ensures cause { HasCause self.old.failures.line self.new.failures.line result }
         ensures journal { self.new.failures.journal ≡ self.old.failures.journal }
         ensures file { self.new.file ≡ self.old.file }
+        ensures socket { self.new.line ≡ self.old.line }
     {
         if answer.is_err() {
             self.line_failures = self.line_failures.saturating_add(1);
@@ -72,6 +80,7 @@ impl<'a, R: Locks + Clock + AllocGlobal> SocketRig<'a, R> {
         ensures cause { HasCause self.old.failures.journal self.new.failures.journal result }
         ensures line { self.new.failures.line ≡ self.old.failures.line }
         ensures file { self.new.file ≡ self.old.file }
+        ensures socket { self.new.line ≡ self.old.line }
     {
         if answer.is_err() {
             self.journal_failures = self.journal_failures.saturating_add(1);
@@ -80,26 +89,49 @@ impl<'a, R: Locks + Clock + AllocGlobal> SocketRig<'a, R> {
     }
 }
 
-impl<'a, R: Locks + Clock + AllocGlobal> Rig for SocketRig<'a, R> {
+impl<'a, S: Timed + Drop, R: Locks + Clock + AllocGlobal> Rig for SocketRig<'a, S, R> {
     ghost view = { λ rig. socket_rig_state rig.failures };
 
     ghost model = { λ rig honest. absurd honest };
 
     ghost places = { λ rig. tt };
 
-    fn put(&mut self, byte: u8) -> Result<(), RigFault> {
-        let answer = match self.line.put(byte) {
-            Ok(done) => Ok(done),
-            Err(_) => Err(RigFault::Line),
-        };
+    fn put(&mut self, byte: u8) -> Result<(), RigFault>
+        ensures cause { HasCause self.old.failures.line self.new.failures.line result }
+        ensures journal_count { self.new.failures.journal ≡ self.old.failures.journal }
+        ensures recorded { Records (RigCall.Put byte) result
+            (socket_rig_state self.old.failures).calls (socket_rig_state self.new.failures).calls }
+        ensures entered { Enters (RigCall.Put byte)
+            (socket_rig_state self.old.failures) (socket_rig_state self.new.failures) }
+        ensures aside { PutsAside
+            (socket_rig_state self.old.failures) (socket_rig_state self.new.failures) }
+        ensures honest { (socket_rig_state self.old.failures).is_honest
+            → PutsHonestly byte result
+            (socket_rig_state self.old.failures) (socket_rig_state self.new.failures) }
+        ensures on_line { OnOk result (PutsOnLine byte self.old.line self.new.line) }
+        ensures file { self.new.file ≡ self.old.file }
+    {
+        let answer = as_line_fault(self.line.put(byte));
         self.count_line(answer)
     }
 
-    fn get(&mut self, patience: Patience) -> Result<Option<u8>, RigFault> {
-        let answer = match self.line.take(patience) {
-            Ok(done) => Ok(done),
-            Err(_) => Err(RigFault::Line),
-        };
+    fn get(&mut self, patience: Patience) -> Result<Option<u8>, RigFault>
+        ensures cause { HasCause self.old.failures.line self.new.failures.line result }
+        ensures journal_count { self.new.failures.journal ≡ self.old.failures.journal }
+        ensures recorded { Records (entry_of_get result) result
+            (socket_rig_state self.old.failures).calls (socket_rig_state self.new.failures).calls }
+        ensures entered { Enters (entry_of_get result)
+            (socket_rig_state self.old.failures) (socket_rig_state self.new.failures) }
+        ensures aside { GetsAside patience
+            (socket_rig_state self.old.failures) (socket_rig_state self.new.failures) }
+        ensures honest { (socket_rig_state self.old.failures).is_honest
+            → GetsHonestly result
+            (socket_rig_state self.old.failures) (socket_rig_state self.new.failures) }
+        ensures from_line { IfOk result (λ answer. TakesFromLine answer
+            self.old.line self.new.line) }
+        ensures file { self.new.file ≡ self.old.file }
+    {
+        let answer = as_line_fault(self.line.take(patience));
         self.count_line(answer)
     }
 
@@ -109,10 +141,16 @@ impl<'a, R: Locks + Clock + AllocGlobal> Rig for SocketRig<'a, R> {
         ensures line_count { self.new.failures.line ≡ self.old.failures.line }
         ensures recorded { Records (RigCall.Append (length bytes.now)) result
             (socket_rig_state self.old.failures).calls (socket_rig_state self.new.failures).calls }
+        ensures entered { Enters (RigCall.Append (length bytes.now))
+            (socket_rig_state self.old.failures) (socket_rig_state self.new.failures) }
+        ensures aside { PutsAside
+            (socket_rig_state self.old.failures) (socket_rig_state self.new.failures) }
         ensures honest { (socket_rig_state self.old.failures).is_honest
             → AppendsHonestly bytes.now result
             (socket_rig_state self.old.failures) (socket_rig_state self.new.failures) }
         ensures in_file { AppendsIfTaken bytes.now result self.old.file self.new.file }
+        ensures sent { OnOk result (SendsAll self.old.line self.new.line) }
+        ensures unread { ReadsNothing self.old.line self.new.line }
     {
         // What was put goes out first: a line of the journal stands behind it.
         let answer = match self.line.flush() {
@@ -129,14 +167,29 @@ impl<'a, R: Locks + Clock + AllocGlobal> Rig for SocketRig<'a, R> {
         ensures line_count { self.new.failures.line ≡ self.old.failures.line }
         ensures recorded { Records RigCall.Fetch result
             (socket_rig_state self.old.failures).calls (socket_rig_state self.new.failures).calls }
+        ensures entered { Enters RigCall.Fetch
+            (socket_rig_state self.old.failures) (socket_rig_state self.new.failures) }
+        ensures aside { FetchesAside buf.new result
+            (socket_rig_state self.old.failures) (socket_rig_state self.new.failures) }
         ensures honest { (socket_rig_state self.old.failures).is_honest
             → FetchesHonestly at buf.old buf.new result
             (socket_rig_state self.old.failures) (socket_rig_state self.new.failures) }
         ensures end { at < 2 ^ 63 - 1 → 0 < length buf.old
             → IfOk result (λ n. n ≡ 0 → IsAtEnd self.new.file.ahead) }
+        ensures line { self.new.line ≡ self.old.line }
     {
         let answer = as_fault(self.file.fetch(at, buf));
         self.count_journal(answer)
+    }
+}
+
+/// The answer of a line, as a Rig tells it.
+fn as_line_fault<T: Drop>(answer: io::Result<T>) -> Result<T, RigFault>
+    ensures { MatchResult answer (λ done. result ≡ Ok done) (λ e. result ≡ Err RigFault.Line) }
+{
+    match answer {
+        Ok(done) => Ok(done),
+        Err(_) => Err(RigFault::Line),
     }
 }
 

@@ -4,6 +4,7 @@ ghost use Rattle.stmflash.specs.Action.{Works};
 use crate::action::Action;
 use crate::answer::Answer;
 use crate::failure::Failure;
+use crate::false_erase::has_false_erases;
 use crate::progress_course::Goal;
 use std::alloc::Global;
 use std::fs::Files;
@@ -36,6 +37,16 @@ impl Work {
             self,
             Work::Act(Action::Undo(_)) | Work::Act(Action::UndoFresh(_))
         )
+    }
+
+    /// Whether it writes an image whose bytes a device that loses power in the midst would take for an erase.
+    pub fn writes_false_erases(&self) -> bool {
+        match self {
+            Work::Act(Action::Write(content)) | Work::Act(Action::WriteAndVerify(content)) => {
+                has_false_erases(content)
+            }
+            _ => false,
+        }
     }
 
     /// The same for a device that was reset since the last session, where that is said.
