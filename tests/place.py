@@ -11,8 +11,8 @@ import typing
 import unittest
 
 TOP = os.path.dirname(os.path.dirname(os.path.abspath(__file__)))
-# how long a call may take, in seconds
-PATIENCE = 120
+# how long a call may take, in seconds, on a machine that is busy with other things
+PATIENCE = 300
 # a table of chip 0412
 TABLE = b'[[chip]]\nid = 0x412\nbase = 0x08000000\npages = [[32, 1024]]\nerase = "page"\n'
 SIZE = 32768
@@ -25,6 +25,12 @@ COUNTING = bytes(i % 251 for i in range(SIZE))
 def program():
     """The path of the program."""
     return os.path.abspath(os.environ.get("STMFLASH") or os.path.join(TOP, "bin", "stmflash-unproved"))
+
+
+def is_slow():
+    """Whether the program is built with checks on memory, and takes some twenty times as long. It is asked while a test runs:
+    tests/run names another program to each."""
+    return program().endswith("-unproved")
 
 
 def with_page(head, digit, tail):

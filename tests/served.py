@@ -1,5 +1,6 @@
 """A test that serves a simulator on a socket, and reaches it as a plain client."""
 
+import select
 import socket
 import subprocess
 import time
@@ -10,11 +11,29 @@ from place import PATIENCE, Place, program
 WAIT = "1000"
 
 
+def relay(line, board, change=lambda replies: replies):
+    """Hands on what comes on either, the board's replies as `change` makes them, until the line ends, and answers what was sent
+    to the board."""
+    sent = b""
+    while True:
+        ready, _, _ = select.select([line, board], [], [], PATIENCE)
+        if not ready:
+            return sent
+        if board in ready:
+            line.sendall(change(board.recv(4096)))
+        if line in ready:
+            came = line.recv(4096)
+            if not came:
+                return sent
+            sent += came
+            board.sendall(came)
+
+
 class Served(Place):
-    def start(self, *words):
-        """Starts the program on these words."""
+    def start(self, *words, before=None):
+        """Starts the program on these words; `before` is called in its process before it begins."""
         started = subprocess.Popen(["stmflash", *words], executable=program(), cwd=self.folder, env={}, stdin=subprocess.DEVNULL,
-                                   stdout=subprocess.PIPE, stderr=subprocess.PIPE)
+                                   stdout=subprocess.PIPE, stderr=subprocess.PIPE, preexec_fn=before)
 
         def end():
             if started.returncode is None:
@@ -28,16 +47,19 @@ class Served(Place):
         """Serves the simulator to so many clients, and answers once it listens: a client of its own has come and gone."""
         files = ("--table", table, "--id", number, "--flash", "flash", "--socket", "board")
         self.simulator = self.start("sim", *files, "--clients", str(clients + 1))
+        self.leave(self.reach("board", self.simulator))
+
+    def reach(self, name, simulator=None):
+        """Connects to a socket of this name once somebody listens there."""
         end = time.monotonic() + PATIENCE
         while True:
             try:
-                client = self.connect()
-                break
+                return self.connect(name)
             except (FileNotFoundError, ConnectionRefusedError):
-                self.assertIsNone(self.simulator.poll(), "the simulator doesn't start")
+                if simulator is not None:
+                    self.assertIsNone(simulator.poll(), "the simulator doesn't start")
                 self.assertLess(time.monotonic(), end, "the simulator doesn't listen")
                 time.sleep(0.01)
-        self.leave(client)
 
     def assertServed(self):
         """The simulator ends well when its last client has gone, says nothing, and its socket is no more."""
@@ -45,11 +67,11 @@ class Served(Place):
         self.assertEqual((self.simulator.returncode, out, err), (0, b"", b""))
         self.assertFalse(self.is_there("board"))
 
-    def connect(self):
+    def connect(self, name="board"):
         client = socket.socket(socket.AF_UNIX, socket.SOCK_STREAM)
         self.addCleanup(client.close)
         client.settimeout(PATIENCE)
-        client.connect(self.path("board"))
+        client.connect(self.path(name))
         return client
 
     def leave(self, client):

@@ -5,7 +5,7 @@ import os
 import re
 import tomllib
 
-from place import TOP
+from place import TOP, is_slow
 from served import WAIT, Served
 
 TABLE = os.path.join(TOP, "chips.toml")
@@ -64,6 +64,9 @@ class Chips(Served):
 
     def try_part(self, part):
         for number in sorted(CHIPS)[part::PARTS]:
+            # a slow program has the small ones
+            if is_slow() and Geometry(CHIPS[number]).size > 128 << 10:
+                continue
             with self.subTest(chip=number):
                 for name in ("journal", "flash.line"):
                     if self.is_there(name):

@@ -6,7 +6,7 @@ from place import COUNTING, ERASED, TABLE, ZEROS, Place
 
 INFO = ("id 0412\nbase 08000000\npages 32\nsize 32768\nerase 43\nerased FF\nversion 22\n"
         "codes 00 02 11 21 31 43 73 82 92\n")
-RAW = "id 0412\nversion 22\ncodes 00 02 11 21 31 43 73 82 92\n"
+RAW = "id 0412\nversion 22\ncodes 00 02 11 21 31 43 73 82 92\ntable {}\n"
 BAD_FLASH = "bad simulator file flash"
 # lines that no simulator's file has
 BAD_LINES = (b"rest 43BD\n", b"rest 43bc\n", b"rest \n", b"rest 4\n", b"rest 43BC", b"rest 43BC\n\n", b"rest 02FD\n")
@@ -31,10 +31,22 @@ class Device(Place):
         """A journal of another device doesn't matter, but one that isn't finished does."""
         self.store("journal", b"stmjournal 1 0410\nopen 1\nend 1\n")
         self.assertFault(self.use("info"), "journal belongs to another device")
-        self.assertTold(self.use("info", "--raw"), RAW)
+        self.assertTold(self.use("info", "--raw"), RAW.format("table"))
         self.assertHolds(ERASED, b"idle\n")
         self.store("journal", b"stmjournal 1 0412\nopen 1\n")
         self.assertFault(self.use("info", "--raw"), "unfinished command, undo first")
+
+    def test_says_which_table_it_read(self):
+        """By the name that it has, from a word or a variable; a name with a line's end stays within its line."""
+        words = ("info", "--raw", "--device", "sim:0412:flash", "--journal", "journal")
+        names = {"./table": "./table", "two\nlines": "two\\nlines", "a\tb\rc\x1bd\x7fe\x85f": "a\\tb\\rc\\x1bd\\x7fe\\x85f",
+                 "tafel\u00e4 \\n": "tafel\u00e4 \\n"}
+        for name, told in names.items():
+            with self.subTest(name=name):
+                self.store(name, TABLE)
+                self.assertTold(self.call(*words, "--table", name), RAW.format(told))
+                self.assertTold(self.call(*words, variables={"STMFLASH_TABLE": name}), RAW.format(told))
+        self.assertFault(self.call(*words, "--table", "missing"), "cannot read missing")
 
     def test_a_missing_flash_is_erased_as_its_chip_erases(self):
         """A flash that isn't there is all what the chip's erase leaves."""
@@ -90,6 +102,14 @@ class Device(Place):
                 os.mkdir(self.path(name))
                 self.assertFault(self.use("info"), f"cannot read {name}")
                 os.rmdir(self.path(name))
+
+    def test_a_file_may_have_colons_in_its_name(self):
+        for name in ("a:b", ":", "a::"):
+            with self.subTest(name=name):
+                self.store(name, COUNTING)
+                self.assertSilent(self.use("read", "out", device="sim:0412:" + name))
+                self.assertFile("out", COUNTING)
+                self.assertFile(name + ".line", b"idle\n")
 
     def test_says_which_device_is_bad(self):
         for device in BAD_DEVICES:

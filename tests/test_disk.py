@@ -6,7 +6,7 @@ import signal
 import subprocess
 
 import syncs
-from place import COUNTING, ZEROS, Place, with_page
+from place import COUNTING, PATIENCE, ZEROS, Place, Said, with_page
 from served import WAIT, Served
 
 # a chip with a flash that is shorter than its journal
@@ -16,6 +16,8 @@ IMAGE = b"\xaa" * 256
 WRITTEN = IMAGE + SMALL_FLASH[256:]
 # the same, between the erase and the write
 EMPTIED = b"\xff" * 256 + SMALL_FLASH[256:]
+# how many boards are served at a time
+SIDE_BY_SIDE = 16
 # a line that counts as nothing, longer than that flash: what is added behind it is cut by a limit that the flash stays below
 VOID = b"." * 1022 + b"!\n"
 HEADER = b"stmjournal 2 0412\n"
@@ -175,10 +177,10 @@ class Disk(Place):
                 self.assertFault(self.use("undo", journal=journal), text)
                 self.assertHolds(ZEROS, b"fresh\n")
 
-    def use_unsynced(self, fails, *words):
+    def use_unsynced(self, fails, *words, journal="journal"):
         """Uses the program with its sync of this number failing, and answers what was said and which files were synced."""
         name, *words = words
-        files = ("--table", "table", "--device", "sim:0412:flash", "--journal", "journal")
+        files = ("--table", "table", "--device", "sim:0412:flash", "--journal", journal)
         try:
             return syncs.call(self.folder, (name, *files, *words), fails)
         except subprocess.SubprocessError:
@@ -224,6 +226,23 @@ class Disk(Place):
         said, synced = self.use_unsynced(len(journal + simulator), "write", "image")
         self.assertTold(said, "segment 1: 1 pages written\n")
         self.assertEqual(synced, journal + simulator)
+
+    def test_the_folder_of_a_new_journal_is_on_the_disk(self):
+        """The one that it stands in, also where a link leads there: before a line of it counts."""
+        os.mkdir(self.path("folder"))
+        os.symlink("folder/journal", self.path("link"))
+        for journal in ("folder/journal", "./folder/../folder/journal", self.path("folder/journal"), "link"):
+            with self.subTest(journal=journal):
+                self.begin_small()
+                said, synced = self.use_unsynced(0, "write", "image", journal=journal)
+                self.assertFault(said, "journal failed")
+                self.assertEqual(synced[0], "folder")
+                self.assertFile("folder/journal", b"")
+                self.remove("folder/journal")
+                said, synced = self.use_unsynced(99, "write", "image", journal=journal)
+                self.assertTold(said, "segment 1: 1 pages written\n")
+                self.assertEqual(synced[:2], ["folder", "folder/journal"])
+                self.remove("folder/journal")
 
     def test_what_is_not_on_the_disk_is_not_taken_back(self):
         """The same of an undo, and of the undo after it. The simulator's files stand before the line that says so."""
@@ -293,17 +312,50 @@ class OverSocket(Served):
         self.assertFile("flash", SMALL_FLASH)
 
     def test_a_full_disk_ends_the_journal(self):
-        # in the midst of each line and before its end; at each byte in the process, above
-        ends = [0, *(len(text) for text in (HEADER, OPENED, KEPT, ERASING, PROGRAMMING, ENDED))]
-        rooms = [room for first, end in zip(ends, ends[1:]) for room in ((first + end) // 2, end - 1)]
-        self.begin_served(3 * len(rooms))
+        """The disk is full at one byte after another of what a write adds; of a page's digits at some, as in the process, above.
+        Each place has a board of its own, and some are done side by side: what takes time is a line that has to be quiet."""
+        self.store("table", SMALL_TABLE)
+        self.store("image", IMAGE)
+        digits = range(len(OPENED) + 9, len(KEPT) - 2)
+        rooms = [room for room in range(len(ENDED)) if room not in digits or room % 64 == 0]
+        for first in range(0, len(rooms), SIDE_BY_SIDE):
+            self.fill_disks(rooms[first:first + SIDE_BY_SIDE])
+
+    def fill_disks(self, rooms):
+        """Fills the disk at each of these places of a journal, side by side, and takes back what was begun."""
+        simulators = []
         for room in rooms:
+            self.store(f"{room}.flash", SMALL_FLASH)
+            files = ("--table", "table", "--id", "0412", "--flash", f"{room}.flash", "--socket", f"{room}.board")
+            # one that comes once it listens, and the write and its undo
+            simulators.append(self.start("sim", *files, "--clients", "3"))
+        for room in rooms:
+            self.leave(self.reach(f"{room}.board"))
+        said = self.use_each(rooms, lambda room: ("write", "image"), files_up_to)
+        for room, told in zip(rooms, said):
             with self.subTest(room=room):
-                said = self.use("write", "--wait", WAIT, "image", device="board", before=files_up_to(room))
-                self.assertFault(said, "journal failed")
-                self.assertTakenBack(ENDED[:room])
-        self.simulator.kill()
-        self.simulator.communicate()
+                self.assertFault(told, "journal failed")
+                self.assertFile(f"{room}.journal", ENDED[:room])
+        said = self.use_each(rooms, lambda room: ("undo",))
+        for room, told, simulator in zip(rooms, said, simulators):
+            with self.subTest(room=room):
+                self.assertTold(told, "undone %d\n" % (room >= len(OPENED)))
+                out, err = simulator.communicate(timeout=PATIENCE)
+                self.assertEqual((simulator.returncode, out, err), (0, b"", b""))
+                self.assertFile(f"{room}.flash", SMALL_FLASH)
+
+    def use_each(self, rooms, words, before=lambda room: None):
+        """Uses each of these boards at once, and answers what was said."""
+        started = []
+        for room in rooms:
+            name, *more = words(room)
+            files = ("--table", "table", "--device", f"{room}.board", "--journal", f"{room}.journal", "--wait", WAIT)
+            started.append(self.start(name, *files, *more, before=before(room)))
+        said = []
+        for program in started:
+            out, err = program.communicate(timeout=PATIENCE)
+            said.append(Said(program.returncode, out, err))
+        return said
 
     def test_what_is_not_on_the_disk_is_not_answered(self):
         journal = [".", *["journal"] * 5]

@@ -148,7 +148,8 @@ class GivingUp(Served):
 
     def test_a_device_that_takes_nothing_is_given_up(self):
         """An undo that sends batches without an answer, until no more are taken."""
-        journal = with_page(b"stmjournal 2 0412\nopen 1\npage 5 ", b"0", b"\nerase 5\n")
+        self.store("table", WIDE)
+        journal = with_page(b"stmjournal 2 0414\nopen 1\npage 5 " + b"0" * 2048, b"0", b"\nerase 5\n")
         self.store("journal", journal)
         said, seconds = self.answer(be_deaf, "--wait", "5", "--give-up", "1", name="undo")
         self.assertEqual(said, NO_ANSWER)
@@ -163,6 +164,18 @@ class GivingUp(Served):
         said = self.use("info", "--wait", "250", "--give-up", "0", device="slow")
         self.assertEqual((said.status, said.err), (0, b""))
         self.assertServed()
+
+    def test_waits_as_long_as_is_said(self):
+        """Settling a fresh device has quiet waits, each as long as is said."""
+        self.serve(2)
+        seconds = []
+        for wait in ("20", "2500"):
+            began = time.monotonic()
+            said = self.use("info", "--wait", wait, device="board")
+            seconds.append(time.monotonic() - began)
+            self.assertEqual((said.status, said.err), (0, b""))
+        self.assertServed()
+        self.assertGreater(seconds[1], 4.9, seconds)
 
     def test_a_slow_erase_is_waited_for(self):
         """The frame's last byte, and then nothing for longer than a device may be silent."""

@@ -63,6 +63,16 @@ class Journal(Place):
             for name, words in (("info", ()), ("read", ("out",))):
                 self.assertRefused(name, words, journal, text, b"idle\n")
 
+    def test_is_read_to_its_end(self):
+        """The last line counts, past 1 MiB and past 2 MiB."""
+        for size in (1 << 20, 2 << 20):
+            with self.subTest(size=size):
+                void = b"stmjournal 2 0412\n" + (b"." * 1022 + b"!\n") * (size >> 10)
+                self.store("journal", void + b"open 1\n")
+                told = "id 0412\nsegment 1: open, 0 pages\nunfinished, undo first\n"
+                self.assertTold(self.call("log", "--journal", "journal"), told)
+                self.assertFault(self.use("info"), "unfinished command, undo first")
+
     def test_says_which_journal_it_cannot_read(self):
         """The device's files come before the journal, and a device that was opened is stored."""
         os.mkdir(self.path("journal"))

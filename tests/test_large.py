@@ -2,12 +2,10 @@
 
 import random
 
-from place import Place, program
+from place import Place, is_slow
 
-# A flash in 512 pages, of which one write changes all: of 2 MiB, or, for a program that is built with checks on memory and takes
-# some twenty times as long, of 128 KiB.
-PAGES, PAGE = 512, 256 if program().endswith("-unproved") else 4096
-LARGE = f'[[chip]]\nid = 0x470\nbase = 0x08000000\npages = [[{PAGES}, {PAGE}]]\nerase = "extended"\n'.encode()
+# a flash in 512 pages, of which one write changes all
+PAGES = 512
 BASE = 0x0800_0000
 CHIPS = 60
 
@@ -29,14 +27,17 @@ def hex_of(data, base):
 
 class Large(Place):
     def test_takes_back_a_segment_of_all_pages(self):
-        """A HEX text whose records fall, over a whole flash, in one segment; read back whole, and taken back."""
+        """A HEX text whose records fall, over a whole flash of 2 MiB (of 128 KiB by a slow program), in one segment; read
+        back whole, and taken back."""
+        size = PAGES * (256 if is_slow() else 4096)
         dice = random.Random(512)
-        before, image = dice.randbytes(PAGES * PAGE), dice.randbytes(PAGES * PAGE)
-        self.store("table", LARGE)
+        before, image = dice.randbytes(size), dice.randbytes(size)
+        table = f'[[chip]]\nid = 0x470\nbase = 0x08000000\npages = [[{PAGES}, {size // PAGES}]]\nerase = "extended"\n'
+        self.store("table", table.encode())
         self.store("flash", before)
         self.store("image", hex_of(image, BASE))
         said = self.use("write", "-v", "image", device="sim:0470:flash")
-        self.assertTold(said, f"segment 1: {PAGES} pages written\nverified {PAGES * PAGE} bytes\n")
+        self.assertTold(said, f"segment 1: {PAGES} pages written\nverified {size} bytes\n")
         self.assertFile("flash", image)
         self.assertSilent(self.use("read", "out", device="sim:0470:flash"))
         self.assertFile("out", image)

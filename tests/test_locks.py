@@ -2,34 +2,24 @@
 
 import fcntl
 import os
-import select
 import socket
 
 from place import COUNTING, PATIENCE
-from served import WAIT, Served
+from served import WAIT, Served, relay
 
-# how many times two programs are started together; 100 are run by hand
-ROUNDS = int(os.environ.get("ROUNDS", "3"))
+# how many times two programs are started together, without a journal and with one; 100 are run by hand
+ROUNDS = int(os.environ.get("ROUNDS", "2"))
 BUSY = (b"stmflash: journal is in use\n", b"stmflash: simulator file is in use\n")
+# what is started together, a test each, so that they run side by side
+UNDO = ("undo",)
+RACES = {
+    "two_writes": (("write", "one"), ("write", "two")),
+    "a_write_and_an_erase": (("write", "one"), ("erase", "0", "2")),
+    "a_write_and_an_undo": (("write", "one"), UNDO),
+    "two_undos": (UNDO, UNDO),
+}
 # what a program may find that reaches the line while another has it
 WAITING = (b"stmflash: device does not follow the protocol\n", b"stmflash: no answer from the device\n")
-
-
-def relay(line, board):
-    """Hands on what comes on either, until the line ends, and answers what was sent to the board."""
-    sent = b""
-    while True:
-        ready, _, _ = select.select([line, board], [], [], PATIENCE)
-        if not ready:
-            return sent
-        if board in ready:
-            line.sendall(board.recv(4096))
-        if line in ready:
-            came = line.recv(4096)
-            if not came:
-                return sent
-            sent += came
-            board.sendall(came)
 
 
 class Held:
@@ -119,49 +109,54 @@ class Locks(Served):
         self.assertServed()
         self.assertFile("flash", COUNTING)
 
-    def begin(self, words, device):
+    def words(self, words, device):
         name, *rest = words
-        return self.start(name, "--table", "table", "--device", device, "--journal", "journal", *rest)
+        wait = ("--wait", WAIT) if device == "board" else ()
+        return (name, "--table", "table", "--device", device, "--journal", "journal", *wait, *rest)
 
     def assertTogether(self, first, second, device):
         """Two uses that are started together: each is done, or finds the files in use; or, where no journal was there to be
         locked before the line was opened, finds that the other has the line."""
         allowed = BUSY if self.is_there("journal") or device != "board" else BUSY + WAITING
-        started = [self.begin(words, device) for words in (first, second)]
-        for use in started:
-            out, err = use.communicate(timeout=PATIENCE)
-            if use.returncode != 0 and err not in allowed:
-                self.fail(f"{first} beside {second}: {use.returncode}, {out}, {err}")
+        started = [self.start(*self.words(words, device)) for words in (first, second)]
+        ended = [(use.communicate(timeout=PATIENCE), use.returncode) for use in started]
+        for (out, err), status in ended:
+            if status != 0 and err not in allowed:
+                self.fail(f"{first} beside {second}: {ended}")
+        self.assertIn(0, [status for _, status in ended], ended)
 
-    def assertRaces(self, device):
-        """Pairs of uses, started together on one journal, which is there or not; and afterwards the flash is given back."""
+    def assertRaces(self, pair, device):
+        """Two uses, started together on one journal, which is there or not; and afterwards the flash is given back. The first
+        round that fails is the last one: what it left is the next one's beginning."""
         self.store("one", b"\x11" * 3000)
         self.store("two", b"\x22" * 3000)
-        write, other, erase, undo = ("write", "one"), ("write", "two"), ("erase", "0", "2"), ("undo",)
-        for first, second in ((write, other), (write, erase), (write, undo), (undo, undo)):
-            for again in range(ROUNDS):
-                with self.subTest(first=first, second=second, again=again):
-                    if again % 2:
-                        self.store("journal", b"")
-                    if undo in (first, second):
-                        self.assertTold(self.use(*erase, device=device), "segment 1: 2 pages erased\n")
-                    self.assertTogether(first, second, device)
-                    said = self.use("undo", device=device)
-                    self.assertEqual((said.status, said.err), (0, b""))
-                    self.assertSilent(self.use("read", "out", device=device))
-                    self.assertFile("out", COUNTING)
-                    self.remove("journal")
+        for again in range(ROUNDS):
+            if again % 2:
+                self.store("journal", b"")
+            if UNDO in pair:
+                self.assertTold(self.call(*self.words(("erase", "0", "2"), device)), "segment 1: 2 pages erased\n")
+            self.assertTogether(*pair, device)
+            said = self.call(*self.words(UNDO, device))
+            self.assertEqual((said.status, said.err), (0, b""))
+            self.assertSilent(self.call(*self.words(("read", "out"), device)))
+            self.assertFile("out", COUNTING)
+            self.remove("journal")
 
-    def test_two_programs_on_one_simulator(self):
+    def race_on_simulator(self, pair):
         self.store("flash", COUNTING)
-        self.assertRaces("sim:0412:flash")
+        self.assertRaces(pair, "sim:0412:flash")
 
-    def test_two_programs_on_one_board(self):
+    def race_on_board(self, pair):
         """Those that find the journal in use may have opened the line before."""
         self.store("flash", COUNTING)
         self.serve(100 * ROUNDS)
-        self.assertRaces("board")
+        self.assertRaces(pair, "board")
         # what the last client left is stored, and nothing is written any more
         self.leave(self.connect())
         self.simulator.kill()
         self.simulator.communicate()
+
+
+for race, pair in RACES.items():
+    setattr(Locks, f"test_{race}_on_one_simulator", lambda self, pair=pair: self.race_on_simulator(pair))
+    setattr(Locks, f"test_{race}_on_one_board", lambda self, pair=pair: self.race_on_board(pair))

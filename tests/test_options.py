@@ -1,8 +1,9 @@
 """What the options of a device do, and which words can't be done."""
 
 import os
+import subprocess
 
-from place import COUNTING, ERASED, Place
+from place import COUNTING, ERASED, PATIENCE, TABLE, Place, program
 
 SUBCOMMANDS = ("info", "read", "write", "verify", "erase", "undo", "log", "keep", "go", "protect", "sim")
 # words that are numbers, as the length of what is read
@@ -56,6 +57,31 @@ class Options(Place):
                 self.assertEqual((told.status, told.err), (0, b""))
                 self.assertGreater(len(told.out), 200)
                 self.assertIn(f"Usage: stmflash {name} ".encode(), told.out)
+
+    def test_words_are_text(self):
+        for words in ((b"\xff",), (b"info", b"--table", b"table\xff"), (b"\xff", b"--help")):
+            with self.subTest(words=words):
+                said = self.call(*(os.fsdecode(word) for word in words))
+                self.assertFault(said, "usage: the words are not text", 2)
+
+    def test_a_standard_output_that_is_full_is_told(self):
+        """Whatever is printed, and though all else was done."""
+        files = ("--table", "table", "--device", "sim:0412:flash", "--journal", "journal")
+        for words in (("--help",), ("--version",), ("erase", "--help"), ("info", *files), ("info", *files, "--raw"),
+                      ("read", *files, "-"), ("erase", *files, "5"), ("undo", *files), ("log", "--journal", "journal"),
+                      ("keep", "--journal", "journal")):
+            with self.subTest(words=words), open("/dev/full", "wb") as out:
+                ran = subprocess.run(["stmflash", *words], executable=program(), cwd=self.folder, env={}, timeout=PATIENCE,
+                                     stdin=subprocess.DEVNULL, stdout=out, stderr=subprocess.PIPE)
+                self.assertEqual((ran.returncode, ran.stderr), (1, b"stmflash: cannot write standard output\n"))
+
+    def test_the_table_comes_before_the_image(self):
+        self.remove("table")
+        for name in ("write", "verify"):
+            self.assertFault(self.use(name, "image", device="board"), "cannot read table")
+        self.store("table", TABLE)
+        for name in ("write", "verify"):
+            self.assertFault(self.use(name, "image", device="board"), "cannot read image")
 
     def test_reads_numbers(self):
         """What number a word is shows as the length of what is read, and as the address that a verify tells."""

@@ -10,6 +10,10 @@ TABLE = b'[[chip]]\nid = 0x410\nbase = 0x08000000\npages = [[128, 1024]]\nerase 
 SIZE = 64 * 1024
 IMAGE = bytes(range(1, 251)) * (SIZE // 250) + bytes(SIZE % 250)
 CLEAR = b"\r\x1b[K"
+# what a terminal shows before an image is written that has bytes of an erase
+NOTE = (b"note: the image holds bytes that a device which loses power in the midst would take for an erase; "
+        b"use -v, and reset before an undo\r\n")
+ERASES = (b"\x43\xbc", b"\x44\xbb")
 
 
 class Progress(Place):
@@ -75,6 +79,41 @@ class Progress(Place):
                 text = b"%s page %d, %d of 64 pages" % (doing, page, page + 1)
                 self.assertTrue(any(text in line for line in lines), text)
         self.assertEqual(self.on_terminal(lambda err: self.write(err, "--quiet")), (plain, b""))
+
+    def shows_note(self, image, *words):
+        """Whether the note stands before all else that a terminal shows of a write of this image."""
+        self.store("image", image)
+        self.remove(*(name for name in ("flash", "flash.line", "journal") if self.is_there(name)))
+        came, shown = self.on_terminal(lambda err: self.run_shown(err, "write", *words, "image"))
+        self.assertEqual(came, (0, b"segment 1: %d pages written\n" % (len(image) + 1023 >> 10)))
+        self.assertEqual(shown.count(b"note:"), shown.startswith(NOTE))
+        return shown.startswith(NOTE)
+
+    def test_bytes_of_an_erase_are_told_before_a_write(self):
+        """A 7F, and the code and its complement behind it in the same block, with bytes between or without."""
+        place = ("-f", "-S", "0x08000000")
+        for erase in ERASES:
+            for image in (b"\x7f" + erase, b"\x7f\x00\x7f\x43" + erase + b"\x00", bytes(256) + b"\x7f" + bytes(253) + erase):
+                for words in (place, (*place, "--progress"), ("-f",)):
+                    with self.subTest(image=image[-8:], words=words):
+                        self.assertTrue(self.shows_note(image, *words))
+        self.assertFalse(self.shows_note(b"\x7f\x43\xbc", *place, "--quiet"))
+
+    def test_other_bytes_are_not_told(self):
+        """No 7F, or one behind them or in another block; another complement; a pair that lies in two blocks."""
+        for erase in ERASES:
+            for image in (erase, erase + b"\x7f", bytes(255) + b"\x7f" + erase, b"\x7f" + bytes(254) + erase,
+                          b"\x7f" + erase[:1] + b"\x00" + erase[1:], b"\x7f" + erase[::-1]):
+                for words in (("-f", "-S", "0x08000000"), ("-f",)):
+                    with self.subTest(image=image[-8:], words=words):
+                        self.assertFalse(self.shows_note(image, *words))
+
+    def test_only_a_write_on_a_terminal_tells_of_bytes_of_an_erase(self):
+        self.store("image", b"\x7f\x43\xbc")
+        came, shown = self.in_file(self.write)
+        self.assertEqual((came[0][0], shown), (0, b""))
+        came, shown = self.on_terminal(lambda err: self.run_shown(err, "verify", "-f", "image"))
+        self.assertEqual((came[0], b"note:" in shown), (0, False))
 
     def test_a_file_has_nothing_unless_it_is_said(self):
         plain = self.plain()

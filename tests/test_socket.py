@@ -1,20 +1,27 @@
 """Both ends of a socket: a served simulator and a plain client, the program and a plain device, and the two together."""
 
+import contextlib
 import os
 import signal
 import socket
+import threading
 import time
 
 from place import ERASED, PATIENCE, TABLE, ZEROS, with_page
-from served import WAIT, Served
+from served import WAIT, Served, relay
 
 ID = bytes([0x79, 0x01, 0x04, 0x12, 0x79])
+# a chip that is stored fast
+SMALL_TABLE = b'[[chip]]\nid = 0x412\nbase = 0x08000000\npages = [[2, 256]]\nerase = "page"\n'
 HEAD = b"stmjournal 2 0412\nopen 1\npage 5 "
 
 
 class Socket(Served):
     def assertReplies(self, client, sent, replies):
         client.sendall(sent)
+        self.assertComes(client, replies)
+
+    def assertComes(self, client, replies):
         held = b""
         while len(held) < len(replies):
             came = client.recv(len(replies) - len(held))
@@ -66,7 +73,69 @@ class Socket(Served):
         self.store("table", TABLE.replace(b"0x412", b"0x413"))
         self.assertFault(self.use("info", "--wait", WAIT, device="board"), "unknown chip 0412")
         said = self.use("info", "--raw", "--wait", WAIT, device="board")
-        self.assertTold(said, "id 0412\nversion 22\ncodes 00 02 11 21 31 43 73 82 92\n")
+        self.assertTold(said, "id 0412\nversion 22\ncodes 00 02 11 21 31 43 73 82 92\ntable table\n")
+        self.assertServed()
+
+    def test_tells_a_version_in_two_digits(self):
+        """A device of a version below 10."""
+        listener = socket.socket(socket.AF_UNIX, socket.SOCK_STREAM)
+        self.addCleanup(listener.close)
+        listener.settimeout(PATIENCE)
+        listener.bind(self.path("device"))
+        listener.listen()
+        self.serve(1)
+        host = self.start("info", "--raw", "--table", "table", "--device", "device", "--journal", "journal", "--wait", WAIT)
+        line, _ = listener.accept()
+        with line, self.connect() as board:
+            relay(line, board, lambda replies: replies.replace(b"\x22\x00\x02", b"\x05\x00\x02"))
+        out, err = host.communicate(timeout=PATIENCE)
+        self.assertEqual((host.returncode, err), (0, b""))
+        self.assertIn(b"\nversion 05\n", out)
+        self.assertServed()
+
+    def test_serves_a_client_however_long(self):
+        """120,000 bytes, sent without waiting for an answer, and 300,000 that are taken late, beside stops by signals: none is
+        lost, and none comes twice."""
+        count = 60000
+        self.serve(1)
+        client = self.connect()
+        self.assertReplies(client, b"\x7f", b"\x79")
+        sender = threading.Thread(target=client.sendall, args=(b"\x02\xfd" * count,))
+        sender.start()
+        self.until_it_waits(self.simulator)
+        self.hold(self.simulator)
+        self.assertComes(client, ID * count)
+        sender.join(PATIENCE)
+        self.assertQuiet(client)
+        self.leave(client)
+        self.assertServed()
+
+    def test_a_client_that_takes_nothing_is_left(self):
+        """It sends and sends, and never reads: the next one has its turn."""
+        self.serve(2)
+        deaf, client = self.connect(), self.connect()
+
+        def send():
+            with contextlib.suppress(OSError):
+                deaf.sendall(b"\x7f" + b"\x02\xfd" * 200000)
+
+        sender = threading.Thread(target=send)
+        sender.start()
+        client.sendall(b"\x7f" * 2)
+        self.assertEqual(len(client.recv(1)), 1)
+        sender.join(PATIENCE)
+        self.assertFalse(sender.is_alive())
+        self.leave(client)
+        self.assertServed()
+
+    def test_serves_as_many_clients_as_were_asked_for(self):
+        self.store("table", SMALL_TABLE)
+        self.serve(1001)
+        for _ in range(1000):
+            self.leave(self.connect())
+        client = self.connect()
+        self.assertReplies(client, b"\x7f", b"\x79")
+        self.leave(client)
         self.assertServed()
 
     def test_a_line_that_ends_is_told(self):
@@ -172,6 +241,16 @@ class Socket(Served):
         out, err = host.communicate(timeout=PATIENCE)
         self.assertEqual((host.returncode, out, err), (0, b"segment 1: 1 pages erased\n", b""))
         self.assertServed()
+
+    def until_it_waits(self, process):
+        """Returns once a process waits for something, as one does that can't write; a simulator does so for 10 s at most."""
+        seen, end = 0, time.monotonic() + PATIENCE
+        while seen < 10:
+            with open(f"/proc/{process.pid}/stat") as told:
+                state = told.read().rsplit(")", 1)[1].split()[0]
+            seen = seen + 1 if state == "S" else 0
+            self.assertLess(time.monotonic(), end, "it goes on and on")
+            time.sleep(0.02)
 
     def hold(self, process):
         """Stops a process for a moment, and lets it go on."""

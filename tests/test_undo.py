@@ -12,6 +12,9 @@ MENDED = b"stmjournal 1 0412\nopen 1\npage 0 FFFF!\nundone 1\n"
 THREE = b"stmjournal 2 0412\nopen 1\nend 1\nopen 2\nend 2\nopen 3\n"
 TAKEN_TWO = THREE + b"undone 3\nundone 2\n"
 TAKEN = TAKEN_TWO + b"undone 1\n"
+# a chip whose erase names pages by two bytes
+WIDE = b'[[chip]]\nid = 0xA01\nbase = 0x08000000\npages = [[256, 256]]\nerase = "extended"\n'
+WIDE_CHIP = "sim:0A01:flash"
 OTHER_CHIP = b'[[chip]]\nid = 0x410\nbase = 0x08000000\npages = [[128, 1024]]\nerase = "page"\n'
 # journals that aren't taken back, what is said of each, and how the line stands then: nothing is sent where the journal
 # alone tells
@@ -92,22 +95,47 @@ class Undo(Place):
         self.assertFile("out", ZEROS[:1024])
 
     def test_takes_back_on_a_fresh_device(self):
-        """A device that was reset is connected at once where that is said: settling it by the journal's intent takes 131,072 bytes."""
+        """A device that was reset is connected behind 512 settling bytes, or at once where it is said that it was."""
         before = with_page(HEAD, b"0", b"\nerase 5\n")
         mended = before + b"erase 5\nprogram 5\nundone 1\n"
-        self.store("journal", before)
-        self.assertFault(self.use("undo", "--stop", "3000"), "stopped", 3)
-        self.assertFile("journal", before)
-        self.store("flash.line", b"fresh\n")
-        self.assertTold(self.use("undo", "--fresh", "--stop", "3000"), "undone 1\n")
-        self.assertFile("journal", mended)
-        self.store("flash.line", b"fresh\n")
-        self.store("journal", before)
-        words = ("undo", "--table", "table", "--device", "sim:0412:flash", "--journal", "journal", "--stop", "3000")
+        for words, steps, connected in ((("--fresh",), 2202, 2), ((), 2717, 517)):
+            with self.subTest(words):
+                # settling, Get, Get ID
+                self.lay(before)
+                self.assertFault(self.use("undo", *words, "--stop", str(connected + 22)), "stopped", 3)
+                self.assertHolds(ERASED, b"idle\n")
+                self.assertFile("journal", before)
+                self.lay(before)
+                self.assertFault(self.use("undo", *words, "--stop", str(steps - 1)), "stopped", 3)
+                self.lay(before)
+                self.assertTold(self.use("undo", *words, "--stop", str(steps)), "undone 1\n")
+                self.assertFile("journal", mended)
+        self.lay(before)
+        words = ("undo", "--table", "table", "--device", "sim:0412:flash", "--journal", "journal", "--stop", "2202")
         ran = subprocess.run(["stmflash", *words], executable=program(), cwd=self.folder, env={"STMFLASH_FRESH": "1"},
                              timeout=PATIENCE, stdin=subprocess.DEVNULL, capture_output=True)
         self.assertEqual((ran.returncode, ran.stdout, ran.stderr), (0, b"undone 1\n", b""))
         self.assertFile("journal", mended)
+
+    def lay(self, journal):
+        """A device fresh from reset, whose flash is erased, and this journal."""
+        self.store("flash", ERASED)
+        self.store("flash.line", b"fresh\n")
+        self.store("journal", journal)
+
+    def test_settles_a_chip_with_longer_lists_for_longer(self):
+        """Where an erase names pages by two bytes, a device that was reset takes 131,072 bytes in silence."""
+        self.store("table", WIDE)
+        before = b"stmjournal 2 0A01\nopen 1\npage 5 " + b"0" * 512 + b"\nerase 5\n"
+        self.store("journal", before)
+        self.assertFault(self.use("undo", "--stop", "131072", device=WIDE_CHIP), "stopped", 3)
+        self.assertFile("flash.line", b"fresh\n")
+        self.assertFile("journal", before)
+        self.assertTold(self.use("undo", "--fresh", "--stop", "1000", device=WIDE_CHIP), "undone 1\n")
+        self.assertFile("journal", before + b"erase 5\nprogram 5\nundone 1\n")
+        self.store("flash.line", b"fresh\n")
+        self.store("journal", before)
+        self.assertTold(self.use("undo", device=WIDE_CHIP), "undone 1\n")
 
     def test_takes_no_other_device_for_fresh(self):
         """A device that is connected stays quiet at 7F: nothing is sent behind it, and nothing is added."""

@@ -1,6 +1,6 @@
 """The sessions of docs/SESSIONS.md: what is refused, what is sent, what is added to the journal, in order."""
 
-from device import CONNECT
+from device import CONNECT, ERASE
 from journal import BadLine, Journal
 import wire
 
@@ -251,6 +251,10 @@ def settling_byte(intent):
     return page if word == "erase" and page < 256 else 0x02
 
 
+def settling_limit(chip, intent):
+    return wire.SHORT_LIMIT if intent is not None and chip.erase_code() == ERASE else wire.LIMIT
+
+
 def undo(rig, table, count):
     """How many segments were taken back: the newest so many, or all where that is 0 or more than there are."""
     journal = load(rig)
@@ -259,7 +263,7 @@ def undo(rig, table, count):
         return 0
     chip = find(table, journal.number)
     check_fits(journal, chip)
-    wire.settle(rig, settling_byte(journal.intent()))
+    wire.settle(rig, settling_byte(journal.intent()), settling_limit(chip, journal.intent()))
     _, codes = wire.get_commands(rig)
     if chip.erase_code() not in codes:
         raise Fault(NO_ERASE)

@@ -4,6 +4,8 @@ from device import (ACK, CONNECT, ERASE, EXTENDED_ERASE, GET, GET_ID, GO, NACK, 
                     exclusive_or)
 
 LIMIT = 131072
+# where pages are erased by numbers of one byte
+SHORT_LIMIT = 512
 DRAINED = 4096
 BATCH = 256
 
