@@ -2,13 +2,13 @@
 use Rattle.std.proofs.Common.{IfErr, IsErrAnd, ◌≡◌, ℕ, List, [], ◌∷◌, ◌++◌, Option, Some, None, Result, Ok, Err, refl, sym, ◌∙◌, ap, subst, inl, arith, append-nil}
 use Rattle.stm_wire.specs.declared.rig.RigCall.{RigCall}
 use Rattle.stm_wire.specs.declared.fault.WireFault.{WireFault}
-use Rattle.stm_wire.specs.declared.fault.WireFault.TheVariants.{Line}
+use Rattle.stm_wire.specs.declared.fault.WireFault.TheVariants.{Line, Nack, Quiet, Garbled}
 use Rattle.stm_wire.specs.Device.{Device, LosesOwed}
 use Rattle.stm_wire.specs.Rig.{RigState, Rises, IsModel}
 use Rattle.stm_wire.specs.Moments.{LeftBySending}
 use Rattle.stm_wire.specs.MomentLaws.{started, joined, weaker, LosesOwed-refl}
 use Rattle.stm_wire.specs.Dialogue.{Turn, says, step_turns, calls_of, FailsBy, IsBrokenOff, Adds}
-use Rattle.stm_wire.specs.Sending.{SentHonestly, Holds, BreaksOff}
+use Rattle.stm_wire.specs.Sending.{KeepsCount, SentHonestly, Holds, BreaksOff}
 use Rattle.stm_wire.proofs.Turns.{FedAndTaken-append, PartlyFed-first, PartlyFed-second, PartlyFed-all, calls_of-append, says-step, broken-first, broken-second, Adds-append, GoesOn-append, GoesOn-weaker, Adds-GoesOn}
 
 LeftBySending-second : (xs ys : List ℕ) (a b : RigState) → SentHonestly xs a b → (d : Device) (journal : List ℕ) → LeftBySending ys b d journal → LeftBySending (xs ++ ys) a d journal
@@ -16,6 +16,13 @@ LeftBySending-second xs ys a b s d journal l = (l.0 ∙ s.journal, PartlyFed-sec
 
 LeftBySending-first : (xs ys : List ℕ) (a : RigState) (d : Device) (journal : List ℕ) → LeftBySending xs a d journal → LeftBySending (xs ++ ys) a d journal
 LeftBySending-first xs ys a d journal l = (l.0, PartlyFed-first xs ys a.device d l.1)
+
+-- a fault that isn't the line's keeps the count
+pub count_kept : (before now : ℕ) (fault : WireFault) → (fault ≡ Line → ⊥) → now ≡ before → KeepsCount before now fault
+count_kept before now Line other same = tt
+count_kept before now Nack other same = same
+count_kept before now Quiet other same = same
+count_kept before now Garbled other same = same
 
 -- two dialogues, both held
 pub Holds-append : (xs ys : List ℕ) (s t : List Turn) (a b c : RigState) → Holds xs s a b → Holds ys t b c → Holds (xs ++ ys) (s ++ t) a c
@@ -44,6 +51,7 @@ BreaksOff-second fault xs ys s t a b c p q =
           (λ cs ds u v. let P : List RigCall → Type 0 = λ zs. IsBrokenOff fault (s ++ t) (zs ++ ds) in subst P (sym u) (broken-second fault s t ds v));
       line_count = omega (arith, p.line_count, q.line_count);
       line_cause = λ e. let R : ℕ → Type 0 = λ n. Rises n c.line_failures in subst R p.line_count (q.line_cause e);
+      line_kept = (let K : ℕ → Type 0 = λ n. KeepsCount n c.line_failures fault in subst K p.line_count q.line_kept);
       journal_count = q.journal_count ∙ p.journal_count;
       honestly = λ h.
           let f = p.honestly h in
@@ -63,6 +71,7 @@ BreaksOff-first fault xs ys s t a b p =
       recorded = GoesOn-weaker (IsBrokenOff fault s) (IsBrokenOff fault (s ++ t)) a.calls b.calls p.recorded (broken-first fault s t);
       line_count = p.line_count;
       line_cause = p.line_cause;
+      line_kept = p.line_kept;
       journal_count = p.journal_count;
       honestly = λ h.
           let f = p.honestly h in
@@ -88,6 +97,7 @@ breaks_at fault bytes turns turn call a b c other fails p added line journal hon
           subst P (sym u) (broken-second fault turns (turn ∷ []) ds (subst Q (sym v) (inl (fails, refl)))));
       line_count = omega (arith, line, p.line_count);
       line_cause = λ e. absurd (other e);
+      line_kept = count_kept a.line_failures c.line_failures fault other (line ∙ p.line_count);
       journal_count = journal ∙ p.journal_count;
       honestly = λ h.
           let f = p.honestly h in

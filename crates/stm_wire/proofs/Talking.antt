@@ -7,10 +7,12 @@ use Rattle.stm_wire.specs.declared.rig.RigCall.TheVariants.{Put, Get, Append, Fe
 use Rattle.stm_wire.specs.declared.fault.RigFault.{RigFault}
 use Rattle.stm_wire.specs.declared.fault.WireFault.{WireFault}
 use Rattle.stm_wire.specs.declared.fault.WireFault.TheVariants.{Line}
-use Rattle.stm_wire.specs.Rig.{RigState, Rises, HasCause, Records}
+use Rattle.stm_wire.specs.Rig.{RigState, Rises, HasCause, Records, StaysHonest, PutsHonestly, GetsHonestly}
 use Rattle.stm_wire.specs.Dialogue.{GoesOn, puts_of, AreLineCalls}
 use Rattle.stm_wire.specs.SentList.{settling_run}
+use Rattle.stm_wire.specs.Sending.{KeepsCount}
 use Rattle.stm_wire.specs.Settling.{Talks, PutsAll, PutsPart, HasLineCause, Speaks, SpeaksBatches}
+use Rattle.stm_wire.proofs.Holding.{count_kept}
 use Rattle.stm_wire.proofs.Turns.{GoesOn-append, GoesOn-weaker}
 
 pub puts_of-append : (xs ys : List RigCall) → puts_of (xs ++ ys) ≡ puts_of xs ++ puts_of ys
@@ -66,10 +68,18 @@ pub all_part : (xs : List ℕ) (m : ℕ) (a b : Option (List RigCall)) → GoesO
 all_part xs m a b p = GoesOn-weaker (PutsAll xs m) (PutsPart xs m) a b p (λ us u.
     talks_more (λ us. us ≡ xs) (λ us. (k : ℕ) × (us ≡ take k xs)) m m us (omega arith) (λ s e. (length xs, e ∙ sym (take_all (length xs) xs (omega arith)))) u)
 
+-- an honest Rig stays so through both
+pub stays_then : (a b c : RigState) → (a.is_honest → StaysHonest a b) → (b.is_honest → StaysHonest b c) → a.is_honest → StaysHonest a c
+stays_then a b c p q h =
+    let f = p h in
+    let g = q f.honest in
+    record { honest = g.honest; journal = g.journal ∙ f.journal }
+
 -- nothing but Ok so far
 pub record Went (bytes : List ℕ) (most : ℕ) (a b : RigState) : Type 0 where
   pub line : b.line_failures ≡ a.line_failures
   pub journal : b.journal_failures ≡ a.journal_failures
+  pub stays : a.is_honest → StaysHonest a b
   pub all : GoesOn (PutsAll bytes most) a.calls b.calls
 
 -- a call of the line failed
@@ -77,6 +87,7 @@ pub record Failed (bytes : List ℕ) (most : ℕ) (a b : RigState) : Type 0 wher
   pub later : a.line_failures ≤ b.line_failures
   pub rises : Rises a.line_failures b.line_failures
   pub journal : b.journal_failures ≡ a.journal_failures
+  pub stays : a.is_honest → StaysHonest a b
   pub part : GoesOn (PutsPart bytes most) a.calls b.calls
 
 pub goes_nowhere : (P : List RigCall → Type 0) (o : Option (List RigCall)) → P [] → GoesOn P o o
@@ -84,7 +95,7 @@ goes_nowhere P None p = refl
 goes_nowhere P (Some past) p = ([], ap (λ zs. Some zs) (sym (append-nil past)), p)
 
 pub went_nowhere : (a : RigState) → Went [] 0 a a
-went_nowhere a = record { line = refl; journal = refl; all = goes_nowhere (PutsAll [] 0) a.calls (record { line = tt; puts = refl; few = omega arith }) }
+went_nowhere a = record { line = refl; journal = refl; stays = λ h. record { honest = h; journal = refl }; all = goes_nowhere (PutsAll [] 0) a.calls (record { line = tt; puts = refl; few = omega arith }) }
 
 -- the call of an Ok stands in the record
 pub recorded_ok : {T : Type 0} (call : RigCall) (u : T) (x y : Option (List RigCall)) → Records call (Ok u) x y → GoesOn (λ calls. calls ≡ call ∷ []) x y
@@ -95,56 +106,61 @@ recorded_err : (T : Type 0) (call : RigCall) (e : RigFault) (P : List RigCall �
 recorded_err T call e P None y none one r = r
 recorded_err T call e P (Some past) y none one r = ⊎_elim (λ in_it. (call ∷ [], in_it, one)) (λ not_in_it. ([], not_in_it ∙ ap (λ zs. Some zs) (sym (append-nil past)), none)) r
 
-pub went_put : {T : Type 0} (byte : ℕ) (u : T) (a b : RigState) → HasCause {T = T} a.line_failures b.line_failures (Ok u) → b.journal_failures ≡ a.journal_failures → Records {T = T} (Put byte) (Ok u) a.calls b.calls → Went (byte ∷ []) 1 a b
-went_put byte u a b cause journal recorded = record {
+pub went_put : {T : Type 0} (byte : ℕ) (u : T) (a b : RigState) → HasCause {T = T} a.line_failures b.line_failures (Ok u) → b.journal_failures ≡ a.journal_failures → Records {T = T} (Put byte) (Ok u) a.calls b.calls → (a.is_honest → PutsHonestly {T = T} byte (Ok u) a b) → Went (byte ∷ []) 1 a b
+went_put byte u a b cause journal recorded honest = record {
   line = cause.done;
   journal = journal;
+  stays = λ h. let p = honest h in record { honest = p.honest; journal = p.ok.1 };
   all = GoesOn-weaker (λ calls. calls ≡ Put byte ∷ []) (PutsAll (byte ∷ []) 1) a.calls b.calls (recorded_ok (Put byte) u a.calls b.calls recorded)
       (λ calls e. subst (PutsAll (byte ∷ []) 1) (sym e) (record { line = tt; puts = refl; few = omega arith }));
 }
 
-pub failed_put : (T : Type 0) (byte : ℕ) (e : RigFault) (a b : RigState) → HasCause {T = T} a.line_failures b.line_failures (Err e) → b.journal_failures ≡ a.journal_failures → Records {T = T} (Put byte) (Err e) a.calls b.calls → Failed (byte ∷ []) 1 a b
-failed_put T byte e a b cause journal recorded = record {
+pub failed_put : (T : Type 0) (byte : ℕ) (e : RigFault) (a b : RigState) → HasCause {T = T} a.line_failures b.line_failures (Err e) → b.journal_failures ≡ a.journal_failures → Records {T = T} (Put byte) (Err e) a.calls b.calls → (a.is_honest → PutsHonestly {T = T} byte (Err e) a b) → Failed (byte ∷ []) 1 a b
+failed_put T byte e a b cause journal recorded honest = record {
   later = cause.later;
   rises = cause.failed;
   journal = journal;
+  stays = λ h. let p = honest h in record { honest = p.honest; journal = p.err.0 };
   part = recorded_err T (Put byte) e (PutsPart (byte ∷ []) 1) a.calls b.calls (record { line = tt; puts = (0, refl); few = omega arith }) (record { line = tt; puts = (1, refl); few = omega arith }) recorded;
 }
 
-pub went_get : (answer : Option ℕ) (a b : RigState) → HasCause {T = Option ℕ} a.line_failures b.line_failures (Ok answer) → b.journal_failures ≡ a.journal_failures → Records {T = Option ℕ} (Get answer) (Ok answer) a.calls b.calls → Went [] 1 a b
-went_get answer a b cause journal recorded = record {
+pub went_get : (answer : Option ℕ) (a b : RigState) → HasCause {T = Option ℕ} a.line_failures b.line_failures (Ok answer) → b.journal_failures ≡ a.journal_failures → Records {T = Option ℕ} (Get answer) (Ok answer) a.calls b.calls → (a.is_honest → GetsHonestly (Ok answer) a b) → Went [] 1 a b
+went_get answer a b cause journal recorded honest = record {
   line = cause.done;
   journal = journal;
+  stays = λ h. let p = honest h in record { honest = p.honest; journal = p.journal };
   all = GoesOn-weaker (λ calls. calls ≡ Get answer ∷ []) (PutsAll [] 1) a.calls b.calls (recorded_ok (Get answer) answer a.calls b.calls recorded)
       (λ calls e. subst (PutsAll [] 1) (sym e) (record { line = tt; puts = refl; few = omega arith }));
 }
 
-pub failed_get : (e : RigFault) (a b : RigState) → HasCause {T = Option ℕ} a.line_failures b.line_failures (Err e) → b.journal_failures ≡ a.journal_failures → Records {T = Option ℕ} (Get None) (Err e) a.calls b.calls → Failed [] 1 a b
-failed_get e a b cause journal recorded = record {
+pub failed_get : (e : RigFault) (a b : RigState) → HasCause {T = Option ℕ} a.line_failures b.line_failures (Err e) → b.journal_failures ≡ a.journal_failures → Records {T = Option ℕ} (Get None) (Err e) a.calls b.calls → (a.is_honest → GetsHonestly (Err e) a b) → Failed [] 1 a b
+failed_get e a b cause journal recorded honest = record {
   later = cause.later;
   rises = cause.failed;
   journal = journal;
+  stays = λ h. let p = honest h in record { honest = p.honest; journal = p.journal };
   part = recorded_err (Option ℕ) (Get None) e (PutsPart [] 1) a.calls b.calls (record { line = tt; puts = (0, refl); few = omega arith }) (record { line = tt; puts = (0, refl); few = omega arith }) recorded;
 }
 
 pub went_then : (xs ys : List ℕ) (m n : ℕ) (a b c : RigState) → Went xs m a b → Went ys n b c → Went (xs ++ ys) (m + n) a c
-went_then xs ys m n a b c p q = record { line = q.line ∙ p.line; journal = q.journal ∙ p.journal; all = all_then xs ys m n a.calls b.calls c.calls p.all q.all }
+went_then xs ys m n a b c p q = record { line = q.line ∙ p.line; journal = q.journal ∙ p.journal; stays = stays_then a b c p.stays q.stays; all = all_then xs ys m n a.calls b.calls c.calls p.all q.all }
 
 pub failed_then : (xs ys : List ℕ) (m n : ℕ) (a b c : RigState) → Went xs m a b → Failed ys n b c → Failed (xs ++ ys) (m + n) a c
 failed_then xs ys m n a b c p q = record {
   later = omega (arith, p.line, q.later);
   rises = subst (λ k. Rises k c.line_failures) p.line q.rises;
   journal = q.journal ∙ p.journal;
+  stays = stays_then a b c p.stays q.stays;
   part = part_then xs ys m n a.calls b.calls c.calls p.all q.part;
 }
 
 pub went_up : (xs : List ℕ) (m n : ℕ) (a b : RigState) → m ≤ n → Went xs m a b → Went xs n a b
-went_up xs m n a b le p = record { line = p.line; journal = p.journal; all = all_more xs m n a.calls b.calls le p.all }
+went_up xs m n a b le p = record { line = p.line; journal = p.journal; stays = p.stays; all = all_more xs m n a.calls b.calls le p.all }
 
 -- so a part of settling ends: with Ok,
 pub speaks_ok : {T : Type 0} (bytes : List ℕ) (most : ℕ) (u : T) (a b : RigState) → Went bytes most a b → Speaks bytes most (Ok u) a b
 speaks_ok bytes most u a b p = record {
-  cause = record { later = omega (arith, p.line); done = p.line; failed = tt; journal_count = p.journal };
+  cause = record { later = omega (arith, p.line); done = p.line; failed = tt; kept = tt; stays = p.stays; journal_count = p.journal };
   part = all_part bytes most a.calls b.calls p.all;
   whole = p.all;
 }
@@ -153,7 +169,14 @@ speaks_ok bytes most u a b p = record {
 pub speaks_line : {T : Type 0} (xs ys : List ℕ) (m n : ℕ) (r : Result T WireFault) (a b : RigState) → m ≤ n → Failed xs m a b → IsErrAnd r (λ fault. fault ≡ Line) → Speaks (xs ++ ys) n r a b
 speaks_line xs ys m n (Ok u) a b le p e = absurd e
 speaks_line xs ys m n (Err fault) a b le p e = record {
-  cause = record { later = p.later; done = tt; failed = λ _. p.rises; journal_count = p.journal };
+  cause = record {
+    later = p.later;
+    done = tt;
+    failed = λ _. p.rises;
+    kept = (let K : WireFault → Type 0 = λ f. KeepsCount a.line_failures b.line_failures f in subst K (sym e) tt);
+    stays = p.stays;
+    journal_count = p.journal;
+  };
   part = part_more xs ys m n a.calls b.calls le p.part;
   whole = tt;
 }
@@ -161,7 +184,14 @@ speaks_line xs ys m n (Err fault) a b le p e = record {
 -- with another fault,
 pub speaks_other : {T : Type 0} (xs ys : List ℕ) (m n : ℕ) (fault : WireFault) (a b : RigState) → m ≤ n → fault ≢ Line → Went xs m a b → Speaks {T = T} (xs ++ ys) n (Err fault) a b
 speaks_other xs ys m n fault a b le other p = record {
-  cause = record { later = omega (arith, p.line); done = tt; failed = λ e. absurd (other e); journal_count = p.journal };
+  cause = record {
+    later = omega (arith, p.line);
+    done = tt;
+    failed = λ e. absurd (other e);
+    kept = count_kept a.line_failures b.line_failures fault other p.line;
+    stays = p.stays;
+    journal_count = p.journal;
+  };
   part = part_more xs ys m n a.calls b.calls le (all_part xs m a.calls b.calls p.all);
   whole = tt;
 }
@@ -169,7 +199,14 @@ speaks_other xs ys m n fault a b le other p = record {
 -- or as its last part ends
 pub speaks_then : {T : Type 0} (xs ys : List ℕ) (m n : ℕ) (r : Result T WireFault) (a b c : RigState) → Went xs m a b → Speaks ys n r b c → Speaks (xs ++ ys) (m + n) r a c
 speaks_then xs ys m n (Ok u) a b c p q = record {
-  cause = record { later = omega (arith, p.line, q.cause.later); done = q.cause.done ∙ p.line; failed = tt; journal_count = q.cause.journal_count ∙ p.journal };
+  cause = record {
+    later = omega (arith, p.line, q.cause.later);
+    done = q.cause.done ∙ p.line;
+    failed = tt;
+    kept = tt;
+    stays = stays_then a b c p.stays q.cause.stays;
+    journal_count = q.cause.journal_count ∙ p.journal;
+  };
   part = part_then xs ys m n a.calls b.calls c.calls p.all q.part;
   whole = all_then xs ys m n a.calls b.calls c.calls p.all q.whole;
 }
@@ -178,6 +215,8 @@ speaks_then xs ys m n (Err fault) a b c p q = record {
     later = omega (arith, p.line, q.cause.later);
     done = tt;
     failed = λ e. subst (λ k. Rises k c.line_failures) p.line (q.cause.failed e);
+    kept = subst (λ k. KeepsCount k c.line_failures fault) p.line q.cause.kept;
+    stays = stays_then a b c p.stays q.cause.stays;
     journal_count = q.cause.journal_count ∙ p.journal;
   };
   part = part_then xs ys m n a.calls b.calls c.calls p.all q.part;
@@ -188,14 +227,21 @@ speaks_then xs ys m n (Err fault) a b c p q = record {
 pub speaks_fault : {T U : Type 0} (xs ys : List ℕ) (m n : ℕ) (fault : WireFault) (r : Result U WireFault) (a b : RigState) → m ≤ n → IsErrAnd r (λ e. e ≡ fault) → Speaks {T = T} xs m (Err fault) a b → Speaks (xs ++ ys) n r a b
 speaks_fault xs ys m n fault (Ok u) a b le e p = absurd e
 speaks_fault xs ys m n fault (Err f) a b le e p = record {
-  cause = record { later = p.cause.later; done = tt; failed = λ g. p.cause.failed (sym e ∙ g); journal_count = p.cause.journal_count };
+  cause = record {
+    later = p.cause.later;
+    done = tt;
+    failed = λ g. p.cause.failed (sym e ∙ g);
+    kept = (let K : WireFault → Type 0 = λ f. KeepsCount a.line_failures b.line_failures f in subst K (sym e) p.cause.kept);
+    stays = p.cause.stays;
+    journal_count = p.cause.journal_count;
+  };
   part = part_more xs ys m n a.calls b.calls le p.part;
   whole = tt;
 }
 
 -- what a part did that ended with Ok
 pub speaks_went : {T : Type 0} (bytes : List ℕ) (most : ℕ) (u : T) (a b : RigState) → Speaks bytes most (Ok u) a b → Went bytes most a b
-speaks_went bytes most u a b p = record { line = p.cause.done; journal = p.cause.journal_count; all = p.whole }
+speaks_went bytes most u a b p = record { line = p.cause.done; journal = p.cause.journal_count; stays = p.cause.stays; all = p.whole }
 
 -- one copy more
 pub replicate-more : {T : Type 0} (k : ℕ) (x : T) → replicate k x ++ x ∷ [] ≡ replicate (suc k) x
@@ -212,16 +258,25 @@ went_more byte sent a b c p q =
 
 -- the byte put, and an answer taken
 pub went_both : {T : Type 0} (byte : ℕ) (u : T) (answer : Option ℕ) (a b c : RigState) → HasCause {T = T} a.line_failures b.line_failures (Ok u) → b.journal_failures ≡ a.journal_failures → Records {T = T} (Put byte) (Ok u) a.calls b.calls
-    → HasCause {T = Option ℕ} b.line_failures c.line_failures (Ok answer) → c.journal_failures ≡ b.journal_failures → Records {T = Option ℕ} (Get answer) (Ok answer) b.calls c.calls → Went (byte ∷ []) 2 a c
-went_both byte u answer a b c cause journal recorded cause' journal' recorded' =
-    went_then (byte ∷ []) [] 1 1 a b c (went_put byte u a b cause journal recorded) (went_get answer b c cause' journal' recorded')
+    → HasCause {T = Option ℕ} b.line_failures c.line_failures (Ok answer) → c.journal_failures ≡ b.journal_failures → Records {T = Option ℕ} (Get answer) (Ok answer) b.calls c.calls → (a.is_honest → PutsHonestly {T = T} byte (Ok u) a b) → (b.is_honest → GetsHonestly (Ok answer) b c) → Went (byte ∷ []) 2 a c
+went_both byte u answer a b c cause journal recorded cause' journal' recorded' honest honest' =
+    went_then (byte ∷ []) [] 1 1 a b c (went_put byte u a b cause journal recorded honest) (went_get answer b c cause' journal' recorded' honest')
 
 pub cause_then : {T : Type 0} (xs : List ℕ) (m : ℕ) (r : Result T WireFault) (a b c : RigState) → Went xs m a b → HasLineCause r b c → HasLineCause r a c
-cause_then xs m (Ok u) a b c p q = record { later = omega (arith, p.line, q.later); done = q.done ∙ p.line; failed = tt; journal_count = q.journal_count ∙ p.journal }
+cause_then xs m (Ok u) a b c p q = record {
+  later = omega (arith, p.line, q.later);
+  done = q.done ∙ p.line;
+  failed = tt;
+  kept = tt;
+  stays = stays_then a b c p.stays q.stays;
+  journal_count = q.journal_count ∙ p.journal;
+}
 cause_then xs m (Err fault) a b c p q = record {
   later = omega (arith, p.line, q.later);
   done = tt;
   failed = λ e. subst (λ k. Rises k c.line_failures) p.line (q.failed e);
+  kept = subst (λ k. KeepsCount k c.line_failures fault) p.line q.kept;
+  stays = stays_then a b c p.stays q.stays;
   journal_count = q.journal_count ∙ p.journal;
 }
 
@@ -255,7 +310,14 @@ speaks_more byte sent r a b c p q =
 -- a fault is handed on
 pub cause_fault : {T U : Type 0} (fault : WireFault) (r : Result U WireFault) (a b : RigState) → IsErrAnd r (λ e. e ≡ fault) → HasLineCause {T = T} (Err fault) a b → HasLineCause r a b
 cause_fault fault (Ok u) a b e p = absurd e
-cause_fault fault (Err f) a b e p = record { later = p.later; done = tt; failed = λ g. p.failed (sym e ∙ g); journal_count = p.journal_count }
+cause_fault fault (Err f) a b e p = record {
+  later = p.later;
+  done = tt;
+  failed = λ g. p.failed (sym e ∙ g);
+  kept = (let K : WireFault → Type 0 = λ g. KeepsCount a.line_failures b.line_failures g in subst K (sym e) p.kept);
+  stays = p.stays;
+  journal_count = p.journal_count;
+}
 
 -- Bytes in batches:
 
@@ -310,7 +372,7 @@ batches_went_on byte limit left count a b c some le le' p q =
 -- so batches end: with Ok,
 pub batches_ok : (byte limit left : ℕ) (a b : RigState) → left ≤ limit → Went (replicate (limit - left) byte) (4099 * (limit - left)) a b → SpeaksBatches byte limit (Ok left) a b
 batches_ok byte limit left a b le p = record {
-  cause = record { later = omega (arith, p.line); done = p.line; failed = tt; journal_count = p.journal };
+  cause = record { later = omega (arith, p.line); done = p.line; failed = tt; kept = tt; stays = p.stays; journal_count = p.journal };
   part = part_fits byte (limit - left) limit (4099 * (limit - left)) (4099 * limit) a.calls b.calls (omega arith) (omega arith) (all_part (replicate (limit - left) byte) (4099 * (limit - left)) a.calls b.calls p.all);
   within = le;
   whole = p.all;
@@ -334,7 +396,7 @@ batches_fault {T} byte limit left count fault (Err f) a b c some le le' p q e =
     }
 
 pub batches_went : (byte limit left : ℕ) (a b : RigState) → SpeaksBatches byte limit (Ok left) a b → Went (replicate (limit - left) byte) (4099 * (limit - left)) a b
-batches_went byte limit left a b p = record { line = p.cause.done; journal = p.cause.journal_count; all = p.whole }
+batches_went byte limit left a b p = record { line = p.cause.done; journal = p.cause.journal_count; stays = p.cause.stays; all = p.whole }
 
 -- the bytes of batches and those after them
 pub run_after : (byte limit left m n : ℕ) (a b c : Option (List RigCall)) → left ≤ limit → GoesOn (PutsAll (replicate (limit - left) byte) m) a b → GoesOn (PutsPart (settling_run byte left) n) b c → GoesOn (PutsPart (settling_run byte limit) (m + n)) a c

@@ -156,6 +156,11 @@ pub record FetchesWithin (at : ℕ) (before after : List ℕ)
   pub within : IfOk result (λ n. n ≤ length before)
   pub last : 2 ^ 63 - 1 ≤ at → IfOk result (λ n. n ≡ 0)
 
+-- an honest Rig stays honest, and its journal is as it was
+pub record StaysHonest (old new : RigState) : Type 0 where
+  pub honest : new.is_honest
+  pub journal : new.journal ≡ old.journal
+
 -- what is so of a Rig that follows the model, at each moment
 pub record IsModel (rig : RigState) : Type 0 where
   pub device : IsDevice rig.device

@@ -11,11 +11,12 @@ use Rattle.stm_wire.specs.declared.chip.EraseKind.TheVariants.{Page, Extended}
 use Rattle.stm_wire.specs.Exchange.{complement, is_listed}
 use Rattle.stm_wire.specs.Device.{Device, Phase, Fresh, Connected, Gone, IsDevice, IsSettled}
 use Rattle.stm_wire.specs.Harmless.{SameOutside, Harmless}
-use Rattle.stm_wire.specs.Rig.{RigState, Rises, waited}
+use Rattle.stm_wire.specs.Rig.{RigState, Rises, StaysHonest, waited}
 use Rattle.stm_wire.specs.Moments.{LeavesOnly}
 use Rattle.stm_wire.specs.Dialogue.{GoesOn, puts_of, AreLineCalls}
 use Rattle.stm_wire.specs.SentList.{IsSettlingRun}
 use Rattle.stm_wire.specs.Command.{IsOkOrLine}
+use Rattle.stm_wire.specs.Sending.{KeepsCount}
 
 -- On any line:
 
@@ -37,13 +38,16 @@ PutsPart bytes most calls = Talks (λ puts. (n : ℕ) × (puts ≡ take n bytes)
 abbrev pub SettlesWithin : ℕ → ℕ → List RigCall → Type 0
 SettlesWithin byte limit calls = Talks (IsSettlingRun byte limit) (4100 * (limit + 4)) calls
 
--- A fault of the line is answered only where its count rose, and at Ok the count is as it was. That
--- of the journal always is.
+-- A fault of the line is answered only where its count rose, and at Ok and at every other fault the
+-- count is as it was. That of the journal always is. An honest Rig stays honest, whatever its device
+-- is, and nothing is appended to its journal.
 pub record HasLineCause {T : Type 0} (result : Result T WireFault)
     (old new : RigState) : Type 0 where
   pub later : old.line_failures ≤ new.line_failures
   pub done : OnOk result (new.line_failures ≡ old.line_failures)
   pub failed : IfErr result (λ fault. fault ≡ Line → Rises old.line_failures new.line_failures)
+  pub kept : IfErr result (KeepsCount old.line_failures new.line_failures)
+  pub stays : old.is_honest → StaysHonest old new
   pub journal_count : new.journal_failures ≡ old.journal_failures
 
 -- no get waited long, or one did

@@ -30,7 +30,7 @@ loop-sent-preserved g c =
           let e = c.in_ok-put.ensures in
           let u : Unit {0} = tt in
           went_copy c.args.byte c.loop-sent._sent c.loop-sent._sent 1 (V c.args.rig.now) (V c.loop-sent.rig) (V c.put.new.self) c.loop-sent.invariant.went
-          (went_put c.args.byte u (V c.loop-sent.rig) (V c.put.new.self) e.cause e.journal_count e.recorded));
+          (went_put c.args.byte u (V c.loop-sent.rig) (V c.put.new.self) e.cause e.journal_count e.recorded e.honest));
       copies = (let V = g.R.Rig.view in
           let u : Unit {0} = tt in
           let b = (V c.loop-sent.rig).calls in
@@ -77,7 +77,7 @@ returns-in_err-put-clause-speaks g c =
     let b = V c.loop-sent.rig in
     let d = V c.put.new.self in
     batch_line c.args.byte c.loop-sent._sent c.args.count (c.args.count + 4097) c.from_residual.result (V c.args.rig.now) b d c.loop-sent-test.true (omega (arith, c.loop-sent-test.true)) c.loop-sent.invariant.went
-    (failed_put (Unit {0}) c.args.byte c.in_err-put.field-0.0 b d e.cause e.journal_count e.recorded) c.from_residual.ensures.1
+    (failed_put (Unit {0}) c.args.byte c.in_err-put.field-0.0 b d e.cause e.journal_count e.recorded e.honest) c.from_residual.ensures.1
 
 pub returns-clause-speaks : goal.returns-clause-speaks
 returns-clause-speaks g c =

@@ -36,7 +36,7 @@ loop-taken-preserved g c =
     let seen : (c.loop-taken.seen || eqb byte nack) ≡ c.if-seen.seen = elim c.if-seen.branch [ then-seen w ↦ ap (λ t. t || eqb byte nack) w.if-seen.true ∙ sym w.if-seen.true ∙ sym w.seen-is | else-seen w ↦ ap (λ t. t || eqb byte nack) w.if-seen.false ∙ sym w.seen-is ] in
     record {
       brief = e.aside.long_gets ∙ i.brief;
-      went = went_then [] [] n 1 a b d i.went (went_get c.in_ok-get.field-0 b d e.cause e.journal_count e.recorded);
+      went = went_then [] [] n 1 a b d i.went (went_get c.in_ok-get.field-0 b d e.cause e.journal_count e.recorded e.honest);
       took = subst (λ (t : Bool). GoesOn (TookSoFar (n + 1) t) a.calls d.calls) seen
           (took_more n c.loop-taken.seen byte a.calls b.calls d.calls i.took (adds_get c.in_ok-get.field-0 (Some byte) b.calls d.calls c.in-Some.is e.recorded));
       honest = λ h. (e.honest (i.honest h)).honest;
@@ -53,7 +53,7 @@ returns-in_err-get-clause-speaks g c =
     let e = c.in_err-get.ensures in
     let n = c.loop-taken._taken in
     speaks_line [] [] (n + 1) 4097 c.from_residual.result (V c.args.rig.now) (V c.get.new.self) (omega (arith, c.loop-taken-test.true))
-    (failed_then [] [] n 1 (V c.args.rig.now) (V c.loop-taken.rig) (V c.get.new.self) c.loop-taken.invariant.went (failed_get c.in_err-get.field-0.0 (V c.loop-taken.rig) (V c.get.new.self) e.cause e.journal_count e.recorded))
+    (failed_then [] [] n 1 (V c.args.rig.now) (V c.loop-taken.rig) (V c.get.new.self) c.loop-taken.invariant.went (failed_get c.in_err-get.field-0.0 (V c.loop-taken.rig) (V c.get.new.self) e.cause e.journal_count e.recorded e.honest))
     c.from_residual.ensures.1
 
 pub returns-in-None-clause-speaks : goal.returns-in-None-clause-speaks
@@ -62,7 +62,7 @@ returns-in-None-clause-speaks g c =
     let e = c.in_ok-get.ensures in
     let n = c.loop-taken._taken in
     speaks_ok [] 4097 c.loop-taken.seen (V c.args.rig.now) (V c.get.new.self) (went_up [] (n + 1) 4097 (V c.args.rig.now) (V c.get.new.self) (omega (arith, c.loop-taken-test.true))
-    (went_then [] [] n 1 (V c.args.rig.now) (V c.loop-taken.rig) (V c.get.new.self) c.loop-taken.invariant.went (went_get c.in_ok-get.field-0 (V c.loop-taken.rig) (V c.get.new.self) e.cause e.journal_count e.recorded)))
+    (went_then [] [] n 1 (V c.args.rig.now) (V c.loop-taken.rig) (V c.get.new.self) c.loop-taken.invariant.went (went_get c.in_ok-get.field-0 (V c.loop-taken.rig) (V c.get.new.self) e.cause e.journal_count e.recorded e.honest)))
 
 pub returns-clause-speaks : goal.returns-clause-speaks
 returns-clause-speaks g c =

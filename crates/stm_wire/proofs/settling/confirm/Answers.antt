@@ -67,7 +67,7 @@ returns-in_err-put-clause-speaks g c =
     let V = g.R.Rig.view in
     let e = c.in_err-put.ensures in
     let byte = c.args.byte in
-    speaks_line (byte ∷ []) [] 1 3 c.from_residual.result (V c.args.rig.now) (V c.put.new.self) (lit≤ tt) (failed_put (Unit {0}) byte c.in_err-put.field-0.0 (V c.args.rig.now) (V c.put.new.self) e.cause e.journal_count e.recorded) c.from_residual.ensures.1
+    speaks_line (byte ∷ []) [] 1 3 c.from_residual.result (V c.args.rig.now) (V c.put.new.self) (lit≤ tt) (failed_put (Unit {0}) byte c.in_err-put.field-0.0 (V c.args.rig.now) (V c.put.new.self) e.cause e.journal_count e.recorded e.honest) c.from_residual.ensures.1
 
 pub returns-in-Some-eq31-clause-speaks : goal.returns-in-Some-eq31-clause-speaks
 returns-in-Some-eq31-clause-speaks g c =
@@ -77,7 +77,7 @@ returns-in-Some-eq31-clause-speaks g c =
     let byte = c.args.byte in
     let u : Unit {0} = tt in
     speaks_then (byte ∷ []) [] 2 1 c.expect_quiet.result (V c.args.rig.now) (V c.get.new.self) (V c.expect_quiet.new.rig)
-    (went_both byte u c.in_ok-get.field-0 (V c.args.rig.now) (V c.put.new.self) (V c.get.new.self) e.cause e.journal_count e.recorded f.cause f.journal_count f.recorded) c.expect_quiet.ensures.speaks
+    (went_both byte u c.in_ok-get.field-0 (V c.args.rig.now) (V c.put.new.self) (V c.get.new.self) e.cause e.journal_count e.recorded f.cause f.journal_count f.recorded e.honest f.honest) c.expect_quiet.ensures.speaks
 
 pub returns-in-Some-eq31-clause-refused : goal.returns-in-Some-eq31-clause-refused
 returns-in-Some-eq31-clause-refused g c =

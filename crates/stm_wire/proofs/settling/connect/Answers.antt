@@ -56,7 +56,7 @@ pub returns-in_err-put-clause-speaks : goal.returns-in_err-put-clause-speaks
 returns-in_err-put-clause-speaks g c =
     let V = g.R.Rig.view in
     let e = c.in_err-put.ensures in
-    speaks_line (0x7F ∷ []) [] 1 2 c.from_residual.result (V c.args.rig.now) (V c.put.new.self) (lit≤ tt) (failed_put (Unit {0}) 0x7F c.in_err-put.field-0.0 (V c.args.rig.now) (V c.put.new.self) e.cause e.journal_count e.recorded) c.from_residual.ensures.1
+    speaks_line (0x7F ∷ []) [] 1 2 c.from_residual.result (V c.args.rig.now) (V c.put.new.self) (lit≤ tt) (failed_put (Unit {0}) 0x7F c.in_err-put.field-0.0 (V c.args.rig.now) (V c.put.new.self) e.cause e.journal_count e.recorded e.honest) c.from_residual.ensures.1
 
 pub returns-in_err-get-clause-speaks : goal.returns-in_err-get-clause-speaks
 returns-in_err-get-clause-speaks g c =
@@ -68,7 +68,7 @@ returns-in_err-get-clause-speaks g c =
     let b = V c.put.new.self in
     let d = V c.get.new.self in
     speaks_line (0x7F ∷ []) [] 2 2 c.from_residual-in_err-get.result a d (lit≤ tt)
-    (failed_then (0x7F ∷ []) [] 1 1 a b d (went_put 0x7F u a b e.cause e.journal_count e.recorded) (failed_get c.in_err-get.field-0.0 b d f.cause f.journal_count f.recorded)) c.from_residual-in_err-get.ensures.1
+    (failed_then (0x7F ∷ []) [] 1 1 a b d (went_put 0x7F u a b e.cause e.journal_count e.recorded e.honest) (failed_get c.in_err-get.field-0.0 b d f.cause f.journal_count f.recorded f.honest)) c.from_residual-in_err-get.ensures.1
 
 pub returns-in-Some-eq121-clause-speaks : goal.returns-in-Some-eq121-clause-speaks
 returns-in-Some-eq121-clause-speaks g c =
@@ -77,7 +77,7 @@ returns-in-Some-eq121-clause-speaks g c =
     let f = c.in_ok-get.ensures in
     let u : Unit {0} = tt in
     speaks_ok (0x7F ∷ []) 2 u (V c.args.rig.now) (V c.get.new.self)
-    (went_both 0x7F u c.in_ok-get.field-0 (V c.args.rig.now) (V c.put.new.self) (V c.get.new.self) e.cause e.journal_count e.recorded f.cause f.journal_count f.recorded)
+    (went_both 0x7F u c.in_ok-get.field-0 (V c.args.rig.now) (V c.put.new.self) (V c.get.new.self) e.cause e.journal_count e.recorded f.cause f.journal_count f.recorded e.honest f.honest)
 
 pub returns-in-Some-clause-speaks : goal.returns-in-Some-clause-speaks
 returns-in-Some-clause-speaks g c =
@@ -86,7 +86,7 @@ returns-in-Some-clause-speaks g c =
     let f = c.in_ok-get.ensures in
     let u : Unit {0} = tt in
     speaks_other (0x7F ∷ []) [] 2 2 Garbled (V c.args.rig.now) (V c.get.new.self) (lit≤ tt) (λ same. cc)
-    (went_both 0x7F u c.in_ok-get.field-0 (V c.args.rig.now) (V c.put.new.self) (V c.get.new.self) e.cause e.journal_count e.recorded f.cause f.journal_count f.recorded)
+    (went_both 0x7F u c.in_ok-get.field-0 (V c.args.rig.now) (V c.put.new.self) (V c.get.new.self) e.cause e.journal_count e.recorded f.cause f.journal_count f.recorded e.honest f.honest)
 
 pub returns-in-None-clause-speaks : goal.returns-in-None-clause-speaks
 returns-in-None-clause-speaks g c =
@@ -95,7 +95,7 @@ returns-in-None-clause-speaks g c =
     let f = c.in_ok-get.ensures in
     let u : Unit {0} = tt in
     speaks_other (0x7F ∷ []) [] 2 2 Quiet (V c.args.rig.now) (V c.get.new.self) (lit≤ tt) (λ same. cc)
-    (went_both 0x7F u c.in_ok-get.field-0 (V c.args.rig.now) (V c.put.new.self) (V c.get.new.self) e.cause e.journal_count e.recorded f.cause f.journal_count f.recorded)
+    (went_both 0x7F u c.in_ok-get.field-0 (V c.args.rig.now) (V c.put.new.self) (V c.get.new.self) e.cause e.journal_count e.recorded f.cause f.journal_count f.recorded e.honest f.honest)
 
 pub returns-in-Some-eq121-clause-answered : goal.returns-in-Some-eq121-clause-answered
 returns-in-Some-eq121-clause-answered g c =

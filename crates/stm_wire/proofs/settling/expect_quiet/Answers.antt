@@ -39,19 +39,19 @@ pub returns-in_err-get-clause-speaks : goal.returns-in_err-get-clause-speaks
 returns-in_err-get-clause-speaks g c =
     let V = g.R.Rig.view in
     let e = c.in_err-get.ensures in
-    speaks_line [] [] 1 1 c.from_residual.result (V c.args.rig.now) (V c.get.new.self) (omega arith) (failed_get c.in_err-get.field-0.0 (V c.args.rig.now) (V c.get.new.self) e.cause e.journal_count e.recorded) c.from_residual.ensures.1
+    speaks_line [] [] 1 1 c.from_residual.result (V c.args.rig.now) (V c.get.new.self) (omega arith) (failed_get c.in_err-get.field-0.0 (V c.args.rig.now) (V c.get.new.self) e.cause e.journal_count e.recorded e.honest) c.from_residual.ensures.1
 
 pub returns-in-None-clause-speaks : goal.returns-in-None-clause-speaks
 returns-in-None-clause-speaks g c =
     let V = g.R.Rig.view in
     let e = c.in_ok-get.ensures in
-    speaks_ok [] 1 tt (V c.args.rig.now) (V c.get.new.self) (went_get c.in_ok-get.field-0 (V c.args.rig.now) (V c.get.new.self) e.cause e.journal_count e.recorded)
+    speaks_ok [] 1 tt (V c.args.rig.now) (V c.get.new.self) (went_get c.in_ok-get.field-0 (V c.args.rig.now) (V c.get.new.self) e.cause e.journal_count e.recorded e.honest)
 
 pub returns-in-Some-clause-speaks : goal.returns-in-Some-clause-speaks
 returns-in-Some-clause-speaks g c =
     let V = g.R.Rig.view in
     let e = c.in_ok-get.ensures in
-    speaks_other [] [] 1 1 Garbled (V c.args.rig.now) (V c.get.new.self) (omega arith) (λ e. cc) (went_get c.in_ok-get.field-0 (V c.args.rig.now) (V c.get.new.self) e.cause e.journal_count e.recorded)
+    speaks_other [] [] 1 1 Garbled (V c.args.rig.now) (V c.get.new.self) (omega arith) (λ e. cc) (went_get c.in_ok-get.field-0 (V c.args.rig.now) (V c.get.new.self) e.cause e.journal_count e.recorded e.honest)
 
 pub returns-in-None-clause-quiet : goal.returns-in-None-clause-quiet
 returns-in-None-clause-quiet g c =

@@ -39,7 +39,7 @@ returns-in_err-put-clause-speaks g c =
     let V = g.R.Rig.view in
     let e = c.in_err-put.ensures in
     let byte = c.args.byte in
-    speaks_line (byte ∷ []) [] 1 2 c.from_residual.result (V c.args.rig.now) (V c.put.new.self) (lit≤ tt) (failed_put (Unit {0}) byte c.in_err-put.field-0.0 (V c.args.rig.now) (V c.put.new.self) e.cause e.journal_count e.recorded) c.from_residual.ensures.1
+    speaks_line (byte ∷ []) [] 1 2 c.from_residual.result (V c.args.rig.now) (V c.put.new.self) (lit≤ tt) (failed_put (Unit {0}) byte c.in_err-put.field-0.0 (V c.args.rig.now) (V c.put.new.self) e.cause e.journal_count e.recorded e.honest) c.from_residual.ensures.1
 
 pub returns-clause-speaks : goal.returns-clause-speaks
 returns-clause-speaks g c =
@@ -47,7 +47,7 @@ returns-clause-speaks g c =
     let e = c.in_ok-put.ensures in
     let byte = c.args.byte in
     let u : Unit {0} = tt in
-    speaks_then (byte ∷ []) [] 1 1 c.expect_quiet.result (V c.args.rig.now) (V c.put.new.self) (V c.expect_quiet.new.rig) (went_put byte u (V c.args.rig.now) (V c.put.new.self) e.cause e.journal_count e.recorded) c.expect_quiet.ensures.speaks
+    speaks_then (byte ∷ []) [] 1 1 c.expect_quiet.result (V c.args.rig.now) (V c.put.new.self) (V c.expect_quiet.new.rig) (went_put byte u (V c.args.rig.now) (V c.put.new.self) e.cause e.journal_count e.recorded e.honest) c.expect_quiet.ensures.speaks
 
 pub returns-clause-quiet : goal.returns-clause-quiet
 returns-clause-quiet g c =

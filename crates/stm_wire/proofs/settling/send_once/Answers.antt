@@ -107,7 +107,7 @@ returns-in_err-put-clause-speaks g c =
     let V = g.R.Rig.view in
     let e = c.in_err-put.ensures in
     let byte = c.args.byte in
-    speaks_line (byte ∷ []) [] 1 4099 c.from_residual.result (V c.args.rig.now) (V c.put.new.self) (lit≤ tt) (failed_put (Unit {0}) byte c.in_err-put.field-0.0 (V c.args.rig.now) (V c.put.new.self) e.cause e.journal_count e.recorded) c.from_residual.ensures.1
+    speaks_line (byte ∷ []) [] 1 4099 c.from_residual.result (V c.args.rig.now) (V c.put.new.self) (lit≤ tt) (failed_put (Unit {0}) byte c.in_err-put.field-0.0 (V c.args.rig.now) (V c.put.new.self) e.cause e.journal_count e.recorded e.honest) c.from_residual.ensures.1
 
 pub returns-in-None-clause-speaks : goal.returns-in-None-clause-speaks
 returns-in-None-clause-speaks g c =
@@ -116,7 +116,7 @@ returns-in-None-clause-speaks g c =
     let f = c.in_ok-get.ensures in
     let byte = c.args.byte in
     let u : Unit {0} = tt in
-    let two = went_both byte u c.in_ok-get.field-0 (V c.args.rig.now) (V c.put.new.self) (V c.get.new.self) e.cause e.journal_count e.recorded f.cause f.journal_count f.recorded in
+    let two = went_both byte u c.in_ok-get.field-0 (V c.args.rig.now) (V c.put.new.self) (V c.get.new.self) e.cause e.journal_count e.recorded f.cause f.journal_count f.recorded e.honest f.honest in
     speaks_ok (byte ∷ []) 4099 false (V c.args.rig.now) (V c.get.new.self) (went_up (byte ∷ []) 2 4099 (V c.args.rig.now) (V c.get.new.self) (lit≤ tt) two)
 
 pub returns-in_err-drain-in-Some-clause-speaks : goal.returns-in_err-drain-in-Some-clause-speaks
@@ -126,7 +126,7 @@ returns-in_err-drain-in-Some-clause-speaks g c =
     let f = c.in_ok-get.ensures in
     let byte = c.args.byte in
     let u : Unit {0} = tt in
-    let two = went_both byte u c.in_ok-get.field-0 (V c.args.rig.now) (V c.put.new.self) (V c.get.new.self) e.cause e.journal_count e.recorded f.cause f.journal_count f.recorded in
+    let two = went_both byte u c.in_ok-get.field-0 (V c.args.rig.now) (V c.put.new.self) (V c.get.new.self) e.cause e.journal_count e.recorded f.cause f.journal_count f.recorded e.honest f.honest in
     let fault = c.in_err-drain-in-Some.field-0.0 in
     let failed : Result Bool WireFault = Err fault in
     speaks_fault (byte ∷ []) [] 4099 4099 fault c.from_residual-in_err-drain-in-Some.result (V c.args.rig.now) (V c.drain.new.rig) (lit≤ tt) c.from_residual-in_err-drain-in-Some.ensures.1
@@ -139,7 +139,7 @@ returns-in_ok-drain-in-Some-clause-speaks g c =
     let f = c.in_ok-get.ensures in
     let byte = c.args.byte in
     let u : Unit {0} = tt in
-    let two = went_both byte u c.in_ok-get.field-0 (V c.args.rig.now) (V c.put.new.self) (V c.get.new.self) e.cause e.journal_count e.recorded f.cause f.journal_count f.recorded in
+    let two = went_both byte u c.in_ok-get.field-0 (V c.args.rig.now) (V c.put.new.self) (V c.get.new.self) e.cause e.journal_count e.recorded f.cause f.journal_count f.recorded e.honest f.honest in
     speaks_ok (byte ∷ []) 4099 (eqb c.in-Some.first 31) (V c.args.rig.now) (V c.drain.new.rig)
     (went_then (byte ∷ []) [] 2 4097 (V c.args.rig.now) (V c.get.new.self) (V c.drain.new.rig) two (speaks_went [] 4097 c.in_ok-drain-in-Some.field-0 (V c.get.new.self) (V c.drain.new.rig) c.in_ok-drain-in-Some.ensures.speaks))
 
