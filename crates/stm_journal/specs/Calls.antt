@@ -21,12 +21,13 @@ RisesFor before now (Bad line) = now ≡ before
 RisesFor before now OtherDevice = now ≡ before
 RisesFor before now Memory = now ≡ before
 
--- on any Rig: the counts
+-- on any Rig: the counts; and an honest one stays honest
 pub record HasJournalCause {T : Type 0} (old new : RigState) (result : Result T JournalFault) : Type 0 where
   pub later : old.journal_failures ≤ new.journal_failures
   pub done : OnOk result (new.journal_failures ≡ old.journal_failures)
   pub failed : IfErr result (RisesFor old.journal_failures new.journal_failures)
   pub line_count : new.line_failures ≡ old.line_failures
+  pub honest : old.is_honest → new.is_honest
 
 -- one append of so many bytes; one that failed may be missing in the record, and a call that failed for another cause
 -- made none

@@ -75,6 +75,7 @@ loop-done-preserved g c =
         done = c.in_ok-fetch_piece.ensures.cause.done ∙ c.loop-done.invariant.cause.done;
         failed = tt;
         line_count = c.in_ok-fetch_piece.ensures.cause.line_count ∙ c.loop-done.invariant.cause.line_count;
+        honest = λ h. c.in_ok-fetch_piece.ensures.cause.honest (c.loop-done.invariant.cause.honest h);
       };
       calls = GoesOn-fetches a.calls b.calls d.calls c.loop-done.invariant.calls c.in_ok-fetch_piece.ensures.calls;
       told =

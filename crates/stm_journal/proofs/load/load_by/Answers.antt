@@ -56,6 +56,7 @@ loop-loader-preserved g c =
         done = c.in_ok-n.ensures.cause.done ∙ c.loop-loader.invariant.cause.done;
         failed = tt;
         line_count = c.in_ok-n.ensures.cause.line_count ∙ c.loop-loader.invariant.cause.line_count;
+        honest = λ h. c.in_ok-n.ensures.cause.honest (c.loop-loader.invariant.cause.honest h);
       };
       calls = GoesOn-fetches a.calls b.calls d.calls c.loop-loader.invariant.calls c.in_ok-n.ensures.calls;
       read = λ honest.
