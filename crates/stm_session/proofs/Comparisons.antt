@@ -87,8 +87,9 @@ skipped law image address n next bytes is at =
 -- how far the flash was compared: what is behind tells
 pub record IsComparedSoFar (chip : ChipData) (image : Pairs) (done : ℕ) (old new : RigState) : Type 0 where
   pub within : done ≤ flash_size chip
-  pub line : old.line_failures ≤ new.line_failures
+  pub line : new.line_failures ≡ old.line_failures
   pub journal : new.journal_failures ≡ old.journal_failures
+  pub stays : old.is_honest → new.is_honest
   pub parts : GoesOn (IsPart (Some chip) true (13 * done)) old.calls new.calls
   pub reads : OnlyReads chip old new
   pub honest : old.is_honest → IsSettled old.device → old.device.chip ≡ chip

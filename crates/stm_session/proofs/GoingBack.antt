@@ -251,8 +251,9 @@ goes_back_all i n flashes l2 a b is goes = let G : ℕ → Type 0 = λ m. GoesBa
 -- how far the segments are taken back
 pub record IsBackSoFar (chip : ChipData) (i : ℕ) (l l2 : Loaded) (old new : RigState) : Type 0 where
   pub rest : pages_of_segments l2.state.stack ≡ drop i (pages_of_segments l.state.stack)
-  pub line : old.line_failures ≤ new.line_failures
+  pub line : new.line_failures ≡ old.line_failures
   pub journal : new.journal_failures ≡ old.journal_failures
+  pub stays : old.is_honest → new.is_honest
   pub puts : GoesOn (IsPart (Some chip) true (i * most_of_command)) old.calls new.calls
   pub order : Follows (AreTakenBack chip i (pages_of_segments l.state.stack)) l l2 old new
   pub honest : (flashes : List (List ℕ)) → IsSteady flashes l old → old.device.chip ≡ chip → GoesBack {T = Unit {0}} i flashes l2 old new (Ok tt)

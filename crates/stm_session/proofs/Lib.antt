@@ -29,6 +29,7 @@ pub mod Frames
 pub mod Programmings
 pub mod SentParts
 pub mod Orders
+pub mod Causes
 pub mod CutShort
 pub mod Reaching
 pub mod UndoOrders

@@ -83,8 +83,9 @@ under_still flashes l n i a b x goes under = let U : List ℕ → Type 0 = λ j.
 
 -- how far the frames of a page are written
 pub record IsProgrammedSoFar (chip : ChipData) (n : ℕ) (page : List ℕ) (frames : List Frame) (old new : RigState) : Type 0 where
-  pub line : old.line_failures ≤ new.line_failures
+  pub line : new.line_failures ≡ old.line_failures
   pub journal : new.journal_failures ≡ old.journal_failures
+  pub stays : old.is_honest → new.is_honest
   pub puts : GoesOn (IsPart (Some chip) true (268 * length frames)) old.calls new.calls
   pub order : (torn : Bool) → GoesOn (IsInOrder torn (write_steps chip n page frames)) old.calls new.calls
   pub honest : (flashes : List (List ℕ)) (l : Loaded) (base : List ℕ) → IsSteady flashes l old → old.device.chip ≡ chip → IsUnder n (Program n) (state_at old.journal) → length base ≡ flash_size chip

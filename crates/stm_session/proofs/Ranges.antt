@@ -58,8 +58,9 @@ pub record AreBlocksRead (start done : ℕ) (bytes : List ℕ) (torn : Bool) (ol
 -- how far the bytes of a range are read
 pub record IsReadSoFar (chip : ChipData) (start size done : ℕ) (bytes : List ℕ) (old new : RigState) : Type 0 where
   pub within : done ≤ size
-  pub line : old.line_failures ≤ new.line_failures
+  pub line : new.line_failures ≡ old.line_failures
   pub journal : new.journal_failures ≡ old.journal_failures
+  pub stays : old.is_honest → new.is_honest
   pub parts : GoesOn (IsPart (Some chip) true (13 * done)) old.calls new.calls
   pub few : (page : ℕ) → InPage chip page start size → IsReadInPage chip size done old new
   pub reads : OnlyReads chip old new

@@ -29,8 +29,9 @@ pub record IsRunSoFar (chip : ChipData) (commands : List Command) (i : ℕ) (out
   pub kinds : AreKindsOf (take i commands) outcomes.items
   pub finished : is_unfinished l2.state ≡ false
   pub depth : length l2.state.stack ≡ length l.state.stack + length (changes_of (commands_in (take i commands)))
-  pub line : old.line_failures ≤ new.line_failures
+  pub line : new.line_failures ≡ old.line_failures
   pub journal : new.journal_failures ≡ old.journal_failures
+  pub stays : old.is_honest → new.is_honest
   pub parts : GoesOn (IsPart (Some chip) true (i * most_of_command)) old.calls new.calls
   pub order : Follows (AreDone chip (commands_in (take i commands)) l.state l2.state) l l2 old new
   pub honest : (flashes : List (List ℕ)) → IsSteady flashes l old → old.device.chip ≡ chip

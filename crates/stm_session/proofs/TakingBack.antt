@@ -58,8 +58,9 @@ intents_returns chip flash (kept ∷ pages) = intents_then (return_entries chip 
 -- how far the pages are put back
 pub record IsReturnedSoFar (chip : ChipData) (i : ℕ) (l l2 : Loaded) (old new : RigState) : Type 0 where
   pub same : KeepsSame l.state l2.state
-  pub line : old.line_failures ≤ new.line_failures
+  pub line : new.line_failures ≡ old.line_failures
   pub journal : new.journal_failures ≡ old.journal_failures
+  pub stays : old.is_honest → new.is_honest
   pub puts : GoesOn (IsPart (Some chip) true (13 * kept_size chip (take i (newest_kept l.state.stack)))) old.calls new.calls
   pub order : Follows (AreReturned chip (take i (newest_kept l.state.stack))) l l2 old new
   pub honest : (flashes : List (List ℕ)) → IsSteady flashes l old → old.device.chip ≡ chip

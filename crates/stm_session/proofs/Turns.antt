@@ -66,8 +66,9 @@ pub record IsTurnedSoFar (chip : ChipData) (c : Change) (k count : ℕ) (first :
   pub small : count ≤ k
   pub puts : GoesOn (IsPart (Some chip) true (most_below chip k)) old.calls new.calls
   pub order : Follows (AreTurned chip c k first) l l2 old new
-  pub line : old.line_failures ≤ new.line_failures
+  pub line : new.line_failures ≡ old.line_failures
   pub journal : new.journal_failures ≡ old.journal_failures
+  pub stays : old.is_honest → new.is_honest
   pub honest : (flashes : List (List ℕ)) → IsSteady flashes l old → old.device.chip ≡ chip
       → let other = flash_after chip old.device.flash (command_of c) in
       Goes {T = Unit {0}} flashes (page_entries_below k chip old.device.flash other) l2 old new (Ok tt)

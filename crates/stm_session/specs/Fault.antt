@@ -101,6 +101,14 @@ RisesBy old new _ = Unit {0}
 abbrev pub RisesFor : RigState → RigState → Fault → Type 0
 RisesFor old new e = RisesBy old new (cause_of e)
 
+-- the count of the line's failures is as it was, unless this is what the fault came of
+abbrev pub KeepsLineCountBy : RigState → RigState → Cause → Type 0
+KeepsLineCountBy old new of_line = Unit {0}
+KeepsLineCountBy old new _ = new.line_failures ≡ old.line_failures
+
+abbrev pub KeepsLineCount : RigState → RigState → Fault → Type 0
+KeepsLineCount old new e = KeepsLineCountBy old new (cause_of e)
+
 -- the count of the file's failures is as it was, unless this is what the fault came of
 abbrev pub KeepsFileCountBy : RigState → RigState → Cause → Type 0
 KeepsFileCountBy old new of_file = Unit {0}
@@ -109,11 +117,14 @@ KeepsFileCountBy old new _ = new.journal_failures ≡ old.journal_failures
 abbrev pub KeepsFileCount : RigState → RigState → Fault → Type 0
 KeepsFileCount old new e = KeepsFileCountBy old new (cause_of e)
 
--- On any line: a fault of the line or of the journal is answered only where the count of such failures rose. Where the journal's
--- count changed, that fault is answered and no other, nor Ok.
+-- On any line: a fault of the line or of the journal is answered only where the count of such failures rose. Where one of the
+-- counts changed, its fault is answered and no other, nor Ok. An honest Rig stays honest, whatever its device is.
 pub record HasSessionCause {T : Type 0} (old new : RigState) (result : Result T Fault) : Type 0 where
   pub line_later : old.line_failures ≤ new.line_failures
   pub journal_later : old.journal_failures ≤ new.journal_failures
   pub failed : IfErr result (RisesFor old new)
+  pub line_done : OnOk result (new.line_failures ≡ old.line_failures)
+  pub line_kept : IfErr result (KeepsLineCount old new)
   pub journal_done : OnOk result (new.journal_failures ≡ old.journal_failures)
   pub journal_kept : IfErr result (KeepsFileCount old new)
+  pub honest : old.is_honest → new.is_honest

@@ -35,6 +35,8 @@ pub fn settle_safe<R: Rig>(rig: &mut R) -> Result<(), Fault>
     ensures settled { let old = R.view rig.old in let new = R.view rig.new in
         OnOk result (GoesOn (EndsSettled 0x7F 131072) old.calls new.calls) }
     ensures sent { IfErr result IsOfLine }
+    ensures kept { let old = R.view rig.old in let new = R.view rig.new in
+        old.is_honest → new.journal ≡ old.journal }
     ensures honest { let old = R.view rig.old in let new = R.view rig.new in
         old.is_honest → IsSafe old.device → BeginsNothing old new result (λ _. ⊤) }
 {
@@ -57,6 +59,8 @@ pub fn ask_commands<R: Rig>(rig: &mut R) -> Result<Commands, Fault>
     ensures stops { let old = R.view rig.old in let new = R.view rig.new in
         (torn : Bool) → Stops (Begin IsGet) torn old new result }
     ensures sent { IfErr result IsOfLine }
+    ensures kept { let old = R.view rig.old in let new = R.view rig.new in
+        old.is_honest → new.journal ≡ old.journal }
     ensures honest { let old = R.view rig.old in let new = R.view rig.new in
         old.is_honest → IsSettled old.device → Asks old new result (AreCommandsOf old.device) }
 {
@@ -79,6 +83,8 @@ pub fn ask_id<R: Rig>(rig: &mut R) -> Result<u16, Fault>
     ensures stops { let old = R.view rig.old in let new = R.view rig.new in
         (torn : Bool) → Stops (Begin IsGetId) torn old new result }
     ensures sent { IfErr result IsOfLine }
+    ensures kept { let old = R.view rig.old in let new = R.view rig.new in
+        old.is_honest → new.journal ≡ old.journal }
     ensures honest { let old = R.view rig.old in let new = R.view rig.new in
         old.is_honest → IsSettled old.device
         → Asks old new result (λ id. id ≡ old.device.chip.id) }
@@ -108,6 +114,8 @@ pub fn ask<R: Rig>(rig: &mut R) -> Result<Told, Fault>
     ensures stops { let old = R.view rig.old in let new = R.view rig.new in
         (torn : Bool) → Stops (Begin IsAsking) torn old new result }
     ensures sent { IfErr result IsOfLine }
+    ensures kept { let old = R.view rig.old in let new = R.view rig.new in
+        old.is_honest → new.journal ≡ old.journal }
     ensures honest { let old = R.view rig.old in let new = R.view rig.new in
         old.is_honest → IsSettled old.device → Asks old new result (Tells old.device) }
 {

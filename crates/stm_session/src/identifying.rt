@@ -29,6 +29,8 @@ pub fn identify<R: Rig>(alloc: Global, rig: &mut R) -> Result<Told, Fault>
         GoesOn (IsSession None 0x7F 131072 (is_whole result) (most_calls 0)) old.calls new.calls }
     ensures silent { let old = R.view rig.old in let new = R.view rig.new in
         IfErr result (λ fault. fault ≡ Fault.Unfinished → GoesOn AreFetches old.calls new.calls) }
+    ensures kept { let old = R.view rig.old in let new = R.view rig.new in
+        old.is_honest → new.journal ≡ old.journal }
     ensures accepted { let old = R.view rig.old in
         old.is_honest → OnOk result (unsent_refusal (journal_of old.journal) ≡ None) }
     ensures told { let old = R.view rig.old in

@@ -29,6 +29,8 @@ pub fn info<R: Rig>(alloc: Global, rig: &mut R, table: &Table) -> Result<Info, F
         (torn : Bool) → IfOk result (λ info. ReachesInOrder (Settles 0x7F 131072) info.id torn old new) }
     ensures stops { let old = R.view rig.old in let new = R.view rig.new in
         (torn : Bool) → StopsShort (Settles 0x7F 131072) torn old new result }
+    ensures kept { let old = R.view rig.old in let new = R.view rig.new in
+        old.is_honest → new.journal ≡ old.journal }
     ensures told { IfOk result (Describes table.now) }
     ensures silent { let old = R.view rig.old in let new = R.view rig.new in
         IfErr result (λ fault. fault ≡ Fault.Unfinished → GoesOn AreFetches old.calls new.calls) }

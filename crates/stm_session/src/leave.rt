@@ -48,6 +48,8 @@ pub fn go<R: Rig>(alloc: Global, rig: &mut R, address: u32) -> Result<(), Fault>
         OnOk result (GoesOn (IsSettledThen (go_turns address)) old.calls new.calls) }
     ensures silent { let old = R.view rig.old in let new = R.view rig.new in
         IfErr result (λ fault. is_whole_at fault ≡ true → GoesOn AreFetches old.calls new.calls) }
+    ensures kept { let old = R.view rig.old in let new = R.view rig.new in
+        old.is_honest → new.journal ≡ old.journal }
     ensures refused { let old = R.view rig.old in let new = R.view rig.new in
         old.is_honest → (fault : Fault) → open_refusal (journal_of old.journal) ≡ Some fault
         → RefusesUnsent (IsUntouched old) fault old new result }
@@ -86,6 +88,8 @@ pub fn protect<R: Rig>(alloc: Global, rig: &mut R, kind: Protection) -> Result<(
         OnOk result (GoesOn (IsSettledThen turns) old.calls new.calls) }
     ensures silent { let old = R.view rig.old in let new = R.view rig.new in
         IfErr result (λ fault. is_whole_at fault ≡ true → GoesOn AreFetches old.calls new.calls) }
+    ensures kept { let old = R.view rig.old in let new = R.view rig.new in
+        old.is_honest → new.journal ≡ old.journal }
     ensures refused { let old = R.view rig.old in let new = R.view rig.new in
         old.is_honest → (fault : Fault) → open_refusal (journal_of old.journal) ≡ Some fault
         → RefusesUnsent (IsUntouched old) fault old new result }

@@ -65,6 +65,8 @@ pub fn reach<R: Rig>(rig: &mut R) -> Result<Told, Fault>
     ensures stops { let old = R.view rig.old in let new = R.view rig.new in
         (torn : Bool) → StopsShort (Settles 0x7F 131072) torn old new result }
     ensures sent { IfErr result IsOfLine }
+    ensures kept { let old = R.view rig.old in let new = R.view rig.new in
+        old.is_honest → new.journal ≡ old.journal }
     ensures honest { let old = R.view rig.old in let new = R.view rig.new in
         old.is_honest → IsSafe old.device → BeginsNothing old new result (Tells old.device) }
 {
@@ -129,6 +131,8 @@ pub fn open<'t, R: Rig>(alloc: Global, rig: &mut R, table: &'t Table) -> Result<
     ensures unsent_calls { let old = R.view rig.old in let new = R.view rig.new in
         old.is_honest → (fault : Fault) → unsent_refusal (journal_of old.journal) ≡ Some fault
         → GoesOn AreFetches old.calls new.calls }
+    ensures kept { let old = R.view rig.old in let new = R.view rig.new in
+        old.is_honest → new.journal ≡ old.journal }
     ensures honest { let old = R.view rig.old in let new = R.view rig.new in
         old.is_honest → IsSafe old.device → Opens table.now old new result }
     ensures memory { let old = R.view rig.old in

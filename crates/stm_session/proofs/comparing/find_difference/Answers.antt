@@ -21,8 +21,9 @@ loop-block-init g c =
     let V = g.R.Rig.view in (
       record {
         within = omega arith;
-        line = omega arith;
+        line = refl;
         journal = refl;
+        stays = λ h. h;
         parts = nothing_is_part (Some c.args.chip.now) true 0 (V c.args.rig.now).calls;
         reads = reads_nothing c.args.chip.now (V c.args.rig.now);
         honest = λ h settled chip.
@@ -47,8 +48,9 @@ loop-block-preserved g c =
     let base : c.base.result ≡ chip.base = c.base.ensures in (
       record {
         within = omega (arith, base, block_within chip image c.loop-block.done block a b d so_far next);
-        line = omega (arith, so_far.line, c.in_ok-found.ensures.cause.line_later);
+        line = c.in_ok-found.ensures.cause.line_done ∙ so_far.line;
         journal = c.in_ok-found.ensures.cause.journal_done ∙ so_far.journal;
+        stays = λ h. c.in_ok-found.ensures.cause.honest (so_far.stays h);
         parts = subst (λ (n : ℕ). GoesOn (IsPart (Some chip) true (13 * (block.address - n + block.size))) a.calls d.calls) (sym base)
             (compared_part chip image c.loop-block.done block a b d so_far next true c.in_ok-found.ensures.puts);
         reads = compared_reads chip image c.loop-block.done block a b d so_far next c.in_ok-found.ensures.order.0 c.in_ok-found.ensures.order.1;

@@ -24,8 +24,9 @@ loop-i-init g c =
     let V = g.R.Rig.view in
     record {
       rest = refl;
-      line = omega arith;
+      line = refl;
       journal = refl;
+      stays = λ h. h;
       puts = nothing_is_part (Some c.args.chip.now) true _ (V c.args.rig.now).calls;
       order = ([], refl, does_nothing c.args.journal.now (V c.args.rig.now));
       honest = λ flashes steady chip. goes_back_nowhere c.step_laws.ensures flashes c.args.journal.now (V c.args.rig.now) (g.met.R.Rig.model c.args.rig.now steady.honest) steady;
@@ -75,8 +76,9 @@ loop-i-preserved g c =
     let some : 0 < length l2.state.stack = omega (arith, within, depth) in
     record {
       rest = rest_next i _ _ _ c.loop-i.invariant.rest c.in_ok-take_back.ensures.rest;
-      line = omega (arith, c.loop-i.invariant.line, c.in_ok-take_back.ensures.cause.line_later);
+      line = c.in_ok-take_back.ensures.cause.line_done ∙ c.loop-i.invariant.line;
       journal = c.in_ok-take_back.ensures.cause.journal_done ∙ c.loop-i.invariant.journal;
+      stays = λ h. c.in_ok-take_back.ensures.cause.honest (c.loop-i.invariant.stays h);
       puts = commands_next c.args.chip.now i true a.calls b.calls d.calls c.loop-i.invariant.puts c.in_ok-take_back.ensures.puts;
       order =
           let all = pages_of_segments l.state.stack in

@@ -23,8 +23,9 @@ pub loop-frame-init : goal.loop-frame-init
 loop-frame-init g c =
     let V = g.R.Rig.view in
     record {
-      line = omega arith;
+      line = refl;
       journal = refl;
+      stays = λ h. h;
       puts = nothing_is_part (Some c.args.chip.now) true _ (V c.args.rig.now).calls;
       order = λ torn. GoesOn-nothing (IsInOrder torn []) (V c.args.rig.now).calls refl;
       honest = λ flashes l base steady chip under whole erased.
@@ -58,8 +59,9 @@ loop-frame-preserved g c =
     let so_far = c.loop-frame.invariant in
     let i = c.loop-frame.frame-index in
     record {
-      line = omega (arith, so_far.line, c.in_ok-program_frame.ensures.cause.line_later);
+      line = c.in_ok-program_frame.ensures.cause.line_done ∙ so_far.line;
       journal = c.in_ok-program_frame.ensures.cause.journal_done ∙ so_far.journal;
+      stays = λ h. c.in_ok-program_frame.ensures.cause.honest (so_far.stays h);
       puts = frames_next c.args.chip.now c.args.frames.now i true (V c.args.rig.now).calls (V c.loop-frame.rig).calls (V c.program_frame.new.rig).calls c.loop-frame-test.true so_far.puts c.in_ok-program_frame.ensures.puts;
       order = λ torn.
           writes_next c.args.chip.now c.args.n c.args.page.now torn c.args.frames.now (frame_with 0 0) i (V c.args.rig.now).calls (V c.loop-frame.rig).calls (V c.program_frame.new.rig).calls c.loop-frame-test.true

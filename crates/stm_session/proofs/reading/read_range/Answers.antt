@@ -31,8 +31,9 @@ loop-done-init g c =
       omega (arith, c.in_ok-bytes.ensures.len),
       record {
         within = omega arith;
-        line = omega arith;
+        line = refl;
         journal = refl;
+        stays = λ h. h;
         parts = nothing_is_part (Some c.args.chip.now) true 0 (V c.args.rig.now).calls;
         few = λ page within. record { most = 0; within = omega arith; blocks = λ lt. omega arith; parts = nothing_is_part (Some c.args.chip.now) true 0 (V c.args.rig.now).calls };
         reads = reads_nothing c.args.chip.now (V c.args.rig.now);
@@ -49,8 +50,9 @@ loop-done-preserved g c =
       omega (arith, c.loop-done.invariant.0, c.in_ok-read_block.ensures.size),
       record {
         within = omega (arith, c.block_size-block.ensures.cut, c.loop-done-test.true);
-        line = omega (arith, so_far.line, c.in_ok-read_block.ensures.cause.line_later);
+        line = c.in_ok-read_block.ensures.cause.line_done ∙ so_far.line;
         journal = c.in_ok-read_block.ensures.cause.journal_done ∙ so_far.journal;
+        stays = λ h. c.in_ok-read_block.ensures.cause.honest (so_far.stays h);
         parts = block_part c.args.chip.now c.args.start c.args.size c.loop-done.done c.block_size-block.result c.loop-done.bytes.items (V c.args.rig.now) (V c.loop-done.rig) (V c.read_block.new.rig) true
             c.loop-done-test.true so_far c.block_size-block.ensures c.in_ok-read_block.ensures.puts;
         few = λ page within.

@@ -21,6 +21,7 @@ use Rattle.stm_session.specs.Order.{Step, Are, Begin, IsReturned, StopsBy, page_
 use Rattle.stm_session.proofs.CutShort.{begin_after, by_fault, memory_stops, page_stops, page_was_read, then_stops}
 use Rattle.stm_session.proofs.UndoOrders.{journal_stops, some_return}
 use Rattle.stm_session.proofs.Orders.{does_as, does_fetch, does_then}
+use Rattle.stm_session.proofs.Causes.{cause_behind}
 use Rattle.stm_session.proofs.returning.restore_line.Goals as goal
 
 pub returns-in_err-held-clause-honest : goal.returns-in_err-held-clause-honest
@@ -287,3 +288,21 @@ returns-in_err-restore_page-clause-stops g c =
     let many : length page ≡ page_size chip n = search rules in
     then_stops (Begin (Are own)) (Begin (IsReturned chip n)) reads l l a d e _ c.from_residual-in_err-restore_page.result c.from_residual-in_err-restore_page.ensures.1 fetched c.in_err-restore_page.ensures.stops
     (begin_after (Are own) (IsReturned chip n) reads (λ ys is. record { held = held; held_size = held_size; page = page; size = many; is = ap (λ (zs : List Step). reads ++ zs) is }))
+
+pub returns-in_err-restore_page-clause-cause : goal.returns-in_err-restore_page-clause-cause
+returns-in_err-restore_page-clause-cause g c =
+    let V = g.R.Rig.view in
+    let read = c.in_ok-held.ensures.cause in
+    let fetched = c.in_ok-fetch_page.ensures.cause in
+    cause_behind {T = Unit {0}} {U = Unit {0}} tt (V c.args.rig.now) (V c.fetch_page.new.rig) (V c.restore_page.new.rig) c.in_err-restore_page.field-0.0 c.from_residual-in_err-restore_page.result c.from_residual-in_err-restore_page.ensures.1
+    (record {
+      line_later = omega (arith, read.line_later, fetched.line_count);
+      journal_later = omega (arith, read.journal_later, fetched.later);
+      failed = tt;
+      line_done = fetched.line_count ∙ read.line_done;
+      line_kept = tt;
+      journal_done = fetched.done ∙ read.journal_done;
+      journal_kept = tt;
+      honest = λ h. fetched.honest (read.honest h);
+    })
+    c.in_err-restore_page.ensures.cause

@@ -29,8 +29,9 @@ loop-i-init g c =
     let V = g.R.Rig.view in
     record {
       same = KeepsSame-refl c.args.journal.now.state;
-      line = omega arith;
+      line = refl;
       journal = refl;
+      stays = λ h. h;
       puts = nothing_is_part (Some c.args.chip.now) true _ (V c.args.rig.now).calls;
       order = ([], refl, does_nothing c.args.journal.now (V c.args.rig.now));
       honest = λ flashes steady chip. goes_nowhere c.step_laws.ensures flashes c.args.journal.now (V c.args.rig.now) (tt {0}) _ (g.met.R.Rig.model c.args.rig.now steady.honest) steady refl;
@@ -84,8 +85,9 @@ loop-i-preserved g c =
     let so_far = c.loop-i.invariant in
     record {
       same = KeepsSame-trans c.args.journal.now.state c.loop-i.journal.state c.restore_line.new.journal.state so_far.same c.in_ok-restore_line.ensures.same;
-      line = omega (arith, so_far.line, c.in_ok-restore_line.ensures.cause.line_later);
+      line = c.in_ok-restore_line.ensures.cause.line_done ∙ so_far.line;
       journal = c.in_ok-restore_line.ensures.cause.journal_done ∙ so_far.journal;
+      stays = λ h. c.in_ok-restore_line.ensures.cause.honest (so_far.stays h);
       puts =
           let lt : c.loop-i.i < kept_count c.args.journal.now.state c.depth-newest.result = omega (arith, c.loop-i-test.true, c.kept_count-count.ensures) in
           let kept = the_kept c.args.journal.now.state c.loop-i.journal.state c.depth-newest.result c.loop-i.i so_far.same c.depth-newest.ensures.value lt c.args.chip.now c.in-Some-kept.n c.in-Some-kept.field-0-1

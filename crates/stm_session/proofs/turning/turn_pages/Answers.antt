@@ -37,8 +37,9 @@ loop-n-init g c =
       small = omega arith;
       puts = nothing_is_part (Some c.args.chip.now) true _ (V c.args.rig.now).calls;
       order = ([], none, does_nothing c.args.journal.now (V c.args.rig.now));
-      line = omega arith;
+      line = refl;
       journal = refl;
+      stays = λ h. h;
       honest = λ flashes steady chip.
           let model = g.met.R.Rig.model c.args.rig.now steady.honest in
           let old = (V c.args.rig.now).device.flash in
@@ -104,8 +105,9 @@ loop-n-preserved g c =
             all_turned c.args.chip.now c.args.change.now n c.loop-n.first kept changed c.after_page-first.result before.0 own.0 c.is_kept-kept.ensures next_is before.1 own.1,
             does_then before.0 own.0 c.args.journal.now c.loop-n.journal c.turn_page.new.journal (V c.args.rig.now) (V c.loop-n.rig) (V c.turn_page.new.rig) before.2 own.2,
           );
-      line = omega (arith, so_far.line, c.in_ok-changed.ensures.cause.line_later);
+      line = c.in_ok-changed.ensures.cause.line_done ∙ so_far.line;
       journal = c.in_ok-changed.ensures.cause.journal_done ∙ so_far.journal;
+      stays = λ h. c.in_ok-changed.ensures.cause.honest (so_far.stays h);
       honest = λ flashes steady chip.
           let laws : LayLaws = record { length = c.laying_by_parts.ensures.length; front = c.laying_by_parts.ensures.front; back = c.laying_by_parts.ensures.back } in
           let a = V c.args.rig.now in
