@@ -5,3 +5,6 @@ pub mod Waiting
 pub mod Acting
 pub mod Stored
 pub mod Whole
+pub mod Risks
+pub mod Standings
+pub mod NextRun

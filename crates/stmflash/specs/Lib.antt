@@ -18,3 +18,4 @@ pub mod SocketLine
 pub mod SocketRig
 pub mod Standing
 pub mod Histories
+pub mod Unpowered

@@ -41,6 +41,7 @@ mod simulator_rig;
 mod socket_line;
 mod socket_rig;
 mod standing;
+mod unpowered;
 mod variables;
 mod work;
 

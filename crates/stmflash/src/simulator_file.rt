@@ -1,6 +1,7 @@
 // A simulator between two runs of the program: its flash is in a file, and where it stands in another beside it.
 ghost use Rattle.std.specs.Prelude.{◌≡◌, length, IfOk, IfSome};
 ghost use Rattle.stm_wire.specs.Chip.{flash_size};
+ghost use Rattle.stm_wire.specs.Memory.{rig_state};
 ghost use Rattle.stmflash.specs.SimulatorFile.{StandsSo, simulator_at};
 ghost use Rattle.stmflash.specs.Standing.{phase_of};
 
@@ -63,6 +64,29 @@ impl StoredSimulator {
         } else {
             Ok(None)
         }
+    }
+
+    /// The simulator that the two files hold once this one is stored: the text of its line is
+    /// written, and read. Bytes that it owes are lost. None where the files hold no simulator.
+    pub fn left(alloc: Global, rig: &MemoryRig) -> Result<Option<StoredSimulator>, AllocError>
+        ensures { (rig_state rig.now).is_honest → IfOk result (λ left. IfSome left (λ stored.
+            simulator_at stored.chip stored.flash.items (phase_of stored.standing)
+            ≡ simulator_at rig.now.device.chip rig.now.device.flash rig.now.device.phase)) }
+    {
+        let line = line_of(alloc, rig.is_gone(), rig.rest())?;
+        let Some(standing) = Standing::parse(alloc, line.as_slice())? else {
+            return Ok(None);
+        };
+        let chip = rig.chip().clone()?;
+        let flash = Vec::from_slice(alloc, rig.flash())?;
+        if flash.len() != chip.flash_size() as usize {
+            return Ok(None);
+        }
+        Ok(Some(StoredSimulator {
+            chip,
+            flash,
+            standing,
+        }))
     }
 }
 
