@@ -45,7 +45,16 @@ module _ {T U : Type 0} (table : List ChipData) (commands : List CommandData) (o
   pub told_ok : (x : T) (y : U) → one x ≡ two y → RunsJust table commands old new (Ok x) one → RunsJust table commands old new (Ok y) two
   told_ok x y same r = record {
     promised = contract_ok x y same r.promised;
-    cause = record { line_later = r.cause.line_later; journal_later = r.cause.journal_later; failed = tt; journal_done = r.cause.journal_done; journal_kept = tt };
+    cause = record {
+      line_later = r.cause.line_later;
+      journal_later = r.cause.journal_later;
+      failed = tt;
+      line_done = r.cause.line_done;
+      line_kept = tt;
+      journal_done = r.cause.journal_done;
+      journal_kept = tt;
+      honest = r.cause.honest;
+    };
     puts = r.puts;
     silent = tt;
     order = r.order;
@@ -58,7 +67,16 @@ module _ {T U : Type 0} (table : List ChipData) (commands : List CommandData) (o
       subst J (sym is)
       (record {
         promised = contract_err e r.promised;
-        cause = record { line_later = r.cause.line_later; journal_later = r.cause.journal_later; failed = r.cause.failed; journal_done = tt; journal_kept = r.cause.journal_kept };
+        cause = record {
+          line_later = r.cause.line_later;
+          journal_later = r.cause.journal_later;
+          failed = r.cause.failed;
+          line_done = tt;
+          line_kept = r.cause.line_kept;
+          journal_done = tt;
+          journal_kept = r.cause.journal_kept;
+          honest = r.cause.honest;
+        };
         puts = r.puts;
         silent = r.silent;
         order = tt;
