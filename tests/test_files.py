@@ -4,6 +4,7 @@ import os
 import subprocess
 import threading
 
+import syncs
 from place import COUNTING, ERASED, PATIENCE, SIZE, ZEROS, Place, Said, program
 from test_disk import files_up_to
 
@@ -87,6 +88,78 @@ class Files(Place):
                 self.assertFault(self.use("read", "out", before=files_up_to(room)), "cannot write out")
                 self.assertFile("out", older)
         self.assertSilent(self.use("read", "out"))
+        self.assertFile("out", COUNTING)
+
+    def use_held(self, at, name, *words, fails=None):
+        """Uses the program with its syncs held, and answers what was said and which files were synced."""
+        files = ("--table", "table", "--device", "sim:0412:flash", "--journal", "journal")
+        try:
+            return syncs.call(self.folder, (name, *files, *words), fails, at)
+        except subprocess.SubprocessError:
+            return self.skipTest("this system lets no call of a program be held")
+
+    def make_at_first(self, link, source, name):
+        """Makes a link at the first sync, in the place of what may be there."""
+
+        def make(number, process):
+            if number == 0:
+                if self.is_there(name):
+                    self.remove(name)
+                link(source, self.path(name))
+
+        return make
+
+    def test_a_simulator_takes_no_journals_place(self):
+        """The journal is made when the names were compared, and then one of the simulator's files is a link to it."""
+        for name in ("flash", "flash.line"):
+            for link, source in ((os.symlink, "journal"), (os.link, self.path("journal"))):
+                with self.subTest(name=name, link=link):
+                    for stale in ("journal", "flash.line"):
+                        if self.is_there(stale):
+                            self.remove(stale)
+                    self.store("flash", COUNTING)
+                    said, _ = self.use_held(self.make_at_first(link, source, name), "erase", "5")
+                    self.assertFault(said, f"cannot write {name}")
+                    self.assertTrue(self.held("journal").endswith(b"\nerase 5\nend 1\n"))
+                    self.assertFile(name, self.held("journal"))
+                    self.remove(name)
+                    self.store("flash", COUNTING[:5 * 1024] + b"\xff" * 1024 + COUNTING[6 * 1024:])
+                    self.assertTold(self.use("undo"), "undone 1\n")
+                    self.assertHolds(COUNTING, b"idle\n")
+
+    def test_out_takes_no_other_files_place(self):
+        """The simulator's file is made when the names were compared, and then OUT is a link to another file."""
+        self.store("journal", b"stmjournal 2 0412\n")
+        for other in ("journal", "table", "flash"):
+            for link, source in ((os.symlink, other), (os.link, self.path(other))):
+                if (other, link) == ("flash", os.link):
+                    # it isn't there yet
+                    continue
+                with self.subTest(other=other, link=link):
+                    for stale in ("flash", "flash.line", "out"):
+                        if self.is_there(stale):
+                            self.remove(stale)
+                    before = self.held(other)
+                    said, _ = self.use_held(self.make_at_first(link, source, "out"), "read", "-S", "0x08000000:256", "out")
+                    self.assertFault(said, "cannot write out")
+                    self.assertFile(other, ERASED if other == "flash" else before)
+                    self.assertTrue(self.is_there("out"))
+
+    def test_out_is_on_the_disk(self):
+        """Each sync of it fails, one after the other: what isn't on the disk isn't answered."""
+        self.store("flash", COUNTING)
+        self.store("flash.line", b"idle\n")
+        mine = ["out.0.new", "."]
+        for fails in range(len(mine)):
+            with self.subTest(fails=fails):
+                self.store("out", b"older")
+                said, synced = self.use_held(lambda number, process: None, "read", "out", fails=fails)
+                self.assertFault(said, "cannot write out")
+                self.assertEqual(synced[:fails + 1], mine[:fails + 1])
+                self.assertFile("out", COUNTING if fails else b"older")
+        said, synced = self.use_held(lambda number, process: None, "read", "out")
+        self.assertSilent(said)
+        self.assertEqual(synced[:2], mine)
         self.assertFile("out", COUNTING)
 
     def test_out_is_tried_first(self):

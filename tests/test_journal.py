@@ -1,7 +1,10 @@
 """What the program does with its journal's file where it adds nothing: it is read and checked."""
 
 import os
+import signal
+import subprocess
 
+import syncs
 from place import Place
 
 # a journal without a segment, that was left in the midst of a line
@@ -15,6 +18,16 @@ ENDED = b"stmjournal 1 0412\nopen 1\nend 1\n"
 FOREIGN = b"stmjournal 1 0410\nopen 1\nend 1\n"
 # a journal with a page in another size than the chip's
 MISFIT = b"stmjournal 1 0412\nopen 1\npage 5 FF0A\nend 1\n"
+
+
+def at_most(most):
+    """Ends a process at its call of this number that is held."""
+
+    def look(number, process):
+        if number == most:
+            os.kill(process, signal.SIGKILL)
+
+    return look
 
 
 class Journal(Place):
@@ -72,6 +85,16 @@ class Journal(Place):
                 told = "id 0412\nsegment 1: open, 0 pages\nunfinished, undo first\n"
                 self.assertTold(self.call("log", "--journal", "journal"), told)
                 self.assertFault(self.use("info"), "unfinished command, undo first")
+
+    def test_is_read_in_large_pieces(self):
+        """A journal of 64 KiB by some hundred readings: one by one its bytes would take hours where it is large."""
+        self.store("journal", b"stmjournal 2 0412\n" + (b"." * 1022 + b"!\n") * 64)
+        try:
+            said, sought = syncs.call(self.folder, ("log", "--journal", "journal"), held=syncs.LSEEK, at=at_most(1000))
+        except subprocess.SubprocessError:
+            self.skipTest("this system lets no call of a program be held")
+        self.assertTold(said, "id 0412\n0 can be undone\n")
+        self.assertGreater(sought.count("journal"), 0)
 
     def test_says_which_journal_it_cannot_read(self):
         """The device's files come before the journal, and a device that was opened is stored."""

@@ -1,7 +1,11 @@
 """How the way back is given up: `keep`, after which `go` and `protect` are free again."""
 
+import errno
 import os
+import signal
+import subprocess
 
+import syncs
 from place import Place, ZEROS
 
 IMAGE = b"\x00" * 1024
@@ -96,6 +100,61 @@ class Keep(Place):
         os.symlink("real", self.path("journal"))
         self.assertTold(self.keep(), "kept 1\n")
         self.assertFile("real", None)
+
+    def keep_held(self, fails=None, **how):
+        """Keeps the journal elsewhere, with one of the system's calls held, and answers what was said."""
+        try:
+            return syncs.call(self.folder, ("keep", "--journal", "journal", "elsewhere"), fails, **how)[0]
+        except subprocess.SubprocessError:
+            return self.skipTest("this system lets no call of a program be held")
+
+    def test_a_file_made_meanwhile_stays(self):
+        """One that gets the new name once it was seen to be free, and before the journal gets it."""
+        journal = self.write()
+        said = self.keep_held(held=syncs.LINK, at=lambda number, process: self.store("elsewhere", b"mine"))
+        self.assertFault(said, "cannot write elsewhere")
+        self.assertFile("journal", journal)
+        self.assertFile("elsewhere", b"mine")
+
+    def test_a_kill_leaves_one_name_or_both(self):
+        """With both the journal is still there, and what was begun is ended by the same words."""
+        for fails, kill in ((None, True), (0, False)):
+            with self.subTest(kill=kill):
+                journal = self.write()
+                said = self.keep_held(fails, at=lambda number, process: kill and os.kill(process, signal.SIGKILL))
+                if kill:
+                    self.assertEqual((said.status, said.out, said.err), (-signal.SIGKILL, b"", b""))
+                else:
+                    self.assertFault(said, "cannot write elsewhere")
+                self.assertFile("journal", journal)
+                self.assertFile("elsewhere", journal)
+                self.assertFault(self.use("go", "0x08000000"), OPEN)
+                self.assertTold(self.keep("elsewhere"), "kept 1\n")
+                self.assertFile("journal", None)
+                self.assertFile("elsewhere", journal)
+                self.assertTold(self.use("undo", journal="elsewhere"), "undone 1\n")
+                self.remove("elsewhere")
+
+    def test_a_second_name_is_not_the_first(self):
+        """The journal by another way to its one name, or by a link to that: it stays."""
+        journal = self.write()
+        os.link(self.path("journal"), self.path("second"))
+        os.symlink(".", self.path("here"))
+        os.symlink("journal", self.path("soft"))
+        for name in ("./journal", "here/journal", self.path("journal"), "soft"):
+            with self.subTest(name=name):
+                self.assertFault(self.keep(name), f"cannot write {name}")
+                self.assertFault(self.call("keep", "--journal", "here/journal", name), f"cannot write {name}")
+                self.assertFile("journal", journal)
+        self.assertTold(self.keep("second"), "kept 1\n")
+        self.assertFile("journal", None)
+        self.assertFile("second", journal)
+
+    def test_renames_where_there_are_no_links(self):
+        journal = self.write()
+        self.assertTold(self.keep_held(0, held=syncs.LINK, error=errno.EPERM), "kept 1\n")
+        self.assertFile("journal", None)
+        self.assertFile("elsewhere", journal)
 
     def test_wants_a_journal(self):
         self.assertUsage(self.call("keep"))

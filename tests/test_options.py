@@ -1,11 +1,14 @@
 """What the options of a device do, and which words can't be done."""
 
 import os
+import signal
+import socket
 import subprocess
 
 from place import COUNTING, ERASED, PATIENCE, TABLE, Place, program
 
 SUBCOMMANDS = ("info", "read", "write", "verify", "erase", "undo", "log", "keep", "go", "protect", "sim")
+CANNOT = b"stmflash: cannot write standard output\n"
 # words that are numbers, as the length of what is read
 LENGTHS = (("0", 0), ("255", 255), ("0x0", 0), ("0x00000010", 16))
 # words of the last address of all
@@ -74,6 +77,43 @@ class Options(Place):
                 ran = subprocess.run(["stmflash", *words], executable=program(), cwd=self.folder, env={}, timeout=PATIENCE,
                                      stdin=subprocess.DEVNULL, stdout=out, stderr=subprocess.PIPE)
                 self.assertEqual((ran.returncode, ran.stderr), (1, b"stmflash: cannot write standard output\n"))
+
+    def written(self, words, is_fault=False):
+        """What a use writes on standard output, or on standard error: each writing apart."""
+        ours, theirs = socket.socketpair(socket.AF_UNIX, socket.SOCK_SEQPACKET)
+        with ours, theirs:
+            shown = {"stdout": subprocess.DEVNULL, "stderr": theirs} if is_fault else {"stdout": theirs, "stderr": subprocess.DEVNULL}
+            subprocess.run(["stmflash", *words], executable=program(), cwd=self.folder, env={}, timeout=PATIENCE,
+                           stdin=subprocess.DEVNULL, **shown)
+            theirs.close()
+            return list(iter(lambda: ours.recv(1 << 20), b""))
+
+    def test_what_is_told_is_written_at_once(self):
+        """Who takes a line of it and goes, as head does, finds no part missing, and no fault comes of it."""
+        files = ("--table", "table", "--device", "sim:0412:flash", "--journal", "journal")
+        self.store("image", b"\xaa")
+        for words in (("--help",), ("--version",), ("info", *files), ("info", *files, "--raw"), ("read", *files, "-"),
+                      ("erase", *files, "5"), ("write", *files, "-v", "image"), ("log", "--journal", "journal"),
+                      ("undo", *files), ("keep", "--journal", "journal")):
+            with self.subTest(words=words):
+                written = self.written(words)
+                self.assertEqual(len(written), 1, written)
+                self.assertTrue(written[0].endswith(b"\n") or "-" in words)
+        self.assertEqual(self.written(("info", *files, "--stop", "0"), True), [b"stmflash: stopped\n"])
+        self.assertEqual(self.written(("undo", *files), True), [b"stmflash: cannot read journal\n"])
+
+    def test_a_standard_output_that_nobody_reads_is_told(self):
+        """Of an answer of several lines, and of one; a use that tells nothing has nothing to fail."""
+        files = ("--table", "table", "--device", "sim:0412:flash", "--journal", "journal")
+        ours, theirs = os.pipe()
+        os.close(ours)
+        self.addCleanup(os.close, theirs)
+        for words, text in ((("info", *files), CANNOT), (("erase", *files, "5"), CANNOT), (("read", *files, "out"), b"")):
+            with self.subTest(words=words):
+                ran = subprocess.run(["stmflash", *words], executable=program(), cwd=self.folder, env={}, timeout=PATIENCE,
+                                     stdin=subprocess.DEVNULL, stdout=theirs, stderr=subprocess.PIPE,
+                                     preexec_fn=lambda: signal.signal(signal.SIGPIPE, signal.SIG_IGN))
+                self.assertEqual((ran.returncode, ran.stderr), (1 if text else 0, text))
 
     def test_the_table_comes_before_the_image(self):
         self.remove("table")

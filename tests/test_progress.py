@@ -13,6 +13,8 @@ CLEAR = b"\r\x1b[K"
 # what a terminal shows before an image is written that has bytes of an erase
 NOTE = (b"note: the image holds bytes that a device which loses power in the midst would take for an erase; "
         b"use -v, and reset before an undo\r\n")
+# and before a journal is begun
+NEW = b"note: journal journal is new\r\n"
 ERASES = (b"\x43\xbc", b"\x44\xbb")
 
 
@@ -71,6 +73,8 @@ class Progress(Place):
         plain = self.plain()
         came, shown = self.on_terminal(self.write)
         self.assertEqual(came, plain)
+        self.assertTrue(shown.startswith(NEW))
+        shown = shown.removeprefix(NEW)
         self.assertNotIn(b"\n", shown)
         self.assertTrue(shown.endswith(CLEAR))
         lines = shown.split(b"\x1b[K\r")
@@ -83,7 +87,8 @@ class Progress(Place):
     def shows_note(self, image, *words):
         """Whether the note stands before all else that a terminal shows of a write of this image."""
         self.store("image", image)
-        self.remove(*(name for name in ("flash", "flash.line", "journal") if self.is_there(name)))
+        self.remove(*(name for name in ("flash", "flash.line") if self.is_there(name)))
+        self.store("journal", b"")
         came, shown = self.on_terminal(lambda err: self.run_shown(err, "write", *words, "image"))
         self.assertEqual(came, (0, b"segment 1: %d pages written\n" % (len(image) + 1023 >> 10)))
         self.assertEqual(shown.count(b"note:"), shown.startswith(NOTE))
@@ -114,6 +119,45 @@ class Progress(Place):
         self.assertEqual((came[0][0], shown), (0, b""))
         came, shown = self.on_terminal(lambda err: self.run_shown(err, "verify", "-f", "image"))
         self.assertEqual((came[0], b"note:" in shown), (0, False))
+
+    def shown_at(self, name, *words):
+        """What a terminal shows of a subcommand, with no journal there."""
+        self.remove(*(held for held in ("flash", "flash.line", "journal") if self.is_there(held)))
+        return self.on_terminal(lambda err: self.run_shown(err, name, *words))[1]
+
+    def test_a_new_journal_is_told_before_a_change(self):
+        """On a terminal alone, before the note about the image, and not once it is there, also where it is empty."""
+        place = ("-f", "-S", "0x08000000")
+        for words in (("write", *place, "image"), ("write", "-v", "--progress", *place, "image"), ("erase", "5"),
+                      ("erase", "--all"), ("erase", "--stop", "0", "5"), ("erase", "500")):
+            with self.subTest(words=words):
+                shown = self.shown_at(*words)
+                self.assertTrue(shown.startswith(NEW), shown)
+                self.assertEqual(shown.count(b"note:"), 1)
+                self.store("journal", b"")
+                self.assertNotIn(b"note:", self.on_terminal(lambda err: self.run_shown(err, *words))[1])
+        self.store("image", b"\x7f\x43\xbc")
+        self.assertTrue(self.shown_at("write", *place, "image").startswith(NEW + NOTE))
+        self.assertNotIn(b"note:", self.on_terminal(lambda err: self.run_shown(err, "erase", "5"))[1])
+
+    def test_a_new_journal_is_told_nowhere_else(self):
+        for words in (("write", "--quiet", "-f", "image"), ("erase", "--quiet", "5"), ("info",), ("info", "--raw"), ("read", "out"),
+                      ("verify", "-f", "image"), ("undo",), ("go", "0x08000000"), ("protect", "write-unprotect")):
+            with self.subTest(words=words):
+                self.assertNotIn(b"note:", self.shown_at(*words))
+        for words in (("-f", "-S", "0x08000000", "image"), ("--progress", "-f", "-S", "0x08000000", "image")):
+            self.remove(*(held for held in ("flash", "flash.line", "journal") if self.is_there(held)))
+            _, shown = self.in_file(lambda err: self.run_shown(err, "write", *words))
+            self.assertNotIn(b"note:", shown)
+
+    def test_a_new_journal_is_told_within_one_line(self):
+        here, there = pty.openpty()
+        files = ("--table", "table", "--device", "sim:0410:flash", "--journal", "a\n\x1b[2Kb")
+        subprocess.run(["stmflash", "erase", *files, "5"], executable=program(), cwd=self.folder, env={}, timeout=PATIENCE,
+                       stdin=subprocess.DEVNULL, stdout=subprocess.DEVNULL, stderr=there)
+        os.close(there)
+        self.assertTrue(os.read(here, 4096).startswith(b"note: journal a\\n\\x1b[2Kb is new\r\n"))
+        os.close(here)
 
     def test_a_file_has_nothing_unless_it_is_said(self):
         plain = self.plain()

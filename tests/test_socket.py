@@ -1,12 +1,15 @@
 """Both ends of a socket: a served simulator and a plain client, the program and a plain device, and the two together."""
 
 import contextlib
+import errno
 import os
 import signal
 import socket
+import subprocess
 import threading
 import time
 
+import syncs
 from place import ERASED, PATIENCE, TABLE, ZEROS, with_page
 from served import WAIT, Served, relay
 
@@ -109,6 +112,45 @@ class Socket(Served):
         self.assertQuiet(client)
         self.leave(client)
         self.assertServed()
+
+    def test_a_signal_while_a_client_is_waited_for_is_no_end(self):
+        """The first call that waits for a client ends by a signal, and the client comes while the second does."""
+        self.store("flash", ZEROS)
+        files = ("--table", "table", "--id", "0412", "--flash", "flash", "--socket", "board")
+        clients = []
+
+        def come(number, process):
+            if number == 1:
+                clients.append(self.connect())
+                clients[0].sendall(b"\x7f")
+                clients[0].shutdown(socket.SHUT_WR)
+
+        try:
+            said, waits = syncs.call(self.folder, ("sim", *files), 0, come, syncs.ACCEPT, errno.EINTR)
+        except subprocess.SubprocessError:
+            self.skipTest("this system lets no call of a program be held")
+        self.assertEqual((said.status, said.out, said.err, len(waits)), (0, b"", b"", 2))
+        self.assertEqual(clients[0].recv(2), b"\x79")
+        self.assertHolds(ZEROS, b"idle\n")
+
+    def memory(self, process):
+        """How many KiB of memory a process has had at most."""
+        with open(f"/proc/{process.pid}/status") as told:
+            return next(int(line.split()[1]) for line in told if line.startswith("VmHWM:"))
+
+    def test_serving_takes_no_more_and_more_memory(self):
+        """What the first tenth of a client's bytes has taken is enough for all of them."""
+        self.serve(1)
+        client = self.connect()
+        self.assertReplies(client, b"\x7f", b"\x79")
+        taken = []
+        for _ in range(10):
+            for _ in range(200):
+                self.assertReplies(client, b"\x02\xfd" * 256, ID * 256)
+            taken.append(self.memory(self.simulator))
+        self.leave(client)
+        self.assertServed()
+        self.assertLess(taken[-1] - taken[0], 256, taken)
 
     def test_a_client_that_takes_nothing_is_left(self):
         """It sends and sends, and never reads: the next one has its turn."""

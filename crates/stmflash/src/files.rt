@@ -44,6 +44,14 @@ pub fn open_if_there<R: Files>(rt: &R, name: &str) -> io::Result<Option<R::File>
     }
 }
 
+/// Whether there is a file of this name, or it can't be told.
+pub fn is_there<R: Files>(rt: &R, name: &str) -> bool {
+    match fs::metadata(rt, name) {
+        Ok(_) => true,
+        Err(e) => e.kind() != ErrorKind::NotFound,
+    }
+}
+
 /// Removes a file, also on the disk, where it is there.
 pub fn remove_if_there<R: Files>(rt: &R, name: &str) -> io::Result<()> {
     match fs::remove_file(rt, name) {

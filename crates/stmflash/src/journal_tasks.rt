@@ -8,8 +8,10 @@ use crate::journal_rig::JournalRig;
 use crate::keeping::count_kept;
 use crate::locks::Locks;
 use crate::logging::log_lines;
-use std::fs::Files;
+use crate::names::{is_one, is_same_place};
+use std::fs::{Files, Metadata};
 use std::io::ErrorKind;
+use std::os::unix::fs::MetadataExt;
 use std::{fs, io};
 use stm_journal::{Journal, JournalFault};
 use stm_session::Fault;
@@ -67,7 +69,7 @@ fn remove<'a, R: Files + AllocGlobal>(rt: &R, name: &'a str) -> Result<(), Failu
 }
 
 /// Renames a file, where it is there, to a name that isn't, and answers once that is on the disk. A symbolic link is
-/// followed.
+/// followed. The file gets the new name first, and a file that is made there meanwhile stays.
 fn rename<'a, R: Files + AllocGlobal>(
     rt: &R,
     name: &'a str,
@@ -82,7 +84,7 @@ fn rename<'a, R: Files + AllocGlobal>(
 /// The same, with the system's fault.
 fn rename_unless_there<R: Files + AllocGlobal>(rt: &R, name: &str, to: &str) -> io::Result<()> {
     match fs::symlink_metadata(rt, to) {
-        Ok(_) => return Err(io::Error::from(ErrorKind::AlreadyExists)),
+        Ok(told) => return end_renaming(rt, name, to, &told),
         Err(e) if e.kind() == ErrorKind::NotFound => {}
         Err(e) => return Err(e),
     }
@@ -91,7 +93,41 @@ fn rename_unless_there<R: Files + AllocGlobal>(rt: &R, name: &str, to: &str) -> 
         Err(e) if e.kind() == ErrorKind::NotFound => return Ok(()),
         Err(e) => return Err(e),
     };
-    fs::rename(rt, path.as_str(), to)?;
+    match fs::hard_link(rt, path.as_str(), to) {
+        Ok(()) => take_name(rt, path.as_str(), to),
+        Err(e) if e.kind() == ErrorKind::AlreadyExists => Err(e),
+        // a file system without hard links
+        Err(_) => {
+            fs::rename(rt, path.as_str(), to)?;
+            sync_folder(rt, to)?;
+            sync_folder(rt, path.as_str())
+        }
+    }
+}
+
+/// Takes the old name from a file that has a new one too, once the new one is on the disk. Where it can't be taken, the file
+/// has the old one alone.
+fn take_name<R: Files>(rt: &R, path: &str, to: &str) -> io::Result<()> {
     sync_folder(rt, to)?;
-    sync_folder(rt, path.as_str())
+    if let Err(e) = fs::remove_file(rt, path) {
+        let _ = fs::remove_file(rt, to);
+        return Err(e);
+    }
+    sync_folder(rt, path)
+}
+
+/// Goes on with a renaming that was broken off when the file had both names. Any other file of the new name stays.
+fn end_renaming<R: Files + AllocGlobal>(
+    rt: &R,
+    name: &str,
+    to: &str,
+    told: &Metadata,
+) -> io::Result<()> {
+    let path = fs::canonicalize(rt, name)?;
+    let named = fs::symlink_metadata(rt, path.as_str())?;
+    let has_both = is_one(&named, told) && told.nlink() > 1;
+    if !has_both || is_same_place(rt, path.as_str(), to)? {
+        return Err(io::Error::from(ErrorKind::AlreadyExists));
+    }
+    take_name(rt, path.as_str(), to)
 }

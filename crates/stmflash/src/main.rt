@@ -55,7 +55,7 @@ use variables::Variables;
 fn run(rt: &HostRuntime) -> io::Result<u8> {
     let variables = match Variables::read(rt) {
         Ok(variables) => variables,
-        Err(failure) => return Ok(fail(&failure, &mut rt.stderr())),
+        Err(failure) => return Ok(fail(rt, &failure, &mut rt.stderr())),
     };
     let given: Vec<String> = env::args(rt)?.collect(rt.alloc())?;
     let mut words = Vec::new(rt.alloc());

@@ -2,10 +2,12 @@
 
 use crate::failure::Failure;
 use crate::names::is_same_file;
-use crate::output::STANDARD;
 use crate::simulator_file::line_name;
 use std::fs::Files;
 use stm_words::{Device, Options, Task};
+
+/// The name of standard output.
+const STANDARD: &str = "-";
 
 /// The files that the words of one use name.
 #[derive(Clone, Copy)]

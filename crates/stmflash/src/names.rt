@@ -67,8 +67,8 @@ pub fn is_same_file<R: Files + AllocGlobal>(rt: &R, one: &str, other: &str) -> b
     }
 }
 
-/// Whether two files that are not there would be made as one.
-fn is_same_place<R: Files + AllocGlobal>(rt: &R, one: &str, other: &str) -> io::Result<bool> {
+/// Whether two names are one: of files that are not there, whether they would be made as one.
+pub fn is_same_place<R: Files + AllocGlobal>(rt: &R, one: &str, other: &str) -> io::Result<bool> {
     let (first, second) = (follow(rt, one)?, follow(rt, other)?);
     let (first, second) = (first.as_path(), second.as_path());
     if first.file_name() != second.file_name() {

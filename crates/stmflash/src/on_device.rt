@@ -2,8 +2,9 @@
 // Nothing is printed here but what goes on, on standard error.
 
 use crate::answer::Answer;
+use crate::escaped::Escaped;
 use crate::failure::Failure;
-use crate::files::read_file;
+use crate::files::{is_there, read_file};
 use crate::journal_file::{JournalFile, Unusable};
 use crate::locks::Locks;
 use crate::named_files::NamedFiles;
@@ -45,10 +46,8 @@ pub fn use_device<'a, R: Locks + Net + Clock + AllocGlobal, E: Write + IsTermina
     let files = NamedFiles::of(options, &task);
     let work = Work::of(rt, task)?.on_fresh(options.is_fresh);
     files.check(rt)?;
-    let output = Output::open(rt, files.out())?;
-    if work.writes_false_erases() && options.progress != Progress::Silent && err.is_terminal() {
-        let _ = writeln!(err, "{FALSE_ERASES}");
-    }
+    let output = Output::open(rt, files)?;
+    tell_notes(rt, options, &work, err);
     let screen = Screen::new(err, rt, rt.alloc(), style);
     let answer = match options.device {
         Device::Simulator { id, file } => {
@@ -69,6 +68,25 @@ pub fn use_device<'a, R: Locks + Net + Clock + AllocGlobal, E: Write + IsTermina
         Device::Socket(path) => on_socket(rt, options, work, &table, path, output, screen)?,
     };
     Ok(answer.beside(rt.alloc(), options.table)?)
+}
+
+/// Tells on a terminal what is to be known before a device is opened: that the journal of a write or an erase isn't there yet,
+/// as one isn't whose name was mistyped; and of an image's bytes of an erase.
+fn tell_notes<R: Files, E: Write + IsTerminal>(
+    rt: &R,
+    options: &Options,
+    work: &Work,
+    err: &mut E,
+) {
+    if options.progress == Progress::Silent || !err.is_terminal() {
+        return;
+    }
+    if work.is_change() && !is_there(rt, options.journal) {
+        let _ = writeln!(err, "note: journal {} is new", Escaped(options.journal));
+    }
+    if work.writes_false_erases() {
+        let _ = writeln!(err, "{FALSE_ERASES}");
+    }
 }
 
 /// The chips that a file names.
@@ -139,7 +157,7 @@ fn on_simulator<'a, R: Locks + Clock + AllocGlobal, W: Write + Drop>(
     if let Err(Unusable::InUse) = &opened {
         return Err(Failure::JournalInUse);
     }
-    let mut files = SimulatorFiles::open(rt, file)?;
+    let mut files = SimulatorFiles::open(rt, file)?.beside(options.journal);
     let loaded = files.load(chip)?;
     match read_journal(opened, options.journal, &work) {
         Ok((journal, bytes)) => {

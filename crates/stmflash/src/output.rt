@@ -1,42 +1,43 @@
 // Where the bytes of a flash go that were read.
 
 use crate::failure::Failure;
-use crate::replacement::{replace, try_beside};
+use crate::named_files::NamedFiles;
+use crate::replacement::{Replacement, try_beside};
 use std::fs::{Files, OpenFile, OpenOptions};
 use std::io::{ErrorKind, Write};
 use std::{fs, io};
-
-/// The name of standard output.
-pub const STANDARD: &str = "-";
 
 /// Where the bytes of a flash go that were read.
 #[derive(Drop)]
 pub enum Output<'a, R: Files> {
     /// None are asked for, or they are printed.
     Printed,
-    /// A file, whose bytes are replaced whole.
-    Whole(&'a str),
+    /// A file, whose bytes are replaced whole, and which is none of the others that are named.
+    Whole {
+        name: &'a str,
+        files: NamedFiles<'a>,
+    },
     /// A pipe or a device, to which they are written as they come.
-    Straight { name: &'a str, file: R::File },
+    Straight {
+        name: &'a str,
+        file: R::File,
+    },
 }
 
 impl<'a, R: Files + AllocGlobal> Output<'a, R> {
-    /// The output of this name. It is tried whether it can be written: a file is opened, and stays as it is; and one is made
-    /// beside it, and removed.
-    pub fn open(rt: &R, name: Option<&'a str>) -> Result<Output<'a, R>, Failure<'a>> {
-        let Some(name) = name else {
+    /// The output among the files that are named. It is tried whether it can be written: a file is opened, and stays as it is;
+    /// and one is made beside it, and removed.
+    pub fn open(rt: &R, files: NamedFiles<'a>) -> Result<Output<'a, R>, Failure<'a>> {
+        let Some(name) = files.out() else {
             return Ok(Output::Printed);
         };
-        if name == STANDARD {
-            return Ok(Output::Printed);
-        }
-        match Output::try_open(rt, name) {
+        match Output::try_open(rt, name, files) {
             Ok(output) => Ok(output),
             Err(e) => Err(Failure::of_file(&e, Failure::CannotWrite(name))),
         }
     }
 
-    fn try_open(rt: &R, name: &'a str) -> io::Result<Output<'a, R>> {
+    fn try_open(rt: &R, name: &'a str, files: NamedFiles<'a>) -> io::Result<Output<'a, R>> {
         let told = match fs::metadata(rt, name) {
             Ok(told) => Some(told),
             Err(e) if e.kind() == ErrorKind::NotFound => None,
@@ -49,19 +50,43 @@ impl<'a, R: Files + AllocGlobal> Output<'a, R> {
             }
         }
         try_beside(rt, name)?;
-        Ok(Output::Whole(name))
+        Ok(Output::Whole { name, files })
     }
 
     /// Writes the bytes. False where they are to be printed.
     pub fn write(self, rt: &R, bytes: &[u8]) -> Result<bool, Failure<'a>> {
-        let (name, done) = match self {
-            Output::Printed => return Ok(false),
-            Output::Whole(name) => (name, replace(rt, name, bytes)),
-            Output::Straight { name, mut file } => (name, file.write_all(bytes)),
-        };
-        match done {
-            Ok(()) => Ok(true),
-            Err(e) => Err(Failure::of_file(&e, Failure::CannotWrite(name))),
+        match self {
+            Output::Printed => Ok(false),
+            Output::Whole { name, files } => {
+                replace(rt, name, &files, bytes)?;
+                Ok(true)
+            }
+            Output::Straight { name, mut file } => match file.write_all(bytes) {
+                Ok(()) => Ok(true),
+                Err(e) => Err(Failure::of_file(&e, Failure::CannotWrite(name))),
+            },
         }
+    }
+}
+
+/// Puts bytes in a file, in place of what it held: all of them, or, where this fails or is broken off, none. The names are
+/// compared once more, since files were made by now, and links may have been.
+fn replace<'a, R: Files + AllocGlobal>(
+    rt: &R,
+    name: &'a str,
+    files: &NamedFiles<'a>,
+    bytes: &[u8],
+) -> Result<(), Failure<'a>> {
+    let beside = match Replacement::prepare(rt, name, bytes) {
+        Ok(beside) => beside,
+        Err(e) => return Err(Failure::of_file(&e, Failure::CannotWrite(name))),
+    };
+    if let Err(failure) = files.check(rt) {
+        beside.discard(rt);
+        return Err(failure);
+    }
+    match beside.place(rt) {
+        Ok(_) => Ok(()),
+        Err(e) => Err(Failure::of_file(&e, Failure::CannotWrite(name))),
     }
 }

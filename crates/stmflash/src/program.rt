@@ -1,11 +1,13 @@
 // The program: what its words ask for.
 
 use crate::answer::Answer;
+use crate::escaped::Escaped;
 use crate::failure::Failure;
 use crate::journal_tasks::{keep, log};
 use crate::locks::Locks;
 use crate::on_device::use_device;
 use crate::serving::serve;
+use std::io;
 use std::io::{IsTerminal, Write};
 use std::net::Net;
 use std::time::Clock;
@@ -13,8 +15,8 @@ use stm_words::{Environment, Request, Unread, read_request};
 
 /// Runs the program on its words, the first of which is its name, and on what stands in the place of words. It answers the
 /// exit status: 0 where all was done or help was asked for, 1 after a fault, 2 where the words can't be done, 3 where a
-/// simulator was stopped. A fault is one line on `err`; of words that `clap` refuses its text stands there. While a line or a
-/// journal is open nothing is printed but what goes on, where that is shown.
+/// simulator was stopped. A fault is one line on `err`, whatever the names in it; of words that `clap` refuses its text stands
+/// there. While a line or a journal is open nothing is printed but what goes on, where that is shown.
 pub fn program<'a, R: Locks + Net + Clock + AllocGlobal, O: Write, E: Write + IsTerminal>(
     rt: &R,
     environment: Environment<'a>,
@@ -27,7 +29,7 @@ pub fn program<'a, R: Locks + Net + Clock + AllocGlobal, O: Write, E: Write + Is
         Ok(Request::Log(journal)) => log(rt, journal),
         Ok(Request::Keep(kept)) => keep(rt, &kept),
         Ok(Request::Serve(served)) => serve(rt, &served),
-        Err(Unread::Help(text)) => return print_help(text.as_str(), out, err),
+        Err(Unread::Help(text)) => return print_help(rt, text.as_str(), out, err),
         Err(Unread::Refused(text)) => {
             let _ = write!(err, "{text}");
             return 2;
@@ -36,29 +38,52 @@ pub fn program<'a, R: Locks + Net + Clock + AllocGlobal, O: Write, E: Write + Is
         Err(Unread::Memory) => Err(Failure::Memory),
     };
     match done {
-        Ok(answer) => print_answer(&answer, out, err),
-        Err(failure) => fail(&failure, err),
+        Ok(answer) => print_answer(rt, &answer, out, err),
+        Err(failure) => fail(rt, &failure, err),
     }
 }
 
-/// Tells a fault.
-pub fn fail<E: Write>(failure: &Failure, err: &mut E) -> u8 {
-    let _ = writeln!(err, "stmflash: {failure}");
+/// Tells a fault, in one line that is written at once. Where there is no memory for the line, it is written in parts.
+pub fn fail<R: AllocGlobal, E: Write>(rt: &R, failure: &Failure, err: &mut E) -> u8 {
+    let _ = match format!(in rt.alloc(); "stmflash: {}\n", Escaped(failure)) {
+        Ok(line) => err.write_all(line.as_bytes()),
+        Err(_) => writeln!(err, "stmflash: {}", Escaped(failure)),
+    };
     failure.status()
 }
 
 /// Prints what came of the words.
-fn print_answer<O: Write, E: Write>(answer: &Answer, out: &mut O, err: &mut E) -> u8 {
-    match answer.print(out) {
+fn print_answer<R: AllocGlobal, O: Write, E: Write>(
+    rt: &R,
+    answer: &Answer,
+    out: &mut O,
+    err: &mut E,
+) -> u8 {
+    match print_at_once(rt, answer, out) {
         Ok(()) => 0,
-        Err(_) => fail(&Failure::CannotWrite("standard output"), err),
+        Err(_) => fail(rt, &Failure::CannotWrite("standard output"), err),
+    }
+}
+
+/// Prints an answer as one text, so that who takes a line of it and goes has taken none of its parts. Where there is no memory
+/// for the text, it is printed in parts.
+fn print_at_once<R: AllocGlobal, O: Write>(rt: &R, answer: &Answer, out: &mut O) -> io::Result<()> {
+    let mut text = Vec::new(rt.alloc());
+    match answer.print(&mut text) {
+        Ok(()) => out.write_all(text.as_slice()),
+        Err(_) => answer.print(out),
     }
 }
 
 /// Prints what was asked for: help or the version.
-fn print_help<O: Write, E: Write>(text: &str, out: &mut O, err: &mut E) -> u8 {
-    match write!(out, "{text}") {
+fn print_help<R: AllocGlobal, O: Write, E: Write>(
+    rt: &R,
+    text: &str,
+    out: &mut O,
+    err: &mut E,
+) -> u8 {
+    match out.write_all(text.as_bytes()) {
         Ok(()) => 0,
-        Err(_) => fail(&Failure::CannotWrite("standard output"), err),
+        Err(_) => fail(rt, &Failure::CannotWrite("standard output"), err),
     }
 }

@@ -103,12 +103,6 @@ impl<R: Files + AllocGlobal> Replacement<R> {
     }
 }
 
-/// Puts bytes in a file, in place of what it held: all of them, or, where this fails or is broken off, none.
-pub fn replace<R: Files + AllocGlobal>(rt: &R, name: &str, bytes: &[u8]) -> io::Result<()> {
-    let _file = Replacement::prepare(rt, name, bytes)?.place(rt)?;
-    Ok(())
-}
-
 /// Whether a file could be made beside this one. It is made, and removed.
 pub fn try_beside<R: Files + AllocGlobal>(rt: &R, name: &str) -> io::Result<()> {
     let target = resolve(rt, name)?;

@@ -8,7 +8,7 @@ ghost use Rattle.stmflash.specs.Standing.{phase_of};
 use crate::failure::Failure;
 use crate::files::{open_if_there, read_up_to, remove_if_there};
 use crate::locks::Locks;
-use crate::names::is_named;
+use crate::names::{is_named, is_same_file};
 use crate::replacement::Replacement;
 use crate::restoring::stand;
 use crate::standing::{Standing, line_of};
@@ -42,6 +42,8 @@ pub struct SimulatorFiles<'r, 'a, R: Files> {
     line: String,
     /// The flash's file, once it is there. This handle has the lock.
     flash: Option<R::File>,
+    /// The journal that is used beside them.
+    journal: Option<&'a str>,
 }
 
 impl StoredSimulator {
@@ -108,7 +110,26 @@ impl<'r, 'a, R: Locks + AllocGlobal> SimulatorFiles<'r, 'a, R> {
             file,
             line,
             flash,
+            journal: None,
         })
+    }
+
+    /// The same files beside a journal of this name, whose place neither takes.
+    pub fn beside(self, journal: &'a str) -> SimulatorFiles<'r, 'a, R> {
+        let SimulatorFiles {
+            rt,
+            file,
+            line,
+            flash,
+            ..
+        } = self;
+        SimulatorFiles {
+            rt,
+            file,
+            line,
+            flash,
+            journal: Some(journal),
+        }
     }
 
     /// The simulator that the two files hold. A flash that isn't there is erased, and without the other file the device is
@@ -214,6 +235,11 @@ impl<'r, 'a, R: Locks + AllocGlobal> SimulatorFiles<'r, 'a, R> {
                 return Err(Failure::of_file(&e, Failure::CannotWriteLine(self.file)));
             }
         };
+        if let Err(failure) = self.check(flash.target(), line.target()) {
+            flash.discard(self.rt);
+            line.discard(self.rt);
+            return Err(failure);
+        }
         if let Err(e) = remove_if_there(self.rt, line.target()) {
             flash.discard(self.rt);
             line.discard(self.rt);
@@ -230,5 +256,19 @@ impl<'r, 'a, R: Locks + AllocGlobal> SimulatorFiles<'r, 'a, R> {
             Ok(_) => Ok(()),
             Err(e) => Err(Failure::of_file(&e, Failure::CannotWriteLine(self.file))),
         }
+    }
+
+    /// Refuses to take the place of the journal: since names were compared it was made, and links may have been.
+    fn check(&self, flash: &str, line: &str) -> Result<(), Failure<'a>> {
+        let Some(journal) = self.journal else {
+            return Ok(());
+        };
+        if is_same_file(self.rt, journal, flash) {
+            return Err(Failure::CannotWrite(self.file));
+        }
+        if is_same_file(self.rt, journal, line) {
+            return Err(Failure::CannotWriteLine(self.file));
+        }
+        Ok(())
     }
 }

@@ -49,6 +49,17 @@ impl Work {
         }
     }
 
+    /// Whether it changes the flash, and adds to the journal what leads back.
+    pub fn is_change(&self) -> bool {
+        match self {
+            Work::Act(action) => matches!(
+                action,
+                Action::Write(_) | Action::WriteAndVerify(_) | Action::Erase(_) | Action::EraseAll
+            ),
+            Work::Identify => false,
+        }
+    }
+
     /// The same for a device that was reset since the last session, where that is said.
     pub fn on_fresh(self, is_fresh: bool) -> Work {
         match self {
