@@ -1,5 +1,6 @@
 -- Where pairs first disagree.
-use Rattle.std.specs.Prelude.{ℕ, ◌≡◌, ◌<◌, ◌≤◌, ◌+◌, ◌⊎◌, List, length, take, slice_index, Contains, Some}
+use Rattle.std.specs.Prelude.{ℕ, ◌≡◌, ◌<◌, ◌≤◌, ◌+◌, ◌⊎◌, List, length, take, slice_index, Contains}
+use Rattle.std.specs.Prelude.{Some}
 use Rattle.stm_image.specs.Pairs.{Pairs, Agree, byte_at}
 
 -- the pairs before a place agree, and no more once the pair there is among them
@@ -15,7 +16,8 @@ Names set address count = (i : ℕ) → i < count → (b : ℕ) × (byte_at set 
 -- bytes were put over those of a set, from an address on
 pub record IsPutOver (set : Pairs) (address : ℕ) (bytes : List ℕ) (new : Pairs) : Type 0 where
   pub inside : (i : ℕ) → i < length bytes → byte_at new (address + i) ≡ Some (slice_index bytes i)
-  pub outside : (a : ℕ) → (a < address) ⊎ (address + length bytes ≤ a) → byte_at new a ≡ byte_at set a
+  pub outside : (a : ℕ) → (a < address) ⊎ (address + length bytes ≤ a)
+      → byte_at new a ≡ byte_at set a
 
 -- a set has a byte at the address of each of these pairs
 abbrev pub HasAll : Pairs → Pairs → Type 0

@@ -1,5 +1,6 @@
 -- Digits read by a table.
-use Rattle.std.specs.Prelude.{ℕ, ◌≡◌, ◌<◌, ◌+◌, ◌*◌, false, List, length, slice_index, Option, Some, None}
+use Rattle.std.specs.Prelude.{ℕ, ◌≡◌, ◌<◌, ◌+◌, ◌*◌, false, List, length, slice_index, Option, Some}
+use Rattle.std.specs.Prelude.{None}
 use Rattle.hex.specs.Hex.{hex_digit_value, is_hex_digit}
 
 -- what the table has of a byte: the value of the digit, or 255

@@ -1,5 +1,6 @@
 -- A set laid over bytes, and where the two differ.
-use Rattle.std.specs.Prelude.{ℕ, ◌≡◌, ◌≢◌, ◌<◌, ◌≤◌, ◌+◌, ◌-◌, List, [], ◌∷◌, length, slice_index, Option, Some, None}
+use Rattle.std.specs.Prelude.{ℕ, ◌≡◌, ◌≢◌, ◌<◌, ◌≤◌, ◌+◌, ◌-◌, List, [], ◌∷◌, length, slice_index}
+use Rattle.std.specs.Prelude.{Option, Some, None}
 use Rattle.stm_image.specs.Pairs.{Pairs, byte_at}
 
 -- the byte of the set where it names the place, else the old one
@@ -43,6 +44,7 @@ pub record IsFirstOther (xs ys : List ℕ) (place : ℕ) : Type 0 where
 -- bytes were put over others from a place on, as far as both go
 pub record IsPutAt (from old : List ℕ) (skip : ℕ) (new : List ℕ) : Type 0 where
   pub same_length : length new ≡ length old
-  pub over : (i : ℕ) → i < length from → skip + i < length old → slice_index new (skip + i) ≡ slice_index from i
+  pub over : (i : ℕ) → i < length from → skip + i < length old
+      → slice_index new (skip + i) ≡ slice_index from i
   pub before : (i : ℕ) → i < skip → slice_index new i ≡ slice_index old i
   pub after : (i : ℕ) → skip + length from ≤ i → slice_index new i ≡ slice_index old i

@@ -28,7 +28,8 @@ pub record HasDifference (set : Pairs) (bytes : List ℕ) (list : List Piece) : 
   pub place : ℕ
   pub differs : DiffersAt set piece.first (bytes_at bytes piece) place
 
--- what was laid out of some pairs so far: one more than the last address is `next`, and from `low` on no address is free
+-- what was laid out of some pairs so far: one more than the last address is `next`, and from
+-- `low` on no address is free
 pub record IsLaidOut (done laid : Pairs) (low next : ℕ) : Type 0 where
   pub among : IsAmong laid done
   pub covers : Covers laid done

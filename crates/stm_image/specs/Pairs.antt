@@ -1,5 +1,6 @@
 -- A set of addresses with a byte each, seen as its pairs by rising address.
-use Rattle.std.specs.Prelude.{ℕ, ◌≡◌, ◌<◌, ◌≤◌, ◌^◌, ◌+◌, ◌↔◌, List, [], ◌∷◌, Option, Some, None, if◌then◌else◌, ◌==◌, Contains, All, AllPairs}
+use Rattle.std.specs.Prelude.{ℕ, ◌≡◌, ◌<◌, ◌≤◌, ◌^◌, ◌+◌, ◌↔◌, List, [], ◌∷◌, Option, Some, None}
+use Rattle.std.specs.Prelude.{if◌then◌else◌, ◌==◌, Contains, All, AllPairs}
 
 abbrev pub Pairs : Type 0
 Pairs = List (ℕ × ℕ)

@@ -19,8 +19,10 @@ pub record IsPart (start left count : ℕ) : Type 0 where
 abbrev pub IsBehind : ℕ → Pairs → Type 0
 IsBehind address pairs = (q : ℕ × ℕ) → Contains pairs q → address < q.0
 
--- the lines of a run were added to a text, and then those of pairs behind a gap make it the text of all
+-- the lines of a run were added to a text, and then those of pairs behind a
+-- gap make it the text of all
 abbrev pub IsWritten : List ℕ → ℕ → ℕ → List ℕ → List ℕ → ℕ → Type 0
 IsWritten text upper start bytes written high =
     (later : Pairs) → IsBehind (start + length bytes) later
-    → written ++ lines high (parts_of (runs_of later)) ≡ text ++ lines upper (parts_of (runs_of (raw_pairs start bytes ++ later)))
+    → written ++ lines high (parts_of (runs_of later))
+    ≡ text ++ lines upper (parts_of (runs_of (raw_pairs start bytes ++ later)))

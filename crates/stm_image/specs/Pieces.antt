@@ -1,5 +1,6 @@
 -- Bytes in pieces, each of which stands at consecutive addresses.
-use Rattle.std.specs.Prelude.{ℕ, ◌≡◌, ◌<◌, ◌≤◌, ◌+◌, ◌-◌, ◌^◌, List, [], ◌∷◌, ◌++◌, length, take, drop, slice_index_or}
+use Rattle.std.specs.Prelude.{ℕ, ◌≡◌, ◌<◌, ◌≤◌, ◌+◌, ◌-◌, ◌^◌, List, [], ◌∷◌, ◌++◌, length, take}
+use Rattle.std.specs.Prelude.{drop, slice_index_or}
 use Rattle.stm_image.specs.Pairs.{Pairs, IsImage, raw_pairs}
 use Rattle.stm_image.specs.declared.pieces.Piece.{Piece}
 use Rattle.stm_image.specs.declared.pieces.Mark.{Mark}
@@ -20,10 +21,12 @@ abbrev pub pairs_at : List ℕ → List Piece → Pairs
 pairs_at bytes [] = []
 pairs_at bytes (p ∷ pieces) = pairs_of_piece bytes p ++ pairs_at bytes pieces
 
--- each piece has a byte, its addresses have 32 bits, and they stand one after the other among all bytes, from one place up to another
+-- each piece has a byte, its addresses have 32 bits, and they stand one after the other among all
+-- bytes, from one place up to another
 abbrev pub Stand : ℕ → ℕ → List Piece → Type 0
 Stand from to [] = from ≡ to
-Stand from to (p ∷ pieces) = (p.place ≡ from) × (p.first ≤ p.last) × (p.last < 2 ^ 32) × Stand (from + size_of p) to pieces
+Stand from to (p ∷ pieces) =
+    (p.place ≡ from) × (p.first ≤ p.last) × (p.last < 2 ^ 32) × Stand (from + size_of p) to pieces
 
 -- a piece has a byte, its addresses have 32 bits, and it stands among so many bytes
 pub record IsWithin (to : ℕ) (p : Piece) : Type 0 where
@@ -49,7 +52,8 @@ abbrev pub AllStand : Pieces → Type 0
 AllStand p = Stand 0 (length p.bytes.items) p.list.items
 
 -- bytes were added to these, from an address on
-pub record Adds (bytes : List ℕ) (list : List Piece) (start : ℕ) (more bytes_after : List ℕ) (list_after : List Piece) : Type 0 where
+pub record Adds (bytes : List ℕ) (list : List Piece) (start : ℕ) (more bytes_after : List ℕ)
+    (list_after : List Piece) : Type 0 where
   pub stand : Stand 0 (length bytes_after) list_after
   pub pairs : pairs_at bytes_after list_after ≡ pairs_at bytes list ++ raw_pairs start more
   pub apart : Apart 0 list → next_apart 0 list ≤ start + 1 → Apart 0 list_after
@@ -59,7 +63,8 @@ pub record Adds (bytes : List ℕ) (list : List Piece) (start : ℕ) (more bytes
   pub longer : length list ≤ length list_after
 
 abbrev pub AreAdded : Pieces → Pieces → ℕ → List ℕ → Type 0
-AreAdded old new start more = Adds old.bytes.items old.list.items start more new.bytes.items new.list.items
+AreAdded old new start more =
+    Adds old.bytes.items old.list.items start more new.bytes.items new.list.items
 
 -- nothing was
 pub record AreAsBefore (old new : Pieces) : Type 0 where
@@ -76,7 +81,8 @@ pub record IsMark (p : Pieces) (mark : Mark) : Type 0 where
 pub record IsBack (old : Pieces) (mark : Mark) (new : Pieces) : Type 0 where
   pub bytes : new.bytes.items ≡ take mark.bytes old.bytes.items
   pub none : mark.count ≡ 0 → new.list.items ≡ []
-  pub list : 0 < mark.count → new.list.items ≡ take (mark.count - 1) old.list.items ++ mark.last ∷ []
+  pub list : 0 < mark.count
+      → new.list.items ≡ take (mark.count - 1) old.list.items ++ mark.last ∷ []
 
 -- pieces that are the runs of an image
 pub record AreRuns (p : Pieces) : Type 0 where

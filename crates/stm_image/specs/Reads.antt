@@ -1,5 +1,6 @@
 -- What one pass over a text learns: its records' pairs, and what stops them.
-use Rattle.std.specs.Prelude.{ℕ, ◌≡◌, ◌≢◌, ◌≤◌, ◌<◌, ◌+◌, ◌⊎◌, List, [], ◌∷◌, ◌++◌, length, take, Option, Some, None}
+use Rattle.std.specs.Prelude.{ℕ, ◌≡◌, ◌≢◌, ◌≤◌, ◌<◌, ◌+◌, ◌⊎◌, List, [], ◌∷◌, ◌++◌, length, take}
+use Rattle.std.specs.Prelude.{Option, Some, None}
 use Rattle.stm_image.specs.declared.step.Step.{Step}
 use Rattle.stm_image.specs.declared.step.Step.TheVariants.{Stop, Goes}
 use Rattle.stm_image.specs.Pairs.{Pairs}
@@ -54,9 +55,11 @@ pub record IsRecordOf (text : List ℕ) (place n : ℕ) : Type 0 where
   pub within : place < length (all_pairs (records ++ next ∷ []))
   pub number : n ≡ length records + 1
 
--- what one step over a text says, where record n may begin: what stops there, or a good record, in the buffer, and the text after it
+-- what one step over a text says, where record n may begin: what stops there, or a good record, in
+-- the buffer, and the text after it
 abbrev pub IsStep : List ℕ → ℕ → Step → List ℕ → Type 0
 IsStep text n (Stop stop) buffer = StopsAt n text stop
 IsStep text n (Goes count rest) buffer =
-    (scan text ≡ Whole (take count buffer) rest.now) × (flaw_of (take count buffer) ≡ None) × (kind_of (take count buffer) ≢ 1)
+    (scan text ≡ Whole (take count buffer) rest.now) × (flaw_of (take count buffer) ≡ None)
+    × (kind_of (take count buffer) ≢ 1)
     × (5 ≤ count) × (count ≤ 260) × (length rest.now < length text)

@@ -1,5 +1,7 @@
 -- A record of Intel HEX, and what stands where one may begin.
-use Rattle.std.specs.Prelude.{ℕ, ◌+◌, ◌-◌, ◌*◌, ◌%◌, nat_le, ◌==◌, ◌||◌, Bool, true, if◌then◌else◌, List, [], ◌∷◌, length, take, drop, slice_index, sum, Option, Some, None}
+use Rattle.std.specs.Prelude.{ℕ, ◌+◌, ◌-◌, ◌*◌, ◌%◌, nat_le, ◌==◌, ◌||◌, Bool, true, if◌then◌else◌}
+use Rattle.std.specs.Prelude.{List, [], ◌∷◌, length, take, drop, slice_index, sum, Option, Some}
+use Rattle.std.specs.Prelude.{None}
 use Rattle.std.specs.List.{prefix_len}
 use Rattle.hex.specs.Hex.{is_hex_digit, decode_of}
 use Rattle.std.specs.Result.{result_unwrap_or}
@@ -14,10 +16,12 @@ bytes_of digits = result_unwrap_or (decode_of digits) []
 
 -- how many digits a record has: two until these tell its length
 abbrev pub digits_needed : List ℕ → ℕ
-digits_needed text = if nat_le 2 (prefix_len is_hex_digit text) then 2 * (slice_index (bytes_of (take 2 text)) 0 + 5) else 2
+digits_needed text =
+    if nat_le 2 (prefix_len is_hex_digit text)
+    then 2 * (slice_index (bytes_of (take 2 text)) 0 + 5) else 2
 
--- what stands where a record may begin: nothing; another byte than a colon; a colon and too few digits,
--- with another byte or the end after them; a record's bytes, and the text after them
+-- what stands where a record may begin: nothing; another byte than a colon; a colon and too few
+-- digits, with another byte or the end after them; a record's bytes, and the text after them
 pub data Scan : Type 0 where
   Ended : Scan
   Stray : Scan
@@ -75,6 +79,7 @@ unfoldable pub flaw_of : List ℕ → Option Flaw
 flaw_of record_bytes =
     if sum record_bytes % 256 == 0
     then (if nat_le (kind_of record_bytes) 5
-    then (if has_length (kind_of record_bytes) (length record_bytes - 5) then None else Some BadLength)
+    then
+    (if has_length (kind_of record_bytes) (length record_bytes - 5) then None else Some BadLength)
     else Some BadKind)
     else Some BadSum

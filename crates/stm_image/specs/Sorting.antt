@@ -7,7 +7,8 @@ use Rattle.stm_image.specs.Pairs.{Pairs}
 pub record HasFall (pairs : Pairs) : Type 0 where
   pub place : ℕ
   pub within : place + 1 < length pairs
-  pub falls : (d : ℕ × ℕ) → (slice_index_or pairs (place + 1) d).0 ≤ (slice_index_or pairs place d).0
+  pub falls : (d : ℕ × ℕ)
+      → (slice_index_or pairs (place + 1) d).0 ≤ (slice_index_or pairs place d).0
 
 -- the addresses do not fall, though one may come again
 abbrev pub NeverFalls : Pairs → Type 0

@@ -1,15 +1,22 @@
 -- What a whole HEX text means, or which fault stands in it.
-use Rattle.std.specs.Prelude.{ℕ, ◌+◌, ◌*◌, ◌%◌, ◌^◌, ◌≡◌, ◌≢◌, ◌⊎◌, ◌==◌, if◌then◌else◌, List, [], ◌∷◌, ◌++◌, length, Option, Some, None}
+use Rattle.std.specs.Prelude.{ℕ, ◌+◌, ◌*◌, ◌%◌, ◌^◌, ◌≡◌, ◌≢◌, ◌⊎◌, ◌==◌, if◌then◌else◌, List, []}
+use Rattle.std.specs.Prelude.{◌∷◌, ◌++◌, length, Option, Some, None}
 use Rattle.stm_image.specs.Pairs.{Pairs, Agree, IsSetOf}
-use Rattle.stm_image.specs.Record.{Scan, Ended, Stray, Broken, Cut, Whole, scan, Flaw, BadSum, BadKind, BadLength, flaw_of, kind_of, offset_of, data_of, number_of}
+use Rattle.stm_image.specs.Record.{Scan, Ended, Stray, Broken, Cut, Whole, scan, Flaw, BadSum}
+use Rattle.stm_image.specs.Record.{BadKind, BadLength, flaw_of, kind_of, offset_of, data_of}
+use Rattle.stm_image.specs.Record.{number_of}
 use Rattle.stm_image.specs.declared.place.Form.{Form}
 use Rattle.stm_image.specs.declared.place.Form.TheVariants.{Linear, Segment}
 use Rattle.stm_image.specs.declared.faults.HexFault.{HexFault}
-use Rattle.stm_image.specs.declared.faults.HexFault.TheVariants.{BadDigit, Short, Checksum, Kind, Length, Conflict, NoEnd, NoColon, Memory}
+use Rattle.stm_image.specs.declared.faults.HexFault.TheVariants.{BadDigit, Short, Checksum, Kind}
+use Rattle.stm_image.specs.declared.faults.HexFault.TheVariants.{Length, Conflict, NoEnd, NoColon}
+use Rattle.stm_image.specs.declared.faults.HexFault.TheVariants.{Memory}
 
 -- the form for the records after this one
 abbrev pub form_after : Form → List ℕ → Form
-form_after form r = if kind_of r == 4 then Linear (number_of r) else if kind_of r == 2 then Segment (number_of r) else form
+form_after form r =
+    if kind_of r == 4 then Linear (number_of r)
+    else if kind_of r == 2 then Segment (number_of r) else form
 
 -- the address of a data byte, at the offset of its record plus its place there
 abbrev pub address_at : Form → ℕ → ℕ
@@ -19,7 +26,8 @@ address_at (Segment n) offset = n * 16 + offset % 65536
 -- bytes from an offset on
 abbrev pub pairs_from : Form → ℕ → List ℕ → Pairs
 pairs_from form offset [] = []
-pairs_from form offset (b ∷ bytes) = (address_at form offset, b) ∷ pairs_from form (offset + 1) bytes
+pairs_from form offset (b ∷ bytes) =
+    (address_at form offset, b) ∷ pairs_from form (offset + 1) bytes
 
 abbrev pub pairs_of : Form → List ℕ → Pairs
 pairs_of form r = if kind_of r == 0 then pairs_from form (offset_of r) (data_of r) else []
@@ -34,11 +42,13 @@ abbrev pub form_of : Form → List (List ℕ) → Form
 form_of form [] = form
 form_of form (r ∷ records) = form_of (form_after form r) records
 
--- the text is blanks and these records, each without a flaw and none an end record, and then the rest
+-- the text is blanks and these records, each without a flaw and none an end
+-- record, and then the rest
 abbrev pub Follows : List ℕ → List (List ℕ) → List ℕ → Type 0
 Follows text [] rest = text ≡ rest
 Follows text (r ∷ records) rest =
-    (after : List ℕ) × (scan text ≡ Whole r after) × (flaw_of r ≡ None) × (kind_of r ≢ 1) × Follows after records rest
+    (after : List ℕ) × (scan text ≡ Whole r after) × (flaw_of r ≡ None) × (kind_of r ≢ 1)
+    × Follows after records rest
 
 -- all pairs of a text's records
 abbrev pub all_pairs : List (List ℕ) → Pairs
@@ -97,7 +107,8 @@ pub record Stands (text : List ℕ) (fault : HexFault) : Type 0 where
 abbrev pub HasVerdict : List ℕ → Type 0
 HasVerdict text = ((set : Pairs) × Means text set) ⊎ ((fault : HexFault) × Stands text fault)
 
--- memory was refused at the record after `records`, which agree: the fault's number is that record's
+-- memory was refused at the record after `records`, which agree: the
+-- fault's number is that record's
 pub record IsOutOfMemory (text : List ℕ) (fault : HexFault) : Type 0 where
   pub records : List (List ℕ)
   pub rest : List ℕ

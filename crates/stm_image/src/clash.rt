@@ -22,7 +22,8 @@ pub fn first_clash(mut set: Image, pieces: &Pieces) -> usize
     clash_with(&set, bytes, list)
 }
 
-// Puts the pieces over a set from the last to the first, so that the first byte at each address stays.
+// Puts the pieces over a set from the last to the first, so that the first
+// byte at each address stays.
 fn put_firsts(set: &mut Image, bytes: &[u8], list: &[Piece])
     requires within { AllWithin (length bytes.now) list.now }
     requires covers { Covers set.old (pairs_at bytes.now list.now) }

@@ -49,7 +49,8 @@ fn add_data(form: Form, offset: u16, bytes: &[u8], pieces: &mut Pieces) -> Resul
     Ok(())
 }
 
-/// Takes up a good record: its bytes, and the form for the records after it. At a refusal all stays.
+/// Takes up a good record: its bytes, and the form for the records after
+/// it. At a refusal all stays.
 pub fn take_up(form: &mut Form, bytes: &[u8], pieces: &mut Pieces) -> Result<(), AllocError>
     requires least { 5 ≤ length bytes.now }
     requires most { length bytes.now ≤ 260 }

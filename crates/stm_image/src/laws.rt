@@ -1,5 +1,6 @@
 //! Laws of the definitions: each function does nothing, and its contract is the law.
-ghost use Rattle.std.specs.Prelude.{ℕ, List, ◌≡◌, ◌⊎◌, ◌↔◌, ◌<◌, ◌≤◌, ◌+◌, ◌++◌, length, take, drop, slice_index};
+ghost use Rattle.std.specs.Prelude.{ℕ, List, ◌≡◌, ◌⊎◌, ◌↔◌, ◌<◌, ◌≤◌, ◌+◌, ◌++◌, length, take};
+ghost use Rattle.std.specs.Prelude.{drop, slice_index};
 ghost use Rattle.stm_image.specs.Canon.{canon};
 ghost use Rattle.stm_image.specs.Lay.{lay, laid_byte, AgreesWith};
 ghost use Rattle.stm_image.specs.Pairs.{Pairs, IsImage, IsNext, HasNone, byte_at};
@@ -43,7 +44,8 @@ pub fn laying_by_parts()
         ≡ lay set address front ++ lay set (address + length front) back }
 {}
 
-/// A set laid over bytes has its own byte at each place that it names, and leaves the others as they were.
+/// A set laid over bytes has its own byte at each place that it names, and leaves
+/// the others as they were.
 pub fn laying_keeps_places()
     ensures each { (set : Pairs) (address : ℕ) (bytes : List ℕ) (i : ℕ) → i < length bytes →
         slice_index (lay set address bytes) i

@@ -1,6 +1,7 @@
 //! An image laid over bytes, and where the two differ.
 ghost use Rattle.std.specs.Prelude.{◌≡◌, ◌≤◌, ◌+◌, ◌^◌, MatchOption, length};
-ghost use Rattle.stm_image.specs.Lay.{lay, AgreesWith, AreAlike, IsFirstDifference, IsFirstOther, IsPutAt};
+ghost use Rattle.stm_image.specs.Lay.{lay, AgreesWith, AreAlike, IsFirstDifference, IsFirstOther};
+ghost use Rattle.stm_image.specs.Lay.{IsPutAt};
 
 use crate::Image;
 

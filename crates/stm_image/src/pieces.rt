@@ -3,7 +3,8 @@ ghost use Rattle.std.specs.Prelude.{◌≡◌, ◌≢◌, [], ◌<◌, ◌≤◌
 ghost use Rattle.std.specs.List.{AllWithin};
 ghost use Rattle.std.specs.List.Sorted.{IsNonDecreasingBy};
 ghost use Rattle.stm_image.specs.declared.pieces.Piece.{Piece};
-ghost use Rattle.stm_image.specs.Pieces.{IsWithin, bytes_at, next_apart, AllStand, AreAdded, AreAsBefore, IsBack, IsMark};
+ghost use Rattle.stm_image.specs.Pieces.{IsWithin, bytes_at, next_apart, AllStand, AreAdded};
+ghost use Rattle.stm_image.specs.Pieces.{AreAsBefore, IsBack, IsMark};
 
 use std::alloc::{AllocError, Global};
 

@@ -52,8 +52,8 @@ fn read_pieces(alloc: Global, text: &[u8]) -> Reading
 ///
 /// Follows the Hexadecimal Object File Format Specification, revision A of 1988; `docs/HEX.md` has
 /// the rules that it leaves open. Nothing after the end record is read. `Memory` may come in the
-/// place of any record, with that record's number; with 1 where the text was read and its bytes found
-/// no room in the order of their addresses.
+/// place of any record, with that record's number; with 1 where the text was read and its bytes
+/// found no room in the order of their addresses.
 pub fn read_hex(alloc: Global, text: &[u8]) -> Result<Image, HexFault>
     ensures ok { IfOk result (Means text.now) }
     ensures err { IfErr result (λ e. Stands text.now e ⊎ IsOutOfMemory text.now e) }
