@@ -5,4 +5,5 @@ use Rattle.stm_wire.specs.Device.{Device, Fresh}
 
 -- fresh and owing nothing, with these bytes as page n
 abbrev pub powered_again : ℕ → List ℕ → Device → Device
-powered_again n bytes d = record d { flash = with_page d.chip n bytes d.flash; owed = []; phase = Fresh }
+powered_again n bytes d =
+    record d { flash = with_page d.chip n bytes d.flash; owed = []; phase = Fresh }

@@ -39,8 +39,8 @@ abbrev pub SettlesWithin : ℕ → ℕ → List RigCall → Type 0
 SettlesWithin byte limit calls = Talks (IsSettlingRun byte limit) (4100 * (limit + 4)) calls
 
 -- A fault of the line is answered only where its count rose, and at Ok and at every other fault the
--- count is as it was. That of the journal always is. An honest Rig stays honest, whatever its device
--- is, and nothing is appended to its journal.
+-- count is as it was. That of the journal always is. An honest Rig stays honest, whatever its
+-- device is, and nothing is appended to its journal.
 pub record HasLineCause {T : Type 0} (result : Result T WireFault)
     (old new : RigState) : Type 0 where
   pub later : old.line_failures ≤ new.line_failures
@@ -72,8 +72,8 @@ pub record SpeaksBatches (byte limit : ℕ) (result : Result ℕ WireFault)
 
 -- On a line that follows the model:
 
--- how many bytes a list that begins with this code has at most, of a device with these codes, before
--- the byte that brings its verdict
+-- how many bytes a list that begins with this code has at most, of a device with these codes,
+-- before the byte that brings its verdict
 abbrev pub longest_list : List ℕ → ℕ → ℕ
 longest_list codes code = if is_listed codes 0x44 && code == 0x44 then 131044 else 264
 

@@ -154,7 +154,8 @@ impl Rig for FlipRig {
             new.line_failures ≡ old.line_failures }
         ensures recorded { let old = flip_state self.old in let new = flip_state self.new in
             Records (RigCall.Append (length bytes.now)) result old.calls new.calls }
-        ensures entered { Enters (RigCall.Append (length bytes.now)) (flip_state self.old) (flip_state self.new) }
+        ensures entered { Enters (RigCall.Append (length bytes.now)) (flip_state self.old)
+            (flip_state self.new) }
         ensures aside { PutsAside (flip_state self.old) (flip_state self.new) }
         ensures honest { let old = flip_state self.old in let new = flip_state self.new in
             old.is_honest → AppendsHonestly bytes.now result old new }

@@ -31,7 +31,8 @@ pub fn harmless_is_kept()
 {}
 
 /// How many bytes of a kind a device awaits at most before it refuses one, wherever it is in its
-/// exchange: 267 where its pages are erased by numbers of one byte, and 131,047 where they have two.
+/// exchange: 267 where its pages are erased by numbers of one byte, and
+/// 131,047 where they have two.
 pub fn awaited_is_limited()
     ensures { AwaitedIsLimited }
 {}

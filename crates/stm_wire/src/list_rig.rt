@@ -2,7 +2,8 @@
 ghost use Rattle.std.specs.Prelude.{◌≡◌, ◌+◌, ◌++◌, ◌∷◌, [], drop, length};
 ghost use Rattle.std.proofs.Common.{refl};
 ghost use Rattle.stm_wire.specs.Rig.{PutsAside, GetsAside, FetchesAside};
-ghost use Rattle.stm_wire.specs.Rig.{HasCause, Records, Enters, entry_of_get, PutsHonestly, GetsHonestly};
+ghost use Rattle.stm_wire.specs.Rig.{HasCause, Records, Enters, entry_of_get, PutsHonestly};
+ghost use Rattle.stm_wire.specs.Rig.{GetsHonestly};
 ghost use Rattle.stm_wire.specs.Rig.{AppendsHonestly, FetchesHonestly, FetchesWithin};
 ghost use Rattle.stm_wire.specs.BadLines.{ListData, list_data, list_state, next_reply};
 ghost use Rattle.stm_wire.specs.BadLines.{ListsLineCall, ListsJournalCall};
@@ -149,7 +150,8 @@ impl Rig for ListRig {
             new.line_failures ≡ old.line_failures }
         ensures recorded { let old = list_state self.old in let new = list_state self.new in
             Records (RigCall.Append (length bytes.now)) result old.calls new.calls }
-        ensures entered { Enters (RigCall.Append (length bytes.now)) (list_state self.old) (list_state self.new) }
+        ensures entered { Enters (RigCall.Append (length bytes.now)) (list_state self.old)
+            (list_state self.new) }
         ensures aside { PutsAside (list_state self.old) (list_state self.new) }
         ensures honest { let old = list_state self.old in let new = list_state self.new in
             old.is_honest → AppendsHonestly bytes.now result old new }

@@ -180,8 +180,8 @@ impl MemoryRig {
         self.past.clear();
     }
 
-    /// Takes the device's power away and gives it back, inside an erase or a write of page `n`: it is
-    /// fresh, owes nothing, and holds these bytes as that page.
+    /// Takes the device's power away and gives it back, inside an erase or a write of page `n`: it
+    /// is fresh, owes nothing, and holds these bytes as that page.
     pub fn lose_power(&mut self, n: u16, page: &[u8])
         requires exists { n < page_count self.old.device.chip }
         requires size { length page.now ≡ page_size self.old.device.chip n }

@@ -65,12 +65,12 @@ fn expect_quiet<R: Rig>(rig: &mut R) -> Result<(), WireFault>
     }
 }
 
-/// Connects a fresh device: sends 7F once, and takes ACK for it (AN3155, section 2). It leaves such a
-/// device as harmless as it was, for any byte and pages.
+/// Connects a fresh device: sends 7F once, and takes ACK for it (AN3155, section 2). It leaves such
+/// a device as harmless as it was, for any byte and pages.
 ///
 /// # Errors
-/// `Line` where a call of the Rig failed, `Quiet` where 7F stayed without an answer, `Garbled` where
-/// another byte than ACK came.
+/// `Line` where a call of the Rig failed, `Quiet` where 7F stayed without an answer, `Garbled`
+/// where another byte than ACK came.
 pub fn connect<R: Rig>(rig: &mut R) -> Result<(), WireFault>
     ensures speaks { Speaks (0x7F ∷ []) 2 result (R.view rig.old) (R.view rig.new) }
     ensures waits { WaitsOnce (R.view rig.old).long_gets (R.view rig.new).long_gets }

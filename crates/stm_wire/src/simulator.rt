@@ -271,8 +271,8 @@ impl Simulator {
         self.stage = Stage::Fresh;
     }
 
-    /// Makes it fresh, owing nothing, with these bytes as page `n`, whatever that held: what a loss of
-    /// power inside an erase or a write of this page may leave.
+    /// Makes it fresh, owing nothing, with these bytes as page `n`, whatever that held: what a loss
+    /// of power inside an erase or a write of this page may leave.
     pub fn lose_power(&mut self, n: u16, page: &[u8])
         requires exists { n < page_count self.old.chip }
         requires size { length page.now ≡ page_size self.old.chip n }

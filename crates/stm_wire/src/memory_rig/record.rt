@@ -42,7 +42,8 @@ fn keep_first(alloc: Global, first: &mut Option<Vec<u8>>, flash: &[u8]) -> Resul
 }
 
 impl MemoryRig {
-    /// Adds the entry of a call that did nothing, or changes nothing where there is no memory for it.
+    /// Adds the entry of a call that did nothing, or changes nothing where
+    /// there is no memory for it.
     pub(super) fn try_enter(&mut self, call: RigCall) -> Result<(), AllocError>
         ensures ok { OnOk result
             (self.new ≡ with_call call PastStep.Nothing self.old.device self.old) }

@@ -3,7 +3,8 @@
 ghost use Rattle.std.specs.Prelude.{◌≡◌, length};
 ghost use Rattle.std.proofs.Common.{refl};
 ghost use Rattle.stm_wire.specs.Rig.{PutsAside, GetsAside, FetchesAside};
-ghost use Rattle.stm_wire.specs.Rig.{HasCause, Records, Enters, entry_of_get, PutsHonestly, GetsHonestly};
+ghost use Rattle.stm_wire.specs.Rig.{HasCause, Records, Enters, entry_of_get, PutsHonestly};
+ghost use Rattle.stm_wire.specs.Rig.{GetsHonestly};
 ghost use Rattle.stm_wire.specs.Rig.{AppendsHonestly, FetchesHonestly, FetchesWithin};
 ghost use Rattle.stm_wire.specs.Memory.{rig_state, PutsInMemory, GetsInMemory};
 ghost use Rattle.stm_wire.specs.Memory.{AppendsInMemory, FetchesInMemory};
@@ -58,7 +59,8 @@ impl Rig for MemoryRig {
             ≡ (rig_state self.old).line_failures }
         ensures recorded { Records (RigCall.Append (length bytes.now)) result
             (rig_state self.old).calls (rig_state self.new).calls }
-        ensures entered { Enters (RigCall.Append (length bytes.now)) (rig_state self.old) (rig_state self.new) }
+        ensures entered { Enters (RigCall.Append (length bytes.now)) (rig_state self.old)
+            (rig_state self.new) }
         ensures aside { PutsAside (rig_state self.old) (rig_state self.new) }
         ensures honest { (rig_state self.old).is_honest
             → AppendsHonestly bytes.now result (rig_state self.old) (rig_state self.new) }
