@@ -1,5 +1,6 @@
 -- What the text of a chip table says: its chips, or its first fault.
-use Rattle.std.specs.Prelude.{ℕ, ◌≡◌, ◌≢◌, ◌+◌, ◌⊎◌, List, [], ◌∷◌, ◌++◌, length, map, Vec, None, Some, IsSome, codes, All, AllPairs, Contains, IsUtf8}
+use Rattle.std.specs.Prelude.{ℕ, ◌≡◌, ◌≢◌, ◌+◌, ◌⊎◌, List, [], ◌∷◌, ◌++◌, length, map, Vec, None}
+use Rattle.std.specs.Prelude.{Some, IsSome, codes, All, AllPairs, Contains, IsUtf8}
 use Rattle.std.specs.declared.alloc.Global.{Global}
 use Rattle.toml.specs.Data.{Data, Members, array, as_table, get_member}
 use Rattle.toml.specs.View.{items_of, view}
@@ -8,7 +9,8 @@ use Rattle.toml.specs.Parse.{parse_document}
 use Rattle.stm_wire.specs.Chip.{ChipData}
 use Rattle.stm_chip.specs.Entry.{Keys, keys_of, IsChipOf, BreaksLimit}
 use Rattle.stm_chip.specs.declared.fault.TableFault.{TableFault}
-use Rattle.stm_chip.specs.declared.fault.TableFault.TheVariants.{Syntax, Missing, Limit, TwiceId, Memory}
+use Rattle.stm_chip.specs.declared.fault.TableFault.TheVariants.{Syntax, Missing, Limit, TwiceId}
+use Rattle.stm_chip.specs.declared.fault.TableFault.TheVariants.{Memory}
 
 -- what the values of an array stand for
 abbrev pub data_of : Vec Value Global → List Data
@@ -58,7 +60,8 @@ pub record HasBadLimit (entry : Data) : Type 0 where
 pub data Reads : List Data → List ChipData → Type 0 where
   none : Reads [] []
   more : {entries : List Data} {chips : List ChipData} (entry : Data) (chip : ChipData)
-      → Reads entries chips → IsNextChip chips entry chip → Reads (entries ++ entry ∷ []) (chips ++ chip ∷ [])
+      → Reads entries chips → IsNextChip chips entry chip
+      → Reads (entries ++ entry ∷ []) (chips ++ chip ∷ [])
 
 -- what is wrong with entry n, after those of some chips
 abbrev pub IsFlaw : ℕ → List ChipData → Data → TableFault → Type 0

@@ -1,5 +1,6 @@
 -- What an entry of a chip table says, and the chip that it means.
-use Rattle.std.specs.Prelude.{ℕ, ℤ, pos, ◌≡◌, ◌+◌, ◌^◌, ◌<◌, ◌≤◌, List, [], ◌∷◌, Option, None, Some, codes, option_and_then, length, replicate, All}
+use Rattle.std.specs.Prelude.{ℕ, ℤ, pos, ◌≡◌, ◌+◌, ◌^◌, ◌<◌, ◌≤◌, List, [], ◌∷◌, Option, None, Some}
+use Rattle.std.specs.Prelude.{codes, option_and_then, length, replicate, All}
 use Rattle.std.specs.List.{flat_map}
 use Rattle.toml.specs.Data.{Data, Items, no_items, item, as_array, as_integer, as_str, get, at}
 use Rattle.stm_wire.specs.Chip.{ChipData, IsChip}
@@ -16,7 +17,8 @@ run_of_two _ _ _ = None
 
 -- the run that an array of two whole numbers is
 abbrev pub run_of : Data → Option Run
-run_of d = run_of_two (option_and_then as_integer (at 0 d)) (option_and_then as_integer (at 1 d)) (at 2 d)
+run_of d =
+    run_of_two (option_and_then as_integer (at 0 d)) (option_and_then as_integer (at 1 d)) (at 2 d)
 
 abbrev pub with_run : Option Run → Option (List Run) → Option (List Run)
 with_run (Some run) (Some runs) = Some (run ∷ runs)
@@ -36,10 +38,13 @@ pub record Keys : Type 0 where
   pub erased : ℤ
 
 abbrev pub keys_with : ℤ → ℤ → List Run → List ℕ → ℤ → Keys
-keys_with id base runs erase erased = record { id = id; base = base; runs = runs; erase = erase; erased = erased }
+keys_with id base runs erase erased =
+    record { id = id; base = base; runs = runs; erase = erase; erased = erased }
 
-abbrev pub keys_from : Option ℤ → Option ℤ → Option (List Run) → Option (List ℕ) → Option ℤ → Option Keys
-keys_from (Some id) (Some base) (Some runs) (Some erase) (Some erased) = Some (keys_with id base runs erase erased)
+abbrev pub keys_from : Option ℤ → Option ℤ → Option (List Run) → Option (List ℕ)
+    → Option ℤ → Option Keys
+keys_from (Some id) (Some base) (Some runs) (Some erase) (Some erased) =
+    Some (keys_with id base runs erase erased)
 keys_from _ _ _ _ _ = None
 
 -- what an erased place holds: all bits set, where the key is absent
@@ -50,7 +55,8 @@ erased_of None = Some (pos 0xFF)
 -- the keys of an entry, where each is there, or has a value of its own when absent, and of its kind
 abbrev pub keys_of : Data → Option Keys
 keys_of d =
-    keys_from (option_and_then as_integer (get (codes "id") d)) (option_and_then as_integer (get (codes "base") d))
+    keys_from (option_and_then as_integer (get (codes "id") d))
+    (option_and_then as_integer (get (codes "base") d))
     (option_and_then runs_of (option_and_then as_array (get (codes "pages") d)))
     (option_and_then as_str (get (codes "erase") d)) (erased_of (get (codes "erased") d))
 
@@ -79,7 +85,8 @@ pub record IsChipOf (keys : Keys) (chip : ChipData) : Type 0 where
   pub erased : keys.erased ≡ pos chip.erased
   pub limits : IsChip chip
 
--- the chip's limits leave room for no more pages than a number of 16 bits counts, of sizes of 32 bits
+-- the chip's limits leave room for no more pages than a number of 16 bits
+-- counts, of sizes of 32 bits
 pub record IsPaged (runs : List Run) : Type 0 where
   pub each : All IsRun runs
   pub count : length (flat_map pages_of runs) < 2 ^ 16

@@ -3,7 +3,8 @@ ghost use Rattle.std.specs.Prelude.{ℕ, ◌≡◌, ◌≢◌, ◌++◌, ◌+◌
 ghost use Rattle.std.specs.Bool.{MatchBool};
 ghost use Rattle.std.specs.List.{flat_map};
 ghost use Rattle.stm_wire.specs.declared.chip.EraseKind.{EraseKind as Kind};
-ghost use Rattle.stm_chip.specs.Entry.{IsRun, IsPaged, CanAdd, pages_of, word_of, keys_with, IsChipOf, BreaksLimit};
+ghost use Rattle.stm_chip.specs.Entry.{IsRun, IsPaged, CanAdd, pages_of, word_of, keys_with};
+ghost use Rattle.stm_chip.specs.Entry.{IsChipOf, BreaksLimit};
 
 use crate::keys::EntryKeys;
 use std::alloc::{AllocError, Global};
@@ -21,7 +22,8 @@ fn kind_of(word: &str) -> Option<EraseKind>
     }
 }
 
-/// Adds the sizes of a run's pages, or answers false where no chip has such a run after these pages.
+/// Adds the sizes of a run's pages, or answers false where no chip has such
+/// a run after these pages.
 fn add_run(sizes: &mut Vec<u32>, run: (i64, i64)) -> Result<bool, AllocError>
     ensures { IfOk result (λ added. MatchBool added
         (IsRun run × (sizes.new.items ≡ sizes.old.items ++ pages_of run))

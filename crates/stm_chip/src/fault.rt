@@ -6,13 +6,15 @@ ghost use Rattle.stm_chip.specs.declared.fault.PlanFault.TheVariants.{Memory as 
 use std::alloc::{AllocError, AllocFailed};
 use thiserror::Error;
 
-/// Why the text of a chip table is refused. Entries are counted from 1; the first faulty one decides.
+/// Why the text of a chip table is refused. Entries are counted from 1; the
+/// first faulty one decides.
 #[derive(Clone, Copy, Debug, PartialEq, Eq, Error)]
 pub enum TableFault {
     /// The text is no TOML.
     #[error("table: syntax")]
     Syntax,
-    /// An entry lacks a key, or has one of another kind; 0: there is no array of tables at the key `chip`.
+    /// An entry lacks a key, or has one of another kind; 0: there is no array of
+    /// tables at the key `chip`.
     #[error("table: chip {0}: missing")]
     Missing(u64),
     /// An entry breaks a limit of chips.

@@ -1,6 +1,8 @@
 // How a page of flash comes to hold new bytes.
-ghost use Rattle.std.specs.Prelude.{◌≡◌, ◌↔◌, ◌^◌, ◌+◌, ◌*◌, ◌/◌, ◌%◌, ◌<◌, ◌≤◌, ◌++◌, length, replicate, IfOk, IsOkUnless, Ok, option_to_list};
-ghost use Rattle.stm_chip.specs.Plan.{AreFrames, IsPlan, frame_of, frames_in, frames_of, planned, used_length, written};
+ghost use Rattle.std.specs.Prelude.{◌≡◌, ◌↔◌, ◌^◌, ◌+◌, ◌*◌, ◌/◌, ◌%◌, ◌<◌, ◌≤◌, ◌++◌, length};
+ghost use Rattle.std.specs.Prelude.{replicate, IfOk, IsOkUnless, Ok, option_to_list};
+ghost use Rattle.stm_chip.specs.Plan.{AreFrames, IsPlan, frame_of, frames_in, frames_of, planned};
+ghost use Rattle.stm_chip.specs.Plan.{used_length, written};
 
 use crate::PlanFault;
 use std::alloc::{AllocError, Global};
@@ -55,9 +57,9 @@ fn frame_of(offset: u32, block: &[u8], erased: u8) -> Option<Frame>
     })
 }
 
-/// The frames that give an erased page these bytes, where an erased place holds `erased`: of each block of 256 bytes, from the
-/// page's start, one, cut after its last byte that isn't `erased` and rounded up to a multiple of 4 bytes; of a block of erased
-/// bytes alone none.
+/// The frames that give an erased page these bytes, where an erased place holds `erased`: of each
+/// block of 256 bytes, from the page's start, one, cut after its last byte that isn't `erased` and
+/// rounded up to a multiple of 4 bytes; of a block of erased bytes alone none.
 pub fn page_frames(alloc: Global, page: &[u8], erased: u8) -> Result<Vec<Frame>, AllocError>
     requires blocks { length page.now % 256 ≡ 0 }
     requires size { length page.now ≤ 2 ^ 32 }
@@ -66,7 +68,8 @@ pub fn page_frames(alloc: Global, page: &[u8], erased: u8) -> Result<Vec<Frame>,
     // The frames, written over an erased page, give the page.
     ensures gives { IfOk result (λ frames.
         written page.now frames.items (replicate (length page.now) erased) ≡ page.now) }
-    // They may be sent one after another: each fits one command, and lies where no earlier one wrote.
+    // They may be sent one after another: each fits one command, and lies
+    // where no earlier one wrote.
     ensures fits { IfOk result (λ frames. AreFrames 0 (length page.now) frames.items) }
 {
     let mut frames = Vec::new(alloc);
@@ -79,7 +82,8 @@ pub fn page_frames(alloc: Global, page: &[u8], erased: u8) -> Result<Vec<Frame>,
     Ok(frames)
 }
 
-/// The plan that makes a page of bytes `old` one of bytes `new`, where an erased place holds `erased`.
+/// The plan that makes a page of bytes `old` one of bytes `new`, where an
+/// erased place holds `erased`.
 ///
 /// The page is erased, and its frames are those of `page_frames`.
 pub fn page_plan(alloc: Global, old: &[u8], new: &[u8], erased: u8) -> Result<PagePlan, PlanFault>
@@ -90,7 +94,8 @@ pub fn page_plan(alloc: Global, old: &[u8], new: &[u8], erased: u8) -> Result<Pa
     ensures plan { IfOk result (IsPlan erased old.now new.now) }
     // The frames, written over an erased page, give the new page.
     ensures gives_new { IfOk result (λ plan. planned erased old.now new.now plan ≡ new.now) }
-    // They may be sent one after another: each fits one command, and lies where no earlier one wrote.
+    // They may be sent one after another: each fits one command, and lies
+    // where no earlier one wrote.
     ensures fits { IfOk result (λ plan. AreFrames 0 (length new.now) (frames_in plan)) }
     ensures memory { IsOkUnless result PlanFault.Memory }
 {

@@ -1,9 +1,13 @@
 // A table of chips, as its text names them.
-ghost use Rattle.std.specs.Prelude.{◌≡◌, ◌≢◌, ◌+◌, List, length, All, Contains, IfOk, IfErr, MatchOption, MatchResult, Some, option_map, option_and_then, codes, IsTrue, IsSome, ◌↔◌};
+ghost use Rattle.std.specs.Prelude.{◌≡◌, ◌≢◌, ◌+◌, List, length, All, Contains, IfOk, IfErr};
+ghost use Rattle.std.specs.Prelude.{MatchOption, MatchResult, Some, option_map, option_and_then};
+ghost use Rattle.std.specs.Prelude.{codes, IsTrue, IsSome, ◌↔◌};
 ghost use Rattle.toml.specs.View.{table_view, view, array_view};
 ghost use Rattle.toml.specs.Data.{Data, as_array, as_table, get_member};
 ghost use Rattle.stm_wire.specs.Chip.{ChipData};
-ghost use Rattle.stm_chip.specs.Document.{IsTableOf, IsFaultOf, IsDocument, HasEntries, data_of, IsNextChip, IsNewId, HaveOwnIds, IsChipWith, IsFlaw, HasFlaw, Reads};
+ghost use Rattle.stm_chip.specs.Document.{IsTableOf, IsFaultOf, IsDocument, HasEntries, data_of};
+ghost use Rattle.stm_chip.specs.Document.{IsNextChip, IsNewId, HaveOwnIds, IsChipWith, IsFlaw};
+ghost use Rattle.stm_chip.specs.Document.{HasFlaw, Reads};
 
 use crate::TableFault;
 use crate::entry::chip_of;
@@ -120,10 +124,11 @@ fn read_entries(alloc: Global, entries: &Vec<Value>) -> Result<Vec<Chip>, TableF
 
 /// The table of a text in TOML 1.1: the chips of the tables at its key `chip`, in order.
 ///
-/// Each has the keys `id` and `base` (whole numbers), `pages` (an array of arrays of two whole numbers: how many
-/// pages, of how many bytes) and `erase` (`"page"` or `"extended"`), and may have `erased` (what an erased place
-/// holds: 255, which stands where it is absent, or 0); further keys are ignored. The first faulty entry decides, and in
-/// it first what is missing, then a broken limit, then an id that came before.
+/// Each has the keys `id` and `base` (whole numbers), `pages` (an array of arrays of two whole
+/// numbers: how many pages, of how many bytes) and `erase` (`"page"` or `"extended"`), and may have
+/// `erased` (what an erased place holds: 255, which stands where it is absent, or 0); further keys
+/// are ignored. The first faulty entry decides, and in it first what is missing, then a broken
+/// limit, then an id that came before.
 pub fn read_table(alloc: Global, text: &[u8]) -> Result<Table, TableFault>
     ensures { MatchResult result (IsTableOf text.now) (IsFaultOf text.now) }
 {

@@ -32,7 +32,8 @@ fn has_from(image: &Image, address: u64) -> bool
     }
 }
 
-/// Whether each place of the image lies inside the flash. It asks the image for two of its places alone.
+/// Whether each place of the image lies inside the flash. It asks the image for
+/// two of its places alone.
 pub fn is_inside_flash(chip: &Chip, image: &Image) -> bool
     ensures each { result ≡ list_all (λ pair. is_inside chip.now pair.0) image.now }
     ensures inside { IsTrue result ↔ ¬ HasOutside chip.now image.now }
@@ -51,11 +52,11 @@ fn has_within(image: &Image, start: u32, size: u32) -> bool
     }
 }
 
-/// The pages that hold a place of the image, rising, each once; `OutOfFlash` exactly where a place of it lies
-/// outside the flash.
+/// The pages that hold a place of the image, rising, each once; `OutOfFlash` exactly where a place
+/// of it lies outside the flash.
 ///
-/// It asks the image for its next place twice, and then once a page from the page's start on. So the look-ups are as
-/// many as the pages and two, however many bytes the image has.
+/// It asks the image for its next place twice, and then once a page from the page's start on. So
+/// the look-ups are as many as the pages and two, however many bytes the image has.
 pub fn touched(alloc: Global, chip: &Chip, image: &Image) -> Result<Vec<u16>, PlanFault>
     ensures pages { IfOk result (λ pages. AreTouched chip.now image.now pages.items) }
     ensures outside { (result ≡ Err PlanFault.OutOfFlash) ↔ HasOutside chip.now image.now }
@@ -66,7 +67,8 @@ pub fn touched(alloc: Global, chip: &Chip, image: &Image) -> Result<Vec<u16>, Pl
     // So each page's start has 32 bits.
     chip.keeps_limits();
     let mut pages = Vec::new(alloc);
-    // Where page `n` begins, from the flash's first byte; `page_start` would sum the pages before it each time.
+    // Where page `n` begins, from the flash's first byte; `page_start` would sum the
+    // pages before it each time.
     let mut offset = 0;
     for n in 0..chip.pages() {
         let size = chip.page_size(n);
