@@ -1,11 +1,15 @@
--- What one entry, and what beginning a segment, leave of the state that the text comes to, wherever the append was stopped.
-use Rattle.std.specs.Prelude.{◌≡◌, ◌⊎◌, ℕ, ◌<◌, ◌≤◌, false, List, [], ◌∷◌, ◌++◌, length, take, Some, option_map, IsTrue}
+-- What one entry, and what beginning a segment, leave of the state that the text comes to,
+-- wherever the append was stopped.
+use Rattle.std.specs.Prelude.{◌≡◌, ◌⊎◌, ℕ, ◌<◌, ◌≤◌, false, List, [], ◌∷◌, ◌++◌, length, take, Some}
+use Rattle.std.specs.Prelude.{option_map, IsTrue}
 use Rattle.stm_wire.specs.declared.intent.Intent.TheVariants.{Erase, Program}
 use Rattle.stm_journal.specs.declared.entry.Entry.{Entry}
-use Rattle.stm_journal.specs.declared.entry.Entry.TheVariants.{Names, Opens, Keeps, Erases, Programs, Ends, Undoes}
+use Rattle.stm_journal.specs.declared.entry.Entry.TheVariants.{Names, Opens, Keeps, Erases}
+use Rattle.stm_journal.specs.declared.entry.Entry.TheVariants.{Programs, Ends, Undoes}
 use Rattle.stm_journal.specs.States.{StateData, allows, is_unfinished, names_other}
 use Rattle.stm_journal.specs.Newest.{HasBegun, HasKept, HasIntended, HasEnded, HasUndone}
-use Rattle.stm_journal.specs.Journals.{Loaded, IsLoaded, IsPrintable, journal_of, good, added_bytes, begin_entries}
+use Rattle.stm_journal.specs.Journals.{Loaded, IsLoaded, IsPrintable, journal_of, good, added_bytes}
+use Rattle.stm_journal.specs.Journals.{begin_entries}
 
 -- a header more
 pub record HasNamed (version id : ℕ) (old new : StateData) : Type 0 where
@@ -15,7 +19,9 @@ pub record HasNamed (version id : ℕ) (old new : StateData) : Type 0 where
 
 -- a segment more, for the device that the header names
 abbrev pub HasOpened : StateData → StateData → Type 0
-HasOpened old new = (new.header ≡ old.header) × ((id : ℕ) → option_map (λ header. header.id) old.header ≡ Some id → HasBegun id old new)
+HasOpened old new =
+    (new.header ≡ old.header)
+    × ((id : ℕ) → option_map (λ header. header.id) old.header ≡ Some id → HasBegun id old new)
 
 -- what an entry has made of a state
 abbrev pub HasAdded : Entry → StateData → StateData → Type 0
@@ -29,13 +35,17 @@ HasAdded (Undoes k) old new = HasUndone old new
 
 -- one entry that is allowed: the old state or the new one
 abbrev pub EntriesLeaveEither : Type 0
-EntriesLeaveEither = (l : Loaded) (journal : List ℕ) (s : StateData) (e : Entry) (n : ℕ) → IsLoaded l journal → journal_of journal ≡ good s
+EntriesLeaveEither = (l : Loaded) (journal : List ℕ) (s : StateData) (e : Entry) (n : ℕ)
+    → IsLoaded l journal → journal_of journal ≡ good s
     → IsTrue (allows s e) → IsPrintable e
-    → (s2 : StateData) × (journal_of (journal ++ take n (added_bytes l.is_torn (e ∷ []))) ≡ good s2) × ((s2 ≡ s) ⊎ HasAdded e s s2)
+    → (s2 : StateData) × (journal_of (journal ++ take n (added_bytes l.is_torn (e ∷ []))) ≡ good s2)
+    × ((s2 ≡ s) ⊎ HasAdded e s s2)
 
 -- what begins a segment: the same segments, for no other device, or one more
 abbrev pub BeginningsLeaveEither : Type 0
-BeginningsLeaveEither = (l : Loaded) (journal : List ℕ) (s : StateData) (id n : ℕ) → IsLoaded l journal → journal_of journal ≡ good s
+BeginningsLeaveEither = (l : Loaded) (journal : List ℕ) (s : StateData) (id n : ℕ)
+    → IsLoaded l journal → journal_of journal ≡ good s
     → is_unfinished s ≡ false → names_other id s ≡ false → id ≤ 65535 → length s.stack < 65535
-    → (s2 : StateData) × (journal_of (journal ++ take n (added_bytes l.is_torn (begin_entries id s))) ≡ good s2)
+    → (s2 : StateData)
+    × (journal_of (journal ++ take n (added_bytes l.is_torn (begin_entries id s))) ≡ good s2)
     × (((s2.stack ≡ s.stack) × (names_other id s2 ≡ false)) ⊎ HasBegun id s s2)

@@ -1,5 +1,6 @@
 -- What the calls of a journal do to the Rig's journal, its device, its counts and its record.
-use Rattle.std.specs.Prelude.{◌≡◌, ◌⊎◌, ℕ, ◌≤◌, List, [], ◌∷◌, ◌++◌, Some, Result, Ok, Err, OnOk, IfOk, IfErr}
+use Rattle.std.specs.Prelude.{◌≡◌, ◌⊎◌, ℕ, ◌≤◌, List, [], ◌∷◌, ◌++◌, Some, Result, Ok, Err, OnOk}
+use Rattle.std.specs.Prelude.{IfOk, IfErr}
 use Rattle.stm_wire.specs.declared.rig.RigCall.{RigCall}
 use Rattle.stm_wire.specs.declared.rig.RigCall.TheVariants.{Put, Get, Append, Fetch}
 use Rattle.stm_wire.specs.Device.{Device, LosesOwed}
@@ -7,7 +8,8 @@ use Rattle.stm_wire.specs.Rig.{RigState, Rises, LeftByAppend, LeftByGet}
 use Rattle.stm_wire.specs.Moments.{LeavesOnly}
 use Rattle.stm_journal.specs.declared.entry.Entry.{Entry}
 use Rattle.stm_journal.specs.declared.fault.JournalFault.{JournalFault}
-use Rattle.stm_journal.specs.declared.fault.JournalFault.TheVariants.{File, Bad, OtherDevice, Memory}
+use Rattle.stm_journal.specs.declared.fault.JournalFault.TheVariants.{File, Bad, OtherDevice}
+use Rattle.stm_journal.specs.declared.fault.JournalFault.TheVariants.{Memory}
 use Rattle.stm_journal.specs.Journals.{Loaded, IsLoaded, added_bytes, journal_of, good, bad}
 use Rattle.stm_journal.specs.declared.kept.Kept.{Kept}
 use Rattle.stm_journal.specs.declared.kept.PagePlace.{PagePlace}
@@ -22,15 +24,16 @@ RisesFor before now OtherDevice = now ≡ before
 RisesFor before now Memory = now ≡ before
 
 -- on any Rig: the counts; and an honest one stays honest
-pub record HasJournalCause {T : Type 0} (old new : RigState) (result : Result T JournalFault) : Type 0 where
+pub record HasJournalCause {T : Type 0} (old new : RigState)
+    (result : Result T JournalFault) : Type 0 where
   pub later : old.journal_failures ≤ new.journal_failures
   pub done : OnOk result (new.journal_failures ≡ old.journal_failures)
   pub failed : IfErr result (RisesFor old.journal_failures new.journal_failures)
   pub line_count : new.line_failures ≡ old.line_failures
   pub honest : old.is_honest → new.is_honest
 
--- one append of so many bytes; one that failed may be missing in the record, and a call that failed for another cause
--- made none
+-- one append of so many bytes; one that failed may be missing in the record, and a call that failed
+-- for another cause made none
 abbrev pub AppendsOnce : {T : Type 0} → ℕ → Result T JournalFault → List RigCall → Type 0
 AppendsOnce n (Ok x) calls = calls ≡ Append n ∷ []
 AppendsOnce n (Err File) calls = (calls ≡ []) ⊎ (calls ≡ Append n ∷ [])
@@ -52,9 +55,10 @@ LeftByFault bytes old new (Bad line) = (new.journal ≡ old.journal) × (new.dev
 LeftByFault bytes old new OtherDevice = (new.journal ≡ old.journal) × (new.device ≡ old.device)
 LeftByFault bytes old new Memory = (new.journal ≡ old.journal) × (new.device ≡ old.device)
 
--- These bytes are added at the end of an honest Rig's journal, all at Ok, a beginning of them at any moment and after a
--- fault of the file, none after another fault.
-pub record AddsBytes {T : Type 0} (bytes : List ℕ) (old new : RigState) (result : Result T JournalFault) : Type 0 where
+-- These bytes are added at the end of an honest Rig's journal, all at Ok, a beginning of them at
+-- any moment and after a fault of the file, none after another fault.
+pub record AddsBytes {T : Type 0} (bytes : List ℕ) (old new : RigState)
+    (result : Result T JournalFault) : Type 0 where
   pub honest : new.is_honest
   pub moments : LeavesOnly (LeftByAppend bytes old) old new
   pub added : OnOk result (new.journal ≡ old.journal ++ bytes)
@@ -63,11 +67,13 @@ pub record AddsBytes {T : Type 0} (bytes : List ℕ) (old new : RigState) (resul
 
 -- a relation of the states that a journal's bytes come to, before and after
 abbrev pub InText : (StateData → StateData → Type 0) → List ℕ → List ℕ → Type 0
-InText Has old new = (s s2 : StateData) → journal_of old ≡ good s → journal_of new ≡ good s2 → Has s s2
+InText Has old new = (s s2 : StateData) → journal_of old ≡ good s
+    → journal_of new ≡ good s2 → Has s s2
 
--- The lines of these entries, and what a torn tail asks for before them, are added to the journal that the one in memory
--- is tied to, and the new one in memory is tied to the result.
-pub record Appends {T : Type 0} (entries : List Entry) (l l2 : Loaded) (old new : RigState) (result : Result T JournalFault) : Type 0 where
+-- The lines of these entries, and what a torn tail asks for before them, are added to the journal
+-- that the one in memory is tied to, and the new one in memory is tied to the result.
+pub record Appends {T : Type 0} (entries : List Entry) (l l2 : Loaded) (old new : RigState)
+    (result : Result T JournalFault) : Type 0 where
   pub bytes : AddsBytes (added_bytes l.is_torn entries) old new result
   pub loaded : OnOk result (IsLoaded l2 new.journal)
 
@@ -114,13 +120,15 @@ pub record Loads (old new : RigState) (result : Result Loaded JournalFault) : Ty
   pub loaded : IfOk result (λ l. IsLoaded l old.journal)
   pub faults : IfErr result (IsFaultOf old.journal)
 
--- The bytes of a page are fetched from an honest Rig's journal, of which nothing is changed: at Ok they are those that the
--- journal keeps, and only the file can fail.
-pub record FetchesPage (place : PagePlace) (after : List ℕ) (old new : RigState) (result : Result (Unit {0}) JournalFault) : Type 0 where
+-- The bytes of a page are fetched from an honest Rig's journal, of which nothing is changed: at Ok
+-- they are those that the journal keeps, and only the file can fail.
+pub record FetchesPage (place : PagePlace) (after : List ℕ) (old new : RigState)
+    (result : Result (Unit {0}) JournalFault) : Type 0 where
   pub honest : new.is_honest
   pub moments : LeavesOnly (IsUntouched old) old new
   pub journal : new.journal ≡ old.journal
   pub same_device : OnOk result (new.device ≡ old.device)
   pub kept_device : IfErr result (KeepsDevice old new)
-  pub bytes : OnOk result ((s : StateData) (k i : ℕ) (kept : Kept) → journal_of old.journal ≡ good s → kept_entry s k i ≡ Some kept → place_of kept ≡ place → after ≡ kept.bytes)
+  pub bytes : OnOk result ((s : StateData) (k i : ℕ) (kept : Kept) → journal_of old.journal ≡ good s
+      → kept_entry s k i ≡ Some kept → place_of kept ≡ place → after ≡ kept.bytes)
   pub fails : IfErr result (λ e. e ≡ File)

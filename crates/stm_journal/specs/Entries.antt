@@ -1,10 +1,14 @@
 -- What a line of the journal can say.
-use Rattle.std.specs.Prelude.{ℕ, ◌+◌, ◌-◌, ◌*◌, ◌/◌, ◌%◌, Bool, ◌&&◌, ◌||◌, ◌==◌, nat_le, nat_lt, if◌then◌else◌, List, [], ◌∷◌, ◌++◌, length, take, drop, fold, codes, decimal, bytes_eq, Option, Some, None, option_map, option_and_then, position, slice_index}
+use Rattle.std.specs.Prelude.{ℕ, ◌+◌, ◌-◌, ◌*◌, ◌/◌, ◌%◌, Bool, ◌&&◌, ◌||◌, ◌==◌, nat_le, nat_lt}
+use Rattle.std.specs.Prelude.{if◌then◌else◌, List, [], ◌∷◌, ◌++◌, length, take, drop, fold, codes}
+use Rattle.std.specs.Prelude.{decimal, bytes_eq, Option, Some, None, option_map, option_and_then}
+use Rattle.std.specs.Prelude.{position, slice_index}
 use Rattle.std.specs.List.{list_all}
 use Rattle.std.specs.Result.{result_ok}
 use Rattle.hex.specs.Hex.{encode_upper, decode_of}
 use Rattle.stm_journal.specs.declared.entry.Entry.{Entry}
-use Rattle.stm_journal.specs.declared.entry.Entry.TheVariants.{Names, Opens, Keeps, Erases, Programs, Ends, Undoes}
+use Rattle.stm_journal.specs.declared.entry.Entry.TheVariants.{Names, Opens, Keeps, Erases}
+use Rattle.stm_journal.specs.declared.entry.Entry.TheVariants.{Programs, Ends, Undoes}
 
 -- the digits of hexadecimal numbers: `0` to `9` and `A` to `F`
 abbrev pub is_upper_digit : ℕ → Bool
@@ -13,11 +17,15 @@ is_upper_digit c = (nat_le 48 c && nat_le c 57) || (nat_le 65 c && nat_le c 70)
 -- one digit more, of a number that may be 65,535 at most
 abbrev pub with_digit : Option ℕ → ℕ → Option ℕ
 with_digit None c = None
-with_digit (Some n) c = if (nat_le 48 c && nat_le c 57) && nat_le (n * 10 + (c - 48)) 65535 then Some (n * 10 + (c - 48)) else None
+with_digit (Some n) c =
+    if (nat_le 48 c && nat_le c 57) && nat_le (n * 10 + (c - 48)) 65535
+    then Some (n * 10 + (c - 48)) else None
 
 -- a decimal number of at most 65,535: digits without a leading zero, but for `0` itself
 abbrev pub number_of : List ℕ → Option ℕ
-number_of digits = if length digits == 0 || (nat_lt 1 (length digits) && slice_index digits 0 == 48) then None else fold with_digit (Some 0) digits
+number_of digits =
+    if length digits == 0 || (nat_lt 1 (length digits) && slice_index digits 0 == 48) then None
+    else fold with_digit (Some 0) digits
 
 -- bytes, as upper-case digits in pairs, at least one
 abbrev pub are_upper_digits : List ℕ → Bool
@@ -33,7 +41,8 @@ number_of_pair bytes = None
 
 -- what follows the word, where the line begins with it
 abbrev pub behind : List ℕ → List ℕ → Option (List ℕ)
-behind word line = if bytes_eq (take (length word) line) word then Some (drop (length word) line) else None
+behind word line =
+    if bytes_eq (take (length word) line) word then Some (drop (length word) line) else None
 
 -- a page: its number, a space, its bytes
 abbrev pub page_of_fields : Option ℕ → Option (List ℕ) → Option Entry
@@ -50,11 +59,13 @@ page_of rest = page_at rest (position (λ b. b == 32) rest)
 
 -- the device of a journal of this version: its id has four digits
 abbrev pub header_of : ℕ → List ℕ → Option Entry
-header_of version rest = option_map (λ id. Names version id) (option_and_then number_of_pair (hex_bytes_of rest))
+header_of version rest =
+    option_map (λ id. Names version id) (option_and_then number_of_pair (hex_bytes_of rest))
 
 -- what follows one of these words, and else what the other reading says
 abbrev pub worded : List ℕ → (List ℕ → Option Entry) → List ℕ → Option Entry → Option Entry
-worded word said line other = elim (behind word line) as (λ _. Option Entry) [ None ↦ other | Some rest ↦ said rest ]
+worded word said line other =
+    elim (behind word line) as (λ _. Option Entry) [ None ↦ other | Some rest ↦ said rest ]
 
 abbrev pub numbered_entry_of : List ℕ → Option Entry
 numbered_entry_of line =
@@ -68,7 +79,8 @@ numbered_entry_of line =
 abbrev pub entry_of : List ℕ → Option Entry
 entry_of line =
     worded (codes "page ") page_of line
-    (worded (codes "stmjournal 1 ") (header_of 1) line (worded (codes "stmjournal 2 ") (header_of 2) line (numbered_entry_of line)))
+    (worded (codes "stmjournal 1 ") (header_of 1) line
+    (worded (codes "stmjournal 2 ") (header_of 2) line (numbered_entry_of line)))
 
 -- what a header of version 1 or 2 begins with
 abbrev pub header_word : ℕ → List ℕ

@@ -14,7 +14,10 @@ begun = codes "stmjournal 1 0412" ++ LF ++ codes "open 1" ++ LF
 empty : journal_of [] ≡ good (record { header = None; stack = [] })
 empty = refl
 
-void_first : journal_of (codes "x!" ++ LF ++ begun) ≡ good (record { header = Some (record { version = 1; id = 0x412; line = 2 }); stack = record { pages = []; stage = Open None } ∷ [] })
+void_first : journal_of (codes "x!" ++ LF ++ begun) ≡ good (record {
+  header = Some (record { version = 1; id = 0x412; line = 2 });
+  stack = record { pages = []; stage = Open None } ∷ [];
+})
 unfolding hex_on_literals
 void_first = refl
 
@@ -46,11 +49,18 @@ abbrev taken_back : List ℕ
 taken_back = begun ++ codes "page 0 00" ++ LF ++ codes "end 1" ++ LF ++ codes "erase 0" ++ LF
 
 returning : journal_of taken_back
-    ≡ good (record { header = Some (record { version = 1; id = 0x412; line = 1 }); stack = record { pages = record { page = 0; bytes = 0 ∷ []; line = 3; at = 32 } ∷ []; stage = Returning (Erase 0) } ∷ [] })
+    ≡ good (record {
+      header = Some (record { version = 1; id = 0x412; line = 1 });
+      stack = record {
+        pages = record { page = 0; bytes = 0 ∷ []; line = 3; at = 32 } ∷ [];
+        stage = Returning (Erase 0);
+      } ∷ [];
+    })
 unfolding hex_on_literals
 returning = refl
 
-undone : journal_of (taken_back ++ codes "undone 1" ++ LF) ≡ good (record { header = Some (record { version = 1; id = 0x412; line = 1 }); stack = [] })
+undone : journal_of (taken_back ++ codes "undone 1" ++ LF)
+    ≡ good (record { header = Some (record { version = 1; id = 0x412; line = 1 }); stack = [] })
 unfolding hex_on_literals
 undone = refl
 
@@ -58,11 +68,15 @@ wrong_depth : journal_of (codes "stmjournal 1 0412" ++ LF ++ codes "open 2" ++ L
 unfolding hex_on_literals
 wrong_depth = refl
 
-torn : journal_of (begun ++ codes "page 0 FFFF") ≡ good (record { header = Some (record { version = 1; id = 0x412; line = 1 }); stack = record { pages = []; stage = Open None } ∷ [] })
+torn : journal_of (begun ++ codes "page 0 FFFF") ≡ good (record {
+  header = Some (record { version = 1; id = 0x412; line = 1 });
+  stack = record { pages = []; stage = Open None } ∷ [];
+})
 unfolding hex_on_literals
 torn = refl
 
-version_two : journal_of (codes "stmjournal 2 0412" ++ LF) ≡ good (record { header = Some (record { version = 2; id = 0x412; line = 1 }); stack = [] })
+version_two : journal_of (codes "stmjournal 2 0412" ++ LF)
+    ≡ good (record { header = Some (record { version = 2; id = 0x412; line = 1 }); stack = [] })
 unfolding hex_on_literals
 version_two = refl
 

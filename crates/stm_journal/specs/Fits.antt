@@ -20,4 +20,5 @@ AllFit chip (segment ∷ below) = AllKeptFit chip segment.pages × AllFit chip b
 -- each of these pages of the flash is what is kept
 abbrev pub AllHeld : ChipData → List Kept → List ℕ → Type 0
 AllHeld chip [] flash = Unit {0}
-AllHeld chip (kept ∷ pages) flash = (page_of chip flash kept.page ≡ kept.bytes) × AllHeld chip pages flash
+AllHeld chip (kept ∷ pages) flash =
+    (page_of chip flash kept.page ≡ kept.bytes) × AllHeld chip pages flash

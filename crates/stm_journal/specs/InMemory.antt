@@ -2,7 +2,8 @@
 use Rattle.std.specs.Prelude.{ℕ, List, length, map}
 use Rattle.stm_journal.specs.declared.kept.Kept.{Kept}
 use Rattle.stm_journal.specs.declared.entry.Entry.{Entry}
-use Rattle.stm_journal.specs.declared.entry.Entry.TheVariants.{Names, Opens, Keeps, Erases, Programs, Ends, Undoes}
+use Rattle.stm_journal.specs.declared.entry.Entry.TheVariants.{Names, Opens, Keeps, Erases}
+use Rattle.stm_journal.specs.declared.entry.Entry.TheVariants.{Programs, Ends, Undoes}
 use Rattle.stm_journal.specs.States.{StateData, SegmentData}
 use Rattle.stm_journal.specs.Blank.{blank}
 

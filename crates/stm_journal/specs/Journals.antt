@@ -1,9 +1,13 @@
 -- What a journal's bytes come to, and how a journal in memory is tied to them.
-use Rattle.std.specs.Prelude.{◌≡◌, ◌⊎◌, ℕ, ◌+◌, ◌-◌, ◌^◌, ◌<◌, ◌≤◌, min, Bool, true, false, nat_lt, if◌then◌else◌, List, [], ◌∷◌, ◌++◌, length, fold, flat_map, Option, Some, None, is_none}
+use Rattle.std.specs.Prelude.{◌≡◌, ◌⊎◌, ℕ, ◌+◌, ◌-◌, ◌^◌, ◌<◌, ◌≤◌, min, Bool, true, false, nat_lt}
+use Rattle.std.specs.Prelude.{if◌then◌else◌, List, [], ◌∷◌, ◌++◌, length, fold, flat_map, Option}
+use Rattle.std.specs.Prelude.{Some, None, is_none}
 use Rattle.stm_journal.specs.declared.entry.Entry.{Entry}
-use Rattle.stm_journal.specs.declared.entry.Entry.TheVariants.{Names, Opens, Keeps, Erases, Programs, Ends, Undoes}
+use Rattle.stm_journal.specs.declared.entry.Entry.TheVariants.{Names, Opens, Keeps, Erases}
+use Rattle.stm_journal.specs.declared.entry.Entry.TheVariants.{Programs, Ends, Undoes}
 use Rattle.stm_journal.specs.declared.fault.JournalFault.{JournalFault}
-use Rattle.stm_journal.specs.declared.fault.JournalFault.TheVariants.{File, Bad, OtherDevice, Memory}
+use Rattle.stm_journal.specs.declared.fault.JournalFault.TheVariants.{File, Bad, OtherDevice}
+use Rattle.stm_journal.specs.declared.fault.JournalFault.TheVariants.{Memory}
 use Rattle.hex.specs.Hex.{IsBytes}
 use Rattle.stm_journal.specs.Text.{text_of, is_void}
 use Rattle.stm_journal.specs.Entries.{entry_of, line_of, line_text}
@@ -19,10 +23,12 @@ abbrev pub after_said : ℕ → ℕ → StateData → Option Entry → JournalDa
 after_said line ends s None = bad line
 after_said line ends s (Some e) = if allows s e then good (after_entry line ends s e) else bad line
 
--- a void line counts as nothing; any other has to say something that is allowed there; the first bad line decides
+-- a void line counts as nothing; any other has to say something that is allowed there;
+-- the first bad line decides
 abbrev pub after_line : ℕ → ℕ → JournalData → List ℕ → JournalData
 after_line line ends (bad first) text = bad first
-after_line line ends (good s) text = if is_void text then good s else after_said line ends s (entry_of text)
+after_line line ends (good s) text =
+    if is_void text then good s else after_said line ends s (entry_of text)
 
 -- what the lines so far come to, how many they are, and how many bytes they have with their LFs
 pub record Reading : Type 0 where
@@ -31,7 +37,11 @@ pub record Reading : Type 0 where
   pub journal : JournalData
 
 abbrev pub read_line : Reading → List ℕ → Reading
-read_line r text = record { lines = r.lines + 1; size = r.size + length text + 1; journal = after_line (r.lines + 1) (r.size + length text) r.journal text }
+read_line r text = record {
+  lines = r.lines + 1;
+  size = r.size + length text + 1;
+  journal = after_line (r.lines + 1) (r.size + length text) r.journal text;
+}
 
 abbrev pub start : Reading
 start = record { lines = 0; size = 0; journal = good empty_state }
@@ -43,16 +53,16 @@ reading_of lines = fold read_line start lines
 abbrev pub journal_of : List ℕ → JournalData
 journal_of bytes = (reading_of (text_of bytes).lines).journal
 
--- a journal in memory: its state, with zeros for the bytes of pages, how many whole lines and how many bytes it has, and
--- whether a torn tail stands
+-- a journal in memory: its state, with zeros for the bytes of pages, how many whole lines and how
+-- many bytes it has, and whether a torn tail stands
 pub record Loaded : Type 0 where
   pub state : StateData
   pub lines : ℕ
   pub size : ℕ
   pub is_torn : Bool
 
--- The tie between a journal in memory and a journal's bytes: these come to a state, which stands in memory without the
--- bytes of its pages, and with their places.
+-- The tie between a journal in memory and a journal's bytes: these come to a state, which stands in
+-- memory without the bytes of its pages, and with their places.
 pub record IsLoaded (l : Loaded) (bytes : List ℕ) : Type 0 where
   pub text : StateData
   pub means : journal_of bytes ≡ good text
@@ -74,12 +84,19 @@ abbrev pub added_bytes : Bool → List Entry → List ℕ
 added_bytes torn entries = mark torn ++ flat_map line_text entries
 
 abbrev pub past_mark : Loaded → Loaded
-past_mark l = if l.is_torn then record { state = l.state; lines = capped (l.lines + 1); size = capped (l.size + 2); is_torn = false } else l
+past_mark l = if l.is_torn then record {
+  state = l.state;
+  lines = capped (l.lines + 1);
+  size = capped (l.size + 2);
+  is_torn = false;
+} else l
 
 abbrev pub past_entry : Loaded → Entry → Loaded
 past_entry l e =
     record {
-      state = after_entry (capped (l.lines + 1)) (capped (l.size + length (line_of e))) l.state (forget_entry e);
+      state =
+          after_entry (capped (l.lines + 1)) (capped (l.size + length (line_of e))) l.state
+          (forget_entry e);
       lines = capped (l.lines + 1);
       size = capped (l.size + (length (line_of e) + 1));
       is_torn = false;
@@ -91,13 +108,16 @@ loaded_after entries l = fold past_entry (past_mark l) entries
 
 -- what begins a segment: its line, and before it a header of version 2 where there is none
 abbrev pub begin_entries : ℕ → StateData → List Entry
-begin_entries id s = if is_none s.header then Names 2 id ∷ Opens (length s.stack + 1) ∷ [] else Opens (length s.stack + 1) ∷ []
+begin_entries id s =
+    if is_none s.header then Names 2 id ∷ Opens (length s.stack + 1) ∷ []
+    else Opens (length s.stack + 1) ∷ []
 
 -- a journal in memory of no lines
 abbrev pub empty_loaded : Loaded
 empty_loaded = record { state = empty_state; lines = 0; size = 0; is_torn = false }
 
--- an entry whose line reads back: a header is of version 1 or 2, numbers are at most 65,535, bytes are bytes, a page has some
+-- an entry whose line reads back: a header is of version 1 or 2, numbers are at most 65,535, bytes
+-- are bytes, a page has some
 abbrev pub IsPrintable : Entry → Type 0
 IsPrintable (Names version id) = ((version ≡ 1) ⊎ (version ≡ 2)) × (id ≤ 65535)
 IsPrintable (Opens k) = k ≤ 65535
@@ -107,7 +127,8 @@ IsPrintable (Programs n) = n ≤ 65535
 IsPrintable (Ends k) = k ≤ 65535
 IsPrintable (Undoes k) = k ≤ 65535
 
--- without memory a journal in memory is as it was; of a fault of the file nothing is said, and there is no other
+-- without memory a journal in memory is as it was; of a fault of the file nothing is
+-- said, and there is no other
 abbrev pub LeavesLoaded : Loaded → Loaded → JournalFault → Type 0
 LeavesLoaded l l2 File = Unit {0}
 LeavesLoaded l l2 (Bad line) = ⊥

@@ -1,5 +1,6 @@
 -- The pages that segments keep, one by one, and where their digits stand.
-use Rattle.std.specs.Prelude.{◌≡◌, ℕ, ◌==◌, sum_by, length, Option, Some, option_map, option_and_then, slice_get}
+use Rattle.std.specs.Prelude.{◌≡◌, ℕ, ◌==◌, sum_by, length, Option, Some, option_map}
+use Rattle.std.specs.Prelude.{option_and_then, slice_get}
 use Rattle.std.specs.List.{find}
 use Rattle.std.specs.Option.{option_map_or}
 use Rattle.stm_journal.specs.declared.kept.Kept.{Kept}
@@ -12,7 +13,8 @@ kept_entry s k i = option_and_then (λ segment. slice_get segment.pages i) (segm
 
 -- what segment k keeps of page n
 abbrev pub page_entry : StateData → ℕ → ℕ → Option Kept
-page_entry s k n = option_and_then (λ segment. find (λ kept. kept.page == n) segment.pages) (segment_of s k)
+page_entry s k n =
+    option_and_then (λ segment. find (λ kept. kept.page == n) segment.pages) (segment_of s k)
 
 -- where its digits stand, how many bytes they say, and the number of its line
 abbrev pub place_of : Kept → PagePlace

@@ -1,10 +1,12 @@
 -- Loading a journal: what of its bytes was read.
-use Rattle.std.specs.Prelude.{◌≡◌, ℕ, ◌+◌, ◌<◌, ◌≤◌, List, ◌++◌, length, take, drop, Result, Ok, Err, OnOk, IfOk, OnErr}
+use Rattle.std.specs.Prelude.{◌≡◌, ℕ, ◌+◌, ◌<◌, ◌≤◌, List, ◌++◌, length, take, drop, Result, Ok}
+use Rattle.std.specs.Prelude.{Err, OnOk, IfOk, OnErr}
 use Rattle.stm_wire.specs.Rig.{RigState}
 use Rattle.stm_wire.specs.Device.{LosesOwed}
 use Rattle.stm_wire.specs.Moments.{LeavesOnly}
 use Rattle.stm_journal.specs.declared.fault.JournalFault.{JournalFault}
-use Rattle.stm_journal.specs.declared.fault.JournalFault.TheVariants.{File, Bad, OtherDevice, Memory}
+use Rattle.stm_journal.specs.declared.fault.JournalFault.TheVariants.{File, Bad, OtherDevice}
+use Rattle.stm_journal.specs.declared.fault.JournalFault.TheVariants.{Memory}
 use Rattle.stm_journal.specs.Text.{text_of}
 use Rattle.stm_journal.specs.Journals.{Loaded, capped, journal_of, good, bad}
 use Rattle.stm_journal.specs.States.{StateData}
@@ -22,7 +24,8 @@ pub record PassesLine (y : Summary) (old new : Loaded) : Type 0 where
 
 abbrev pub BadLine : Summary → Loaded → JournalFault → Type 0
 BadLine y old File = ⊥
-BadLine y old (Bad line) = after_summary (capped (old.lines + 1)) old.size (good old.state) y ≡ bad line
+BadLine y old (Bad line) =
+    after_summary (capped (old.lines + 1)) old.size (good old.state) y ≡ bad line
 BadLine y old OtherDevice = ⊥
 BadLine y old Memory = Unit {0}
 
@@ -49,12 +52,14 @@ IsLoadFault OtherDevice = ⊥
 IsLoadFault Memory = Unit {0}
 
 -- the bytes that were read, and these after them
-abbrev pub TakesBytes : {T : Type 0} → List ℕ → List ℕ → Loaded → Summary → Result T JournalFault → Type 0
+abbrev pub TakesBytes : {T : Type 0} → List ℕ → List ℕ → Loaded → Summary
+    → Result T JournalFault → Type 0
 TakesBytes more bytes l y (Ok x) = IsRead l y (bytes ++ more)
 TakesBytes more bytes l y (Err e) = StopsAt (bytes ++ more) e
 
 -- a fetch of an honest Rig's journal
-pub record Fetches (at : ℕ) (before after : List ℕ) (old new : RigState) (result : Result ℕ JournalFault) : Type 0 where
+pub record Fetches (at : ℕ) (before after : List ℕ) (old new : RigState)
+    (result : Result ℕ JournalFault) : Type 0 where
   pub honest : new.is_honest
   pub moments : LeavesOnly (IsUntouched old) old new
   pub journal : new.journal ≡ old.journal

@@ -1,9 +1,12 @@
 -- The newest segment as each call leaves it: what a caller has to know to make the next call.
-use Rattle.std.specs.Prelude.{◌≡◌, ◌≢◌, ℕ, ◌+◌, max, true, false, List, [], ◌∷◌, ◌++◌, length, map, fold, drop, Some, None, option_map, IsTrue}
+use Rattle.std.specs.Prelude.{◌≡◌, ◌≢◌, ℕ, ◌+◌, max, true, false, List, [], ◌∷◌, ◌++◌, length, map}
+use Rattle.std.specs.Prelude.{fold, drop, Some, None, option_map, IsTrue}
 use Rattle.stm_wire.specs.Chip.{ChipData}
 use Rattle.stm_wire.specs.declared.intent.Intent.{Intent}
 use Rattle.stm_journal.specs.declared.kept.Kept.{Kept}
-use Rattle.stm_journal.specs.States.{StateData, SegmentData, newest_is_open, newest_keeps, newest_may_keep, is_unfinished, intent_of, kept_at, page_bytes, on_newest, keeping, fresh_segment}
+use Rattle.stm_journal.specs.States.{StateData, SegmentData, newest_is_open, newest_keeps}
+use Rattle.stm_journal.specs.States.{newest_may_keep, is_unfinished, intent_of, kept_at, page_bytes}
+use Rattle.stm_journal.specs.States.{on_newest, keeping, fresh_segment}
 use Rattle.stm_journal.specs.KeptPlaces.{kept_entry, kept_count}
 use Rattle.stm_journal.specs.Flashes.{flashes_before_segments}
 
@@ -23,7 +26,8 @@ next_page s = fold (λ next n. max next (n + 1)) 0 (newest_pages s)
 abbrev pub pages_of_segments : List SegmentData → List (List Kept)
 pages_of_segments stack = map (λ segment. segment.pages) stack
 
--- The same header and as many segments, which keep what they kept: at most the stage of the newest is another.
+-- The same header and as many segments, which keep what they kept: at most the stage
+-- of the newest is another.
 pub record KeepsSame (old new : StateData) : Type 0 where
   pub header : new.header ≡ old.header
   pub depth : length new.stack ≡ length old.stack
@@ -36,7 +40,8 @@ pub record KeepsSame (old new : StateData) : Type 0 where
   pub keeps : (n : ℕ) → newest_keeps n new ≡ newest_keeps n old
   pub kept : (k i : ℕ) → kept_at new k i ≡ kept_at old k i
   pub bytes : (k n : ℕ) → page_bytes new k n ≡ page_bytes old k n
-  pub flashes : (chip : ChipData) (flash : List ℕ) → flashes_before_segments chip new.stack flash ≡ flashes_before_segments chip old.stack flash
+  pub flashes : (chip : ChipData) (flash : List ℕ)
+      → flashes_before_segments chip new.stack flash ≡ flashes_before_segments chip old.stack flash
 
 -- A segment has begun above the others, for the device with this id.
 pub record HasBegun (id : ℕ) (old new : StateData) : Type 0 where
@@ -49,7 +54,8 @@ pub record HasBegun (id : ℕ) (old new : StateData) : Type 0 where
   pub intent : intent_of new ≡ None
   pub unfinished : is_unfinished new ≡ true
 
--- The newest segment, which is open, has page n with these bytes, the pages that it had, and no others.
+-- The newest segment, which is open, has page n with these bytes, the pages
+-- that it had, and no others.
 pub record HasKept (n : ℕ) (bytes : List ℕ) (old new : StateData) : Type 0 where
   pub header : new.header ≡ old.header
   pub depth : length new.stack ≡ length old.stack
@@ -66,8 +72,8 @@ pub record HasKept (n : ℕ) (bytes : List ℕ) (old new : StateData) : Type 0 w
   pub found : page_bytes new (length new.stack) n ≡ Some bytes
   pub intent : intent_of new ≡ intent_of old
 
--- The newest segment has this intent, which is on page n, and keeps what it kept, that page too. It is open if it was, and
--- otherwise it is being taken back.
+-- The newest segment has this intent, which is on page n, and keeps what it kept, that page too. It
+-- is open if it was, and otherwise it is being taken back.
 pub record HasIntended (n : ℕ) (intent : Intent) (old new : StateData) : Type 0 where
   pub same : KeepsSame old new
   pub is_open : newest_is_open new ≡ newest_is_open old

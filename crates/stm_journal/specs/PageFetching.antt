@@ -1,5 +1,6 @@
 -- Reading the digits of a page from an honest Rig's journal.
-use Rattle.std.specs.Prelude.{◌≡◌, ℕ, ◌+◌, ◌*◌, ◌≤◌, Bool, true, List, ◌++◌, length, Option, Some, None, Result, Ok, Err}
+use Rattle.std.specs.Prelude.{◌≡◌, ℕ, ◌+◌, ◌*◌, ◌≤◌, Bool, true, List, ◌++◌, length, Option, Some}
+use Rattle.std.specs.Prelude.{None, Result, Ok, Err}
 use Rattle.std.specs.List.{list_all}
 use Rattle.hex.specs.Hex.{decode_sized}
 use Rattle.stm_wire.specs.Rig.{RigState}
@@ -32,11 +33,13 @@ pub record LooksInVain (old new : RigState) : Type 0 where
 
 -- the buffer is filled from a place on
 abbrev pub FillsFrom : ℕ → List ℕ → List ℕ → RigState → RigState → Result Bool JournalFault → Type 0
-FillsFrom at before after old new (Ok full) = Looks old new × (full ≡ true) × (after ≡ cut at (length before) old.journal)
+FillsFrom at before after old new (Ok full) =
+    Looks old new × (full ≡ true) × (after ≡ cut at (length before) old.journal)
 FillsFrom at before after old new (Err e) = (e ≡ File) × LooksInVain old new
 
 -- these bytes are read
-abbrev pub FetchesBytes : List ℕ → List ℕ → RigState → RigState → Result (Unit {0}) JournalFault → Type 0
+abbrev pub FetchesBytes : List ℕ → List ℕ → RigState → RigState
+    → Result (Unit {0}) JournalFault → Type 0
 FetchesBytes bytes after old new (Ok x) = Looks old new × (after ≡ bytes)
 FetchesBytes bytes after old new (Err e) = (e ≡ File) × LooksInVain old new
 

@@ -1,5 +1,8 @@
 -- The segments of a journal and what an entry makes of them.
-use Rattle.std.specs.Prelude.{◌≡◌, ℕ, ◌+◌, ◌-◌, ◌*◌, ◌<◌, ◌≤◌, Bool, true, false, not, ◌&&◌, ◌==◌, nat_lt, nat_le, if◌then◌else◌, List, [], ◌∷◌, ◌++◌, length, drop, reverse, Option, Some, None, option_map, option_and_then, is_none, is_some, IsSome, slice_get}
+use Rattle.std.specs.Prelude.{◌≡◌, ℕ, ◌+◌, ◌-◌, ◌*◌, ◌<◌, ◌≤◌, Bool, true, false, not, ◌&&◌, ◌==◌}
+use Rattle.std.specs.Prelude.{nat_lt, nat_le, if◌then◌else◌, List, [], ◌∷◌, ◌++◌, length, drop}
+use Rattle.std.specs.Prelude.{reverse, Option, Some, None, option_map, option_and_then, is_none}
+use Rattle.std.specs.Prelude.{is_some, IsSome, slice_get}
 use Rattle.std.specs.List.{list_any, find}
 use Rattle.stm_wire.specs.declared.intent.Intent.{Intent}
 use Rattle.stm_wire.specs.declared.intent.Intent.TheVariants.{Erase, Program}
@@ -8,7 +11,8 @@ use Rattle.stm_journal.specs.declared.stage.Stage.TheVariants.{Open, Ended, Retu
 use Rattle.stm_journal.specs.declared.kept.Kept.{Kept}
 use Rattle.stm_journal.specs.declared.header.JournalHeader.{JournalHeader}
 use Rattle.stm_journal.specs.declared.entry.Entry.{Entry}
-use Rattle.stm_journal.specs.declared.entry.Entry.TheVariants.{Names, Opens, Keeps, Erases, Programs, Ends, Undoes}
+use Rattle.stm_journal.specs.declared.entry.Entry.TheVariants.{Names, Opens, Keeps, Erases}
+use Rattle.stm_journal.specs.declared.entry.Entry.TheVariants.{Programs, Ends, Undoes}
 
 -- one Write or Erase: the pages that it keeps, in the order of their lines
 pub record SegmentData : Type 0 where
@@ -102,7 +106,8 @@ allows s (Undoes k) = is_some s.header && nat_lt 0 (length s.stack) && (k == len
 
 -- the header names another device
 abbrev pub names_other : ℕ → StateData → Bool
-names_other id s = elim s.header as (λ _. Bool) [ None ↦ false | Some header ↦ not (header.id == id) ]
+names_other id s =
+    elim s.header as (λ _. Bool) [ None ↦ false | Some header ↦ not (header.id == id) ]
 
 abbrev pub on_newest : (SegmentData → SegmentData) → List SegmentData → List SegmentData
 on_newest change [] = []
@@ -111,9 +116,11 @@ on_newest change (segment ∷ below) = change segment ∷ below
 abbrev pub fresh_segment : SegmentData
 fresh_segment = record { pages = []; stage = Open None }
 
--- a page as it is kept: its bytes are the last field of its line, two digits a byte, so the first digit stands that far before its LF
+-- a page as it is kept: its bytes are the last field of its line, two digits a byte, so the first
+-- digit stands that far before its LF
 abbrev pub kept_in : ℕ → ℕ → ℕ → List ℕ → Kept
-kept_in line ends n bytes = record { page = n; bytes = bytes; line = line; at = ends - 2 * length bytes }
+kept_in line ends n bytes =
+    record { page = n; bytes = bytes; line = line; at = ends - 2 * length bytes }
 
 abbrev pub keeping : Kept → SegmentData → SegmentData
 keeping kept segment = record segment { pages = segment.pages ++ kept ∷ [] }
@@ -124,27 +131,36 @@ intending i segment = record segment { stage = stage_with i segment.stage }
 abbrev pub ending : SegmentData → SegmentData
 ending segment = record segment { stage = Ended }
 
--- what an entry makes of the state, where it is allowed; it stands in the line with this number, whose LF is at this place
+-- what an entry makes of the state, where it is allowed; it stands in the line with this number,
+-- whose LF is at this place
 abbrev pub after_entry : ℕ → ℕ → StateData → Entry → StateData
-after_entry line ends s (Names version id) = record s { header = Some (record { version = version; id = id; line = line }) }
+after_entry line ends s (Names version id) =
+    record s { header = Some (record { version = version; id = id; line = line }) }
 after_entry line ends s (Opens k) = record s { stack = fresh_segment ∷ s.stack }
-after_entry line ends s (Keeps n bytes) = record s { stack = on_newest (keeping (kept_in line ends n bytes)) s.stack }
+after_entry line ends s (Keeps n bytes) =
+    record s { stack = on_newest (keeping (kept_in line ends n bytes)) s.stack }
 after_entry line ends s (Erases n) = record s { stack = on_newest (intending (Erase n)) s.stack }
-after_entry line ends s (Programs n) = record s { stack = on_newest (intending (Program n)) s.stack }
+after_entry line ends s (Programs n) =
+    record s { stack = on_newest (intending (Program n)) s.stack }
 after_entry line ends s (Ends k) = record s { stack = on_newest ending s.stack }
 after_entry line ends s (Undoes k) = record s { stack = drop 1 s.stack }
 
 -- segment k, counted from the oldest, which is 1
 abbrev pub segment_of : StateData → ℕ → Option SegmentData
-segment_of s k = if nat_le 1 k && nat_le k (length s.stack) then slice_get s.stack (length s.stack - k) else None
+segment_of s k =
+    if nat_le 1 k && nat_le k (length s.stack) then slice_get s.stack (length s.stack - k) else None
 
 -- the bytes that segment k keeps of page n
 abbrev pub page_bytes : StateData → ℕ → ℕ → Option (List ℕ)
-page_bytes s k n = option_map (λ kept. kept.bytes) (option_and_then (λ segment. find (λ kept. kept.page == n) segment.pages) (segment_of s k))
+page_bytes s k n =
+    option_map (λ kept. kept.bytes)
+    (option_and_then (λ segment. find (λ kept. kept.page == n) segment.pages) (segment_of s k))
 
 -- the page and the line number of the i-th page line of segment k, from 0
 abbrev pub kept_at : StateData → ℕ → ℕ → Option (ℕ × ℕ)
-kept_at s k i = option_map (λ kept. (kept.page, kept.line)) (option_and_then (λ segment. slice_get segment.pages i) (segment_of s k))
+kept_at s k i =
+    option_map (λ kept. (kept.page, kept.line))
+    (option_and_then (λ segment. slice_get segment.pages i) (segment_of s k))
 
 -- no page of these is n
 abbrev pub LacksPage : ℕ → List Kept → Type 0

@@ -1,6 +1,8 @@
--- What decides a line when it ends, without the line: its first bytes, how many it has, whether all behind the first are
--- upper-case digits, and its last byte.
-use Rattle.std.specs.Prelude.{◌≡◌, ℕ, ◌+◌, ◌-◌, ◌/◌, ◌%◌, Bool, ◌&&◌, ◌==◌, nat_le, if◌then◌else◌, List, ◌∷◌, ◌++◌, length, take, drop, get_or, codes, Option, Some, None, option_map, position}
+-- What decides a line when it ends, without the line: its first bytes, how many it has, whether all
+-- behind the first are upper-case digits, and its last byte.
+use Rattle.std.specs.Prelude.{◌≡◌, ℕ, ◌+◌, ◌-◌, ◌/◌, ◌%◌, Bool, ◌&&◌, ◌==◌, nat_le, if◌then◌else◌}
+use Rattle.std.specs.Prelude.{List, ◌∷◌, ◌++◌, length, take, drop, get_or, codes, Option, Some}
+use Rattle.std.specs.Prelude.{None, option_map, position}
 use Rattle.std.specs.List.{list_all}
 use Rattle.stm_journal.specs.declared.entry.Entry.{Entry}
 use Rattle.stm_journal.specs.declared.entry.Entry.TheVariants.{Keeps}
@@ -17,7 +19,12 @@ pub record Summary : Type 0 where
   pub last : ℕ
 
 abbrev pub summary_of : List ℕ → Summary
-summary_of line = record { prefix = take 17 line; size = length line; is_upper = list_all is_upper_digit (drop 17 line); last = get_or line (length line - 1) 0 }
+summary_of line = record {
+  prefix = take 17 line;
+  size = length line;
+  is_upper = list_all is_upper_digit (drop 17 line);
+  last = get_or line (length line - 1) 0;
+}
 
 -- the summary after bytes more, which are some
 abbrev pub extended : List ℕ → Summary → Summary
@@ -37,10 +44,14 @@ page_with (Some n) digits = if digits % 2 == 0 then Some (Keeps n (blank (digits
 -- a page whose line goes on behind these bytes, with so many upper-case digits
 abbrev pub long_at : List ℕ → ℕ → Option ℕ → Option Entry
 long_at rest more None = None
-long_at rest more (Some i) = if list_all is_upper_digit (drop (i + 1) rest) then page_with (number_of (take i rest)) (length (drop (i + 1) rest) + more) else None
+long_at rest more (Some i) =
+    if list_all is_upper_digit (drop (i + 1) rest)
+    then page_with (number_of (take i rest)) (length (drop (i + 1) rest) + more) else None
 
 abbrev pub long_page : List ℕ → ℕ → Option Entry
-long_page prefix more = elim (behind (codes "page ") prefix) as (λ _. Option Entry) [ None ↦ None | Some rest ↦ long_at rest more (position (λ b. b == 32) rest) ]
+long_page prefix more =
+    elim (behind (codes "page ") prefix) as (λ _.
+    Option Entry) [ None ↦ None | Some rest ↦ long_at rest more (position (λ b. b == 32) rest) ]
 
 -- whether the line is void, and what it says, of a page how many bytes
 abbrev pub void_by : Summary → Bool
@@ -53,8 +64,10 @@ said_by s =
 
 -- the summary decides the line
 abbrev pub SummaryDecides : Type 0
-SummaryDecides = (line : List ℕ) → (is_void line ≡ void_by (summary_of line)) × (option_map forget_entry (entry_of line) ≡ said_by (summary_of line))
+SummaryDecides = (line : List ℕ) → (is_void line ≡ void_by (summary_of line))
+    × (option_map forget_entry (entry_of line) ≡ said_by (summary_of line))
 
 -- the summary of a line that goes on needs nothing but that of its beginning
 abbrev pub SummaryGoesOn : Type 0
-SummaryGoesOn = (line : List ℕ) (b : ℕ) (more : List ℕ) → summary_of (line ++ b ∷ more) ≡ extended (b ∷ more) (summary_of line)
+SummaryGoesOn = (line : List ℕ) (b : ℕ) (more : List ℕ)
+    → summary_of (line ++ b ∷ more) ≡ extended (b ∷ more) (summary_of line)

@@ -9,11 +9,16 @@ pub record Text : Type 0 where
 
 -- one byte more in front, which is no LF
 abbrev pub in_front : ℕ → Text → Text
-in_front b t = elim t.lines as (λ _. Text) [ [] ↦ record { lines = []; tail = b ∷ t.tail } | l ∷ ls ↦ record { lines = (b ∷ l) ∷ ls; tail = t.tail } ]
+in_front b t = elim t.lines as (λ _. Text) [
+  | [] ↦ record { lines = []; tail = b ∷ t.tail }
+  | l ∷ ls ↦ record { lines = (b ∷ l) ∷ ls; tail = t.tail }
+]
 
 abbrev pub text_of : List ℕ → Text
 text_of [] = record { lines = []; tail = [] }
-text_of (b ∷ bs) = if b == 10 then record { lines = [] ∷ (text_of bs).lines; tail = (text_of bs).tail } else in_front b (text_of bs)
+text_of (b ∷ bs) =
+    if b == 10 then record { lines = [] ∷ (text_of bs).lines; tail = (text_of bs).tail }
+    else in_front b (text_of bs)
 
 -- a line that ends with `!` counts as nothing
 abbrev pub is_void : List ℕ → Bool

@@ -8,10 +8,12 @@ use thiserror::Error;
 /// Why a call of a journal was not done.
 #[derive(Clone, Copy, Debug, PartialEq, Eq, Error)]
 pub enum JournalFault {
-    /// A call of the Rig failed, and its count of journal failures rose. The journal has to be loaded again.
+    /// A call of the Rig failed, and its count of journal failures rose. The
+    /// journal has to be loaded again.
     #[error("journal failed")]
     File,
-    /// This whole line is not a line of the format, or is not allowed in its place; it is the first such line.
+    /// This whole line is not a line of the format, or is not allowed in its place;
+    /// it is the first such line.
     #[error("bad journal line {0}")]
     Bad(u64),
     /// The header names another device.

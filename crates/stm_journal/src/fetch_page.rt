@@ -1,5 +1,6 @@
 // The bytes of a kept page, read from the journal.
-ghost use Rattle.std.specs.Prelude.{◌≡◌, ◌+◌, ◌*◌, ◌<◌, ◌≤◌, true, length, take, drop, List, ℕ, Ok, Some, IfOk, IfErr, OnOk};
+ghost use Rattle.std.specs.Prelude.{◌≡◌, ◌+◌, ◌*◌, ◌<◌, ◌≤◌, true, length, take, drop, List, ℕ, Ok};
+ghost use Rattle.std.specs.Prelude.{Some, IfOk, IfErr, OnOk};
 ghost use Rattle.std.specs.List.{list_all};
 ghost use Rattle.hex.specs.Hex.{decode_sized, encode_upper};
 ghost use Rattle.stm_wire.specs.Dialogue.{GoesOn};
@@ -18,8 +19,8 @@ use stm_wire::Rig;
 /// How many bytes are read at once, two digits each.
 const PIECE: usize = 256;
 
-/// Reads bytes of the journal until the buffer is full, and answers whether it is. A fetch may bring fewer bytes than
-/// asked for, one at the least, and none only where the journal ends.
+/// Reads bytes of the journal until the buffer is full, and answers whether it is. A fetch may
+/// bring fewer bytes than asked for, one at the least, and none only where the journal ends.
 fn fill<R: Rig>(rig: &mut R, at: u64, buf: &mut [u8]) -> Result<bool, JournalFault>
     ensures answers { IfErr result (λ e. e ≡ JournalFault.File) }
     ensures cause { HasJournalCause (R.view rig.old) (R.view rig.new) result }
@@ -97,12 +98,14 @@ fn fetch_digits<R: Rig>(rig: &mut R, place: PagePlace, buf: &mut [u8]) -> Result
 }
 
 impl Journal {
-    /// Reads the bytes of a kept page, whose place came from `page` or `kept_place`, into a buffer of its length.
+    /// Reads the bytes of a kept page, whose place came from `page` or `kept_place`,
+    /// into a buffer of its length.
     ///
-    /// The digits are read in pieces of at most 512, and decoded; no memory is taken. On any Rig it answers Ok only where
-    /// what the fetches brought is just the bytes' digits, upper-case and two a byte. `File` comes only where the Rig's
-    /// count of journal failures rose. `Bad` with the page's line says that no such digits stand there any more, which
-    /// never happens on an honest Rig. Nothing is added; after a fault the buffer may hold anything.
+    /// The digits are read in pieces of at most 512, and decoded; no memory is taken. On any Rig it
+    /// answers Ok only where what the fetches brought is just the bytes' digits, upper-case and two
+    /// a byte. `File` comes only where the Rig's count of journal failures rose. `Bad` with the
+    /// page's line says that no such digits stand there any more, which never happens on an honest
+    /// Rig. Nothing is added; after a fault the buffer may hold anything.
     pub fn fetch_page<R: Rig>(
         &self,
         rig: &mut R,

@@ -16,9 +16,9 @@ use std::marker::Model;
 
 /// A journal that was loaded, and the calls that add lines to it.
 ///
-/// It holds the places of kept pages, and none of their bytes: these stay in the Rig's journal. Contracts see its state,
-/// with zeros for such bytes, how many whole lines and how many bytes it has, and whether a torn tail stands. After
-/// `JournalFault::File` it has to be loaded again.
+/// It holds the places of kept pages, and none of their bytes: these stay in the Rig's journal.
+/// Contracts see its state, with zeros for such bytes, how many whole lines and how many bytes it
+/// has, and whether a torn tail stands. After `JournalFault::File` it has to be loaded again.
 #[derive(Drop)]
 pub struct Journal {
     alloc: Global,

@@ -7,7 +7,8 @@ ghost use Rattle.stm_journal.specs.Journals.{IsPrintable, journal_of, good};
 ghost use Rattle.stm_journal.specs.Flashes.{FlashesAreThose};
 ghost use Rattle.stm_journal.specs.Beginnings.{BeginningsAreGood};
 ghost use Rattle.stm_journal.specs.Added.{EntriesLeaveEither, BeginningsLeaveEither};
-ghost use Rattle.stm_journal.specs.FlashLaws.{KeepingKeepsFlashes, ChangesKeepFlashes, HeldIsBefore};
+ghost use Rattle.stm_journal.specs.FlashLaws.{KeepingKeepsFlashes, ChangesKeepFlashes};
+ghost use Rattle.stm_journal.specs.FlashLaws.{HeldIsBefore};
 ghost use Rattle.stm_journal.specs.Places.{PagesArePlaced};
 ghost use Rattle.stm_journal.specs.Forget.{EntriesForget, SummaryFollows};
 ghost use Rattle.stm_journal.specs.Pieces.{PiecesSay};
@@ -18,25 +19,27 @@ pub fn a_printed_line_reads_back()
     ensures { (e : Entry) → IsPrintable e → entry_of (line_of e) ≡ Some e }
 {}
 
-/// The flash before segment `k` is, among the flashes before the segments, the newest first, the one that stands as far
-/// from the front as segments lie above `k`.
+/// The flash before segment `k` is, among the flashes before the segments, the newest first, the
+/// one that stands as far from the front as segments lie above `k`.
 pub fn flashes_before_segments()
     ensures { FlashesAreThose }
 {}
 
-/// In a journal without a bad line every segment below the newest is ended, a page stands once in a segment, the newest
-/// segment keeps the page of its intent, a journal with a segment has a header, and its depth is at most 65,535.
+/// In a journal without a bad line every segment below the newest is ended, a page stands once in a
+/// segment, the newest segment keeps the page of its intent, a journal with a segment has a header,
+/// and its depth is at most 65,535.
 pub fn a_journal_is_sound()
     ensures { (bytes : List ℕ) (s : StateData) → journal_of bytes ≡ good s → IsSound s }
 {}
 
-/// Wherever an append of entries that are allowed is stopped, the journal is good, and its state is the one before with
-/// a beginning of the entries added.
+/// Wherever an append of entries that are allowed is stopped, the journal is good, and its state is
+/// the one before with a beginning of the entries added.
 pub fn a_stopped_append_is_good()
     ensures { BeginningsAreGood }
 {}
 
-/// In a journal without a bad line the digits of each kept page stand at its place, two a byte, and say its bytes.
+/// In a journal without a bad line the digits of each kept page stand at its place, two a
+/// byte, and say its bytes.
 pub fn pages_are_placed()
     ensures { PagesArePlaced }
 {}
@@ -66,23 +69,27 @@ pub fn pieces_say()
     ensures { PiecesSay }
 {}
 
-/// Wherever the append of one entry that is allowed is stopped, the journal comes to the old state or to the one that the
-/// entry makes of it: what its call promises of the newest segment is so of the text's state.
+/// Wherever the append of one entry that is allowed is stopped, the journal comes to the old
+/// state or to the one that the entry makes of it: what its call promises of the newest segment
+/// is so of the text's state.
 pub fn an_entry_leaves_the_old_state_or_the_new()
     ensures { EntriesLeaveEither }
 {}
 
-/// Wherever the append that begins a segment is stopped, the journal has the segments that it had, or one more.
+/// Wherever the append that begins a segment is stopped, the journal has the segments
+/// that it had, or one more.
 pub fn a_beginning_leaves_the_old_segments_or_one_more()
     ensures { BeginningsLeaveEither }
 {}
 
-/// Where the newest segment keeps a page more, as the flash holds it, the flashes before the segments stay.
+/// Where the newest segment keeps a page more, as the flash holds it, the flashes
+/// before the segments stay.
 pub fn keeping_a_page_keeps_the_flashes()
     ensures { KeepingKeepsFlashes }
 {}
 
-/// Where the flash changes inside pages that the newest segment keeps, the flashes before the segments stay.
+/// Where the flash changes inside pages that the newest segment keeps, the flashes
+/// before the segments stay.
 pub fn changes_of_kept_pages_keep_the_flashes()
     ensures { ChangesKeepFlashes }
 {}

@@ -1,4 +1,5 @@
-//! The journal of a session: which pages the flash had before each command, line by line, so that it can be taken back.
+//! The journal of a session: which pages the flash had before each command, line by line, so
+//! that it can be taken back.
 #![tactic(auto)]
 
 mod append;

@@ -1,8 +1,12 @@
 // Reading a line of the journal, without the bytes of a page.
-ghost use Rattle.std.specs.Prelude.{◌≡◌, ◌==◌, ◌&&◌, ◌||◌, ◌+◌, ◌<◌, ◌^◌, nat_le, nat_lt, length, option_map, option_and_then, codes, Some, None, List, ℕ, Option, fold, position, take, drop, IsTrue};
+ghost use Rattle.std.specs.Prelude.{◌≡◌, ◌==◌, ◌&&◌, ◌||◌, ◌+◌, ◌<◌, ◌^◌, nat_le, nat_lt, length};
+ghost use Rattle.std.specs.Prelude.{option_map, option_and_then, codes, Some, None, List, ℕ};
+ghost use Rattle.std.specs.Prelude.{Option, fold, position, take, drop, IsTrue};
 ghost use Rattle.std.specs.List.{list_all};
 ghost use Rattle.stm_journal.specs.InMemory.{forget_entry};
-ghost use Rattle.stm_journal.specs.Entries.{is_upper_digit, are_upper_digits, number_of_pair, page_at, with_digit, number_of, hex_bytes_of, header_of, page_of, numbered_entry_of, entry_of};
+ghost use Rattle.stm_journal.specs.Entries.{is_upper_digit, are_upper_digits, number_of_pair};
+ghost use Rattle.stm_journal.specs.Entries.{page_at, with_digit, number_of, hex_bytes_of};
+ghost use Rattle.stm_journal.specs.Entries.{header_of, page_of, numbered_entry_of, entry_of};
 ghost use Rattle.stm_journal.specs.Summary.{page_with, long_at, long_page};
 
 use crate::{Entry, PageBytes};

@@ -1,5 +1,6 @@
 // Reading the journal of a Rig.
-ghost use Rattle.std.specs.Prelude.{◌≡◌, ◌⊎◌, ◌+◌, ◌-◌, ◌^◌, ◌<◌, ◌≤◌, ◌∷◌, ◌++◌, [], ℕ, List, Result, ◌==◌, position, OnOk, IfOk, IfErr, length, take};
+ghost use Rattle.std.specs.Prelude.{◌≡◌, ◌⊎◌, ◌+◌, ◌-◌, ◌^◌, ◌<◌, ◌≤◌, ◌∷◌, ◌++◌, [], ℕ, List};
+ghost use Rattle.std.specs.Prelude.{Result, ◌==◌, position, OnOk, IfOk, IfErr, length, take};
 ghost use Rattle.stm_wire.specs.Dialogue.{GoesOn};
 ghost use Rattle.stm_journal.specs.Journals.{Loaded, IsLoaded, capped};
 ghost use Rattle.stm_journal.specs.Text.{HasNoLF};
@@ -150,11 +151,13 @@ fn load_by<R: Rig>(alloc: Global, rig: &mut R, buf: &mut [u8]) -> Result<Journal
 impl Journal {
     /// Reads the journal of a Rig, by `fetch` alone.
     ///
-    /// It reads in pieces of 512 bytes and keeps no line whole. The answer is the journal, `File`, `Bad` or `Memory`.
+    /// It reads in pieces of 512 bytes and keeps no line whole. The answer is the journal,
+    /// `File`, `Bad` or `Memory`.
     ///
-    /// On an honest Rig the answer is the journal of its bytes, or `Bad` with the number of the first bad line, where they
-    /// have one; `Memory` never comes of an empty journal. `File` comes only where the Rig's count of journal failures
-    /// rose. Nothing is added, and the device is as it was, but for owed bytes that a stop may lose.
+    /// On an honest Rig the answer is the journal of its bytes, or `Bad` with the number of the
+    /// first bad line, where they have one; `Memory` never comes of an empty journal. `File` comes
+    /// only where the Rig's count of journal failures rose. Nothing is added, and the device is as
+    /// it was, but for owed bytes that a stop may lose.
     pub fn load<R: Rig>(alloc: Global, rig: &mut R) -> Result<Journal, JournalFault>
         ensures answers { IfErr result IsLoadAnswer }
         ensures cause { HasJournalCause (R.view rig.old) (R.view rig.new) result }

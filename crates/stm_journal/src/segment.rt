@@ -1,5 +1,6 @@
 // One command in the journal, with the pages kept for it.
-ghost use Rattle.std.specs.Prelude.{◌≡◌, ◌==◌, ◌++◌, ◌∷◌, [], length, OnOk, OnErr, IfOk, option_map, option_and_then, slice_get};
+ghost use Rattle.std.specs.Prelude.{◌≡◌, ◌==◌, ◌++◌, ◌∷◌, [], length, OnOk, OnErr, IfOk};
+ghost use Rattle.std.specs.Prelude.{option_map, option_and_then, slice_get};
 ghost use Rattle.std.specs.List.{find};
 ghost use Rattle.stm_journal.specs.KeptPlaces.{place_of};
 ghost use Rattle.stm_journal.specs.Marks.{AreMarked};
@@ -81,7 +82,8 @@ impl Segment {
         }
     }
 
-    /// Marks the pages where they are many, so that `keeps` doesn't look through them. Without memory it does.
+    /// Marks the pages where they are many, so that `keeps` doesn't look through
+    /// them. Without memory it does.
     pub(crate) fn mark(&mut self, alloc: Global)
         ensures { self.new ≡ self.old }
     {

@@ -1,6 +1,12 @@
 // The segments of a journal, and what entries make of them.
-ghost use Rattle.std.specs.Prelude.{◌≡◌, ◌+◌, ◌<◌, ◌∷◌, [], length, not, OnOk, OnErr, IsTrue, IsSome, is_some, is_none, sum_by, drop, Some, Option, option_map, List, ℕ, true, false};
-ghost use Rattle.stm_journal.specs.States.{stack_of, empty_state, is_unfinished, intent_of, allows, newest_has, newest_intent, may_keep, keeps, is_open_stage, is_ended_stage, on_newest, keeping, intending, ending, fresh_segment, after_entry, kept_at, segment_of, intent_page, IsSound};
+ghost use Rattle.std.specs.Prelude.{◌≡◌, ◌+◌, ◌<◌, ◌∷◌, [], length, not, OnOk, OnErr, IsTrue};
+ghost use Rattle.std.specs.Prelude.{IsSome, is_some, is_none, sum_by, drop, Some, Option};
+ghost use Rattle.std.specs.Prelude.{option_map, List, ℕ, true, false};
+ghost use Rattle.stm_journal.specs.States.{stack_of, empty_state, is_unfinished, intent_of, allows};
+ghost use Rattle.stm_journal.specs.States.{newest_has, newest_intent, may_keep, keeps};
+ghost use Rattle.stm_journal.specs.States.{is_open_stage, is_ended_stage, on_newest, keeping};
+ghost use Rattle.stm_journal.specs.States.{intending, ending, fresh_segment, after_entry, kept_at};
+ghost use Rattle.stm_journal.specs.States.{segment_of, intent_page, IsSound};
 ghost use Rattle.stm_journal.specs.KeptPlaces.{page_place, kept_place, kept_count, entries_of};
 ghost use Rattle.stm_journal.specs.Journals.{capped};
 
@@ -213,8 +219,8 @@ impl State {
         self.newest = self.below.pop();
     }
 
-    /// What the entry makes of it, in the line with this number, whose LF is at this place. It is as it was where there
-    /// is no memory.
+    /// What the entry makes of it, in the line with this number, whose LF is at this place. It is
+    /// as it was where there is no memory.
     pub(crate) fn apply(
         &mut self,
         alloc: Global,

@@ -3,7 +3,8 @@ ghost use Rattle.std.specs.Prelude.{◌≡◌, ◌∷◌, [], length, OnOk, IfOk
 ghost use Rattle.stm_wire.specs.Dialogue.{GoesOn};
 ghost use Rattle.stm_journal.specs.States.{empty_state, allows};
 ghost use Rattle.stm_journal.specs.InMemory.{forget_entry, filled};
-ghost use Rattle.stm_journal.specs.Journals.{IsLoaded, IsPrintable, mark, added_bytes, past_mark, loaded_after, LeavesLoaded};
+ghost use Rattle.stm_journal.specs.Journals.{IsLoaded, IsPrintable, mark, added_bytes, past_mark};
+ghost use Rattle.stm_journal.specs.Journals.{loaded_after, LeavesLoaded};
 ghost use Rattle.stm_journal.specs.Calls.{HasJournalCause, AppendsOnce, Appends, InText};
 ghost use Rattle.stm_journal.specs.Newest.{HasBegun};
 ghost use Rattle.stm_journal.specs.Added.{HasAdded};
@@ -48,7 +49,8 @@ impl Journal {
         Ok(text)
     }
 
-    /// Makes it what it is after the line of an entry, and gives the bytes of that line; `held` are those of a page.
+    /// Makes it what it is after the line of an entry, and gives the bytes of that line;
+    /// `held` are those of a page.
     fn prepare(&mut self, entry: Entry, held: &[u8]) -> Result<Vec<u8>, JournalFault>
         requires allowed { IsTrue (allows self.old.state entry) }
         requires held { forget_entry (filled entry held.now) ≡ entry }
@@ -73,7 +75,8 @@ impl Journal {
         Ok(text)
     }
 
-    /// Makes it what it is after the header and the line of the first segment, and gives the bytes of these.
+    /// Makes it what it is after the header and the line of the first segment, and
+    /// gives the bytes of these.
     fn prepare_first(&mut self, id: u16) -> Result<Vec<u8>, JournalFault>
         requires { self.old.state ≡ empty_state }
         ensures text { IfOk result

@@ -1,4 +1,5 @@
-// The calls that keep a page in the newest segment, and say that it is about to be erased or written.
+// The calls that keep a page in the newest segment, and say that it is about
+// to be erased or written.
 ghost use Rattle.std.specs.Prelude.{◌≡◌, ◌<◌, ◌∷◌, [], length, OnOk, IfErr, IsTrue};
 ghost use Rattle.stm_wire.specs.Dialogue.{GoesOn};
 ghost use Rattle.stm_journal.specs.States.{newest_keeps, newest_may_keep};
@@ -11,7 +12,8 @@ use crate::{Entry, Intent, Journal, JournalFault, PageBytes};
 use stm_wire::Rig;
 
 impl Journal {
-    /// Keeps in the newest segment, which is open and lacks it, what page `n` holds: at least one byte.
+    /// Keeps in the newest segment, which is open and lacks it, what page `n`
+    /// holds: at least one byte.
     pub fn keep_page<R: Rig>(
         &mut self,
         rig: &mut R,

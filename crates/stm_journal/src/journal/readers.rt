@@ -1,13 +1,15 @@
 // What a journal answers of its segments and its header.
 ghost use Rattle.std.specs.Prelude.{◌≡◌, nat_lt, length, option_map, IfSome};
 ghost use Rattle.stm_journal.specs.States.{is_unfinished, intent_of, kept_at, segment_of, IsSound};
-ghost use Rattle.stm_journal.specs.KeptPlaces.{page_place, kept_place, kept_count, entries_of, IsPlaceIn};
+ghost use Rattle.stm_journal.specs.KeptPlaces.{page_place, kept_place, kept_count, entries_of};
+ghost use Rattle.stm_journal.specs.KeptPlaces.{IsPlaceIn};
 ghost use Rattle.stm_journal.specs.Journals.{capped};
 
 use crate::{Intent, Journal, PagePlace, Stage};
 
 impl Journal {
-    /// Where page `n` stands in the journal, if segment `k`, counted from the oldest, which is 1, keeps that page.
+    /// Where page `n` stands in the journal, if segment `k`, counted from the oldest,
+    /// which is 1, keeps that page.
     pub fn page(&self, k: u32, n: u16) -> Option<PagePlace>
         ensures place { result ≡ page_place self.now.state k n }
         ensures kept { IfSome result (IsPlaceIn self.now.state) }
@@ -15,7 +17,8 @@ impl Journal {
         self.state.page(k, n)
     }
 
-    /// Where the page of the i-th page line of segment `k` stands, from 0. Nothing is searched for it.
+    /// Where the page of the i-th page line of segment `k` stands, from 0.
+    /// Nothing is searched for it.
     pub fn kept_place(&self, k: u32, i: usize) -> Option<PagePlace>
         ensures place { result ≡ kept_place self.now.state k i }
         ensures kept { IfSome result (IsPlaceIn self.now.state) }

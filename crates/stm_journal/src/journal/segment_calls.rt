@@ -1,9 +1,11 @@
 // The calls that begin a segment, end it, and say that it was taken back.
-ghost use Rattle.std.specs.Prelude.{◌≡◌, ◌+◌, ◌<◌, ◌∷◌, [], length, false, OnOk, IfOk, IfErr, IsTrue};
+ghost use Rattle.std.specs.Prelude.{◌≡◌, ◌+◌, ◌<◌, ◌∷◌, [], length, false, OnOk, IfOk, IfErr};
+ghost use Rattle.std.specs.Prelude.{IsTrue};
 ghost use Rattle.stm_wire.specs.Dialogue.{GoesOn};
 ghost use Rattle.stm_journal.specs.States.{is_unfinished, newest_is_open, names_other};
 ghost use Rattle.stm_journal.specs.Newest.{HasBegun, HasEnded, HasUndone};
-ghost use Rattle.stm_journal.specs.Journals.{IsLoaded, added_bytes, loaded_after, begin_entries, LeavesLoaded, LeavesUnbegun};
+ghost use Rattle.stm_journal.specs.Journals.{IsLoaded, added_bytes, loaded_after, begin_entries};
+ghost use Rattle.stm_journal.specs.Journals.{LeavesLoaded, LeavesUnbegun};
 ghost use Rattle.stm_journal.specs.Calls.{HasJournalCause, AppendsOnce, Appends, InText};
 
 use crate::{Entry, Journal, JournalFault};
