@@ -1,4 +1,5 @@
--- Questions to a settled device: nothing is changed by them, and no byte can change anything wherever one is stopped.
+-- Questions to a settled device: nothing is changed by them, and no byte can change anything
+-- wherever one is stopped.
 use Rattle.std.specs.Prelude.{◌≡◌, ℕ, ◌≤◌, List, [], length, Result, IfErr, IfOk, OnOk}
 use Rattle.stm_wire.specs.Device.{Device}
 use Rattle.stm_wire.specs.Harmless.{Harmless}
@@ -16,9 +17,10 @@ pub record IsStill (old : RigState) (d : Device) (journal : List ℕ) : Type 0 w
   pub harmless : (byte : ℕ) → Harmless d byte []
   pub owed : length d.owed ≤ 4096
 
--- Calls that only ask: each moment is still; they fail by the line, the journal or memory alone; at Ok the device is as it
--- was, and what they were for is done.
-pub record Asks {T : Type 0} (old new : RigState) (result : Result T Fault) (Done : T → Type 0) : Type 0 where
+-- Calls that only ask: each moment is still; they fail by the line, the journal or memory alone; at
+-- Ok the device is as it was, and what they were for is done.
+pub record Asks {T : Type 0} (old new : RigState) (result : Result T Fault)
+    (Done : T → Type 0) : Type 0 where
   pub moments : LeavesOnly (IsStill old) old new
   pub fails : IfErr result IsOutsideFault
   pub left : IsStill old new.device new.journal

@@ -1,5 +1,6 @@
 -- In which order a command that changes the flash puts frames and appends lines, on any line.
-use Rattle.std.specs.Prelude.{◌≡◌, ◌⊎◌, ℕ, ◌+◌, ◌/◌, ◌<◌, ◌==◌, ◌&&◌, not, Bool, true, false, if◌then◌else◌, List, [], ◌∷◌, ◌++◌, length, bytes_eq}
+use Rattle.std.specs.Prelude.{◌≡◌, ◌⊎◌, ℕ, ◌+◌, ◌/◌, ◌<◌, ◌==◌, ◌&&◌, not, Bool, true, false}
+use Rattle.std.specs.Prelude.{if◌then◌else◌, List, [], ◌∷◌, ◌++◌, length, bytes_eq}
 use Rattle.stm_wire.specs.Chip.{ChipData, erased_byte, page_count, page_size}
 use Rattle.stm_chip.specs.Plan.{frames_of}
 use Rattle.stm_journal.specs.declared.entry.Entry.TheVariants.{Keeps, Ends}
@@ -32,10 +33,12 @@ IsSaved true chip n held steps = steps ≡ []
 IsSaved false chip n held steps = IsSavedWith (n == 1 && has_companion chip) chip n held steps
 
 -- it is kept, erased and written, each line before its frames
-pub record IsRewritten (kept : Bool) (chip : ChipData) (n : ℕ) (held page : List ℕ) (steps : List Step) : Type 0 where
+pub record IsRewritten (kept : Bool) (chip : ChipData) (n : ℕ) (held page : List ℕ)
+    (steps : List Step) : Type 0 where
   pub saved : List Step
   pub is_saved : IsSaved kept chip n held saved
-  pub is : steps ≡ saved ++ rewrite_steps chip n page (frames_of (erased_byte chip) page (length page / 256))
+  pub is : steps
+      ≡ saved ++ rewrite_steps chip n page (frames_of (erased_byte chip) page (length page / 256))
 
 abbrev pub IsChangedUnless : Bool → Bool → ChipData → ℕ → List ℕ → List ℕ → List Step → Type 0
 IsChangedUnless true kept chip n held page steps = steps ≡ []
@@ -43,10 +46,13 @@ IsChangedUnless false kept chip n held page steps = IsRewritten kept chip n held
 
 -- where it doesn't hold its new bytes already
 abbrev pub IsChanged : Bool → ChipData → ℕ → List ℕ → List ℕ → List Step → Type 0
-IsChanged kept chip n held page steps = IsChangedUnless (bytes_eq held page) kept chip n held page steps
+IsChanged kept chip n held page steps =
+    IsChangedUnless (bytes_eq held page) kept chip n held page steps
 
--- a page that the command is for is read first; whatever was read, what the command makes of it is what is written
-pub record IsReadAndChanged (kept : Bool) (chip : ChipData) (c : Change) (n : ℕ) (changed : Bool) (steps : List Step) : Type 0 where
+-- a page that the command is for is read first; whatever was read, what the command makes
+-- of it is what is written
+pub record IsReadAndChanged (kept : Bool) (chip : ChipData) (c : Change) (n : ℕ) (changed : Bool)
+    (steps : List Step) : Type 0 where
   pub may : MayTouch chip c n
   pub held : List ℕ
   pub size : length held ≡ page_size chip n
@@ -56,28 +62,34 @@ pub record IsReadAndChanged (kept : Bool) (chip : ChipData) (c : Change) (n : �
   pub is : steps ≡ page_reads chip n held ++ later
 
 -- any other page is left alone
-pub record IsLeft (chip : ChipData) (c : Change) (n : ℕ) (changed : Bool) (steps : List Step) : Type 0 where
+pub record IsLeft (chip : ChipData) (c : Change) (n : ℕ) (changed : Bool)
+    (steps : List Step) : Type 0 where
   pub same : (held : List ℕ) → length held ≡ page_size chip n → content chip c n held ≡ held
   pub unchanged : changed ≡ false
   pub is : steps ≡ []
 
 abbrev pub IsTurnOf : Bool → ChipData → Change → ℕ → Bool → List Step → Type 0
-IsTurnOf kept chip c n changed steps = IsLeft chip c n changed steps ⊎ IsReadAndChanged kept chip c n changed steps
+IsTurnOf kept chip c n changed steps =
+    IsLeft chip c n changed steps ⊎ IsReadAndChanged kept chip c n changed steps
 
--- The pages below one, by rising number; page 257 was kept before its turn exactly where page 1 was changed.
+-- The pages below one, by rising number; page 257 was kept before its turn exactly
+-- where page 1 was changed.
 pub data AreTurned (chip : ChipData) (c : Change) : ℕ → Bool → List Step → Type 0 where
   none : AreTurned chip c 0 false []
-  more : (n : ℕ) (was changed : Bool) (before own : List Step) → AreTurned chip c n was before → IsTurnOf (n == 257 && was) chip c n changed own
+  more : (n : ℕ) (was changed : Bool) (before own : List Step) → AreTurned chip c n was before
+      → IsTurnOf (n == 257 && was) chip c n changed own
       → AreTurned chip c (n + 1) (if n == 1 then changed else was) (before ++ own)
 
 abbrev pub AreAllTurned : ChipData → Change → List Step → Type 0
 AreAllTurned chip c steps = (first : Bool) × AreTurned chip c (page_count chip) first steps
 
 -- A command's segment: its first lines, its pages, and its last line.
-pub record IsOneSegment (chip : ChipData) (c : Change) (s : StateData) (steps : List Step) : Type 0 where
+pub record IsOneSegment (chip : ChipData) (c : Change) (s : StateData)
+    (steps : List Step) : Type 0 where
   pub turned : List Step
   pub are_turned : AreAllTurned chip c turned
-  pub is : steps ≡ Adds (begin_entries chip.id s) ∷ (turned ++ Adds (Ends (length s.stack + 1) ∷ []) ∷ [])
+  pub is : steps
+      ≡ Adds (begin_entries chip.id s) ∷ (turned ++ Adds (Ends (length s.stack + 1) ∷ []) ∷ [])
 
 -- At a fault:
 
@@ -96,9 +108,11 @@ pub record AreBegunTurns (chip : ChipData) (c : Change) (steps : List Step) : Ty
   pub is_begun : Begin (IsTurn (page == 257 && first) chip c page) own
   pub is : steps ≡ before ++ own
 
--- A beginning of a command's segment: of its first lines; or those, and a beginning of its pages; or those, all its pages, and a
--- beginning of its last line.
-pub data IsSegmentBegun (chip : ChipData) (c : Change) (s : StateData) (steps : List Step) : Type 0 where
+-- A beginning of a command's segment: of its first lines; or those, and a beginning of its pages;
+-- or those, all its pages, and a beginning of its last line.
+pub data IsSegmentBegun (chip : ChipData) (c : Change) (s : StateData)
+    (steps : List Step) : Type 0 where
   begins : Begin (Are (Adds (begin_entries chip.id s) ∷ [])) steps → IsSegmentBegun chip c s steps
-  turns : (pages : List Step) → AreBegunTurns chip c pages → steps ≡ Adds (begin_entries chip.id s) ∷ pages → IsSegmentBegun chip c s steps
+  turns : (pages : List Step) → AreBegunTurns chip c pages
+      → steps ≡ Adds (begin_entries chip.id s) ∷ pages → IsSegmentBegun chip c s steps
   ends : Begin (IsOneSegment chip c s) steps → IsSegmentBegun chip c s steps

@@ -1,5 +1,6 @@
 -- How a page changes in a command: what is kept first, and the lines of it.
-use Rattle.std.specs.Prelude.{◌≡◌, ◌≢◌, ℕ, Bool, true, false, ◌&&◌, ◌==◌, if◌then◌else◌, List, [], ◌∷◌, ◌++◌, length, bytes_eq, IsTrue}
+use Rattle.std.specs.Prelude.{◌≡◌, ◌≢◌, ℕ, Bool, true, false, ◌&&◌, ◌==◌, if◌then◌else◌, List, []}
+use Rattle.std.specs.Prelude.{◌∷◌, ◌++◌, length, bytes_eq, IsTrue}
 use Rattle.stm_wire.specs.Chip.{ChipData, page_of}
 use Rattle.stm_journal.specs.declared.entry.Entry.{Entry}
 use Rattle.stm_journal.specs.declared.entry.Entry.TheVariants.{Keeps}
@@ -10,7 +11,8 @@ use Rattle.stm_session.specs.Undoable.{has_companion}
 -- page 257 is kept before page 1, where the chip has both
 abbrev pub both_entries : ChipData → List ℕ → ℕ → List Entry
 both_entries chip flash n =
-    if n == 1 && has_companion chip then Keeps 257 (page_of chip flash 257) ∷ Keeps 1 (page_of chip flash 1) ∷ []
+    if n == 1 && has_companion chip
+    then Keeps 257 (page_of chip flash 257) ∷ Keeps 1 (page_of chip flash 1) ∷ []
     else Keeps n (page_of chip flash n) ∷ []
 
 -- what is kept before a page changes that was kept before, or wasn't
@@ -20,7 +22,8 @@ save_entries kept chip flash n = if kept then [] else both_entries chip flash n
 -- a page is given these bytes; of one that holds them nothing is said
 abbrev pub change_entries : Bool → ChipData → List ℕ → ℕ → List ℕ → List Entry
 change_entries kept chip flash n page =
-    if bytes_eq (page_of chip flash n) page then [] else save_entries kept chip flash n ++ rewrite_entries chip n page
+    if bytes_eq (page_of chip flash n) page then []
+    else save_entries kept chip flash n ++ rewrite_entries chip n page
 
 -- The newest segment, which is open, keeps page n more.
 pub record HasSaved (n : ℕ) (old new : StateData) : Type 0 where
@@ -30,7 +33,8 @@ pub record HasSaved (n : ℕ) (old new : StateData) : Type 0 where
   pub still : (m : ℕ) → IsTrue (newest_keeps m old) → IsTrue (newest_keeps m new)
   pub free : (m : ℕ) → m ≢ n → newest_may_keep m new ≡ newest_may_keep m old
 
--- The newest segment keeps page n, which it may have lacked, and page 257 with page 1; of every other page it is as it was.
+-- The newest segment keeps page n, which it may have lacked, and page 257 with page 1; of every
+-- other page it is as it was.
 pub record HasAllSaved (kept : Bool) (chip : ChipData) (n : ℕ) (old new : StateData) : Type 0 where
   pub depth : length new.stack ≡ length old.stack
   pub is_open : IsTrue (newest_is_open old) → IsTrue (newest_is_open new)
@@ -40,13 +44,15 @@ pub record HasAllSaved (kept : Bool) (chip : ChipData) (n : ℕ) (old new : Stat
   pub companion : kept ≡ false → n ≡ 1 → IsTrue (has_companion chip) → IsTrue (newest_keeps 257 new)
   pub alone : n ≢ 257 → n ≢ 1 → newest_may_keep 257 new ≡ newest_may_keep 257 old
 
--- Page n was changed or wasn't, and was kept before that: of every other page the newest segment is as it was, but for page 257
--- where page 1 was changed.
-pub record HasTurned (kept changed : Bool) (chip : ChipData) (n : ℕ) (old new : StateData) : Type 0 where
+-- Page n was changed or wasn't, and was kept before that: of every other page the newest segment is
+-- as it was, but for page 257 where page 1 was changed.
+pub record HasTurned (kept changed : Bool) (chip : ChipData) (n : ℕ)
+    (old new : StateData) : Type 0 where
   pub depth : length new.stack ≡ length old.stack
   pub is_open : IsTrue (newest_is_open old) → IsTrue (newest_is_open new)
   pub still : (m : ℕ) → IsTrue (newest_keeps m old) → IsTrue (newest_keeps m new)
   pub free : (m : ℕ) → m ≢ n → m ≢ 257 → newest_may_keep m new ≡ newest_may_keep m old
-  pub companion : changed ≡ true → kept ≡ false → n ≡ 1 → IsTrue (has_companion chip) → IsTrue (newest_keeps 257 new)
+  pub companion : changed ≡ true → kept ≡ false → n ≡ 1 → IsTrue (has_companion chip)
+      → IsTrue (newest_keeps 257 new)
   pub alone : n ≢ 257 → n ≢ 1 → newest_may_keep 257 new ≡ newest_may_keep 257 old
   pub none : changed ≡ false → newest_may_keep 257 new ≡ newest_may_keep 257 old

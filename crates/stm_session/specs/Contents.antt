@@ -1,5 +1,6 @@
 -- What a command that begins a segment makes of one page.
-use Rattle.std.specs.Prelude.{◌≡◌, ℕ, ◌+◌, ◌<◌, ◌≤◌, Contains, Bool, true, not, ◌==◌, if◌then◌else◌, List, bytes_eq}
+use Rattle.std.specs.Prelude.{◌≡◌, ℕ, ◌+◌, ◌<◌, ◌≤◌, Contains, Bool, true, not, ◌==◌, if◌then◌else◌}
+use Rattle.std.specs.Prelude.{List, bytes_eq}
 use Rattle.std.specs.List.{list_any}
 use Rattle.stm_image.specs.Lay.{lay}
 use Rattle.stm_image.specs.Pairs.{Pairs}
@@ -16,7 +17,8 @@ command_of (change.Erase pages) = erases pages.now
 -- what page n, which holds these bytes, is to hold
 abbrev pub content : ChipData → Change → ℕ → List ℕ → List ℕ
 content chip (change.Write image) n held = lay image.now (chip.base + page_offset chip n) held
-content chip (change.Erase pages) n held = if list_any (λ m. m == n) pages.now then erased_page chip n else held
+content chip (change.Erase pages) n held =
+    if list_any (λ m. m == n) pages.now then erased_page chip n else held
 
 -- the image has a byte for a place in page n
 pub record HasPlaceIn (chip : ChipData) (image : Pairs) (n : ℕ) : Type 0 where
@@ -30,7 +32,8 @@ abbrev pub MayTouch : ChipData → Change → ℕ → Type 0
 MayTouch chip (change.Write image) n = HasPlaceIn chip image.now n
 MayTouch chip (change.Erase pages) n = list_any (λ m. m == n) pages.now ≡ true
 
--- Page n holds these bytes, every other page what it held, and this says whether page n held others.
+-- Page n holds these bytes, every other page what it held, and this says
+-- whether page n held others.
 pub record IsGiven (chip : ChipData) (n : ℕ) (page old new : List ℕ) (changed : Bool) : Type 0 where
   pub flash : new ≡ with_page chip n page old
   pub counts : changed ≡ not (bytes_eq (page_of chip old n) page)

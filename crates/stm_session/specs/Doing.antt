@@ -1,5 +1,6 @@
 -- What one command of a run does to a Rig that follows the model.
-use Rattle.std.specs.Prelude.{◌≡◌, ◌⊎◌, ℕ, ◌+◌, Bool, true, false, if◌then◌else◌, List, [], Result, Ok, Err, IfErr, IfOk, OnOk}
+use Rattle.std.specs.Prelude.{◌≡◌, ◌⊎◌, ℕ, ◌+◌, Bool, true, false, if◌then◌else◌, List, [], Result}
+use Rattle.std.specs.Prelude.{Ok, Err, IfErr, IfOk, OnOk}
 use Rattle.stm_wire.specs.Device.{Device}
 use Rattle.stm_wire.specs.Rig.{RigState}
 use Rattle.stm_wire.specs.Moments.{LeavesOnly}
@@ -24,18 +25,22 @@ lines_if change lines = if change then lines else []
 
 abbrev pub command_lines : RigState → CommandData → List Entry
 command_lines old c =
-    lines_if (is_change c) (segment_entries (is_named_at old.journal) old.device.chip (depth_at old.journal + 1) old.device.flash (flash_left old c))
+    lines_if (is_change c) (segment_entries (is_named_at old.journal) old.device.chip
+    (depth_at old.journal + 1) old.device.flash (flash_left old c))
 
 -- and what it answers: an outcome, or the least address that differs
 abbrev pub answer_on : RigState → CommandData → Result OutcomeData ℕ
 answer_on old c = outcome_of old.device.chip (depth_at old.journal + 1) old.device.flash c
 
--- A moment of a command: one that begins a segment has begun it, or hasn't; one that only asks changes nothing.
-abbrev pub AmidOne : Bool → List Entry → List (List ℕ) → List ℕ → RigState → Device → List ℕ → Type 0
+-- A moment of a command: one that begins a segment has begun it, or hasn't; one that
+-- only asks changes nothing.
+abbrev pub AmidOne : Bool → List Entry → List (List ℕ) → List ℕ → RigState → Device
+    → List ℕ → Type 0
 AmidOne true lines flashes after old d journal = AmidCommand lines flashes after old d journal
 AmidOne false lines flashes after old d journal = Stands lines flashes old d journal
 
--- The image of a verify doesn't agree, first at this address; nothing was changed, and the device is as it was.
+-- The image of a verify doesn't agree, first at this address; nothing was changed, and
+-- the device is as it was.
 pub record TellsDifference (c : CommandData) (old new : RigState) (fault : Fault) : Type 0 where
   pub address : ℕ
   pub is : fault ≡ faults.Differs address
@@ -43,11 +48,14 @@ pub record TellsDifference (c : CommandData) (old new : RigState) (fault : Fault
   pub journal_same : new.journal ≡ old.journal
   pub device_same : new.device ≡ old.device
 
--- A command, or a beginning of one: each moment is such a one. It fails by the line, the journal or memory, or tells where its
--- image differs. At Ok all is steady again, with a segment more where it begins one; just its lines are added; the flash is the
--- one after it, and its outcome that of the flash before it.
-pub record Does {T : Type 0} (flashes : List (List ℕ)) (c : CommandData) (l2 : Loaded) (old new : RigState) (result : Result T Fault) (outcome_in : T → OutcomeData) : Type 0 where
-  pub moments : LeavesOnly (AmidOne (is_change c) (command_lines old c) flashes (flash_left old c) old) old new
+-- A command, or a beginning of one: each moment is such a one. It fails by the line, the journal
+-- or memory, or tells where its image differs. At Ok all is steady again, with a segment more
+-- where it begins one; just its lines are added; the flash is the one after it, and its outcome
+-- that of the flash before it.
+pub record Does {T : Type 0} (flashes : List (List ℕ)) (c : CommandData) (l2 : Loaded)
+    (old new : RigState) (result : Result T Fault) (outcome_in : T → OutcomeData) : Type 0 where
+  pub moments : LeavesOnly
+      (AmidOne (is_change c) (command_lines old c) flashes (flash_left old c) old) old new
   pub honest : new.is_honest
   pub fails : IfErr result (λ fault. IsOutsideFault fault ⊎ TellsDifference c old new fault)
   pub steady : OnOk result (IsSteady (before_if (is_change c) old.device.flash flashes) l2 new)

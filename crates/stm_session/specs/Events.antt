@@ -1,4 +1,5 @@
--- What happens to a device and its journal: calls that returned or were stopped, and what befalls between them.
+-- What happens to a device and its journal: calls that returned or were stopped, and
+-- what befalls between them.
 use Rattle.std.specs.Prelude.{◌≡◌, ◌⊎◌, ℕ, false, List, [], ◌∷◌, Some, Result, Ok, Err}
 use Rattle.stm_wire.specs.Chip.{ChipData}
 use Rattle.stm_wire.specs.Device.{Device, LosesOwed, reset}
@@ -23,9 +24,10 @@ pub record World : Type 0 where
 abbrev pub now_of : RigState → World
 now_of rig = record { device = rig.device; journal = rig.journal }
 
--- On Rigs of this type: a call that returned, or was stopped at a moment of it, with the table that it was given; a `go` or a
--- protection that the journal refuses; and between calls the way back given up, a reset of the device, owed bytes that are lost,
--- and a loss of its power, also while a command that was stopped was at work.
+-- On Rigs of this type: a call that returned, or was stopped at a moment of it, with the table that
+-- it was given; a `go` or a protection that the journal refuses; and between calls the way back
+-- given up, a reset of the device, owed bytes that are lost, and a loss of its power, also while a
+-- command that was stopped was at work.
 pub data Event (R : Type 0) : Type 0 where
   ran : (table : List ChipData) (commands : List CommandData) (old new : R)
       (result : Result (List OutcomeData) Fault) → Event R
@@ -34,7 +36,8 @@ pub data Event (R : Type 0) : Type 0 where
   informed : (table : List ChipData) (old new : R) (result : Result Info Fault) → Event R
   info_stopped : (table : List ChipData) (old new : R) (result : Result Info Fault) → Event R
   undid : (table : List ChipData) (count : ℕ) (old new : R) (result : Result ℕ Fault) → Event R
-  undo_stopped : (table : List ChipData) (count : ℕ) (old new : R) (result : Result ℕ Fault) → Event R
+  undo_stopped : (table : List ChipData) (count : ℕ) (old new : R)
+      (result : Result ℕ Fault) → Event R
   left_refused : (refusal : Fault) (old new : R) (result : Result (Unit {0}) Fault) → Event R
   refusal_stopped : (refusal : Fault) (old new : R) (result : Result (Unit {0}) Fault) → Event R
   kept : Event R
@@ -43,7 +46,8 @@ pub data Event (R : Type 0) : Type 0 where
   lost_power : Event R
 
 -- what a call answered, by the outcomes that its answer tells
-abbrev pub told_by : {T : Type 0} → (T → List OutcomeData) → Result T Fault → Result (List OutcomeData) Fault
+abbrev pub told_by : {T : Type 0} → (T → List OutcomeData) → Result T Fault
+    → Result (List OutcomeData) Fault
 told_by outcomes_of (Ok x) = Ok (outcomes_of x)
 told_by outcomes_of (Err e) = Err e
 
@@ -66,15 +70,18 @@ Knows table w = IsNewId table w.device.chip.id ⊎ IsChipWith table w.device.chi
 -- the event leads from one to the other; a Rig is seen through its view
 abbrev pub Leads : {R : Type 0} → (R → RigState) → Event R → World → World → Type 0
 Leads view (ran table commands old new result) w w2 =
-    Begins w (view old) × Knows table w × RunContract table commands (view old) (view new) result themselves
+    Begins w (view old) × Knows table w
+    × RunContract table commands (view old) (view new) result themselves
     × (now_of (view new) ≡ w2)
 Leads view (run_stopped table commands old new result) w w2 =
-    Begins w (view old) × Knows table w × RunContract table commands (view old) (view new) result themselves
+    Begins w (view old) × Knows table w
+    × RunContract table commands (view old) (view new) result themselves
     × Stops (view old) (view new) w2
 Leads view (informed table old new result) w w2 =
     Begins w (view old) × InfoContract table (view old) (view new) result × (now_of (view new) ≡ w2)
 Leads view (info_stopped table old new result) w w2 =
-    Begins w (view old) × InfoContract table (view old) (view new) result × Stops (view old) (view new) w2
+    Begins w (view old) × InfoContract table (view old) (view new) result
+    × Stops (view old) (view new) w2
 Leads view (undid table count old new result) w w2 =
     Begins w (view old) × Knows table w × UndoContract table count (view old) (view new) result
     × (now_of (view new) ≡ w2)
@@ -83,11 +90,14 @@ Leads view (undo_stopped table count old new result) w w2 =
     × Stops (view old) (view new) w2
 Leads view (left_refused refusal old new result) w w2 =
     Begins w (view old) × (open_refusal (journal_of w.journal) ≡ Some refusal)
-    × RefusesUnsent (IsUntouched (view old)) refusal (view old) (view new) result × (now_of (view new) ≡ w2)
+    × RefusesUnsent (IsUntouched (view old)) refusal (view old) (view new) result
+    × (now_of (view new) ≡ w2)
 Leads view (refusal_stopped refusal old new result) w w2 =
     Begins w (view old) × (open_refusal (journal_of w.journal) ≡ Some refusal)
-    × RefusesUnsent (IsUntouched (view old)) refusal (view old) (view new) result × Stops (view old) (view new) w2
-Leads view kept w w2 = (is_unfinished_at w.journal ≡ false) × (w2.device ≡ w.device) × (w2.journal ≡ [])
+    × RefusesUnsent (IsUntouched (view old)) refusal (view old) (view new) result
+    × Stops (view old) (view new) w2
+Leads view kept w w2 =
+    (is_unfinished_at w.journal ≡ false) × (w2.device ≡ w.device) × (w2.journal ≡ [])
 Leads view was_reset w w2 = w2 ≡ record { device = reset w.device; journal = w.journal }
 Leads view lost_owed w w2 = LosesOwed w.device w2.device × (w2.journal ≡ w.journal)
 Leads view lost_power w w2 = LosesPower w.journal w.device w2.device × (w2.journal ≡ w.journal)
@@ -107,8 +117,11 @@ abbrev pub end_of : {R : Type 0} → List (Happening R) → World → World
 end_of [] w = w
 end_of (x ∷ history) w = end_of history x.after
 
--- A law above the definition: what a run promises with whatever answer, it promises of the outcomes which that answer tells.
+-- A law above the definition: what a run promises with whatever answer, it promises of the outcomes
+-- which that answer tells.
 abbrev pub OutcomesAreTheRun : (R T : Type 0) → (R → RigState) → Type 0
-OutcomesAreTheRun R T view = (table : List ChipData) (commands : List CommandData) (old new : R) (result : Result T Fault)
-    (outcomes_of : T → List OutcomeData) → RunContract table commands (view old) (view new) result outcomes_of
+OutcomesAreTheRun R T view = (table : List ChipData) (commands : List CommandData) (old new : R)
+    (result : Result T Fault)
+    (outcomes_of : T → List OutcomeData)
+    → RunContract table commands (view old) (view new) result outcomes_of
     → RunContract table commands (view old) (view new) (told_by outcomes_of result) themselves

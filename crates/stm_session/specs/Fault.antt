@@ -22,8 +22,9 @@ fault_of_journal (journal.Bad line) = fault.BadJournal line
 fault_of_journal journal.OtherDevice = fault.OtherDevice
 fault_of_journal journal.Memory = fault.Memory
 
--- What a fault comes of: the line failed, the device doesn't follow the protocol, the file of the journal or memory failed; or
--- the journal has a segment that must be ended or taken back first; or something else is refused.
+-- What a fault comes of: the line failed, the device doesn't follow the protocol, the file of the
+-- journal or memory failed; or the journal has a segment that must be ended or taken back first; or
+-- something else is refused.
 pub data Cause : Type 0 where
   of_line : Cause
   of_protocol : Cause
@@ -75,7 +76,8 @@ IsHeard _ = ⊥
 abbrev pub IsOfLine : Fault → Type 0
 IsOfLine e = IsHeard (cause_of e)
 
--- something is refused: for the state of the journal, or for what the table or a command makes of it
+-- something is refused: for the state of the journal, or for what the table
+-- or a command makes of it
 abbrev pub IsRefused : Cause → Type 0
 IsRefused of_session = Unit {0}
 IsRefused of_refusal = Unit {0}
@@ -117,9 +119,11 @@ KeepsFileCountBy old new _ = new.journal_failures ≡ old.journal_failures
 abbrev pub KeepsFileCount : RigState → RigState → Fault → Type 0
 KeepsFileCount old new e = KeepsFileCountBy old new (cause_of e)
 
--- On any line: a fault of the line or of the journal is answered only where the count of such failures rose. Where one of the
--- counts changed, its fault is answered and no other, nor Ok. An honest Rig stays honest, whatever its device is.
-pub record HasSessionCause {T : Type 0} (old new : RigState) (result : Result T Fault) : Type 0 where
+-- On any line: a fault of the line or of the journal is answered only where the count of such
+-- failures rose. Where one of the counts changed, its fault is answered and no other, nor Ok. An
+-- honest Rig stays honest, whatever its device is.
+pub record HasSessionCause {T : Type 0} (old new : RigState)
+    (result : Result T Fault) : Type 0 where
   pub line_later : old.line_failures ≤ new.line_failures
   pub journal_later : old.journal_failures ≤ new.journal_failures
   pub failed : IfErr result (RisesFor old new)

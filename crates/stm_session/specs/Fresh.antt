@@ -1,4 +1,5 @@
--- How a session settles its device; and a device that was reset since the last session, and is said to be.
+-- How a session settles its device; and a device that was reset since the last
+-- session, and is said to be.
 use Rattle.std.specs.Prelude.{◌≡◌, ℕ, Bool, true, false, List, [], ◌∷◌, Option, Some, None, IsTrue}
 use Rattle.stm_wire.specs.declared.chip.EraseKind.{EraseKind}
 use Rattle.stm_wire.specs.declared.chip.EraseKind.TheVariants.{Page, Extended}
@@ -39,14 +40,16 @@ abbrev pub EndsWell : Way → List RigCall → Type 0
 EndsWell (Settles byte limit) calls = EndsSettled byte limit calls
 EndsWell Connects calls = calls ≡ Put 0x7F ∷ Get (Some ack) ∷ []
 
--- How often an undo sends its settling byte at most, by the kind of the journal's chip and the journal's intent: more often than
--- any such device awaits it. Two batches are enough where a list of pages has one byte for each.
+-- How often an undo sends its settling byte at most, by the kind of the journal's chip and the
+-- journal's intent: more often than any such device awaits it. Two batches are enough where a list
+-- of pages has one byte for each.
 abbrev pub settling_limit : EraseKind → Option Intent → ℕ
 settling_limit kind None = 131072
 settling_limit Page (Some intent) = 512
 settling_limit Extended (Some intent) = 131072
 
--- how an undo settles its device: one that is said to be fresh is connected, unless 7F is the byte anyway
+-- how an undo settles its device: one that is said to be fresh is connected,
+-- unless 7F is the byte anyway
 abbrev pub undo_way : Bool → EraseKind → Option Intent → Way
 undo_way false kind intent = Settles (settling_byte intent) (settling_limit kind intent)
 undo_way true kind None = Settles 0x7F (settling_limit kind None)

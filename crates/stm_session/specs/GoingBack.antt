@@ -15,29 +15,36 @@ use Rattle.stm_session.specs.Undoes.{flash_taken_back}
 
 -- the lines by which so many segments are taken back, from the flash as it is
 abbrev pub going_lines : ℕ → RigState → List Entry
-going_lines taken old = taken_entries old.device.chip taken (state_at old.journal).stack old.device.flash
+going_lines taken old =
+    taken_entries old.device.chip taken (state_at old.journal).stack old.device.flash
 
 -- and those of an undo, which puts the page at work back first
 abbrev pub undo_lines : ℕ → RigState → List Entry
-undo_lines taken old = undo_entries old.device.chip taken (state_at old.journal).stack old.device.flash
+undo_lines taken old =
+    undo_entries old.device.chip taken (state_at old.journal).stack old.device.flash
 
--- At a moment of taking back so many segments, some of them are off. Where none is unfinished, the flash is the one before the
--- oldest that is off; or none is, none was unfinished at the start, and the flash is that of the start. A beginning of these
--- lines is added.
-pub record AmidBackBy (entries : List Entry) (taken : ℕ) (flashes : List (List ℕ)) (old : RigState) (d : Device) (journal : List ℕ) : Type 0 where
+-- At a moment of taking back so many segments, some of them are off. Where none is unfinished, the
+-- flash is the one before the oldest that is off; or none is, none was unfinished at the start, and
+-- the flash is that of the start. A beginning of these lines is added.
+pub record AmidBackBy (entries : List Entry) (taken : ℕ) (flashes : List (List ℕ)) (old : RigState)
+    (d : Device) (journal : List ℕ) : Type 0 where
   pub undone : ℕ
   pub within : undone ≤ taken
   pub make : SameMake old.device d
   pub undoable : Undoable (drop undone flashes) d journal
-  pub finished : is_unfinished_at journal ≡ false → (undone ≡ 0 → is_unfinished_at old.journal ≡ false) × (d.flash ≡ flash_taken_back undone old.device.flash flashes)
+  pub finished : is_unfinished_at journal ≡ false
+      → (undone ≡ 0 → is_unfinished_at old.journal ≡ false)
+      × (d.flash ≡ flash_taken_back undone old.device.flash flashes)
   pub written : ℕ
   pub lines : journal ≡ old.journal ++ take written (text_added (is_torn_at old.journal) entries)
 
 abbrev pub AmidBack : ℕ → List (List ℕ) → RigState → Device → List ℕ → Type 0
-AmidBack taken flashes old d journal = AmidBackBy (going_lines taken old) taken flashes old d journal
+AmidBack taken flashes old d journal =
+    AmidBackBy (going_lines taken old) taken flashes old d journal
 
 -- So many segments are taken back, from a steady Rig, and just these lines are added.
-pub record GoesBackBy {T : Type 0} (entries : List Entry) (taken : ℕ) (flashes : List (List ℕ)) (l2 : Loaded) (old new : RigState) (result : Result T Fault) : Type 0 where
+pub record GoesBackBy {T : Type 0} (entries : List Entry) (taken : ℕ) (flashes : List (List ℕ))
+    (l2 : Loaded) (old new : RigState) (result : Result T Fault) : Type 0 where
   pub moments : LeavesOnly (AmidBackBy entries taken flashes old) old new
   pub fails : IfErr result IsOutsideFault
   pub honest : new.is_honest
@@ -47,5 +54,7 @@ pub record GoesBackBy {T : Type 0} (entries : List Entry) (taken : ℕ) (flashes
   pub below : OnOk result ((state_at new.journal).stack ≡ drop taken (state_at old.journal).stack)
   pub finished : OnOk result (1 ≤ taken → is_unfinished_at new.journal ≡ false)
 
-abbrev pub GoesBack : {T : Type 0} → ℕ → List (List ℕ) → Loaded → RigState → RigState → Result T Fault → Type 0
-GoesBack taken flashes l2 old new result = GoesBackBy (going_lines taken old) taken flashes l2 old new result
+abbrev pub GoesBack : {T : Type 0} → ℕ → List (List ℕ) → Loaded → RigState → RigState
+    → Result T Fault → Type 0
+GoesBack taken flashes l2 old new result =
+    GoesBackBy (going_lines taken old) taken flashes l2 old new result

@@ -1,15 +1,21 @@
--- The headline: any list of calls, stops, resets and losses of power, from any state that can be taken back.
-use Rattle.std.specs.Prelude.{◌≡◌, ℕ, ◌+◌, ◌-◌, false, List, [], ◌∷◌, ◌++◌, length, take, drop, reverse, Ok, Err}
+-- The headline: any list of calls, stops, resets and losses of power, from any
+-- state that can be taken back.
+use Rattle.std.specs.Prelude.{◌≡◌, ℕ, ◌+◌, ◌-◌, false, List, [], ◌∷◌, ◌++◌, length, take, drop}
+use Rattle.std.specs.Prelude.{reverse, Ok, Err}
 use Rattle.stm_image.specs.Lay.{lay}
 use Rattle.stm_image.specs.Pairs.{Pairs}
 use Rattle.stm_wire.specs.Chip.{ChipData}
 use Rattle.stm_wire.specs.Rig.{RigState}
 use Rattle.stm_chip.specs.Document.{IsChipWith}
-use Rattle.stm_session.specs.Events.{World, Event, Happening, AllLead, Leads, end_of, ran, run_stopped, informed, info_stopped, undid, undo_stopped, left_refused, refusal_stopped, kept, was_reset, lost_owed, lost_power}
+use Rattle.stm_session.specs.Events.{World, Event, Happening, AllLead, Leads, end_of, ran}
+use Rattle.stm_session.specs.Events.{run_stopped, informed, info_stopped, undid, undo_stopped}
+use Rattle.stm_session.specs.Events.{left_refused, refusal_stopped, kept, was_reset, lost_owed}
+use Rattle.stm_session.specs.Events.{lost_power}
 use Rattle.stm_session.specs.Fault.{IsOutsideFault}
 use Rattle.stm_session.specs.Moments.{SameMake}
 use Rattle.stm_session.specs.Undoable.{Undoable, is_unfinished_at}
-use Rattle.stm_session.specs.Meaning.{CommandData, writes, flash_after_all, flashes_before, changes_of}
+use Rattle.stm_session.specs.Meaning.{CommandData, writes, flash_after_all, flashes_before}
+use Rattle.stm_session.specs.Meaning.{changes_of}
 use Rattle.stm_session.specs.Answers.{OutcomeData, agreeing}
 use Rattle.stm_session.specs.Lines.{depth_at}
 use Rattle.stm_session.specs.Undoes.{taken_count, flash_taken_back}
@@ -22,15 +28,19 @@ standing_in w commands = agreeing w.device.chip w.device.flash commands
 abbrev pub grown : World → World → ℕ
 grown w w2 = depth_at w2.journal - depth_at w.journal
 
--- The flashes at the starts of the segments on the stack, the newest first: a run adds those before the commands whose segments
--- it began, an undo takes off as many as it took off the stack, and where the way back is given up none is left.
+-- The flashes at the starts of the segments on the stack, the newest first: a run adds those before
+-- the commands whose segments it began, an undo takes off as many as it took off the stack, and
+-- where the way back is given up none is left.
 abbrev pub starts_of_run : List CommandData → World → World → List (List ℕ) → List (List ℕ)
 starts_of_run commands w w2 starts =
-    reverse (take (grown w w2) (flashes_before w.device.chip w.device.flash (standing_in w commands))) ++ starts
+    reverse
+    (take (grown w w2) (flashes_before w.device.chip w.device.flash (standing_in w commands)))
+    ++ starts
 
 abbrev pub starts_after : {R : Type 0} → Event R → World → World → List (List ℕ) → List (List ℕ)
 starts_after (ran table commands old new result) w w2 starts = starts_of_run commands w w2 starts
-starts_after (run_stopped table commands old new result) w w2 starts = starts_of_run commands w w2 starts
+starts_after (run_stopped table commands old new result) w w2 starts =
+    starts_of_run commands w w2 starts
 starts_after (informed table old new result) w w2 starts = starts
 starts_after (info_stopped table old new result) w w2 starts = starts
 starts_after (undid table count old new result) w w2 starts = drop (grown w2 w) starts
@@ -55,14 +65,17 @@ pub record UndoHolds (count n : ℕ) (w w2 : World) (starts : List (List ℕ)) :
   pub finished : is_unfinished_at w2.journal ≡ false
   pub flash : w2.device.flash ≡ flash_taken_back n w.device.flash starts
 
--- where no segment is unfinished, the flash is the one after the commands whose segments were begun, or the one at the start of
--- the oldest segment that is off the stack
+-- where no segment is unfinished, the flash is the one after the commands whose segments were
+-- begun, or the one at the start of the oldest segment that is off the stack
 abbrev pub RunLeaves : List CommandData → World → World → Type 0
 RunLeaves commands w w2 = is_unfinished_at w2.journal ≡ false
-    → w2.device.flash ≡ flash_after_all w.device.chip w.device.flash (take (grown w w2) (changes_of (standing_in w commands)))
+    → w2.device.flash ≡ flash_after_all w.device.chip w.device.flash
+    (take (grown w w2) (changes_of (standing_in w commands)))
 
 abbrev pub UndoLeaves : World → World → List (List ℕ) → Type 0
-UndoLeaves w w2 starts = is_unfinished_at w2.journal ≡ false → w2.device.flash ≡ flash_taken_back (grown w2 w) w.device.flash starts
+UndoLeaves w w2 starts =
+    is_unfinished_at w2.journal ≡ false
+    → w2.device.flash ≡ flash_taken_back (grown w2 w) w.device.flash starts
 
 abbrev pub LeavesAlone : World → World → Type 0
 LeavesAlone w w2 = (w2.device.flash ≡ w.device.flash) × (w2.journal ≡ w.journal)
@@ -71,7 +84,8 @@ LeavesAlone w w2 = (w2.device.flash ≡ w.device.flash) × (w2.journal ≡ w.jou
 abbrev pub StandsAlone : World → World → Type 0
 StandsAlone w w2 = (w2.device.flash ≡ w.device.flash) × (depth_at w2.journal ≡ 0)
 
--- What is promised of one event. An undo fails by the line, the journal or memory alone where the table holds the device's chip.
+-- What is promised of one event. An undo fails by the line, the journal or memory alone where the
+-- table holds the device's chip.
 abbrev pub Holds : {R : Type 0} → Event R → World → World → List (List ℕ) → Type 0
 Holds (ran table commands old new (Ok outcomes)) w w2 starts = RunHolds commands w w2
 Holds (ran table commands old new (Err e)) w w2 starts = RunLeaves commands w w2
@@ -89,11 +103,13 @@ Holds was_reset w w2 starts = LeavesAlone w w2
 Holds lost_owed w w2 starts = LeavesAlone w w2
 Holds lost_power w w2 starts = is_unfinished_at w.journal ≡ false → LeavesAlone w w2
 
--- each event holds what is promised of it, and wherever the history ends what was begun can be taken back
+-- each event holds what is promised of it, and wherever the history ends what
+-- was begun can be taken back
 abbrev pub AllHold : {R : Type 0} → List (Happening R) → World → List (List ℕ) → Type 0
 AllHold [] w starts = Undoable starts w.device w.journal
 AllHold (x ∷ history) w starts =
-    Undoable starts w.device w.journal × Holds x.event w x.after starts × AllHold history x.after (starts_after x.event w x.after starts)
+    Undoable starts w.device w.journal × Holds x.event w x.after starts
+    × AllHold history x.after (starts_after x.event w x.after starts)
 
 -- a session begins wherever what was begun before can be taken back to these flashes
 abbrev pub IsStart : List (List ℕ) → World → Type 0
@@ -102,7 +118,8 @@ IsStart starts w = Undoable starts w.device w.journal
 -- The headline: whatever calls, stops, resets and losses of power follow.
 abbrev pub Headline : {R : Type 0} → (R → RigState) → Type 0
 Headline {R} view =
-    (history : List (Happening R)) (start : World) (starts : List (List ℕ)) → IsStart starts start → AllLead view history start
+    (history : List (Happening R)) (start : World) (starts : List (List ℕ)) → IsStart starts start
+    → AllLead view history start
     → AllHold history start starts
 
 -- the Rig of a call is honest afterwards, so that another call can begin on it
@@ -120,17 +137,21 @@ IsHonestAfter view was_reset = Unit {0}
 IsHonestAfter view lost_owed = Unit {0}
 IsHonestAfter view lost_power = Unit {0}
 
--- Another event can follow: the device is of the same make, so that a table that knew it does, and the Rig of a call is honest.
-pub record CanFollow {R : Type 0} (view : R → RigState) (event : Event R) (w w2 : World) : Type 0 where
+-- Another event can follow: the device is of the same make, so that a table that knew it does, and
+-- the Rig of a call is honest.
+pub record CanFollow {R : Type 0} (view : R → RigState) (event : Event R)
+    (w w2 : World) : Type 0 where
   pub make : SameMake w.device w2.device
   pub honest : IsHonestAfter view event
 
 abbrev pub EachCanFollow : {R : Type 0} → (R → RigState) → Type 0
 EachCanFollow {R} view =
-    (event : Event R) (starts : List (List ℕ)) (w w2 : World) → IsStart starts w → Leads view event w w2 → CanFollow view event w w2
+    (event : Event R) (starts : List (List ℕ)) (w w2 : World) → IsStart starts w
+    → Leads view event w w2 → CanFollow view event w w2
 
--- The flash to which an undo of everything leads: that at the start of the oldest segment which there was when the session began,
--- and with none the flash as the session found it; or the flash as it was when the way back was last given up.
+-- The flash to which an undo of everything leads: that at the start of the oldest segment which
+-- there was when the session began, and with none the flash as the session found it; or the flash
+-- as it was when the way back was last given up.
 abbrev pub oldest_start : List (List ℕ) → World → List ℕ
 oldest_start starts start = flash_taken_back (length starts) start.device.flash starts
 
@@ -152,19 +173,24 @@ abbrev pub oldest_of : {R : Type 0} → List (Happening R) → List ℕ → List
 oldest_of [] flash = flash
 oldest_of (x ∷ history) flash = oldest_of history (oldest_after x.event x.after flash)
 
--- In short: whatever calls, stops, resets and losses of power came before, an undo of everything that reports success leaves
--- every byte of the flash as it was at the start of the oldest segment, which is when the session began, or when the way back
--- was last given up; and no segment.
+-- In short: whatever calls, stops, resets and losses of power came before, an undo of everything
+-- that reports success leaves every byte of the flash as it was at the start of the oldest segment,
+-- which is when the session began, or when the way back was last given up; and no segment.
 abbrev pub AllIsTakenBack : {R : Type 0} → (R → RigState) → Type 0
 AllIsTakenBack {R} view =
-    (history : List (Happening R)) (start : World) (starts : List (List ℕ)) → IsStart starts start → AllLead view history start
-    → (table : List ChipData) (old new : R) (n : ℕ) (w2 : World) → Leads view (undid table 0 old new (Ok n)) (end_of history start) w2
+    (history : List (Happening R)) (start : World) (starts : List (List ℕ)) → IsStart starts start
+    → AllLead view history start
+    → (table : List ChipData) (old new : R) (n : ℕ) (w2 : World)
+    → Leads view (undid table 0 old new (Ok n)) (end_of history start) w2
     → (w2.device.flash ≡ oldest_of history (oldest_start starts start)) × (depth_at w2.journal ≡ 0)
 
 -- And a write that reports success leaves the image in its places and every other byte as it was.
 abbrev pub WritesWhole : {R : Type 0} → (R → RigState) → Type 0
 WritesWhole {R} view =
-    (history : List (Happening R)) (start : World) (starts : List (List ℕ)) → IsStart starts start → AllLead view history start
-    → (table : List ChipData) (image : Pairs) (old new : R) (outcomes : List OutcomeData) (w2 : World)
+    (history : List (Happening R)) (start : World) (starts : List (List ℕ)) → IsStart starts start
+    → AllLead view history start
+    → (table : List ChipData) (image : Pairs) (old new : R)
+    (outcomes : List OutcomeData) (w2 : World)
     → Leads view (ran table (writes image ∷ []) old new (Ok outcomes)) (end_of history start) w2
-    → w2.device.flash ≡ lay image (end_of history start).device.chip.base (end_of history start).device.flash
+    → w2.device.flash
+    ≡ lay image (end_of history start).device.chip.base (end_of history start).device.flash

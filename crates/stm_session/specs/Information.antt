@@ -29,11 +29,13 @@ pub record IsInfoOf (d : Device) (info : Info) : Type 0 where
   pub commands : AreCommandsOf d info.commands
 
 -- The device is told; or it is refused, or a call failed. No segment is begun at any moment.
-pub record Informs (table : List ChipData) (old new : RigState) (result : Result Info Fault) : Type 0 where
+pub record Informs (table : List ChipData) (old new : RigState)
+    (result : Result Info Fault) : Type 0 where
   pub moments : LeavesOnly (IsUnbegun old) old new
   pub honest : new.is_honest
   pub left : IsUnbegun old new.device new.journal
   pub told : IfOk result (IsInfoOf old.device)
   pub settled : OnOk result (IsSettled new.device)
   pub accepted : OnOk result (opening_refusal (journal_of old.journal) old.device table ≡ None)
-  pub fails : IfErr result (λ fault. IsOutsideFault fault ⊎ (opening_refusal (journal_of old.journal) old.device table ≡ Some fault))
+  pub fails : IfErr result (λ fault. IsOutsideFault fault
+      ⊎ (opening_refusal (journal_of old.journal) old.device table ≡ Some fault))

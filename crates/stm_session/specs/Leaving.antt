@@ -13,7 +13,8 @@ use Rattle.stm_session.specs.declared.fault.Fault.{Fault}
 use Rattle.stm_session.specs.Fault.{IsJournalOrMemory}
 use Rattle.stm_session.specs.Moments.{IsSafe, IsUnbegun, SameMake}
 
--- the journal was read, the device was settled with 7F, which it refused or it was fresh, and then came this dialogue, whole
+-- the journal was read, the device was settled with 7F, which it refused or it was fresh, and then
+-- came this dialogue, whole
 pub record IsSettledThen (turns : List Turn) (calls : List RigCall) : Type 0 where
   pub fetches : List RigCall
   pub are_fetches : AreFetches fetches
@@ -36,17 +37,22 @@ pub record IsSettledSame (old d : Device) : Type 0 where
 -- such a device was fed a beginning of the frame, with the same journal
 abbrev pub LeftByFrame : List ℕ → RigState → Device → List ℕ → Type 0
 LeftByFrame frame old d journal =
-    (journal ≡ old.journal) × ((mid : Device) × IsSettledSame old.device mid × PartlyFed frame mid d)
+    (journal ≡ old.journal)
+    × ((mid : Device) × IsSettledSame old.device mid × PartlyFed frame mid d)
 
 -- the device wasn't sent the frame yet, or was sent a beginning of it
 abbrev pub LeftByLeaving : List ℕ → RigState → Device → List ℕ → Type 0
 LeftByLeaving frame old d journal = IsUnbegun old d journal ⊎ LeftByFrame frame old d journal
 
--- At each moment, and after a fault too, at most a beginning of this frame was sent, to a settled device with the old flash;
--- at Ok all of it was. Where the journal or memory failed, nothing was sent.
-pub record Leaves {T : Type 0} (frame : List ℕ) (old new : RigState) (result : Result T Fault) : Type 0 where
+-- At each moment, and after a fault too, at most a beginning of this frame was sent, to a
+-- settled device with the old flash; at Ok all of it was. Where the journal or memory
+-- failed, nothing was sent.
+pub record Leaves {T : Type 0} (frame : List ℕ) (old new : RigState)
+    (result : Result T Fault) : Type 0 where
   pub moments : LeavesOnly (LeftByLeaving frame old) old new
   pub honest : new.is_honest
   pub left : LeftByLeaving frame old new.device new.journal
-  pub unsent : IfErr result (λ fault. IsJournalOrMemory fault → IsUntouched old new.device new.journal)
-  pub fed : OnOk result ((mid : Device) × IsSettledSame old.device mid × FedAndTaken frame mid new.device)
+  pub unsent :
+      IfErr result (λ fault. IsJournalOrMemory fault → IsUntouched old new.device new.journal)
+  pub fed :
+      OnOk result ((mid : Device) × IsSettledSame old.device mid × FedAndTaken frame mid new.device)

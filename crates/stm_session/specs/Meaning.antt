@@ -50,4 +50,5 @@ before_if false flash flashes = flashes
 -- the flashes before each command that begins a segment, in their order
 abbrev pub flashes_before : ChipData → List ℕ → List CommandData → List (List ℕ)
 flashes_before chip flash [] = []
-flashes_before chip flash (c ∷ commands) = before_if (is_change c) flash (flashes_before chip (flash_after chip flash c) commands)
+flashes_before chip flash (c ∷ commands) =
+    before_if (is_change c) flash (flashes_before chip (flash_after chip flash c) commands)

@@ -25,9 +25,10 @@ pub record IsUnbegun (old : RigState) (d : Device) (journal : List ℕ) : Type 0
   pub flash : d.flash ≡ old.device.flash
   pub safe : IsSafe d
 
--- Calls that begin no segment: each moment is such a one; they fail by the line, the journal or memory alone; and at Ok the
--- device is settled, and what they were for is done.
-pub record BeginsNothing {T : Type 0} (old new : RigState) (result : Result T Fault) (Done : T → Type 0) : Type 0 where
+-- Calls that begin no segment: each moment is such a one; they fail by the line, the journal or
+-- memory alone; and at Ok the device is settled, and what they were for is done.
+pub record BeginsNothing {T : Type 0} (old new : RigState) (result : Result T Fault)
+    (Done : T → Type 0) : Type 0 where
   pub moments : LeavesOnly (IsUnbegun old) old new
   pub fails : IfErr result IsOutsideFault
   pub left : IsUnbegun old new.device new.journal

@@ -1,5 +1,6 @@
 -- How a session begins, and what it then knows.
-use Rattle.std.specs.Prelude.{◌≡◌, ◌⊎◌, false, List, take, Option, Some, None, Result, IfErr, OnOk, MatchResult}
+use Rattle.std.specs.Prelude.{◌≡◌, ◌⊎◌, false, List, take, Option, Some, None, Result, IfErr, OnOk}
+use Rattle.std.specs.Prelude.{MatchResult}
 use Rattle.stm_wire.specs.Chip.{ChipData}
 use Rattle.stm_wire.specs.Device.{Device, IsSettled}
 use Rattle.stm_wire.specs.Rig.{RigState}
@@ -16,8 +17,10 @@ use Rattle.stm_session.specs.Fault.{IsJournalOrMemory, IsOutsideFault}
 use Rattle.stm_session.specs.Moments.{IsUnbegun}
 use Rattle.stm_session.specs.Refusal.{misfit_refusal, opening_refusal}
 
--- The journal was read, and isn't refused; or it is, or couldn't be read. Nothing was changed at any moment.
-pub record LoadsUnless {T : Type 0} (refusal : Option Fault) (old new : RigState) (result : Result T Fault) : Type 0 where
+-- The journal was read, and isn't refused; or it is, or couldn't be read. Nothing
+-- was changed at any moment.
+pub record LoadsUnless {T : Type 0} (refusal : Option Fault) (old new : RigState)
+    (result : Result T Fault) : Type 0 where
   pub moments : LeavesOnly (IsUntouched old) old new
   pub honest : new.is_honest
   pub left : IsUntouched old new.device new.journal
@@ -42,7 +45,8 @@ pub record IsCoherent (table : List ChipData) (opened : Opened) : Type 0 where
   pub own : names_other opened.chip.now.id opened.journal.state ≡ false
   pub fits : misfit_refusal opened.chip.now opened.journal.state ≡ None
 
--- The journal in memory is the Rig's, the device is settled and told what it is, nothing was changed, and nothing is refused.
+-- The journal in memory is the Rig's, the device is settled and told what it is, nothing was
+-- changed, and nothing is refused.
 pub record IsOpened (table : List ChipData) (old new : RigState) (opened : Opened) : Type 0 where
   pub loaded : IsLoaded opened.journal old.journal
   pub settled : IsSettled new.device
@@ -51,9 +55,11 @@ pub record IsOpened (table : List ChipData) (old new : RigState) (opened : Opene
   pub accepted : opening_refusal (journal_of old.journal) old.device table ≡ None
 
 -- A session is opened; or it is refused, or failed. No segment is begun at any moment.
-pub record Opens (table : List ChipData) (old new : RigState) (result : Result Opened Fault) : Type 0 where
+pub record Opens (table : List ChipData) (old new : RigState)
+    (result : Result Opened Fault) : Type 0 where
   pub moments : LeavesOnly (IsUnbegun old) old new
   pub honest : new.is_honest
   pub left : IsUnbegun old new.device new.journal
   pub answers : MatchResult result (IsOpened table old new)
-      (λ fault. IsOutsideFault fault ⊎ (opening_refusal (journal_of old.journal) old.device table ≡ Some fault))
+      (λ fault. IsOutsideFault fault
+      ⊎ (opening_refusal (journal_of old.journal) old.device table ≡ Some fault))

@@ -1,6 +1,8 @@
--- In which order a session sends frames and appends lines, on any line: at Ok all of it, at a fault a beginning. Fetches are left
--- out: they change nothing.
-use Rattle.std.specs.Prelude.{◌≡◌, ◌≢◌, ◌⊎◌, ℕ, zero, suc, ◌+◌, ◌*◌, ◌/◌, ◌%◌, ◌<◌, ◌≤◌, Bool, false, if◌then◌else◌, List, [], ◌∷◌, ◌++◌, length, take, drop, map, bytes_eq, Option, Some, None, Result, IfErr}
+-- In which order a session sends frames and appends lines, on any line: at Ok all of it, at a fault
+-- a beginning. Fetches are left out: they change nothing.
+use Rattle.std.specs.Prelude.{◌≡◌, ◌≢◌, ◌⊎◌, ℕ, zero, suc, ◌+◌, ◌*◌, ◌/◌, ◌%◌, ◌<◌, ◌≤◌, Bool}
+use Rattle.std.specs.Prelude.{false, if◌then◌else◌, List, [], ◌∷◌, ◌++◌, length, take, drop, map}
+use Rattle.std.specs.Prelude.{bytes_eq, Option, Some, None, Result, IfErr}
 use Rattle.stm_wire.specs.declared.intent.Intent.{Intent}
 use Rattle.stm_wire.specs.declared.fault.WireFault.{WireFault}
 use Rattle.stm_wire.specs.declared.fault.WireFault.TheVariants.{Line}
@@ -23,10 +25,11 @@ use Rattle.stm_journal.specs.Journals.{Loaded, IsLoaded, added_bytes}
 use Rattle.stm_journal.specs.Newest.{pages_of_segments}
 use Rattle.stm_journal.specs.States.{intent_of, intent_page}
 use Rattle.stm_session.specs.declared.fault.Fault.{Fault}
-use Rattle.stm_session.specs.Fault.{Cause, IsHeard, of_file, of_line, of_memory, of_protocol, of_refusal, of_session, cause_of}
+use Rattle.stm_session.specs.Fault.{Cause, IsHeard, of_file, of_line, of_memory, of_protocol}
+use Rattle.stm_session.specs.Fault.{of_refusal, of_session, cause_of}
 
--- What the host does on purpose: it appends lines, in one call; or it sends a frame, whose dialogue is held to its end, with each
--- acknowledgement and each byte of the reply.
+-- What the host does on purpose: it appends lines, in one call; or it sends a frame, whose dialogue
+-- is held to its end, with each acknowledgement and each byte of the reply.
 pub data Step : Type 0 where
   Adds : List Entry → Step
   Sends : List Turn → Step
@@ -39,10 +42,12 @@ acts_of (Get answer ∷ calls) = Get answer ∷ acts_of calls
 acts_of (Append n ∷ calls) = Append n ∷ acts_of calls
 acts_of (Fetch ∷ calls) = acts_of calls
 
--- the calls that steps are, where a torn tail stands at first or not: that is ended with the next line
+-- the calls that steps are, where a torn tail stands at first or not: that is
+-- ended with the next line
 abbrev pub acts_of_steps : Bool → List Step → List RigCall
 acts_of_steps torn [] = []
-acts_of_steps torn (Adds entries ∷ steps) = Append (length (added_bytes torn entries)) ∷ acts_of_steps false steps
+acts_of_steps torn (Adds entries ∷ steps) =
+    Append (length (added_bytes torn entries)) ∷ acts_of_steps false steps
 acts_of_steps torn (Sends turns ∷ steps) = calls_of turns ++ acts_of_steps torn steps
 
 -- a torn tail still stands behind the steps
@@ -71,21 +76,26 @@ abbrev pub step_in : Option Step → List Step
 step_in None = []
 step_in (Some step) = step ∷ []
 
--- The calls of a step that failed, by what the fault comes of: its frame's dialogue was broken off, by the line, or by another
--- byte than is due, a refusal or silence; or the file took its lines only in part. Where something is refused, or memory fails,
--- no step failed; nor where the journal can't be read.
+-- The calls of a step that failed, by what the fault comes of: its frame's dialogue was broken
+-- off, by the line, or by another byte than is due, a refusal or silence; or the file took its
+-- lines only in part. Where something is refused, or memory fails, no step failed; nor where
+-- the journal can't be read.
 abbrev pub FailsBy : Cause → Bool → Option Step → List RigCall → Type 0
 FailsBy of_line torn (Some (Sends turns)) calls = IsBrokenOff Line turns calls
-FailsBy of_protocol torn (Some (Sends turns)) calls = (fault : WireFault) × (fault ≢ Line) × IsBrokenOff fault turns calls
-FailsBy of_file torn (Some (Adds entries)) calls = (calls ≡ []) ⊎ (calls ≡ Append (length (added_bytes torn entries)) ∷ [])
+FailsBy of_protocol torn (Some (Sends turns)) calls = (fault : WireFault) × (fault ≢ Line)
+    × IsBrokenOff fault turns calls
+FailsBy of_file torn (Some (Adds entries)) calls =
+    (calls ≡ []) ⊎ (calls ≡ Append (length (added_bytes torn entries)) ∷ [])
 FailsBy of_file torn None calls = calls ≡ []
 FailsBy of_memory torn None calls = calls ≡ []
 FailsBy of_session torn None calls = calls ≡ []
 FailsBy of_refusal torn None calls = calls ≡ []
 FailsBy _ torn step calls = ⊥
 
--- Calls that end with a fault: some steps were done whole, and perhaps one more was begun, which failed; all these are allowed.
-pub record AreCutShort (Allowed : List Step → Type 0) (cause : Cause) (torn : Bool) (acts : List RigCall) : Type 0 where
+-- Calls that end with a fault: some steps were done whole, and perhaps one more was begun, which
+-- failed; all these are allowed.
+pub record AreCutShort (Allowed : List Step → Type 0) (cause : Cause) (torn : Bool)
+    (acts : List RigCall) : Type 0 where
   pub done : List Step
   pub failed : Option Step
   pub allowed : Allowed (done ++ step_in failed)
@@ -94,11 +104,14 @@ pub record AreCutShort (Allowed : List Step → Type 0) (cause : Cause) (torn : 
   pub is : acts ≡ acts_of_steps torn done ++ last
 
 abbrev pub StopsBy : (List Step → Type 0) → Cause → Bool → RigState → RigState → Type 0
-StopsBy Allowed cause torn old new = GoesOn (λ calls. AreCutShort Allowed cause torn (acts_of calls)) old.calls new.calls
+StopsBy Allowed cause torn old new =
+    GoesOn (λ calls. AreCutShort Allowed cause torn (acts_of calls)) old.calls new.calls
 
 -- where a fault is answered, it ends such steps
-abbrev pub Stops : {T : Type 0} → (List Step → Type 0) → Bool → RigState → RigState → Result T Fault → Type 0
-Stops Allowed torn old new result = IfErr result (λ fault. StopsBy Allowed (cause_of fault) torn old new)
+abbrev pub Stops : {T : Type 0} → (List Step → Type 0) → Bool → RigState → RigState
+    → Result T Fault → Type 0
+Stops Allowed torn old new result =
+    IfErr result (λ fault. StopsBy Allowed (cause_of fault) torn old new)
 
 -- just these steps
 abbrev pub Are : List Step → List Step → Type 0
@@ -118,7 +131,8 @@ Begin P steps = (rest : List Step) × P (steps ++ rest)
 abbrev pub read_steps : ℕ → ℕ → List ℕ → List Step
 read_steps address zero bytes = []
 read_steps address (suc blocks) bytes =
-    read_steps address blocks bytes ++ Sends (read_turns (address + 256 * blocks) (take 256 (drop (256 * blocks) bytes))) ∷ []
+    read_steps address blocks bytes
+    ++ Sends (read_turns (address + 256 * blocks) (take 256 (drop (256 * blocks) bytes))) ∷ []
 
 -- one frame reads so many bytes, whatever comes
 pub record IsReadOf (address count : ℕ) (steps : List Step) : Type 0 where
@@ -135,7 +149,8 @@ pub record AreReadsOf (address count : ℕ) (steps : List Step) : Type 0 where
 -- a block was read, and these bytes came
 pub record ReadsBlock (address count : ℕ) (answer : List ℕ) (old new : RigState) : Type 0 where
   pub size : length answer ≡ count
-  pub sent : (torn : Bool) → GoesOn (IsInOrder torn (Sends (read_turns address answer) ∷ [])) old.calls new.calls
+  pub sent : (torn : Bool)
+      → GoesOn (IsInOrder torn (Sends (read_turns address answer) ∷ [])) old.calls new.calls
 
 abbrev pub page_address : ChipData → ℕ → ℕ
 page_address chip n = chip.base + page_offset chip n
@@ -146,7 +161,8 @@ page_reads chip n held = read_steps (page_address chip n) (page_size chip n / 25
 
 -- these frames of a page's new bytes are written
 abbrev pub write_step : ChipData → ℕ → List ℕ → Frame → Step
-write_step chip n page f = Sends (write_turns (page_address chip n + f.offset) (take f.length (drop f.offset page)))
+write_step chip n page f =
+    Sends (write_turns (page_address chip n + f.offset) (take f.length (drop f.offset page)))
 
 abbrev pub write_steps : ChipData → ℕ → List ℕ → List Frame → List Step
 write_steps chip n page frames = map (write_step chip n page) frames
@@ -154,7 +170,8 @@ write_steps chip n page frames = map (write_step chip n page) frames
 -- where there are any: the intent's line stands before them
 abbrev pub program_steps : ChipData → ℕ → List ℕ → List Frame → List Step
 program_steps chip n page [] = []
-program_steps chip n page (f ∷ frames) = Adds (Programs n ∷ []) ∷ write_steps chip n page (f ∷ frames)
+program_steps chip n page (f ∷ frames) =
+    Adds (Programs n ∷ []) ∷ write_steps chip n page (f ∷ frames)
 
 -- a page is erased, its intent's line first, and written
 abbrev pub erase_steps : ChipData → ℕ → List Step
@@ -165,7 +182,9 @@ rewrite_steps chip n page frames = erase_steps chip n ++ program_steps chip n pa
 
 -- where it doesn't hold its new bytes already
 abbrev pub restore_steps : ChipData → ℕ → List ℕ → List ℕ → List Step
-restore_steps chip n held page = if bytes_eq held page then [] else rewrite_steps chip n page (frames_of (erased_byte chip) page (length page / 256))
+restore_steps chip n held page =
+    if bytes_eq held page then []
+    else rewrite_steps chip n page (frames_of (erased_byte chip) page (length page / 256))
 
 -- a page is read, and given the bytes that the journal keeps
 pub record IsReturned (chip : ChipData) (n : ℕ) (steps : List Step) : Type 0 where
@@ -178,10 +197,12 @@ pub record IsReturned (chip : ChipData) (n : ℕ) (steps : List Step) : Type 0 w
 -- each of the pages, in the order of their lines
 abbrev pub AreReturned : ChipData → List Kept → List Step → Type 0
 AreReturned chip [] steps = steps ≡ []
-AreReturned chip (kept ∷ pages) steps = (first : List Step) × (rest : List Step) × (steps ≡ first ++ rest) × IsReturned chip kept.page first × AreReturned chip pages rest
+AreReturned chip (kept ∷ pages) steps = (first : List Step) × (rest : List Step)
+    × (steps ≡ first ++ rest) × IsReturned chip kept.page first × AreReturned chip pages rest
 
 -- and then the line that says so is appended
-pub record IsTakenBack (chip : ChipData) (pages : List Kept) (number : ℕ) (steps : List Step) : Type 0 where
+pub record IsTakenBack (chip : ChipData) (pages : List Kept) (number : ℕ)
+    (steps : List Step) : Type 0 where
   pub returns : List Step
   pub are_returns : AreReturned chip pages returns
   pub is : steps ≡ returns ++ Adds (Undoes number ∷ []) ∷ []
@@ -191,7 +212,8 @@ abbrev pub AreTakenBack : ChipData → ℕ → List (List Kept) → List Step �
 AreTakenBack chip zero segments steps = steps ≡ []
 AreTakenBack chip (suc taken) [] steps = ⊥
 AreTakenBack chip (suc taken) (pages ∷ below) steps =
-    (first : List Step) × (rest : List Step) × (steps ≡ first ++ rest) × IsTakenBack chip pages (length below + 1) first × AreTakenBack chip taken below rest
+    (first : List Step) × (rest : List Step) × (steps ≡ first ++ rest)
+    × IsTakenBack chip pages (length below + 1) first × AreTakenBack chip taken below rest
 
 -- a page is given the bytes that the journal keeps, unread
 pub record IsRewritten (chip : ChipData) (n : ℕ) (steps : List Step) : Type 0 where
@@ -205,7 +227,8 @@ IsWorkRewritten chip None steps = steps ≡ []
 IsWorkRewritten chip (Some intent) steps = IsRewritten chip (intent_page intent) steps
 
 -- the page of the newest segment's intent first, and then so many segments are taken back
-pub record AreAllTakenBack (chip : ChipData) (intent : Option Intent) (taken : ℕ) (segments : List (List Kept)) (steps : List Step) : Type 0 where
+pub record AreAllTakenBack (chip : ChipData) (intent : Option Intent) (taken : ℕ)
+    (segments : List (List Kept)) (steps : List Step) : Type 0 where
   pub first : List Step
   pub is_first : IsWorkRewritten chip intent first
   pub back : List Step
@@ -215,7 +238,8 @@ pub record AreAllTakenBack (chip : ChipData) (intent : Option Intent) (taken : �
 -- a device was settled, and it showed that it is; and then came such calls
 abbrev pub SettlesThen : Way → (List RigCall → Type 0) → List RigCall → Type 0
 SettlesThen way Then calls =
-    (settling rest : List RigCall) × SettlesWithin (byte_of way) (limit_of way) settling × EndsWell way settling × (acts_of calls ≡ settling ++ rest) × Then rest
+    (settling rest : List RigCall) × SettlesWithin (byte_of way) (limit_of way) settling
+    × EndsWell way settling × (acts_of calls ≡ settling ++ rest) × Then rest
 
 -- and then these steps
 abbrev pub SettlesFirst : Way → Bool → List Step → List RigCall → Type 0
@@ -249,24 +273,32 @@ abbrev pub asking_steps : ℕ → List ℕ → ℕ → List Step
 asking_steps version codes id = Sends (get_turns version codes) ∷ Sends (id_turns id) ∷ []
 
 abbrev pub AsksInOrder : ℕ → Bool → RigState → RigState → Type 0
-AsksInOrder id torn old new = (version : ℕ) × (codes : List ℕ) × GoesOn (IsInOrder torn (asking_steps version codes id)) old.calls new.calls
+AsksInOrder id torn old new = (version : ℕ) × (codes : List ℕ)
+    × GoesOn (IsInOrder torn (asking_steps version codes id)) old.calls new.calls
 
 -- the device was settled so, and answered this number
 abbrev pub ReachesInOrder : Way → ℕ → Bool → RigState → RigState → Type 0
-ReachesInOrder way id torn old new = (version : ℕ) × (codes : List ℕ) × GoesOn (SettlesFirst way torn (asking_steps version codes id)) old.calls new.calls
+ReachesInOrder way id torn old new = (version : ℕ) × (codes : List ℕ)
+    × GoesOn (SettlesFirst way torn (asking_steps version codes id)) old.calls new.calls
 
--- Of a session that reached no device, or was told that it is another, this was done: nothing; or it was settled in part, which
--- the line or the device ended; or it was settled, and then asked, or asked in part.
+-- Of a session that reached no device, or was told that it is another, this was done: nothing;
+-- or it was settled in part, which the line or the device ended; or it was settled, and then
+-- asked, or asked in part.
 abbrev pub ReachesInPart : Way → Cause → Bool → List RigCall → Type 0
 ReachesInPart way cause torn calls =
-    (acts_of calls ≡ []) ⊎ ((IsHeard cause × SettlesWithin (byte_of way) (limit_of way) (acts_of calls)) ⊎ SettlesThen way (AreCutShort (Begin IsAsking) cause torn) calls)
+    (acts_of calls ≡ [])
+    ⊎ ((IsHeard cause × SettlesWithin (byte_of way) (limit_of way) (acts_of calls))
+    ⊎ SettlesThen way (AreCutShort (Begin IsAsking) cause torn) calls)
 
 abbrev pub StopsShort : {T : Type 0} → Way → Bool → RigState → RigState → Result T Fault → Type 0
-StopsShort way torn old new result = IfErr result (λ fault. GoesOn (ReachesInPart way (cause_of fault) torn) old.calls new.calls)
+StopsShort way torn old new result =
+    IfErr result (λ fault. GoesOn (ReachesInPart way (cause_of fault) torn) old.calls new.calls)
 
--- An undo of so many segments: settling by the intent of the journal that was loaded, or connecting, Get, Get ID, by which the
--- device is the journal's chip, the page of that intent, and then the segments.
-pub record UndoesInOrderFrom (is_fresh : Bool) (table : List ChipData) (taken : ℕ) (old new : RigState) : Type 0 where
+-- An undo of so many segments: settling by the intent of the journal that was loaded, or
+-- connecting, Get, Get ID, by which the device is the journal's chip, the page of that
+-- intent, and then the segments.
+pub record UndoesInOrderFrom (is_fresh : Bool) (table : List ChipData) (taken : ℕ)
+    (old new : RigState) : Type 0 where
   pub journal : Loaded
   pub loaded : old.is_honest → IsLoaded journal old.journal
   pub chip : ChipData
@@ -274,16 +306,19 @@ pub record UndoesInOrderFrom (is_fresh : Bool) (table : List ChipData) (taken : 
   pub version : ℕ
   pub codes : List ℕ
   pub steps : List Step
-  pub are_steps : AreAllTakenBack chip (intent_of journal.state) taken (pages_of_segments journal.state.stack) steps
-  pub calls : GoesOn (SettlesFirst (undo_way is_fresh chip.kind (intent_of journal.state)) journal.is_torn (asking_steps version codes chip.id ++ steps)) old.calls new.calls
+  pub are_steps : AreAllTakenBack chip (intent_of journal.state) taken
+      (pages_of_segments journal.state.stack) steps
+  pub calls : GoesOn (SettlesFirst (undo_way is_fresh chip.kind (intent_of journal.state))
+      journal.is_torn (asking_steps version codes chip.id ++ steps)) old.calls new.calls
 
 abbrev pub UndoesInOrder : List ChipData → ℕ → RigState → RigState → Type 0
 UndoesInOrder table taken old new = UndoesInOrderFrom false table taken old new
 
 -- At a fault: settling or connecting, Get and Get ID, or a part of these; or all of these, by which
--- the device is the journal's chip, and then a beginning of taking so many segments back, no more than the journal has, nor than
--- are asked for where that is a number.
-pub record UndoIsCutShort (is_fresh : Bool) (table : List ChipData) (count : ℕ) (cause : Cause) (old new : RigState) : Type 0 where
+-- the device is the journal's chip, and then a beginning of taking so many segments back, no more
+-- than the journal has, nor than are asked for where that is a number.
+pub record UndoIsCutShort (is_fresh : Bool) (table : List ChipData) (count : ℕ) (cause : Cause)
+    (old new : RigState) : Type 0 where
   pub journal : Loaded
   pub loaded : old.is_honest → IsLoaded journal old.journal
   pub chip : ChipData
@@ -293,13 +328,18 @@ pub record UndoIsCutShort (is_fresh : Bool) (table : List ChipData) (count : ℕ
   pub asked : 0 < count → taken ≤ count
   pub version : ℕ
   pub codes : List ℕ
-  pub calls : GoesOn (λ calls. ReachesInPart (undo_way is_fresh chip.kind (intent_of journal.state)) cause journal.is_torn calls
+  pub calls : GoesOn (λ calls. ReachesInPart (undo_way is_fresh chip.kind (intent_of journal.state))
+      cause journal.is_torn calls
       ⊎ SettlesThen (undo_way is_fresh chip.kind (intent_of journal.state))
-      (AreCutShort (IsAfter (asking_steps version codes chip.id) (Begin (AreAllTakenBack chip (intent_of journal.state) taken (pages_of_segments journal.state.stack)))) cause journal.is_torn) calls) old.calls new.calls
+      (AreCutShort (IsAfter (asking_steps version codes chip.id) (Begin (AreAllTakenBack chip
+      (intent_of journal.state) taken (pages_of_segments journal.state.stack)))) cause
+      journal.is_torn) calls) old.calls new.calls
 
 -- An undo that is broken off: nothing was done but reading the journal; or so.
 abbrev pub UndoStopsFrom : Bool → List ChipData → ℕ → RigState → RigState → Fault → Type 0
-UndoStopsFrom is_fresh table count old new fault = GoesOn AreFetches old.calls new.calls ⊎ UndoIsCutShort is_fresh table count (cause_of fault) old new
+UndoStopsFrom is_fresh table count old new fault =
+    GoesOn AreFetches old.calls new.calls
+    ⊎ UndoIsCutShort is_fresh table count (cause_of fault) old new
 
 abbrev pub UndoStops : List ChipData → ℕ → RigState → RigState → Fault → Type 0
 UndoStops table count old new fault = UndoStopsFrom false table count old new fault

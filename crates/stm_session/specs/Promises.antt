@@ -22,43 +22,67 @@ use Rattle.stm_session.specs.Lines.{depth_at}
 use Rattle.stm_session.specs.Refusal.{RefusesUnsent}
 use Rattle.stm_session.specs.Refusals.{run_refusal, undo_refusal, undo_misfit}
 use Rattle.stm_session.specs.Runs.{Runs}
-use Rattle.stm_session.specs.Undoes.{Undoes, UndoesNothing, IsElsewhere, IsWithinLimit, taken_count, byte_at_journal, risked_at}
+use Rattle.stm_session.specs.Undoes.{Undoes, UndoesNothing, IsElsewhere, IsWithinLimit, taken_count}
+use Rattle.stm_session.specs.Undoes.{byte_at_journal, risked_at}
 
-pub record RunContract {T : Type 0} (table : List ChipData) (commands : List CommandData) (old new : RigState) (result : Result T Fault) (outcomes_of : T → List OutcomeData) : Type 0 where
+pub record RunContract {T : Type 0} (table : List ChipData) (commands : List CommandData)
+    (old new : RigState) (result : Result T Fault)
+    (outcomes_of : T → List OutcomeData) : Type 0 where
   -- what is refused before a byte is sent, of any device
-  pub unsent : old.is_honest → (refusal : Fault) → unsent_refusal (journal_of old.journal) ≡ Some refusal
+  pub unsent : old.is_honest → (refusal : Fault)
+      → unsent_refusal (journal_of old.journal) ≡ Some refusal
       → RefusesUnsent (IsUntouched old) refusal old new result
-  pub unsent_calls : old.is_honest → (refusal : Fault) → unsent_refusal (journal_of old.journal) ≡ Some refusal → GoesOn AreFetches old.calls new.calls
+  pub unsent_calls : old.is_honest → (refusal : Fault)
+      → unsent_refusal (journal_of old.journal) ≡ Some refusal
+      → GoesOn AreFetches old.calls new.calls
   -- what is refused of a safe device, with any table
-  pub refused : old.is_honest → IsSafe old.device → (refusal : Fault) → run_refusal (journal_of old.journal) old.device table commands ≡ Some refusal
+  pub refused : old.is_honest → IsSafe old.device → (refusal : Fault)
+      → run_refusal (journal_of old.journal) old.device table commands ≡ Some refusal
       → Refuses (IsUnbegun old) refusal old new result
   pub runs : old.is_honest → (flashes : List (List ℕ)) → Undoable flashes old.device old.journal
-      → IsChipWith table old.device.chip.id old.device.chip → run_refusal (journal_of old.journal) old.device table commands ≡ None
+      → IsChipWith table old.device.chip.id old.device.chip
+      → run_refusal (journal_of old.journal) old.device table commands ≡ None
       → Runs commands flashes old new result outcomes_of
-  pub spared : old.is_honest → old.journal ≡ [] → commands ≡ [] → IfErr result (λ e. e ≢ faults.Memory)
+  pub spared : old.is_honest → old.journal ≡ [] → commands ≡ []
+      → IfErr result (λ e. e ≢ faults.Memory)
 
-pub record InfoContract (table : List ChipData) (old new : RigState) (result : Result Info Fault) : Type 0 where
-  pub unsent : old.is_honest → (refusal : Fault) → unsent_refusal (journal_of old.journal) ≡ Some refusal
+pub record InfoContract (table : List ChipData) (old new : RigState)
+    (result : Result Info Fault) : Type 0 where
+  pub unsent : old.is_honest → (refusal : Fault)
+      → unsent_refusal (journal_of old.journal) ≡ Some refusal
       → RefusesUnsent (IsUntouched old) refusal old new result
-  pub unsent_calls : old.is_honest → (refusal : Fault) → unsent_refusal (journal_of old.journal) ≡ Some refusal → GoesOn AreFetches old.calls new.calls
+  pub unsent_calls : old.is_honest → (refusal : Fault)
+      → unsent_refusal (journal_of old.journal) ≡ Some refusal
+      → GoesOn AreFetches old.calls new.calls
   pub informs : old.is_honest → IsSafe old.device → Informs table old new result
   pub spared : old.is_honest → old.journal ≡ [] → IfErr result (λ e. e ≢ faults.Memory)
 
-pub record UndoContract (table : List ChipData) (count : ℕ) (old new : RigState) (result : Result ℕ Fault) : Type 0 where
+pub record UndoContract (table : List ChipData) (count : ℕ) (old new : RigState)
+    (result : Result ℕ Fault) : Type 0 where
   -- what is refused before a byte is sent, of any device
-  pub refused : old.is_honest → (refusal : Fault) → undo_refusal (journal_of old.journal) table ≡ Some refusal
+  pub refused : old.is_honest → (refusal : Fault)
+      → undo_refusal (journal_of old.journal) table ≡ Some refusal
       → RefusesUnsent (IsUntouched old) refusal old new result
-  pub refused_calls : old.is_honest → (refusal : Fault) → undo_refusal (journal_of old.journal) table ≡ Some refusal → GoesOn AreFetches old.calls new.calls
+  pub refused_calls : old.is_honest → (refusal : Fault)
+      → undo_refusal (journal_of old.journal) table ≡ Some refusal
+      → GoesOn AreFetches old.calls new.calls
   -- a journal without a segment, of any device
-  pub nothing : old.is_honest → (s : StateData) → journal_of old.journal ≡ good s → length s.stack ≡ 0 → UndoesNothing old new result
-  pub nothing_calls : old.is_honest → (s : StateData) → journal_of old.journal ≡ good s → length s.stack ≡ 0 → GoesOn AreFetches old.calls new.calls
-  -- a device that isn't the journal's, that settling does no harm outside the pages at risk, and that awaits no longer list than
-  -- one of the journal's chip may
-  pub elsewhere : old.is_honest → undo_refusal (journal_of old.journal) table ≡ None → 1 ≤ depth_at old.journal
-      → (header : JournalHeader) (chip : ChipData) → (state_at old.journal).header ≡ Some header → IsChipWith table header.id chip
-      → Harmless old.device (byte_at_journal old.journal) (risked_at old.journal) → length old.device.owed ≤ 4096
-      → IsWithinLimit chip old → (refusal : Fault) → undo_misfit chip header.id old.device ≡ Some refusal
+  pub nothing : old.is_honest → (s : StateData) → journal_of old.journal ≡ good s
+      → length s.stack ≡ 0 → UndoesNothing old new result
+  pub nothing_calls : old.is_honest → (s : StateData) → journal_of old.journal ≡ good s
+      → length s.stack ≡ 0 → GoesOn AreFetches old.calls new.calls
+  -- a device that isn't the journal's, that settling does no harm outside the pages at risk, and
+  -- that awaits no longer list than one of the journal's chip may
+  pub elsewhere : old.is_honest → undo_refusal (journal_of old.journal) table ≡ None
+      → 1 ≤ depth_at old.journal
+      → (header : JournalHeader) (chip : ChipData) → (state_at old.journal).header ≡ Some header
+      → IsChipWith table header.id chip
+      → Harmless old.device (byte_at_journal old.journal) (risked_at old.journal)
+      → length old.device.owed ≤ 4096
+      → IsWithinLimit chip old → (refusal : Fault)
+      → undo_misfit chip header.id old.device ≡ Some refusal
       → Refuses (IsElsewhere old) refusal old new result
   pub undoes : old.is_honest → (flashes : List (List ℕ)) → Undoable flashes old.device old.journal
-      → IsChipWith table old.device.chip.id old.device.chip → Undoes (taken_count count (length flashes)) flashes old new result
+      → IsChipWith table old.device.chip.id old.device.chip
+      → Undoes (taken_count count (length flashes)) flashes old new result
   pub spared : old.is_honest → old.journal ≡ [] → IfErr result (λ e. e ≢ faults.Memory)

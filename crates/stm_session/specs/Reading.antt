@@ -32,7 +32,8 @@ pub record IsBlock (chip : ChipData) (address left size : ℕ) : Type 0 where
   pub is_rest : IsPageRest chip address rest
   pub cut : size ≡ min (min 256 rest) left
 
--- The next block in which the image names a place, where the bytes before this offset were compared: it begins at that place.
+-- The next block in which the image names a place, where the bytes before this offset were
+-- compared: it begins at that place.
 pub record IsNextBlock (chip : ChipData) (image : Pairs) (done : ℕ) (block : Block) : Type 0 where
   pub byte : ℕ
   pub next : IsNext image (chip.base + done) (block.address, byte)

@@ -1,5 +1,7 @@
 -- What a session refuses before it does anything to a device, in the order of its steps.
-use Rattle.std.specs.Prelude.{◌≡◌, ◌⊎◌, ℕ, not, ◌&&◌, ◌==◌, Bool, false, nat_lt, min, if◌then◌else◌, List, [], ◌∷◌, ◌++◌, length, fold, Option, Some, None, option_map, Result, Ok, Err}
+use Rattle.std.specs.Prelude.{◌≡◌, ◌⊎◌, ℕ, not, ◌&&◌, ◌==◌, Bool, false, nat_lt, min, if◌then◌else◌}
+use Rattle.std.specs.Prelude.{List, [], ◌∷◌, ◌++◌, length, fold, Option, Some, None, option_map}
+use Rattle.std.specs.Prelude.{Result, Ok, Err}
 use Rattle.std.specs.List.{list_any, find, flat_map}
 use Rattle.std.specs.Option.{option_map_or}
 use Rattle.stm_wire.specs.Chip.{ChipData, page_count, page_size}
@@ -11,7 +13,8 @@ use Rattle.stm_journal.specs.declared.kept.Kept.{Kept}
 use Rattle.stm_journal.specs.States.{StateData, SegmentData, segment_of, is_unfinished, names_other}
 use Rattle.stm_journal.specs.Journals.{JournalData, good, bad}
 use Rattle.stm_session.specs.declared.fault.Fault.{Fault}
-use Rattle.stm_session.specs.declared.fault.Fault.TheVariants.{Unfinished, UnknownChip, InSession, BadJournal, OtherDevice}
+use Rattle.stm_session.specs.declared.fault.Fault.TheVariants.{Unfinished, UnknownChip, InSession}
+use Rattle.stm_session.specs.declared.fault.Fault.TheVariants.{BadJournal, OtherDevice}
 use Rattle.stm_session.specs.Fault.{IsJournalOrMemory, IsOutsideFault}
 use Rattle.stm_session.specs.Undoable.{has_companion}
 
@@ -30,7 +33,8 @@ chip_with table id = find (λ chip. chip.id == id) table
 
 -- the chip has this kept page, of this size
 abbrev pub fits_chip : ChipData → Kept → Bool
-fits_chip chip kept = nat_lt kept.page (page_count chip) && (length kept.bytes == page_size chip kept.page)
+fits_chip chip kept =
+    nat_lt kept.page (page_count chip) && (length kept.bytes == page_size chip kept.page)
 
 -- the pages that a segment keeps
 abbrev pub pages_kept : Option SegmentData → List Kept
@@ -43,7 +47,8 @@ segment_pages s k = pages_kept (segment_of s k)
 
 -- page n is kept among these pages without its companion
 abbrev pub lacks_companion : ChipData → List Kept → ℕ → Bool
-lacks_companion chip among n = n == 1 && has_companion chip && not (list_any (λ kept. kept.page == 257) among)
+lacks_companion chip among n =
+    n == 1 && has_companion chip && not (list_any (λ kept. kept.page == 257) among)
 
 -- the chip has this page, which is kept among these
 abbrev pub fits_among : ChipData → List Kept → Kept → Bool
@@ -51,19 +56,24 @@ fits_among chip among kept = fits_chip chip kept && not (lacks_companion chip am
 
 -- these pages have page n, and the first of them is one of the chip
 abbrev pub fits_as_kept : ChipData → List Kept → ℕ → Bool
-fits_as_kept chip pages n = option_map_or (fits_among chip pages) (find (λ kept. kept.page == n) pages) false
+fits_as_kept chip pages n =
+    option_map_or (fits_among chip pages) (find (λ kept. kept.page == n) pages) false
 
--- the lines of those of the pages, kept among these, that a chip lacks, has in another size, or hasn't without another
+-- the lines of those of the pages, kept among these, that a chip lacks, has in another size,
+-- or hasn't without another
 abbrev pub misfit_lines_of : ChipData → List Kept → List Kept → List ℕ
-misfit_lines_of chip among pages = flat_map (λ kept. if fits_among chip among kept then [] else kept.line ∷ []) pages
+misfit_lines_of chip among pages =
+    flat_map (λ kept. if fits_among chip among kept then [] else kept.line ∷ []) pages
 
 abbrev pub misfit_lines : ChipData → List SegmentData → List ℕ
-misfit_lines chip stack = flat_map (λ segment. misfit_lines_of chip segment.pages segment.pages) stack
+misfit_lines chip stack =
+    flat_map (λ segment. misfit_lines_of chip segment.pages segment.pages) stack
 
 -- the line of a header whose version is none of a chip with so many pages
 abbrev pub header_misfits : ChipData → Option JournalHeader → List ℕ
 header_misfits chip None = []
-header_misfits chip (Some header) = if nat_lt 256 (page_count chip) && not (header.version == 2) then header.line ∷ [] else []
+header_misfits chip (Some header) =
+    if nat_lt 256 (page_count chip) && not (header.version == 2) then header.line ∷ [] else []
 
 abbrev pub lesser : Option ℕ → ℕ → ℕ
 lesser None line = line
@@ -78,7 +88,9 @@ least lines = fold (λ so_far line. Some (lesser so_far line)) None lines
 
 -- the journal's header, or a page that it keeps, isn't one of the chip; the least such line is told
 abbrev pub misfit_refusal : ChipData → StateData → Option Fault
-misfit_refusal chip s = option_map (λ line. BadJournal line) (least (header_misfits chip s.header ++ misfit_lines chip s.stack))
+misfit_refusal chip s =
+    option_map (λ line. BadJournal line)
+    (least (header_misfits chip s.header ++ misfit_lines chip s.stack))
 
 -- the table hasn't the device's id, or the journal isn't one of its chip
 abbrev pub table_refusal : StateData → ℕ → Option ChipData → Option Fault
@@ -87,12 +99,16 @@ table_refusal s id (Some chip) = misfit_refusal chip s
 
 -- the journal can't go on with a device of this id
 abbrev pub device_refusals : StateData → ℕ → List ChipData → List (Option Fault)
-device_refusals s id table = refused_unless (not (names_other id s)) OtherDevice ∷ table_refusal s id (chip_with table id) ∷ []
+device_refusals s id table =
+    refused_unless (not (names_other id s)) OtherDevice
+    ∷ table_refusal s id (chip_with table id) ∷ []
 
 -- what is refused before any command is looked at
 abbrev pub opening_refusal : JournalData → Device → List ChipData → Option Fault
 opening_refusal (bad line) d table = Some (BadJournal line)
-opening_refusal (good s) d table = first_refusal (refused_unless (not (is_unfinished s)) Unfinished ∷ device_refusals s d.chip.id table)
+opening_refusal (good s) d table =
+    first_refusal
+    (refused_unless (not (is_unfinished s)) Unfinished ∷ device_refusals s d.chip.id table)
 
 -- what is refused before a byte is sent
 abbrev pub unsent_refusal : JournalData → Option Fault
@@ -110,7 +126,8 @@ AnswersRefusal fault (Ok x) = ⊥
 AnswersRefusal fault (Err e) = (e ≡ fault) ⊎ IsOutsideFault e
 
 -- each moment leaves what has P, the last one too, and the answer is this refusal
-pub record Refuses {T : Type 0} (P : Device → List ℕ → Type 0) (fault : Fault) (old new : RigState) (result : Result T Fault) : Type 0 where
+pub record Refuses {T : Type 0} (P : Device → List ℕ → Type 0) (fault : Fault) (old new : RigState)
+    (result : Result T Fault) : Type 0 where
   pub moments : LeavesOnly P old new
   pub honest : new.is_honest
   pub left : P new.device new.journal
@@ -122,7 +139,8 @@ AnswersUnsent fault (Ok x) = ⊥
 AnswersUnsent fault (Err e) = (e ≡ fault) ⊎ IsJournalOrMemory e
 
 -- the same before a byte is sent: the line isn't used, so that it can't fail
-pub record RefusesUnsent {T : Type 0} (P : Device → List ℕ → Type 0) (fault : Fault) (old new : RigState) (result : Result T Fault) : Type 0 where
+pub record RefusesUnsent {T : Type 0} (P : Device → List ℕ → Type 0) (fault : Fault)
+    (old new : RigState) (result : Result T Fault) : Type 0 where
   pub moments : LeavesOnly P old new
   pub honest : new.is_honest
   pub left : P new.device new.journal

@@ -1,5 +1,6 @@
 -- What a run of commands answers.
-use Rattle.std.specs.Prelude.{◌≡◌, ℕ, ◌-◌, Bool, true, false, List, [], ◌∷◌, map, take, drop, vec_len, Result, IfErr, IfOk, OnOk}
+use Rattle.std.specs.Prelude.{◌≡◌, ℕ, ◌-◌, Bool, true, false, List, [], ◌∷◌, map, take, drop}
+use Rattle.std.specs.Prelude.{vec_len, Result, IfErr, IfOk, OnOk}
 use Rattle.stm_wire.specs.Chip.{ChipData}
 use Rattle.stm_wire.specs.Device.{Device, IsSettled}
 use Rattle.stm_wire.specs.Rig.{RigState}
@@ -56,8 +57,10 @@ AreKindsOf (c ∷ commands) (said ∷ outcomes) = IsKindOf c said × AreKindsOf 
 abbrev pub AreRead : Device → List Command → List Outcome → Type 0
 AreRead d commands outcomes = map bytes_of outcomes ≡ map (bytes_read d.chip d.flash) commands
 
--- A run that is refused nothing: no segment is begun at any moment, and the outcomes are those of the flash.
-pub record RunsReads {T : Type 0} (commands : List Command) (old new : RigState) (result : Result T Fault) (outcomes_of : T → List Outcome) : Type 0 where
+-- A run that is refused nothing: no segment is begun at any moment, and the
+-- outcomes are those of the flash.
+pub record RunsReads {T : Type 0} (commands : List Command) (old new : RigState)
+    (result : Result T Fault) (outcomes_of : T → List Outcome) : Type 0 where
   pub moments : LeavesOnly (IsUnbegun old) old new
   pub honest : new.is_honest
   pub left : IsUnbegun old new.device new.journal

@@ -1,5 +1,6 @@
 -- What a run of commands does that is refused nothing.
-use Rattle.std.specs.Prelude.{◌≡◌, ℕ, ◌≤◌, false, List, ◌++◌, length, take, reverse, Result, Ok, Err, IfErr, IfOk, OnOk}
+use Rattle.std.specs.Prelude.{◌≡◌, ℕ, ◌≤◌, false, List, ◌++◌, length, take, reverse, Result, Ok}
+use Rattle.std.specs.Prelude.{Err, IfErr, IfOk, OnOk}
 use Rattle.stm_wire.specs.Device.{Device, IsSettled}
 use Rattle.stm_wire.specs.Rig.{RigState}
 use Rattle.stm_wire.specs.Moments.{LeavesOnly}
@@ -13,41 +14,51 @@ use Rattle.stm_session.specs.Lines.{depth_at, is_named_at, is_torn_at, run_entri
 
 -- what these commands add to the journal
 abbrev pub run_text : RigState → List CommandData → List ℕ
-run_text old commands = text_added (is_torn_at old.journal) (run_entries (is_named_at old.journal) old.device.chip (depth_at old.journal) old.device.flash commands)
+run_text old commands =
+    text_added (is_torn_at old.journal) (run_entries (is_named_at old.journal) old.device.chip
+    (depth_at old.journal) old.device.flash commands)
 
--- the flashes that can be had back when so many of the commands' segments are begun, that before the newest first
+-- the flashes that can be had back when so many of the commands' segments are begun,
+-- that before the newest first
 abbrev pub flashes_with : ℕ → RigState → List CommandData → List (List ℕ) → List (List ℕ)
-flashes_with begun old commands flashes = reverse (take begun (flashes_before old.device.chip old.device.flash commands)) ++ flashes
+flashes_with begun old commands flashes =
+    reverse (take begun (flashes_before old.device.chip old.device.flash commands)) ++ flashes
 
--- At a moment of a run so many of its segments are begun: the flashes before these can be had back too; where none is
--- unfinished, the flash is the one after so many commands that begin a segment; and a beginning of the lines is added.
-pub record AmidRun (commands : List CommandData) (flashes : List (List ℕ)) (old : RigState) (d : Device) (journal : List ℕ) : Type 0 where
+-- At a moment of a run so many of its segments are begun: the flashes before these can be had back
+-- too; where none is unfinished, the flash is the one after so many commands that begin a segment;
+-- and a beginning of the lines is added.
+pub record AmidRun (commands : List CommandData) (flashes : List (List ℕ)) (old : RigState)
+    (d : Device) (journal : List ℕ) : Type 0 where
   pub begun : ℕ
   pub within : begun ≤ length (changes_of commands)
   pub make : SameMake old.device d
   pub undoable : Undoable (flashes_with begun old commands flashes) d journal
-  pub finished : is_unfinished_at journal ≡ false → d.flash ≡ flash_after_all old.device.chip old.device.flash (take begun (changes_of commands))
+  pub finished : is_unfinished_at journal ≡ false → d.flash
+      ≡ flash_after_all old.device.chip old.device.flash (take begun (changes_of commands))
   pub written : ℕ
   pub lines : journal ≡ old.journal ++ take written (run_text old commands)
 
 -- These commands stand: each that begins a segment has one, ended, and just their lines are added.
-pub record AreDone (commands : List CommandData) (flashes : List (List ℕ)) (old : RigState) (d : Device) (journal : List ℕ) : Type 0 where
+pub record AreDone (commands : List CommandData) (flashes : List (List ℕ)) (old : RigState)
+    (d : Device) (journal : List ℕ) : Type 0 where
   pub finished : is_unfinished_at journal ≡ false
   pub make : SameMake old.device d
   pub flash : d.flash ≡ flash_after_all old.device.chip old.device.flash commands
-  pub undoable : Undoable (reverse (flashes_before old.device.chip old.device.flash commands) ++ flashes) d journal
+  pub undoable : Undoable
+      (reverse (flashes_before old.device.chip old.device.flash commands) ++ flashes) d journal
   pub lines : journal ≡ old.journal ++ run_text old commands
 
 -- what the commands answer on the old flash
 abbrev pub answers_from : RigState → List CommandData → Result (List OutcomeData) ℕ
-answers_from old commands = answers_of old.device.chip (depth_at old.journal) old.device.flash commands
+answers_from old commands =
+    answers_of old.device.chip (depth_at old.journal) old.device.flash commands
 
 -- those before the first verify that doesn't agree
 abbrev pub standing : RigState → List CommandData → List CommandData
 standing old commands = agreeing old.device.chip old.device.flash commands
 
--- A run fails by the line, the journal or memory; or it tells where the first verify that doesn't agree differs, and the
--- commands before that stand.
+-- A run fails by the line, the journal or memory; or it tells where the first verify that doesn't
+-- agree differs, and the commands before that stand.
 abbrev pub RunFails : List CommandData → List (List ℕ) → RigState → RigState → Fault → Type 0
 RunFails commands flashes old new fault.Line = Unit {0}
 RunFails commands flashes old new fault.Journal = Unit {0}
@@ -58,14 +69,17 @@ RunFails commands flashes old new fault.OutOfFlash = ⊥
 RunFails commands flashes old new fault.NoErase = ⊥
 RunFails commands flashes old new fault.InSession = ⊥
 RunFails commands flashes old new (fault.Differs address) =
-    (answers_from old commands ≡ Err address) × AreDone (standing old commands) flashes old new.device new.journal × IsSettled new.device
+    (answers_from old commands ≡ Err address)
+    × AreDone (standing old commands) flashes old new.device new.journal × IsSettled new.device
 RunFails commands flashes old new fault.Device = ⊥
 RunFails commands flashes old new (fault.BadJournal line) = ⊥
 RunFails commands flashes old new fault.OtherDevice = ⊥
 RunFails commands flashes old new fault.Full = ⊥
 
 -- A run that is refused nothing.
-pub record Runs {T : Type 0} (commands : List CommandData) (flashes : List (List ℕ)) (old new : RigState) (result : Result T Fault) (outcomes_of : T → List OutcomeData) : Type 0 where
+pub record Runs {T : Type 0} (commands : List CommandData) (flashes : List (List ℕ))
+    (old new : RigState) (result : Result T Fault)
+    (outcomes_of : T → List OutcomeData) : Type 0 where
   pub moments : LeavesOnly (AmidRun (standing old commands) flashes old) old new
   pub left : AmidRun (standing old commands) flashes old new.device new.journal
   pub honest : new.is_honest

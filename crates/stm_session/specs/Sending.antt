@@ -1,5 +1,7 @@
 -- What a session puts on any line, honest or not, and in how many calls.
-use Rattle.std.specs.Prelude.{◌≡◌, ◌⊎◌, ℕ, ◌+◌, ◌*◌, ◌<◌, ◌≤◌, ◌==◌, nat_lt, if◌then◌else◌, Bool, true, false, List, [], ◌++◌, Option, Some, None, Result, Ok, Err, IfOk}
+use Rattle.std.specs.Prelude.{◌≡◌, ◌⊎◌, ℕ, ◌+◌, ◌*◌, ◌<◌, ◌≤◌, ◌==◌, nat_lt, if◌then◌else◌, Bool}
+use Rattle.std.specs.Prelude.{true, false, List, [], ◌++◌, Option, Some, None, Result, Ok, Err}
+use Rattle.std.specs.Prelude.{IfOk}
 use Rattle.stm_wire.specs.declared.intent.Intent.{Intent}
 use Rattle.stm_wire.specs.declared.rig.RigCall.{RigCall}
 use Rattle.stm_wire.specs.declared.fault.WireFault.{WireFault}
@@ -26,11 +28,13 @@ most_calls n = 4100 * 131076 + 268 + n * most_of_command
 abbrev pub most_of_reaching : ℕ → ℕ
 most_of_reaching limit = 4100 * (limit + 4) + 268
 
--- of an undo of so many segments: a page is written first, and none is larger than the greatest flash
+-- of an undo of so many segments: a page is written first, and none is
+-- larger than the greatest flash
 abbrev pub most_of_undo : ℕ → ℕ
 most_of_undo taken = 3 * 2097152 + taken * most_of_command
 
--- of keeping the page that has to be kept with page 1: it is read, and no chip has more pages than its flash
+-- of keeping the page that has to be kept with page 1: it is read, and no chip has
+-- more pages than its flash
 abbrev pub most_of_companion : ChipData → ℕ → ℕ
 most_of_companion chip n = if n == 1 then 3 * flash_size chip else 0
 
@@ -61,19 +65,23 @@ IsOfTable table None = Unit {0}
 IsOfTable table (Some chip) = IsChipWith table chip.id chip
 
 -- Settling with 7F, and then frames of one chip of the table, in few calls.
-pub record SendsAsRun (table : List ChipData) (whole : Bool) (n : ℕ) (old new : RigState) : Type 0 where
+pub record SendsAsRun (table : List ChipData) (whole : Bool) (n : ℕ)
+    (old new : RigState) : Type 0 where
   pub chip : Option ChipData
   pub listed : IsOfTable table chip
   pub calls : GoesOn (IsSession chip 0x7F 131072 whole (most_calls n)) old.calls new.calls
 
--- how an undo settles its device, whose journal is one of this chip; where there is none it sends no settling byte
+-- how an undo settles its device, whose journal is one of this chip; where there is none
+-- it sends no settling byte
 abbrev pub way_of_undo : Bool → Option ChipData → Option Intent → Way
 way_of_undo is_fresh None intent = Connects
 way_of_undo is_fresh (Some chip) intent = undo_way is_fresh chip.kind intent
 
--- Settling by some intent, as often as its journal's chip needs at most, and then frames of that chip, which is one of the table,
--- in the calls of so many segments taken back: no more than were asked for, and at Ok those that the answer tells.
-pub record SendsAsUndo (table : List ChipData) (count : ℕ) (old new : RigState) (result : Result ℕ Fault) : Type 0 where
+-- Settling by some intent, as often as its journal's chip needs at most, and then frames of that
+-- chip, which is one of the table, in the calls of so many segments taken back: no more than were
+-- asked for, and at Ok those that the answer tells.
+pub record SendsAsUndo (table : List ChipData) (count : ℕ) (old new : RigState)
+    (result : Result ℕ Fault) : Type 0 where
   pub chip : Option ChipData
   pub listed : IsOfTable table chip
   pub is_fresh : Bool
@@ -83,13 +91,17 @@ pub record SendsAsUndo (table : List ChipData) (count : ℕ) (old new : RigState
   pub asked : 0 < count → taken ≤ count
   pub told : IfOk result (λ n. n ≡ taken)
   pub calls : let way = way_of_undo is_fresh chip intent in
-      GoesOn (IsSession chip (byte_of way) (limit_of way) (is_whole result) (most_of_reaching (limit_of way) + most_of_undo taken)) old.calls new.calls
+      GoesOn (IsSession chip (byte_of way) (limit_of way) (is_whole result)
+      (most_of_reaching (limit_of way) + most_of_undo taken)) old.calls new.calls
 
 -- nothing of a dialogue, or all of it, or it was broken off
 abbrev pub IsBegun : List Turn → List RigCall → Type 0
-IsBegun turns calls = (calls ≡ []) ⊎ ((calls ≡ calls_of turns) ⊎ ((fault : WireFault) × IsBrokenOff fault turns calls))
+IsBegun turns calls =
+    (calls ≡ [])
+    ⊎ ((calls ≡ calls_of turns) ⊎ ((fault : WireFault) × IsBrokenOff fault turns calls))
 
--- The journal was read; then came a beginning of settling with 7F, and then a beginning of this dialogue.
+-- The journal was read; then came a beginning of settling with 7F, and then a
+-- beginning of this dialogue.
 pub record IsLeaving (turns : List Turn) (calls : List RigCall) : Type 0 where
   pub fetches : List RigCall
   pub are_fetches : AreFetches fetches

@@ -1,7 +1,8 @@
 -- The laws of the line and of the journal that the steps of a command stand on.
 use Rattle.std.specs.Prelude.{◌≡◌, ℕ, List}
 use Rattle.stm_wire.specs.Settling.{AwaitedIsLimited}
-use Rattle.stm_wire.specs.Stopped.{AskingChangesNothing, SendingIsHarmless, MorePagesStayHarmless, LossStaysHarmless, SameOutsideNoneIsSame}
+use Rattle.stm_wire.specs.Stopped.{AskingChangesNothing, SendingIsHarmless, MorePagesStayHarmless}
+use Rattle.stm_wire.specs.Stopped.{LossStaysHarmless, SameOutsideNoneIsSame}
 use Rattle.stm_journal.specs.States.{StateData, IsSound}
 use Rattle.stm_journal.specs.Journals.{journal_of, good}
 use Rattle.stm_journal.specs.Added.{EntriesLeaveEither, BeginningsLeaveEither}

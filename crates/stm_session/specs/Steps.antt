@@ -1,11 +1,13 @@
 -- What the steps of a command, and of taking one back, do to a Rig that follows the model.
-use Rattle.std.specs.Prelude.{◌≡◌, ℕ, Bool, true, false, List, [], ◌∷◌, ◌++◌, take, Some, Result, IfErr, IfOk, OnOk, IsTrue}
+use Rattle.std.specs.Prelude.{◌≡◌, ℕ, Bool, true, false, List, [], ◌∷◌, ◌++◌, take, Some, Result}
+use Rattle.std.specs.Prelude.{IfErr, IfOk, OnOk, IsTrue}
 use Rattle.stm_wire.specs.declared.intent.Intent.{Intent}
 use Rattle.stm_wire.specs.Device.{Device, IsSettled}
 use Rattle.stm_wire.specs.Rig.{RigState}
 use Rattle.stm_wire.specs.Moments.{LeavesOnly}
 use Rattle.stm_journal.specs.declared.entry.Entry.{Entry}
-use Rattle.stm_journal.specs.declared.entry.Entry.TheVariants.{Names, Opens, Keeps, Erases, Programs, Ends, Undoes}
+use Rattle.stm_journal.specs.declared.entry.Entry.TheVariants.{Names, Opens, Keeps, Erases}
+use Rattle.stm_journal.specs.declared.entry.Entry.TheVariants.{Programs, Ends, Undoes}
 use Rattle.stm_journal.specs.Newest.{KeepsSame}
 use Rattle.stm_journal.specs.States.{StateData, is_unfinished, intent_of, names_other, newest_keeps}
 use Rattle.stm_journal.specs.Flashes.{flashes_before_segments}
@@ -22,7 +24,8 @@ pub record KeepsFlashes (flashes : List (List ℕ)) (d : Device) (s : StateData)
   pub fits : IsJournalOf d.chip s
   pub before : flashes_before_segments d.chip s.stack d.flash ≡ flashes
 
--- Between two steps: the journal in memory is the Rig's, which keeps these flashes; the device waits for a command.
+-- Between two steps: the journal in memory is the Rig's, which keeps these flashes; the
+-- device waits for a command.
 pub record IsSteady (flashes : List (List ℕ)) (l : Loaded) (rig : RigState) : Type 0 where
   pub honest : rig.is_honest
   pub loaded : IsLoaded l rig.journal
@@ -51,18 +54,21 @@ pub record AddsLines (entries : List Entry) (old new : List ℕ) : Type 0 where
   pub torn : is_torn_at new ≡ torn_after (is_torn_at old) entries
   pub same : AreIntents entries → KeepsSame (state_at old) (state_at new)
 
--- A stop here can be taken back to the same flashes. Where the journal is finished, it was so at the start, and the flash is
--- that of the start. A beginning of these lines is added.
-pub record Stands (entries : List Entry) (flashes : List (List ℕ)) (old : RigState) (d : Device) (journal : List ℕ) : Type 0 where
+-- A stop here can be taken back to the same flashes. Where the journal is finished, it was so at
+-- the start, and the flash is that of the start. A beginning of these lines is added.
+pub record Stands (entries : List Entry) (flashes : List (List ℕ)) (old : RigState) (d : Device)
+    (journal : List ℕ) : Type 0 where
   pub undoable : Undoable flashes d journal
   pub make : SameMake old.device d
-  pub finished : is_unfinished_at journal ≡ false → (is_unfinished_at old.journal ≡ false) × (d.flash ≡ old.device.flash)
+  pub finished : is_unfinished_at journal ≡ false
+      → (is_unfinished_at old.journal ≡ false) × (d.flash ≡ old.device.flash)
   pub written : ℕ
   pub lines : journal ≡ old.journal ++ take written (text_added (is_torn_at old.journal) entries)
 
--- A step, or some: each moment stands; they fail by the line, the journal or memory alone; at Ok all is steady again, just
--- these lines are added, and what they were for is done.
-pub record Goes {T : Type 0} (flashes : List (List ℕ)) (entries : List Entry) (l2 : Loaded) (old new : RigState) (result : Result T Fault) (Done : T → Type 0) : Type 0 where
+-- A step, or some: each moment stands; they fail by the line, the journal or memory alone; at Ok
+-- all is steady again, just these lines are added, and what they were for is done.
+pub record Goes {T : Type 0} (flashes : List (List ℕ)) (entries : List Entry) (l2 : Loaded)
+    (old new : RigState) (result : Result T Fault) (Done : T → Type 0) : Type 0 where
   pub moments : LeavesOnly (Stands entries flashes old) old new
   pub fails : IfErr result IsOutsideFault
   pub honest : new.is_honest

@@ -1,5 +1,7 @@
--- Taking the newest segment back: its pages are put back in the order of their lines, and then it is gone.
-use Rattle.std.specs.Prelude.{◌≡◌, ◌⊎◌, ℕ, false, List, [], ◌∷◌, ◌++◌, fold, flat_map, length, take, drop, Result, IfErr, OnOk}
+-- Taking the newest segment back: its pages are put back in the order of their
+-- lines, and then it is gone.
+use Rattle.std.specs.Prelude.{◌≡◌, ◌⊎◌, ℕ, false, List, [], ◌∷◌, ◌++◌, fold, flat_map, length, take}
+use Rattle.std.specs.Prelude.{drop, Result, IfErr, OnOk}
 use Rattle.stm_wire.specs.Chip.{ChipData, with_page}
 use Rattle.stm_wire.specs.Device.{Device}
 use Rattle.stm_wire.specs.Moments.{LeavesOnly}
@@ -29,10 +31,13 @@ newest_at journal = newest_kept (state_at journal).stack
 
 -- the lines by which the newest segment of a journal is taken back
 abbrev pub taking_lines : ChipData → List ℕ → List ℕ → List Entry
-taking_lines chip flash journal = return_lines chip flash (newest_at journal) ++ Undoes (length (state_at journal).stack) ∷ []
+taking_lines chip flash journal =
+    return_lines chip flash (newest_at journal) ++ Undoes (length (state_at journal).stack) ∷ []
 
--- The newest segment is gone, and the flash is the one before it. A beginning of these lines is added.
-pub record IsTakenBack (entries : List Entry) (flash : List ℕ) (flashes : List (List ℕ)) (old : RigState) (d : Device) (journal : List ℕ) : Type 0 where
+-- The newest segment is gone, and the flash is the one before it. A beginning
+-- of these lines is added.
+pub record IsTakenBack (entries : List Entry) (flash : List ℕ) (flashes : List (List ℕ))
+    (old : RigState) (d : Device) (journal : List ℕ) : Type 0 where
   pub undoable : Undoable flashes d journal
   pub make : SameMake old.device d
   pub finished : is_unfinished_at journal ≡ false
@@ -41,12 +46,15 @@ pub record IsTakenBack (entries : List Entry) (flash : List ℕ) (flashes : List
   pub lines : journal ≡ old.journal ++ take written (text_added (is_torn_at old.journal) entries)
 
 -- it can still be taken back, or it was
-abbrev pub AmidTakingBack : List Entry → List ℕ → List (List ℕ) → RigState → Device → List ℕ → Type 0
-AmidTakingBack entries flash flashes old d journal = Stands entries (flash ∷ flashes) old d journal ⊎ IsTakenBack entries flash flashes old d journal
+abbrev pub AmidTakingBack : List Entry → List ℕ → List (List ℕ) → RigState → Device
+    → List ℕ → Type 0
+AmidTakingBack entries flash flashes old d journal =
+    Stands entries (flash ∷ flashes) old d journal ⊎ IsTakenBack entries flash flashes old d journal
 
--- The newest segment is taken back: at Ok the flash is the one before it, the segments below stand as they did and are
--- finished, and just these lines are added.
-pub record TakesBack {T : Type 0} (entries : List Entry) (flash : List ℕ) (flashes : List (List ℕ)) (l2 : Loaded) (old new : RigState) (result : Result T Fault) : Type 0 where
+-- The newest segment is taken back: at Ok the flash is the one before it, the segments below stand
+-- as they did and are finished, and just these lines are added.
+pub record TakesBack {T : Type 0} (entries : List Entry) (flash : List ℕ) (flashes : List (List ℕ))
+    (l2 : Loaded) (old new : RigState) (result : Result T Fault) : Type 0 where
   pub moments : LeavesOnly (AmidTakingBack entries flash flashes old) old new
   pub fails : IfErr result IsOutsideFault
   pub honest : new.is_honest

@@ -1,5 +1,6 @@
 -- What an undo does.
-use Rattle.std.specs.Prelude.{◌≡◌, ℕ, zero, suc, ◌≤◌, ◌||◌, ◌==◌, nat_lt, false, if◌then◌else◌, List, [], ◌++◌, length, take, drop, get_or, Result, IfErr, IfOk, OnOk}
+use Rattle.std.specs.Prelude.{◌≡◌, ℕ, zero, suc, ◌≤◌, ◌||◌, ◌==◌, nat_lt, false, if◌then◌else◌}
+use Rattle.std.specs.Prelude.{List, [], ◌++◌, length, take, drop, get_or, Result, IfErr, IfOk, OnOk}
 use Rattle.stm_wire.specs.Chip.{ChipData}
 use Rattle.stm_wire.specs.Device.{Device, IsSettled}
 use Rattle.stm_wire.specs.Harmless.{Harmless, SameOutside}
@@ -26,7 +27,8 @@ abbrev pub flash_taken_back : ℕ → List ℕ → List (List ℕ) → List ℕ
 flash_taken_back zero flash flashes = flash
 flash_taken_back (suc i) flash flashes = get_or flashes i []
 
--- the pages that a stopped command may have left half erased or half written, and the byte that settles the device
+-- the pages that a stopped command may have left half erased or half written, and the
+-- byte that settles the device
 abbrev pub risked_at : List ℕ → List ℕ
 risked_at journal = risked_pages (state_at journal)
 
@@ -36,31 +38,39 @@ byte_at_journal journal = settling_byte (intent_of (state_at journal))
 -- the device awaits no more settling bytes than are sent by a journal of this chip
 abbrev pub IsWithinLimit : ChipData → RigState → Type 0
 IsWithinLimit chip old =
-    bytes_awaited (byte_at_journal old.journal) old.device ≤ settling_limit chip.kind (intent_of (state_at old.journal))
+    bytes_awaited (byte_at_journal old.journal) old.device
+    ≤ settling_limit chip.kind (intent_of (state_at old.journal))
 
 -- what settling may have made of the flash: it differs in the pages at risk alone
 abbrev pub IsFlashSettled : RigState → List ℕ → Type 0
-IsFlashSettled old flash = SameOutside old.device.chip (risked_at old.journal) old.device.flash flash
+IsFlashSettled old flash =
+    SameOutside old.device.chip (risked_at old.journal) old.device.flash flash
 
 -- what taking back so many segments adds to the journal, from this flash on
 abbrev pub undo_text : RigState → ℕ → List ℕ → List ℕ
-undo_text old taken flash = text_added (is_torn_at old.journal) (undo_entries old.device.chip taken (state_at old.journal).stack flash)
+undo_text old taken flash =
+    text_added (is_torn_at old.journal)
+    (undo_entries old.device.chip taken (state_at old.journal).stack flash)
 
--- At a moment of an undo so many segments are off the stack: the flashes before the others can be had back; where none is
--- unfinished, the flash is the one before the oldest that is off, or the old one; and a beginning of the lines is added.
-pub record AmidUndo (taken : ℕ) (flashes : List (List ℕ)) (old : RigState) (d : Device) (journal : List ℕ) : Type 0 where
+-- At a moment of an undo so many segments are off the stack: the flashes before the others can be
+-- had back; where none is unfinished, the flash is the one before the oldest that is off, or the
+-- old one; and a beginning of the lines is added.
+pub record AmidUndo (taken : ℕ) (flashes : List (List ℕ)) (old : RigState) (d : Device)
+    (journal : List ℕ) : Type 0 where
   pub undone : ℕ
   pub within : undone ≤ taken
   pub make : SameMake old.device d
   pub undoable : Undoable (drop undone flashes) d journal
-  pub finished : is_unfinished_at journal ≡ false → d.flash ≡ flash_taken_back undone old.device.flash flashes
+  pub finished : is_unfinished_at journal ≡ false
+      → d.flash ≡ flash_taken_back undone old.device.flash flashes
   pub settled : List ℕ
   pub is_settled : IsFlashSettled old settled
   pub written : ℕ
   pub lines : journal ≡ old.journal ++ take written (undo_text old taken settled)
 
 -- So many segments are taken back, and just the lines for that are added.
-pub record AreTakenBack (taken : ℕ) (flashes : List (List ℕ)) (old : RigState) (d : Device) (journal : List ℕ) : Type 0 where
+pub record AreTakenBack (taken : ℕ) (flashes : List (List ℕ)) (old : RigState) (d : Device)
+    (journal : List ℕ) : Type 0 where
   pub finished : is_unfinished_at journal ≡ false
   pub make : SameMake old.device d
   pub flash : d.flash ≡ flash_taken_back taken old.device.flash flashes
@@ -70,7 +80,8 @@ pub record AreTakenBack (taken : ℕ) (flashes : List (List ℕ)) (old : RigStat
   pub lines : journal ≡ old.journal ++ undo_text old taken settled
 
 -- An undo of a journal with segments.
-pub record Undoes (taken : ℕ) (flashes : List (List ℕ)) (old new : RigState) (result : Result ℕ Fault) : Type 0 where
+pub record Undoes (taken : ℕ) (flashes : List (List ℕ)) (old new : RigState)
+    (result : Result ℕ Fault) : Type 0 where
   pub moments : LeavesOnly (AmidUndo taken flashes old) old new
   pub left : AmidUndo taken flashes old new.device new.journal
   pub honest : new.is_honest

@@ -1,5 +1,6 @@
 // Beginning the segment of a command.
-ghost use Rattle.std.specs.Prelude.{◌≡◌, ◌≢◌, ◌<◌, ◌+◌, ◌∷◌, [], false, List, ℕ, length, Some, IfOk, OnOk, IfErr};
+ghost use Rattle.std.specs.Prelude.{◌≡◌, ◌≢◌, ◌<◌, ◌+◌, ◌∷◌, [], false, List, ℕ, length, Some};
+ghost use Rattle.std.specs.Prelude.{IfOk, OnOk, IfErr};
 ghost use Rattle.stm_wire.specs.Dialogue.{GoesOn};
 ghost use Rattle.stm_wire.specs.Parts.{IsPart};
 ghost use Rattle.stm_journal.specs.Journals.{begin_entries};
@@ -17,7 +18,8 @@ use crate::laws_of_steps::step_laws;
 use stm_journal::{Journal, a_stopped_append_is_good};
 use stm_wire::{Chip, Rig};
 
-/// Begins a segment, above finished ones, and answers its number. A journal that names no device gets a header first.
+/// Begins a segment, above finished ones, and answers its number. A journal that names no
+/// device gets a header first.
 pub fn begin_segment<R: Rig>(rig: &mut R, journal: &mut Journal, chip: &Chip) -> Result<u32, Fault>
     requires room { length journal.old.state.stack < 65535 }
     requires finished { is_unfinished journal.old.state ≡ false }

@@ -1,5 +1,6 @@
 // Changing a page in a command.
-ghost use Rattle.std.specs.Prelude.{◌≡◌, ◌≢◌, ◌<◌, ◌+◌, ◌*◌, List, ℕ, length, not, bytes_eq, true, false, Some, IfOk, OnOk, IsTrue, IfErr};
+ghost use Rattle.std.specs.Prelude.{◌≡◌, ◌≢◌, ◌<◌, ◌+◌, ◌*◌, List, ℕ, length, not, bytes_eq, true};
+ghost use Rattle.std.specs.Prelude.{false, Some, IfOk, OnOk, IsTrue, IfErr};
 ghost use Rattle.stm_wire.specs.Chip.{page_count, page_size, page_of, with_page};
 ghost use Rattle.stm_wire.specs.Dialogue.{GoesOn};
 ghost use Rattle.stm_wire.specs.Parts.{IsPart};
@@ -21,8 +22,8 @@ use stm_chip::{PagePlan, page_plan};
 use stm_journal::Journal;
 use stm_wire::{Chip, Rig};
 
-/// Gives page `n`, which was read, these bytes: it is kept first, if it wasn't, and with page 1 page 257. Nothing is done
-/// where it holds them. Whether it was changed.
+/// Gives page `n`, which was read, these bytes: it is kept first, if it wasn't, and with page 1
+/// page 257. Nothing is done where it holds them. Whether it was changed.
 pub fn change_page<R: Rig>(
     alloc: Global,
     rig: &mut R,

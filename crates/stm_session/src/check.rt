@@ -1,13 +1,16 @@
 // What is checked before the first command is done.
 ghost use Rattle.std.specs.Prelude.{◌≡◌, ◌<◌, ◌++◌, None, Some, MatchResult};
 ghost use Rattle.stm_journal.specs.States.{IsSound};
-ghost use Rattle.stm_session.specs.Refusal.{segment_pages, fits_as_kept, header_misfits, lacks_companion, lesser, least, least_with, misfit_lines, misfit_lines_of, misfit_refusal};
+ghost use Rattle.stm_session.specs.Refusal.{segment_pages, fits_as_kept, header_misfits};
+ghost use Rattle.stm_session.specs.Refusal.{lacks_companion, lesser, least, least_with};
+ghost use Rattle.stm_session.specs.Refusal.{misfit_lines, misfit_lines_of, misfit_refusal};
 
 use crate::Fault;
 use stm_journal::Journal;
 use stm_wire::Chip;
 
-/// Whether segment `k` lacks page 257, which has to be kept with page `n`: where that is page 1 and the chip has both.
+/// Whether segment `k` lacks page 257, which has to be kept with page `n`: where that is page
+/// 1 and the chip has both.
 fn lacks_companion(journal: &Journal, chip: &Chip, k: u32, n: u16) -> bool
     ensures { result ≡ lacks_companion chip.now (segment_pages journal.now.state k) n }
 {
@@ -20,10 +23,12 @@ fn lacks_companion(journal: &Journal, chip: &Chip, k: u32, n: u16) -> bool
     }
 }
 
-/// Whether the chip has page `n`, in the size in which segment `k` keeps it, and what has to be kept with it is.
+/// Whether the chip has page `n`, in the size in which segment `k` keeps it, and what
+/// has to be kept with it is.
 fn fits(journal: &Journal, chip: &Chip, k: u32, n: u16) -> bool
     ensures value { result ≡ fits_as_kept chip.now (segment_pages journal.now.state k) n }
-    // A page number has 16 bits, so that a segment, which keeps a page once, has no more pages than an index can count.
+    // A page number has 16 bits, so that a segment, which keeps a page once, has no more pages
+    // than an index can count.
     ensures number { n < 65536 }
 {
     if n >= chip.pages() {
@@ -49,7 +54,8 @@ fn lesser(so_far: Option<u64>, line: u64) -> u64
     }
 }
 
-/// The least line of segment `k` that keeps a page which the chip hasn't, or has in another size, or the least so far.
+/// The least line of segment `k` that keeps a page which the chip hasn't, or has in another
+/// size, or the least so far.
 fn misfit_line_of(journal: &Journal, chip: &Chip, k: u32, so_far: Option<u64>) -> Option<u64>
     requires { IsSound journal.now.state }
     ensures { let pages = segment_pages journal.now.state k in
@@ -77,8 +83,8 @@ fn header_misfit(journal: &Journal, chip: &Chip) -> Option<u64>
     None
 }
 
-/// The least line of the journal that can't be of the chip: that of its header, or one that keeps a page which the chip
-/// hasn't, has in another size, or hasn't without another.
+/// The least line of the journal that can't be of the chip: that of its header, or one that keeps a
+/// page which the chip hasn't, has in another size, or hasn't without another.
 fn misfit_line(journal: &Journal, chip: &Chip) -> Option<u64>
     ensures { let state = journal.now.state in
         result ≡ least (header_misfits chip.now state.header ++ misfit_lines chip.now state.stack) }
@@ -92,7 +98,8 @@ fn misfit_line(journal: &Journal, chip: &Chip) -> Option<u64>
     least
 }
 
-/// The journal's header must be one of such a chip, and each page that it keeps must be one of the chip, in its size.
+/// The journal's header must be one of such a chip, and each page that it keeps must be one
+/// of the chip, in its size.
 pub fn check_kept(journal: &Journal, chip: &Chip) -> Result<(), Fault>
     ensures { MatchResult result
         (λ _. misfit_refusal chip.now journal.now.state ≡ None)

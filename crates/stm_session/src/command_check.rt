@@ -1,5 +1,6 @@
 // What is checked of the commands before the first is done.
-ghost use Rattle.std.specs.Prelude.{◌≡◌, ◌+◌, ◌≤◌, length, map, count_by, true, not, ◌||◌, nat_le, None, Some, IfErr, MatchResult, OnOk};
+ghost use Rattle.std.specs.Prelude.{◌≡◌, ◌+◌, ◌≤◌, length, map, count_by, true, not, ◌||◌, nat_le};
+ghost use Rattle.std.specs.Prelude.{None, Some, IfErr, MatchResult, OnOk};
 ghost use Rattle.std.specs.List.{list_all, list_any};
 ghost use Rattle.stm_wire.specs.Device.{Device};
 ghost use Rattle.stm_wire.specs.Exchange.{all_exist};
@@ -7,7 +8,8 @@ ghost use Rattle.stm_session.specs.Fault.{IsLaterRefusal};
 ghost use Rattle.stm_session.specs.Meaning.{changes_of, command_data, is_change};
 ghost use Rattle.stm_session.specs.Opening.{AreCommandsOf};
 ghost use Rattle.stm_session.specs.Refusal.{first_refusal};
-ghost use Rattle.stm_session.specs.Refusals.{can_erase, command_refusals, is_in_flash, lies_in_flash};
+ghost use Rattle.stm_session.specs.Refusals.{can_erase, command_refusals, is_in_flash};
+ghost use Rattle.stm_session.specs.Refusals.{lies_in_flash};
 
 use crate::listing::lists_erase;
 use crate::reading::is_within;
@@ -88,8 +90,9 @@ fn are_in_flash(chip: &Chip, commands: &[Command]) -> bool
     commands.iter().all(|command| is_in_flash(chip, command))
 }
 
-/// Whatever can be refused of the commands: a change of a flash whose device doesn't list the command that erases pages, a
-/// place outside the flash, and more segments than the journal has room for. The first of these is answered.
+/// Whatever can be refused of the commands: a change of a flash whose device doesn't list the
+/// command that erases pages, a place outside the flash, and more segments than the journal has
+/// room for. The first of these is answered.
 pub fn check_commands(
     journal: &Journal,
     chip: &Chip,

@@ -1,5 +1,6 @@
 // A command that changes the flash, as one segment of the journal.
-ghost use Rattle.std.specs.Prelude.{◌≡◌, ◌≢◌, ◌<◌, ◌+◌, false, List, ℕ, length, Some, IfOk, OnOk, IfErr};
+ghost use Rattle.std.specs.Prelude.{◌≡◌, ◌≢◌, ◌<◌, ◌+◌, false, List, ℕ, length, Some, IfOk, OnOk};
+ghost use Rattle.std.specs.Prelude.{IfErr};
 ghost use Rattle.stm_wire.specs.Dialogue.{GoesOn};
 ghost use Rattle.stm_wire.specs.Parts.{IsPart};
 ghost use Rattle.stm_journal.specs.States.{is_unfinished};
@@ -22,8 +23,8 @@ use std::alloc::Global;
 use stm_journal::Journal;
 use stm_wire::{Chip, Rig};
 
-/// Makes of the flash what the command makes of it, in a segment of its own. The segment's number, and how many pages were
-/// changed.
+/// Makes of the flash what the command makes of it, in a segment of its own. The segment's number,
+/// and how many pages were changed.
 pub fn change_flash<R: Rig>(
     alloc: Global,
     rig: &mut R,

@@ -1,5 +1,6 @@
 // Comparing an image with the flash.
-ghost use Rattle.std.specs.Prelude.{◌≡◌, ℕ, Bool, List, ◌∷◌, [], OnOk, ◌+◌, ◌≤◌, true, length, IsTrue, IfErr, Some, None, MatchOption};
+ghost use Rattle.std.specs.Prelude.{◌≡◌, ℕ, Bool, List, ◌∷◌, [], OnOk, ◌+◌, ◌≤◌, true, length};
+ghost use Rattle.std.specs.Prelude.{IsTrue, IfErr, Some, None, MatchOption};
 ghost use Rattle.std.specs.List.{AllByRecursion};
 ghost use Rattle.stm_image.specs.Pairs.{Pairs, HasNone, IsNext};
 ghost use Rattle.stm_wire.specs.Chip.{fits_inside, flash_size};
@@ -72,7 +73,8 @@ fn compare_block<R: Rig>(
     Ok(find_in(image, address, part))
 }
 
-/// The next block in which the image names a place, where the bytes before this offset were compared.
+/// The next block in which the image names a place, where the bytes before
+/// this offset were compared.
 fn next_block(chip: &Chip, image: &Image, done: u32, from: Place) -> Option<Block>
     requires inside { image_fits chip.now image.now ≡ true }
     requires within { done ≤ flash_size chip.now }
@@ -98,8 +100,9 @@ fn next_block(chip: &Chip, image: &Image, done: u32, from: Place) -> Option<Bloc
     })
 }
 
-/// The least place where the image has another byte than the flash. The image's places lie inside the flash; from the first
-/// of them on, blocks are read in which it names a place, until one differs.
+/// The least place where the image has another byte than the flash. The image's places
+/// lie inside the flash; from the first of them on, blocks are read in which it names a
+/// place, until one differs.
 pub fn find_difference<R: Rig>(
     rig: &mut R,
     chip: &Chip,

@@ -11,7 +11,8 @@ ghost use Rattle.stm_session.specs.Fault.{HasSessionCause, IsOfLine};
 ghost use Rattle.stm_session.specs.Asking.{Asks};
 ghost use Rattle.stm_session.specs.Moments.{BeginsNothing, IsSafe};
 ghost use Rattle.stm_session.specs.Opening.{AreCommandsOf, Tells};
-ghost use Rattle.stm_session.specs.Order.{AsksInOrder, Begin, IsAsking, IsGet, IsGetId, IsInOrder, Sends, Stops, id_turns};
+ghost use Rattle.stm_session.specs.Order.{AsksInOrder, Begin, IsAsking, IsGet, IsGetId, IsInOrder};
+ghost use Rattle.stm_session.specs.Order.{Sends, Stops, id_turns};
 ghost use Rattle.stm_session.specs.Sending.{is_whole};
 
 use crate::Fault;
@@ -19,8 +20,8 @@ use stm_wire::{
     Commands, Rig, get_commands, get_id, pages_are_the_flash, sending_is_harmless, settle,
 };
 
-/// The byte that connects a fresh device (AN3155, section 2), and that ends what was begun where no page is to be erased
-/// or written.
+/// The byte that connects a fresh device (AN3155, section 2), and that ends what was begun where no
+/// page is to be erased or written.
 const CONNECT: u8 = 0x7F;
 
 /// How often it is sent at most: more often than any list of bytes is long that a device waits for.

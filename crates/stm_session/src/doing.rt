@@ -1,5 +1,6 @@
 // One command of a run.
-ghost use Rattle.std.specs.Prelude.{◌≡◌, ◌≢◌, ◌+◌, ◌<◌, ◌||◌, ◌==◌, true, false, List, ℕ, length, IsTrue, IfErr, IfOk, OnOk, Some};
+ghost use Rattle.std.specs.Prelude.{◌≡◌, ◌≢◌, ◌+◌, ◌<◌, ◌||◌, ◌==◌, true, false, List, ℕ, length};
+ghost use Rattle.std.specs.Prelude.{IsTrue, IfErr, IfOk, OnOk, Some};
 ghost use Rattle.stm_wire.specs.Chip.{fits_inside};
 ghost use Rattle.stm_wire.specs.Dialogue.{GoesOn};
 ghost use Rattle.stm_wire.specs.Parts.{IsPart};
@@ -8,7 +9,8 @@ ghost use Rattle.stm_journal.specs.States.{is_unfinished};
 ghost use Rattle.stm_session.specs.Answers.{outcome_data, segments_of};
 ghost use Rattle.stm_session.specs.Doing.{Does};
 ghost use Rattle.stm_session.specs.Fault.{HasSessionCause};
-ghost use Rattle.stm_session.specs.Meaning.{command_data, erases, is_change, reads, verifies, writes};
+ghost use Rattle.stm_session.specs.Meaning.{command_data, erases, is_change, reads, verifies};
+ghost use Rattle.stm_session.specs.Meaning.{writes};
 ghost use Rattle.stm_session.specs.Refusals.{image_fits, lies_in_flash};
 ghost use Rattle.stm_session.specs.Running.{IsKindOf};
 ghost use Rattle.stm_session.specs.Order.{Follows, Stops};

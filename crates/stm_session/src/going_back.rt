@@ -50,7 +50,8 @@ pub fn take_back_newest<R: Rig>(
     Ok(())
 }
 
-/// Takes so many segments back, the newest first, behind a journal that was loaded: the page of its intent is written before.
+/// Takes so many segments back, the newest first, behind a journal that was loaded: the page of its
+/// intent is written before.
 pub fn go_back<R: Rig>(
     alloc: Global,
     rig: &mut R,

@@ -1,5 +1,5 @@
-//! What a session promises wherever it is stopped, and what its words mean: each law is the contract of a function that does
-//! nothing.
+//! What a session promises wherever it is stopped, and what its words mean: each law is the
+//! contract of a function that does nothing.
 ghost use Rattle.stm_session.specs.Answers.{FirstDifferenceIsFirst, NoDifferenceAgrees};
 ghost use Rattle.stm_session.specs.Headline.{AllIsTakenBack, EachCanFollow, Headline, WritesWhole};
 
@@ -11,10 +11,11 @@ use crate::{
 use stm_journal::a_journal_is_sound;
 use stm_wire::Rig;
 
-/// Whatever calls, stops, resets and losses of power follow a state that can be taken back: each call holds what is promised of
-/// it, and what was begun can be taken back. An undo of everything that reports success leaves the flash as it was at the start of
-/// the oldest segment, or when the way back was last given up; and a write that reports success leaves the image in its places
-/// and every other byte as it was. After each of them another can follow.
+/// Whatever calls, stops, resets and losses of power follow a state that can be taken back: each
+/// call holds what is promised of it, and what was begun can be taken back. An undo of everything
+/// that reports success leaves the flash as it was at the start of the oldest segment, or when the
+/// way back was last given up; and a write that reports success leaves the image in its places and
+/// every other byte as it was. After each of them another can follow.
 pub fn a_session_can_be_taken_back<R: Rig>()
     ensures headline { Headline R.view }
     ensures whole { AllIsTakenBack R.view }
@@ -29,8 +30,8 @@ pub fn a_session_can_be_taken_back<R: Rig>()
     asking_keeps_what_can_be_taken_back();
 }
 
-/// The first difference of an image from a flash is the first place where the image has another byte; with none the image
-/// agrees with the flash.
+/// The first difference of an image from a flash is the first place where the image has another
+/// byte; with none the image agrees with the flash.
 pub fn the_first_difference_is_the_first()
     ensures first { FirstDifferenceIsFirst }
     ensures none { NoDifferenceAgrees }

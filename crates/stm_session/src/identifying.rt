@@ -17,9 +17,10 @@ use crate::opening::{load_finished, reach};
 use std::alloc::Global;
 use stm_wire::{Rig, harmless_is_kept};
 
-/// Tells a device's product id, its bootloader's version and the codes of its commands, as it says them itself (AN3155,
-/// sections 3.1 and 3.3). No table has to have its chip, and the journal's header may name another one; but the journal
-/// has to be finished, so that the bytes that settle the device can do no harm.
+/// Tells a device's product id, its bootloader's version and the codes of its commands, as it says
+/// them itself (AN3155, sections 3.1 and 3.3). No table has to have its chip, and the journal's
+/// header may name another one; but the journal has to be finished, so that the bytes that settle
+/// the device can do no harm.
 pub fn identify<R: Rig>(alloc: Global, rig: &mut R) -> Result<Told, Fault>
     ensures unwritten { let old = R.view rig.old in let new = R.view rig.new in
         GoesOn AppendsNothing old.calls new.calls }

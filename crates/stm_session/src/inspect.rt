@@ -26,7 +26,8 @@ pub fn info<R: Rig>(alloc: Global, rig: &mut R, table: &Table) -> Result<Info, F
     ensures puts { let old = R.view rig.old in let new = R.view rig.new in
         GoesOn (IsSession None 0x7F 131072 (is_whole result) (most_calls 0)) old.calls new.calls }
     ensures order { let old = R.view rig.old in let new = R.view rig.new in
-        (torn : Bool) → IfOk result (λ info. ReachesInOrder (Settles 0x7F 131072) info.id torn old new) }
+        (torn : Bool)
+        → IfOk result (λ info. ReachesInOrder (Settles 0x7F 131072) info.id torn old new) }
     ensures stops { let old = R.view rig.old in let new = R.view rig.new in
         (torn : Bool) → StopsShort (Settles 0x7F 131072) torn old new result }
     ensures kept { let old = R.view rig.old in let new = R.view rig.new in

@@ -58,9 +58,10 @@ pub fn lost_bytes_keep_what_can_be_taken_back()
     harmless_is_kept();
 }
 
-/// What can be taken back, still can after a loss of power, also inside an erase or a write, whatever bytes that leaves in the
-/// pages which the unfinished newest segment keeps. These have the page of the journal's intent among them, and each page that
-/// settling the device by that intent may change. Where no segment is unfinished, the flash is as it was.
+/// What can be taken back, still can after a loss of power, also inside an erase or a write,
+/// whatever bytes that leaves in the pages which the unfinished newest segment keeps. These have
+/// the page of the journal's intent among them, and each page that settling the device by that
+/// intent may change. Where no segment is unfinished, the flash is as it was.
 pub fn a_power_loss_keeps_what_can_be_taken_back()
     ensures undoable { PowerLossKeepsFlashes }
     ensures finished { FinishedLosesNothing }
@@ -73,8 +74,8 @@ pub fn a_power_loss_keeps_what_can_be_taken_back()
     changes_of_kept_pages_keep_the_flashes();
 }
 
-/// Where the journal is finished, the device is safe, and at any moment of calls that begin no segment, what could be taken
-/// back still can.
+/// Where the journal is finished, the device is safe, and at any moment of calls that begin no
+/// segment, what could be taken back still can.
 pub fn asking_keeps_what_can_be_taken_back()
     ensures safe { (flashes : List (List ℕ)) (d : Device) (journal : List ℕ)
         → Undoable flashes d journal → is_unfinished_at journal ≡ false → IsSafe d }
@@ -83,8 +84,8 @@ pub fn asking_keeps_what_can_be_taken_back()
         → SameMake old d → d.flash ≡ old.flash → IsSafe d → Undoable flashes d journal }
 {}
 
-/// On a safe device whose chip the table holds, a journal that isn't refused, when a session is opened or for a run's commands,
-/// can be taken back to the flashes that it keeps.
+/// On a safe device whose chip the table holds, a journal that isn't refused, when a session is
+/// opened or for a run's commands, can be taken back to the flashes that it keeps.
 pub fn an_unrefused_journal_can_be_taken_back()
     ensures opened { (table : List ChipData) (d : Device) (journal : List ℕ)
         → IsSafe d → IsChipWith table d.chip.id d.chip
@@ -96,7 +97,8 @@ pub fn an_unrefused_journal_can_be_taken_back()
         → Undoable (flashes_before_segments d.chip (state_at journal).stack d.flash) d journal }
 {}
 
-/// What a refusal looks up in a table is the chip that the table holds under an id, or none where none has that id.
+/// What a refusal looks up in a table is the chip that the table holds under an id, or
+/// none where none has that id.
 pub fn a_chip_is_looked_up_by_its_id()
     ensures held { (table : List ChipData) (id : ℕ) (chip : ChipData)
         → IsChipWith table id chip → chip_with table id ≡ Some chip }
@@ -104,7 +106,8 @@ pub fn a_chip_is_looked_up_by_its_id()
         → IsNewId table id → chip_with table id ≡ None }
 {}
 
-/// A journal is refused for its header or for the pages that it keeps exactly where it isn't a journal of the chip.
+/// A journal is refused for its header or for the pages that it keeps exactly where it
+/// isn't a journal of the chip.
 pub fn a_journal_of_the_chip_is_not_refused()
     ensures unrefused { (chip : ChipData) (s : StateData)
         → IsJournalOf chip s → misfit_refusal chip s ≡ None }
@@ -112,8 +115,8 @@ pub fn a_journal_of_the_chip_is_not_refused()
         → misfit_refusal chip s ≡ None → IsJournalOf chip s }
 {}
 
-/// A run that only reads, and is refused nothing, begins no segment: its outcomes hold the flash's own bytes, and it fails by the
-/// line, the journal or memory alone.
+/// A run that only reads, and is refused nothing, begins no segment: its outcomes hold the flash's
+/// own bytes, and it fails by the line, the journal or memory alone.
 pub fn a_run_of_reads_begins_no_segment<R: Rig>()
     ensures { (commands : List Command) (flashes : List (List ℕ)) (old new : R)
         (result : Result Report Fault) → list_all is_read commands ≡ true
@@ -123,7 +126,8 @@ pub fn a_run_of_reads_begins_no_segment<R: Rig>()
         (λ report. report.outcomes.items) }
 {}
 
-/// What a run promises of itself, whatever it answers, it promises of the outcomes that its answer tells.
+/// What a run promises of itself, whatever it answers, it promises of the
+/// outcomes that its answer tells.
 pub fn a_run_is_known_by_its_outcomes<R: Rig, T>()
     ensures { OutcomesAreTheRun R T R.view }
 {}
@@ -139,9 +143,10 @@ pub fn reads_in_the_flash_are_not_refused()
     a_journal_is_sound();
 }
 
-/// On any line, whatever it answers, a run has appended a page's line, in the segment that it is in, before it appends the intent
-/// to erase or write the page, and before it sends such a frame; and it sends no other frames but those that read. It ends a
-/// segment behind the last of these, each of which was acknowledged. That holds of all that was done, and of what failed.
+/// On any line, whatever it answers, a run has appended a page's line, in the segment that it is
+/// in, before it appends the intent to erase or write the page, and before it sends such a frame;
+/// and it sends no other frames but those that read. It ends a segment behind the last of these,
+/// each of which was acknowledged. That holds of all that was done, and of what failed.
 pub fn a_run_keeps_pages_before_it_changes_them<R: Rig>()
     ensures done { (table : List ChipData) (commands : List CommandData) (old new : R)
         → RunsInOrder table commands (R.view old) (R.view new)
@@ -153,10 +158,11 @@ pub fn a_run_keeps_pages_before_it_changes_them<R: Rig>()
     laying_by_parts();
 }
 
-/// On any line, whatever it answers, an undo erases and writes only pages of the newest segment that it hasn't taken off yet, or at
-/// first the page of the journal's intent, and appends intents only for these; and it sends no other frames but those that read. It
-/// takes a segment off behind the last of these, each of which was acknowledged. That holds of all that was done, and of what
-/// failed.
+/// On any line, whatever it answers, an undo erases and writes only pages of the newest segment
+/// that it hasn't taken off yet, or at first the page of the journal's intent, and appends
+/// intents only for these; and it sends no other frames but those that read. It takes a segment
+/// off behind the last of these, each of which was acknowledged. That holds of all that was
+/// done, and of what failed.
 pub fn an_undo_changes_only_pages_that_it_takes_back<R: Rig>()
     ensures done { (is_fresh : Bool) (table : List ChipData) (taken : ℕ) (old new : R)
         → UndoesInOrderFrom is_fresh table taken (R.view old) (R.view new)

@@ -1,4 +1,5 @@
-// Go and the protections, after which nothing is promised of the device: they are refused while the journal is open.
+// Go and the protections, after which nothing is promised of the device: they are refused
+// while the journal is open.
 ghost use Rattle.std.specs.Prelude.{◌≡◌, ◌≢◌, [], IfErr, IsTrue, OnOk, Some, None, true};
 ghost use Rattle.stm_wire.specs.Chip.{is_inside};
 ghost use Rattle.stm_wire.specs.Device.{Gone};

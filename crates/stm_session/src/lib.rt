@@ -1,4 +1,5 @@
-//! A session with a device, over any line and journal: everything is checked before the first command is begun.
+//! A session with a device, over any line and journal: everything is checked before
+//! the first command is begun.
 #![tactic(auto)]
 
 mod beginning;

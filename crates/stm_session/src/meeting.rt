@@ -1,5 +1,7 @@
-// How an undo reaches its device: whatever it was sent before is ended, and it is asked whether it is the journal's.
-ghost use Rattle.std.specs.Prelude.{◌≡◌, ◌≤◌, [], List, ℕ, ⊤, Bool, ◌∷◌, length, None, OnOk, IfOk, IfErr, IfSome};
+// How an undo reaches its device: whatever it was sent before is ended, and it is asked
+// whether it is the journal's.
+ghost use Rattle.std.specs.Prelude.{◌≡◌, ◌≤◌, [], List, ℕ, ⊤, Bool, ◌∷◌, length, None, OnOk, IfOk};
+ghost use Rattle.std.specs.Prelude.{IfErr, IfSome};
 ghost use Rattle.stm_wire.specs.Device.{IsSettled};
 ghost use Rattle.stm_wire.specs.Dialogue.{GoesOn};
 ghost use Rattle.stm_wire.specs.Frames.{get_turns};
@@ -12,7 +14,8 @@ ghost use Rattle.stm_session.specs.Fault.{HasSessionCause, IsLaterRefusal, cause
 ghost use Rattle.stm_session.specs.Fresh.{IsAsSaid, byte_of, limit_of, undo_way};
 ghost use Rattle.stm_session.specs.Meeting.{Meets};
 ghost use Rattle.stm_session.specs.Refusals.{can_erase, undo_misfit};
-ghost use Rattle.stm_session.specs.Order.{AsksInOrder, Begin, IsAsking, IsGet, IsInOrder, ReachesInOrder, Sends, Stops, StopsBy, StopsShort};
+ghost use Rattle.stm_session.specs.Order.{AsksInOrder, Begin, IsAsking, IsGet, IsInOrder};
+ghost use Rattle.stm_session.specs.Order.{ReachesInOrder, Sends, Stops, StopsBy, StopsShort};
 ghost use Rattle.stm_session.specs.Sending.{is_whole, most_of_reaching};
 ghost use Rattle.stm_session.specs.Steps.{Goes};
 ghost use Rattle.stm_session.specs.Undoable.{Undoable};
@@ -73,7 +76,8 @@ fn ask_misfit<R: Rig>(rig: &mut R, chip: &Chip) -> Result<Option<Fault>, Fault>
     Ok(None)
 }
 
-/// Settles the device by the journal's intent, or as one that is fresh, and asks whether it is the journal's chip.
+/// Settles the device by the journal's intent, or as one that is fresh, and asks whether
+/// it is the journal's chip.
 pub fn meet<R: Rig>(
     rig: &mut R,
     journal: &Journal,
@@ -99,7 +103,8 @@ pub fn meet<R: Rig>(
     ensures elsewhere { let old = R.view rig.old in let new = R.view rig.new in
         old.is_honest → IsAsSaid is_fresh old.device → IsLoaded journal.now old.journal
         → Harmless old.device (byte_at_journal old.journal) (risked_at old.journal)
-        → length old.device.owed ≤ 4096 → IsWithinLimit chip.now old → Meets chip.now old new result }
+        → length old.device.owed ≤ 4096 → IsWithinLimit chip.now old
+        → Meets chip.now old new result }
 {
     step_laws();
     settle_intended(rig, journal, chip, is_fresh)?;

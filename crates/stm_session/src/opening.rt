@@ -1,4 +1,5 @@
-// How a session begins: the journal is loaded, the device is reached, and both must fit the table and each other.
+// How a session begins: the journal is loaded, the device is reached, and both must fit
+// the table and each other.
 ghost use Rattle.stm_session.specs.Fresh.{Settles};
 ghost use Rattle.std.specs.Prelude.{◌≡◌, ◌≢◌, [], IfOk, IfErr, OnOk, Some, None, false, not, Bool};
 ghost use Rattle.stm_wire.specs.Dialogue.{GoesOn};
@@ -10,7 +11,8 @@ ghost use Rattle.stm_journal.specs.States.{is_unfinished, names_other};
 ghost use Rattle.stm_session.specs.Unwritten.{AppendsNothing};
 ghost use Rattle.stm_session.specs.Fault.{HasSessionCause, IsOfLine, IsLaterRefusal};
 ghost use Rattle.stm_session.specs.Moments.{BeginsNothing, IsSafe};
-ghost use Rattle.stm_session.specs.Refusal.{RefusesUnsent, device_refusals, first_refusal, misfit_refusal, unsent_refusal};
+ghost use Rattle.stm_session.specs.Refusal.{RefusesUnsent, device_refusals, first_refusal};
+ghost use Rattle.stm_session.specs.Refusal.{misfit_refusal, unsent_refusal};
 ghost use Rattle.stm_session.specs.Order.{ReachesInOrder, StopsShort};
 ghost use Rattle.stm_session.specs.Sending.{is_whole, most_calls};
 ghost use Rattle.stm_session.specs.Opening.{IsCoherent, LoadsUnless, Opens, Tells};
@@ -61,7 +63,8 @@ pub fn reach<R: Rig>(rig: &mut R) -> Result<Told, Fault>
     ensures puts { let old = R.view rig.old in let new = R.view rig.new in
         GoesOn (IsSession None 0x7F 131072 (is_whole result) (most_calls 0)) old.calls new.calls }
     ensures order { let old = R.view rig.old in let new = R.view rig.new in
-        (torn : Bool) → IfOk result (λ told. ReachesInOrder (Settles 0x7F 131072) told.id torn old new) }
+        (torn : Bool)
+        → IfOk result (λ told. ReachesInOrder (Settles 0x7F 131072) told.id torn old new) }
     ensures stops { let old = R.view rig.old in let new = R.view rig.new in
         (torn : Bool) → StopsShort (Settles 0x7F 131072) torn old new result }
     ensures sent { IfErr result IsOfLine }
@@ -84,8 +87,8 @@ fn is_of(journal: &Journal, id: u16) -> bool
     }
 }
 
-/// The chip of the table that has this id. A journal that is of another device, or keeps a page that isn't one of the chip, is
-/// refused.
+/// The chip of the table that has this id. A journal that is of another device, or keeps a page
+/// that isn't one of the chip, is refused.
 fn find_chip<'t>(journal: &Journal, table: &'t Table, id: u16) -> Result<&'t Chip, Fault>
     ensures chip { IfOk result (λ chip. IsChipWith table.now chip.now.id chip.now) }
     ensures id { IfOk result (λ chip. chip.now.id ≡ id) }
@@ -106,8 +109,9 @@ fn find_chip<'t>(journal: &Journal, table: &'t Table, id: u16) -> Result<&'t Chi
     Ok(chip)
 }
 
-/// Loads the journal, which must be finished; settles the device with 7F; and asks who it is. The journal must be of that
-/// device, the table must have its chip, and each page that the journal keeps must be one of that chip.
+/// Loads the journal, which must be finished; settles the device with 7F; and asks who it is. The
+/// journal must be of that device, the table must have its chip, and each page that the journal
+/// keeps must be one of that chip.
 pub fn open<'t, R: Rig>(alloc: Global, rig: &mut R, table: &'t Table) -> Result<Opened<'t>, Fault>
     ensures unwritten { let old = R.view rig.old in let new = R.view rig.new in
         GoesOn AppendsNothing old.calls new.calls }
@@ -117,7 +121,8 @@ pub fn open<'t, R: Rig>(alloc: Global, rig: &mut R, table: &'t Table) -> Result<
         GoesOn (IsSession None 0x7F 131072 (is_whole result) (most_calls 0)) old.calls new.calls }
     ensures order { let old = R.view rig.old in let new = R.view rig.new in
         (torn : Bool)
-        → IfOk result (λ opened. ReachesInOrder (Settles 0x7F 131072) opened.chip.now.id torn old new) }
+        → IfOk result
+        (λ opened. ReachesInOrder (Settles 0x7F 131072) opened.chip.now.id torn old new) }
     ensures stops { let old = R.view rig.old in let new = R.view rig.new in
         (torn : Bool) → StopsShort (Settles 0x7F 131072) torn old new result }
     ensures loaded { let old = R.view rig.old in

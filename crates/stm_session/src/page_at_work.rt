@@ -34,8 +34,8 @@ fn intent_page(intent: Intent) -> u16
     }
 }
 
-/// Gives page `n` what the newest segment keeps of it, whose digits stand at this place of the journal. It isn't read: what it
-/// holds now isn't asked.
+/// Gives page `n` what the newest segment keeps of it, whose digits stand at this place of the
+/// journal. It isn't read: what it holds now isn't asked.
 fn rewrite_line<R: Rig>(
     alloc: Global,
     rig: &mut R,
@@ -74,8 +74,9 @@ fn rewrite_line<R: Rig>(
     Ok(())
 }
 
-/// Gives the page of the journal's intent what the newest segment keeps of it, whatever it holds: its erase or its frames may
-/// have been cut, and such a page can read right once and wrong later. Without an intent nothing is done.
+/// Gives the page of the journal's intent what the newest segment keeps of it, whatever it holds:
+/// its erase or its frames may have been cut, and such a page can read right once and wrong later.
+/// Without an intent nothing is done.
 pub fn rewrite_at_work<R: Rig>(
     alloc: Global,
     rig: &mut R,

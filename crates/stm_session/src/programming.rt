@@ -1,6 +1,8 @@
 // Programming a page that the journal keeps.
-ghost use Rattle.std.specs.Prelude.{◌≡◌, ◌≢◌, ◌<◌, ◌≤◌, ◌+◌, ◌*◌, ◌∷◌, [], List, ℕ, length, take, drop, Some, OnOk, IsTrue, Bool, IfErr};
-ghost use Rattle.stm_wire.specs.Chip.{page_count, page_size, page_offset, with_bytes, with_page, erased_page, flash_size};
+ghost use Rattle.std.specs.Prelude.{◌≡◌, ◌≢◌, ◌<◌, ◌≤◌, ◌+◌, ◌*◌, ◌∷◌, [], List, ℕ, length, take};
+ghost use Rattle.std.specs.Prelude.{drop, Some, OnOk, IsTrue, Bool, IfErr};
+ghost use Rattle.stm_wire.specs.Chip.{page_count, page_size, page_offset, with_bytes, with_page};
+ghost use Rattle.stm_wire.specs.Chip.{erased_page, flash_size};
 ghost use Rattle.stm_wire.specs.Dialogue.{GoesOn};
 ghost use Rattle.stm_wire.specs.Parts.{IsPart};
 ghost use Rattle.stm_chip.specs.Plan.{IsFrame, AreFrames, written};
@@ -9,7 +11,8 @@ ghost use Rattle.stm_journal.specs.States.{newest_keeps};
 ghost use Rattle.stm_journal.specs.Newest.{HasIntended};
 ghost use Rattle.stm_journal.specs.Journals.{Loaded};
 ghost use Rattle.stm_session.specs.Fault.{HasSessionCause};
-ghost use Rattle.stm_session.specs.Order.{Adds, Are, Begin, DoesSteps, IsInOrder, Stops, write_step, write_steps};
+ghost use Rattle.stm_session.specs.Order.{Adds, Are, Begin, DoesSteps, IsInOrder, Stops};
+ghost use Rattle.stm_session.specs.Order.{write_step, write_steps};
 ghost use Rattle.stm_session.specs.Sending.{is_whole};
 ghost use Rattle.stm_wire.specs.FlashLaws.{IsErasedAt};
 ghost use Rattle.stm_session.specs.Undoable.{state_at};

@@ -1,5 +1,7 @@
 // Reads any part of the flash, in calls that the bootloader takes.
-ghost use Rattle.std.specs.Prelude.{◌≡◌, ℕ, Bool, ◌+◌, ◌-◌, ◌*◌, ◌/◌, ◌%◌, ◌∷◌, [], ◌<◌, ◌≤◌, ◌||◌, ◌==◌, ◌++◌, IsTrue, IfErr, IfOk, OnOk, length, vec_len, Some, List};
+ghost use Rattle.std.specs.Prelude.{◌≡◌, ℕ, Bool, ◌+◌, ◌-◌, ◌*◌, ◌/◌, ◌%◌, ◌∷◌, [], ◌<◌, ◌≤◌, ◌||◌};
+ghost use Rattle.std.specs.Prelude.{◌==◌, ◌++◌, IsTrue, IfErr, IfOk, OnOk, length, vec_len, Some};
+ghost use Rattle.std.specs.Prelude.{List};
 ghost use Rattle.std.specs.List.{AllByRecursion};
 ghost use Rattle.stm_wire.specs.Chip.{fits_inside, is_inside};
 ghost use Rattle.stm_wire.specs.Device.{IsSettled};
@@ -9,7 +11,8 @@ ghost use Rattle.stm_wire.specs.Parts.{IsPart};
 ghost use Rattle.stm_session.specs.Fault.{HasSessionCause, IsRefusal};
 ghost use Rattle.stm_session.specs.Asking.{Asks};
 ghost use Rattle.stm_session.specs.Reading.{HoldsAddress, IsBlock, IsNotBehind};
-ghost use Rattle.stm_session.specs.Order.{AreReadsOf, Begin, IsInOrder, IsReadOf, ReadsBlock, Stops, read_steps};
+ghost use Rattle.stm_session.specs.Order.{AreReadsOf, Begin, IsInOrder, IsReadOf, ReadsBlock};
+ghost use Rattle.stm_session.specs.Order.{Stops, read_steps};
 ghost use Rattle.stm_session.specs.RunOrder.{IsReading, OnlyReads};
 ghost use Rattle.stm_session.specs.Sending.{is_whole, most_of_command};
 ghost use Rattle.stm_session.specs.Running.{bytes_at};
@@ -62,7 +65,8 @@ pub fn page_at(chip: &Chip, address: u32, from: Place) -> Place
     unreachable!()
 }
 
-/// How many bytes the next call reads, where so many are left to read from this address on, which lies in this page.
+/// How many bytes the next call reads, where so many are left to read from this address on,
+/// which lies in this page.
 pub fn block_size(chip: &Chip, address: u32, place: Place, left: u32) -> u32
     requires { HoldsAddress chip.now address place }
     ensures { IsBlock chip.now address left result }

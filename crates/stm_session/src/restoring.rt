@@ -1,5 +1,6 @@
 // Giving a page back what a segment keeps of it.
-ghost use Rattle.std.specs.Prelude.{◌≡◌, ◌<◌, ◌+◌, ◌*◌, [], List, ℕ, length, bytes_eq, if◌then◌else◌, Some, OnOk, IsTrue};
+ghost use Rattle.std.specs.Prelude.{◌≡◌, ◌<◌, ◌+◌, ◌*◌, [], List, ℕ, length, bytes_eq};
+ghost use Rattle.std.specs.Prelude.{if◌then◌else◌, Some, OnOk, IsTrue};
 ghost use Rattle.stm_wire.specs.Chip.{page_count, page_size, page_of, with_page};
 ghost use Rattle.stm_wire.specs.Dialogue.{GoesOn};
 ghost use Rattle.stm_wire.specs.Parts.{IsPart};
@@ -19,7 +20,8 @@ use stm_chip::{PagePlan, page_plan};
 use stm_journal::Journal;
 use stm_wire::{Chip, Rig};
 
-/// Gives page `n`, which was read and which the newest segment keeps, these bytes. Nothing is done where it holds them.
+/// Gives page `n`, which was read and which the newest segment keeps, these bytes. Nothing is
+/// done where it holds them.
 pub fn restore_page<R: Rig>(
     alloc: Global,
     rig: &mut R,

@@ -22,7 +22,8 @@ use std::alloc::Global;
 use stm_journal::{Journal, PagePlace};
 use stm_wire::{Chip, Rig};
 
-/// Gives page `n` what the newest segment keeps of it, whose digits stand at this place of the journal.
+/// Gives page `n` what the newest segment keeps of it, whose digits stand at
+/// this place of the journal.
 pub fn restore_line<R: Rig>(
     alloc: Global,
     rig: &mut R,

@@ -5,7 +5,8 @@ ghost use Rattle.stm_journal.specs.Calls.{AreFetches};
 ghost use Rattle.stm_session.specs.Fault.{HasSessionCause};
 ghost use Rattle.stm_session.specs.Fresh.{IsAsSaid, IsReset};
 ghost use Rattle.stm_session.specs.Promises.{UndoContract};
-ghost use Rattle.stm_session.specs.Order.{UndoStops, UndoStopsFrom, UndoesInOrder, UndoesInOrderFrom};
+ghost use Rattle.stm_session.specs.Order.{UndoStops, UndoStopsFrom, UndoesInOrder};
+ghost use Rattle.stm_session.specs.Order.{UndoesInOrderFrom};
 ghost use Rattle.stm_session.specs.Sending.{SendsAsUndo};
 ghost use Rattle.stm_session.specs.Undoes.{taken_count};
 
@@ -33,7 +34,8 @@ fn taken_count(count: u32, depth: u32) -> u32
     }
 }
 
-/// Takes back the newest segments, as `undo` does, of a device that may be said to be fresh from reset.
+/// Takes back the newest segments, as `undo` does, of a device that may be
+/// said to be fresh from reset.
 fn undo_from<R: Rig>(
     alloc: Global,
     rig: &mut R,
@@ -69,11 +71,12 @@ fn undo_from<R: Rig>(
     Ok(taken)
 }
 
-/// Takes back the newest segments of the journal, from wherever a session was stopped: so many, or all where the count is 0 or
-/// more than there are. The page of the journal's intent isn't believed: it is written before any other is read. Answers how
-/// many; where there is none it is 0, and no byte is sent. A bad journal, a chip that the table hasn't, and a page or header that
-/// isn't one of that chip are refused before a byte is sent; a device that lists no command to erase pages, or isn't the
-/// journal's, once it has answered Get and Get ID (AN3155, 3.1 and 3.3).
+/// Takes back the newest segments of the journal, from wherever a session was stopped: so many, or
+/// all where the count is 0 or more than there are. The page of the journal's intent isn't
+/// believed: it is written before any other is read. Answers how many; where there is none it is 0,
+/// and no byte is sent. A bad journal, a chip that the table hasn't, and a page or header that
+/// isn't one of that chip are refused before a byte is sent; a device that lists no command to
+/// erase pages, or isn't the journal's, once it has answered Get and Get ID (AN3155, 3.1 and 3.3).
 pub fn undo<R: Rig>(alloc: Global, rig: &mut R, table: &Table, count: u32) -> Result<u32, Fault>
     ensures cause { HasSessionCause (R.view rig.old) (R.view rig.new) result }
     ensures silent { let old = R.view rig.old in let new = R.view rig.new in
@@ -89,9 +92,10 @@ pub fn undo<R: Rig>(alloc: Global, rig: &mut R, table: &Table, count: u32) -> Re
     undo_from(alloc, rig, table, count, false)
 }
 
-/// Takes back the newest segments of the journal as `undo` does, of a device that was reset since the last session: where the
-/// journal has an intent, 7F is sent once and nothing else to settle it, for which it doesn't wait long. All is promised of a
-/// device that is fresh from reset; of another one only what is promised on any line, and what 7F does to it isn't known.
+/// Takes back the newest segments of the journal as `undo` does, of a device that was reset since
+/// the last session: where the journal has an intent, 7F is sent once and nothing else to settle
+/// it, for which it doesn't wait long. All is promised of a device that is fresh from reset; of
+/// another one only what is promised on any line, and what 7F does to it isn't known.
 pub fn undo_fresh<R: Rig>(
     alloc: Global,
     rig: &mut R,

@@ -1,5 +1,7 @@
-// A run: everything is checked before the first command is begun, and then the commands are done in their order.
-ghost use Rattle.std.specs.Prelude.{◌≡◌, ◌≢◌, ◌≤◌, ◌+◌, ◌*◌, false, true, ℕ, List, length, [], OnOk, IfOk, IfErr, Some, map};
+// A run: everything is checked before the first command is begun, and then the commands
+// are done in their order.
+ghost use Rattle.std.specs.Prelude.{◌≡◌, ◌≢◌, ◌≤◌, ◌+◌, ◌*◌, false, true, ℕ, List, length, []};
+ghost use Rattle.std.specs.Prelude.{OnOk, IfOk, IfErr, Some, map};
 ghost use Rattle.std.specs.List.{list_all};
 ghost use Rattle.stm_wire.specs.Dialogue.{GoesOn};
 ghost use Rattle.stm_wire.specs.Parts.{IsPart};
@@ -27,7 +29,8 @@ use stm_chip::Table;
 use stm_journal::Journal;
 use stm_wire::{Chip, Rig};
 
-/// Does the commands, one after another, on a settled device. Memory for their outcomes is had before the first is begun.
+/// Does the commands, one after another, on a settled device. Memory for their outcomes is had
+/// before the first is begun.
 fn run_commands<R: Rig>(
     alloc: Global,
     rig: &mut R,
@@ -68,8 +71,9 @@ fn run_commands<R: Rig>(
     Ok(outcomes)
 }
 
-/// Does commands, one after another: a write or an erase is one segment of the journal. Whatever can be refused is refused before
-/// the first is begun; a verify whose image differs ends the run, and the commands before it stand.
+/// Does commands, one after another: a write or an erase is one segment of the journal. Whatever
+/// can be refused is refused before the first is begun; a verify whose image differs ends the run,
+/// and the commands before it stand.
 pub fn run<R: Rig>(
     alloc: Global,
     rig: &mut R,

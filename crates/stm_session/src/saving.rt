@@ -1,5 +1,6 @@
 // Keeping pages in the journal before they change.
-ghost use Rattle.std.specs.Prelude.{◌≡◌, ◌≢◌, ◌<◌, ◌*◌, ◌==◌, ◌&&◌, ◌∷◌, [], List, ℕ, length, true, false, Some, OnOk, IsTrue, IfErr};
+ghost use Rattle.std.specs.Prelude.{◌≡◌, ◌≢◌, ◌<◌, ◌*◌, ◌==◌, ◌&&◌, ◌∷◌, [], List, ℕ, length, true};
+ghost use Rattle.std.specs.Prelude.{false, Some, OnOk, IsTrue, IfErr};
 ghost use Rattle.stm_wire.specs.Chip.{flash_size, page_count, page_size, page_of};
 ghost use Rattle.stm_wire.specs.Dialogue.{GoesOn};
 ghost use Rattle.stm_wire.specs.Parts.{IsPart};

@@ -6,7 +6,8 @@ ghost use Rattle.stm_wire.specs.Settling.{SettlesWithin};
 ghost use Rattle.stm_journal.specs.Journals.{IsLoaded};
 ghost use Rattle.stm_journal.specs.States.{intent_of};
 ghost use Rattle.stm_session.specs.Fault.{HasSessionCause, IsOfLine};
-ghost use Rattle.stm_session.specs.Fresh.{EndsWell, IsAsSaid, byte_of, limit_of, settling_limit, undo_way};
+ghost use Rattle.stm_session.specs.Fresh.{EndsWell, IsAsSaid, byte_of, limit_of, settling_limit};
+ghost use Rattle.stm_session.specs.Fresh.{undo_way};
 ghost use Rattle.stm_session.specs.Meeting.{Strays};
 ghost use Rattle.stm_session.specs.Steps.{Goes};
 ghost use Rattle.stm_session.specs.Undoable.{Undoable};
@@ -20,11 +21,12 @@ use stm_wire::{Chip, EraseKind, Rig, connect, settle, settling_byte};
 /// How often the settling byte is sent at most: more often than any device awaits it.
 const SETTLING_LIMIT: u32 = 131_072;
 
-/// And where the chip's pages are erased by numbers of one byte: two batches, and no list of such a device is as long.
+/// And where the chip's pages are erased by numbers of one byte: two batches, and no list of
+/// such a device is as long.
 const SHORT_LIMIT: u32 = 512;
 
-/// How often the settling byte of the journal's intent is sent at most, to a device that may be this chip. Without an intent
-/// it is 7F, of which a fresh device refuses the third.
+/// How often the settling byte of the journal's intent is sent at most, to a device that may be
+/// this chip. Without an intent it is 7F, of which a fresh device refuses the third.
 fn settling_limit(journal: &Journal, chip: &Chip) -> u32
     ensures { result ≡ settling_limit chip.now.kind (intent_of journal.now.state) }
 {
@@ -44,8 +46,8 @@ fn connects(journal: &Journal, is_fresh: bool) -> bool
     is_fresh && journal.last_intent().is_some()
 }
 
-/// Settles a device by the intent of the journal that was loaded, from wherever a session was stopped; one that is said to be
-/// fresh from reset with 7F alone. The journal is one of this chip.
+/// Settles a device by the intent of the journal that was loaded, from wherever a session was
+/// stopped; one that is said to be fresh from reset with 7F alone. The journal is one of this chip.
 pub fn settle_intended<R: Rig>(
     rig: &mut R,
     journal: &Journal,
@@ -54,7 +56,8 @@ pub fn settle_intended<R: Rig>(
 ) -> Result<(), Fault>
     ensures cause { HasSessionCause (R.view rig.old) (R.view rig.new) result }
     ensures calls { let way = undo_way is_fresh chip.now.kind (intent_of journal.now.state) in
-        GoesOn (SettlesWithin (byte_of way) (limit_of way)) (R.view rig.old).calls (R.view rig.new).calls }
+        GoesOn (SettlesWithin (byte_of way) (limit_of way)) (R.view rig.old).calls
+        (R.view rig.new).calls }
     ensures settled { let way = undo_way is_fresh chip.now.kind (intent_of journal.now.state) in
         OnOk result (GoesOn (EndsWell way) (R.view rig.old).calls (R.view rig.new).calls) }
     ensures sent { IfErr result IsOfLine }

@@ -9,7 +9,8 @@ ghost use Rattle.stm_session.specs.Order.{Begin, Follows, AreReturned, IsTakenBa
 ghost use Rattle.stm_session.specs.Undoable.{newest_kept};
 ghost use Rattle.stm_session.specs.Sending.{is_whole, most_of_command};
 ghost use Rattle.stm_session.specs.Steps.{IsSteady, Goes};
-ghost use Rattle.stm_session.specs.TakingBack.{TakesBack, newest_at, return_lines, taking_lines, with_pages};
+ghost use Rattle.stm_session.specs.TakingBack.{TakesBack, newest_at, return_lines, taking_lines};
+ghost use Rattle.stm_session.specs.TakingBack.{with_pages};
 
 use crate::Fault;
 use crate::laws_of_steps::step_laws;

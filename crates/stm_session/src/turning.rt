@@ -1,5 +1,6 @@
 // The pages of a command, one after another.
-ghost use Rattle.std.specs.Prelude.{◌≡◌, ◌≢◌, ◌<◌, ◌==◌, ◌&&◌, if◌then◌else◌, List, ℕ, length, true, false, Some, IfOk, OnOk, IsTrue, IfErr};
+ghost use Rattle.std.specs.Prelude.{◌≡◌, ◌≢◌, ◌<◌, ◌==◌, ◌&&◌, if◌then◌else◌, List, ℕ, length};
+ghost use Rattle.std.specs.Prelude.{true, false, Some, IfOk, OnOk, IsTrue, IfErr};
 ghost use Rattle.stm_wire.specs.Chip.{page_count, page_of};
 ghost use Rattle.stm_wire.specs.Dialogue.{GoesOn};
 ghost use Rattle.stm_wire.specs.Parts.{IsPart};
@@ -27,8 +28,8 @@ use stm_image::laying_by_parts;
 use stm_journal::Journal;
 use stm_wire::{Chip, Rig};
 
-/// Gives page `n` of the flash what the command makes of it: it is read, and kept before it changes, unless it was kept. A
-/// page that the command leaves isn't read. Whether it was changed.
+/// Gives page `n` of the flash what the command makes of it: it is read, and kept before it
+/// changes, unless it was kept. A page that the command leaves isn't read. Whether it was changed.
 fn turn_page<R: Rig>(
     alloc: Global,
     rig: &mut R,
@@ -90,8 +91,8 @@ fn after_page(n: u16, changed: bool, first: bool) -> bool
     if n == 1 { changed } else { first }
 }
 
-/// Makes of the flash what the command makes of it, page by page, rising; the newest segment is an open one that keeps none
-/// yet. How many pages were changed.
+/// Makes of the flash what the command makes of it, page by page, rising; the newest segment is an
+/// open one that keeps none yet. How many pages were changed.
 pub fn turn_pages<R: Rig>(
     alloc: Global,
     rig: &mut R,
