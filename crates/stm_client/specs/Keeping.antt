@@ -14,21 +14,27 @@ use Rattle.stm_session.specs.Undoable.{Undoable}
 abbrev pub HoldsIts : List ChipData → Device → Type 0
 HoldsIts table d = IsNewId table d.chip.id ⊎ IsChipWith table d.chip.id d.chip
 
--- A session can begin: the Rig follows the model, and whatever was begun before can be taken back to these flashes.
-pub record CanBegin (table : List ChipData) (flashes : List (List ℕ)) (rig : RigState) : Type 0 where
+-- A session can begin: the Rig follows the model, and whatever was begun before can be
+-- taken back to these flashes.
+pub record CanBegin (table : List ChipData) (flashes : List (List ℕ))
+    (rig : RigState) : Type 0 where
   pub honest : rig.is_honest
   pub tabled : HoldsIts table rig.device
   pub undoable : Undoable flashes rig.device rig.journal
 
--- what could be taken back still can; the journal, the flash, the chip, the version and the codes are the same
-pub record IsKept (flashes : List (List ℕ)) (old : RigState) (d : Device) (journal : List ℕ) : Type 0 where
+-- what could be taken back still can; the journal, the flash, the chip, the version
+-- and the codes are the same
+pub record IsKept (flashes : List (List ℕ)) (old : RigState) (d : Device)
+    (journal : List ℕ) : Type 0 where
   pub undoable : Undoable flashes d journal
   pub journal_same : journal ≡ old.journal
   pub flash : d.flash ≡ old.device.flash
   pub make : SameMake old.device d
 
--- Each moment is kept, the last one too; the device followed the protocol; and at Ok what was asked for is done.
-pub record Keeps {T : Type 0} (flashes : List (List ℕ)) (old new : RigState) (result : Result T Fault) (Done : T → Type 0) : Type 0 where
+-- Each moment is kept, the last one too; the device followed the protocol; and at Ok
+-- what was asked for is done.
+pub record Keeps {T : Type 0} (flashes : List (List ℕ)) (old new : RigState)
+    (result : Result T Fault) (Done : T → Type 0) : Type 0 where
   pub moments : LeavesOnly (IsKept flashes old) old new
   pub honest : new.is_honest
   pub left : IsKept flashes old new.device new.journal

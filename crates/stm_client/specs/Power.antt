@@ -5,7 +5,8 @@ use Rattle.stm_wire.specs.Harmless.{SameOutside}
 use Rattle.stm_wire.specs.Memory.{MemoryData, rig_state}
 use Rattle.stm_session.specs.Moments.{SameMake}
 
--- The device is fresh and owes nothing, and its flash is as it was outside this page; the journal is the same.
+-- The device is fresh and owes nothing, and its flash is as it was outside this page;
+-- the journal is the same.
 pub record LosesPage (n : ℕ) (old new : MemoryData) : Type 0 where
   pub make : SameMake old.device new.device
   pub phase : new.device.phase ≡ Fresh

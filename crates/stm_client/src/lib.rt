@@ -1,6 +1,7 @@
-//! What a caller of the public contracts can prove: sessions that only read, one after another, on any Rig that follows the
-//! model, and on one that was stopped and reset between them; a write that leaves its image and nothing else; and commands that
-//! are stopped anywhere, a reset or a loss of power, and an undo that leaves the flash as it was.
+//! What a caller of the public contracts can prove: sessions that only read, one after another, on
+//! any Rig that follows the model, and on one that was stopped and reset between them; a write that
+//! leaves its image and nothing else; and commands that are stopped anywhere, a reset or a loss of
+//! power, and an undo that leaves the flash as it was.
 #![tactic(auto)]
 
 mod power;

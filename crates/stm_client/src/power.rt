@@ -20,7 +20,8 @@ fn page_of(intent: Intent) -> u16
     }
 }
 
-/// Takes the device's power away: page `n` then holds these bytes, where the chip has it and they are as many as it has.
+/// Takes the device's power away: page `n` then holds these bytes, where the chip has it and
+/// they are as many as it has.
 fn lose_page(rig: &mut MemoryRig, n: u16, bytes: &[u8])
     ensures { LosesPage n rig.old rig.new }
 {
@@ -32,8 +33,8 @@ fn lose_page(rig: &mut MemoryRig, n: u16, bytes: &[u8])
     }
 }
 
-/// Takes the device's power away: the page of the journal's last intent, on which a command may be at work, then holds these
-/// bytes, where they are as many as it has.
+/// Takes the device's power away: the page of the journal's last intent, on which a command may be
+/// at work, then holds these bytes, where they are as many as it has.
 pub fn lose_power(alloc: Global, rig: &mut MemoryRig, bytes: &[u8]) -> Result<(), Fault>
     ensures lost { let old = rig_state rig.old in let new = rig_state rig.new in
         (starts : List (List ℕ)) → old.is_honest → Undoable starts old.device old.journal

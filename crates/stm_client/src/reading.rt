@@ -24,8 +24,8 @@ use stm_session::{
 };
 use stm_wire::{Rig, harmless_is_kept};
 
-/// On a safe device whose chip the table holds a session can begin, where an opening is refused nothing: the flashes that can be
-/// had back are those that the journal keeps.
+/// On a safe device whose chip the table holds a session can begin, where an opening is refused
+/// nothing: the flashes that can be had back are those that the journal keeps.
 pub fn a_safe_device_can_begin<R: Rig>()
     ensures { (table : List ChipData) (rig : R) → let now = R.view rig in
         now.is_honest → IsSafe now.device → IsChipWith table now.device.chip.id now.device.chip

@@ -13,7 +13,8 @@ use stm_chip::Table;
 use stm_session::{Fault, Report, a_chip_is_looked_up_by_its_id, a_ready_device_can_begin};
 use stm_wire::{Chip, MemoryRig};
 
-/// Makes a simulator of a chip that the table holds, and reads its flash; None where the flash hasn't the chip's size.
+/// Makes a simulator of a chip that the table holds, and reads its flash; None where the
+/// flash hasn't the chip's size.
 pub fn read_new(
     alloc: Global,
     chip: Chip,

@@ -23,7 +23,8 @@ pub fn a_stopped_session_can_go_on<R: Rig>()
     a_reset_keeps_what_can_be_taken_back();
 }
 
-/// Reads the flash, which is stopped after so many steps; resets the device; and reads the flash again.
+/// Reads the flash, which is stopped after so many steps; resets the device;
+/// and reads the flash again.
 pub fn read_again(
     alloc: Global,
     rig: &mut MemoryRig,

@@ -1,4 +1,5 @@
-// Sessions that change the flash, from any state that can be taken back: written, and stopped and taken back.
+// Sessions that change the flash, from any state that can be taken back: written,
+// and stopped and taken back.
 ghost use Rattle.std.specs.Prelude.{◌≡◌, ℕ, List, IfOk};
 ghost use Rattle.stm_image.specs.Lay.{lay};
 ghost use Rattle.stm_wire.specs.Memory.{rig_state};
@@ -32,7 +33,8 @@ pub fn write_whole<R: Rig>(
     Ok(report)
 }
 
-/// Does commands, which are stopped after so many steps; resets the device; and takes everything back.
+/// Does commands, which are stopped after so many steps; resets the device;
+/// and takes everything back.
 pub fn take_back_stopped(
     alloc: Global,
     rig: &mut MemoryRig,

@@ -12,8 +12,9 @@ use stm_session::{
 };
 use stm_wire::MemoryRig;
 
-/// Does commands, which are stopped after so many steps; takes the device's power away, after which the page of the command that
-/// was at work holds these bytes, where they are as many as it has; and takes everything back.
+/// Does commands, which are stopped after so many steps; takes the device's power away, after which
+/// the page of the command that was at work holds these bytes, where they are as many as it has;
+/// and takes everything back.
 pub fn take_back_unpowered(
     alloc: Global,
     rig: &mut MemoryRig,
