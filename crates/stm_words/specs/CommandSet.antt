@@ -1,7 +1,9 @@
 -- The program's subcommands, as `clap` sees them.
-use Rattle.std.specs.Prelude.{◌≡◌, ℕ, List, [], ◌∷◌, Option, Some, codes, is_some, map, not, option_map, option_to_list, true, false}
+use Rattle.std.specs.Prelude.{◌≡◌, ℕ, List, [], ◌∷◌, Option, Some, codes, is_some, map, not}
+use Rattle.std.specs.Prelude.{option_map, option_to_list, true, false}
 use Rattle.std.specs.Borrow.{Bor}
-use Rattle.clap.specs.Words.{App, Rule, Text, app_of, found_of, matches_of, new_app, new_rule, rows_of, subcommand_of, subcommand_rows_of, with_rule, with_subcommand}
+use Rattle.clap.specs.Words.{App, Rule, Text, app_of, found_of, matches_of, new_app, new_rule}
+use Rattle.clap.specs.Words.{rows_of, subcommand_of, subcommand_rows_of, with_rule, with_subcommand}
 use Rattle.clap.specs.declared.builder.ArgAction.TheVariants.{Append, SetTrue}
 use Rattle.clap.specs.declared.builder.command.Command.{Command}
 use Rattle.clap.specs.declared.builder.command.Command.TheViews.{out-Command as fields_of}
@@ -25,7 +27,10 @@ default_option_rule name text = record (option_rule name) { defaults = text ∷ 
 -- the same, which has this value, or has to be given where there is none
 abbrev pub standing_option_rule : Text → Option Text → Rule
 standing_option_rule name standing =
-    record (option_rule name) { required = not (is_some standing); defaults = option_to_list standing }
+    record (option_rule name) {
+      required = not (is_some standing);
+      defaults = option_to_list standing;
+    }
 
 -- `-S RANGE`
 abbrev pub range_rule : Rule
@@ -61,17 +66,23 @@ text_of = option_map (λ s. s.now)
 
 -- a subcommand with the options that every use of a device has
 abbrev pub on_device : Environment → Text → App
-on_device e name = with_rule (with_rule (with_rule (with_rule (with_rule (with_rule (with_rule (with_rule (with_rule (new_app name)
-    (standing_option_rule (codes "table") (text_of e.table))) (standing_option_rule (codes "device") (text_of e.device)))
-    (standing_option_rule (codes "journal") (text_of e.journal))) (default_option_rule (codes "wait") (codes "500")))
-    (default_option_rule (codes "give-up") (codes "20"))) (flag_rule (codes "fresh"))) (flag_rule (codes "progress")))
+on_device e name =
+    with_rule (with_rule
+    (with_rule (with_rule (with_rule (with_rule (with_rule (with_rule (with_rule (new_app name)
+    (standing_option_rule (codes "table") (text_of e.table)))
+    (standing_option_rule (codes "device") (text_of e.device)))
+    (standing_option_rule (codes "journal") (text_of e.journal)))
+    (default_option_rule (codes "wait") (codes "500")))
+    (default_option_rule (codes "give-up") (codes "20"))) (flag_rule (codes "fresh")))
+    (flag_rule (codes "progress")))
     (flag_rule (codes "quiet"))) (option_rule (codes "stop"))
 
 abbrev pub info_app : Environment → App
 info_app e = with_rule (on_device e (codes "info")) (flag_rule (codes "raw"))
 
 abbrev pub read_app : Environment → App
-read_app e = with_rule (with_rule (on_device e (codes "read")) range_rule) (needed_rule (codes "OUT"))
+read_app e =
+    with_rule (with_rule (on_device e (codes "read")) range_rule) (needed_rule (codes "OUT"))
 
 abbrev pub write_app : Environment → App
 write_app e = with_rule (with_rule (with_rule (with_rule (on_device e (codes "write"))
@@ -83,14 +94,17 @@ verify_app e = with_rule (with_rule (with_rule (on_device e (codes "verify"))
     (letter_rule (codes "force") 102)) range_rule) (needed_rule (codes "IMAGE"))
 
 abbrev pub erase_app : Environment → App
-erase_app e = with_rule (with_rule (on_device e (codes "erase")) (flag_rule (codes "all"))) (repeated_rule (codes "PAGE"))
+erase_app e =
+    with_rule (with_rule (on_device e (codes "erase")) (flag_rule (codes "all")))
+    (repeated_rule (codes "PAGE"))
 
 abbrev pub undo_app : Environment → App
 undo_app e = with_rule (on_device e (codes "undo")) (default_rule (codes "COUNT") (codes "0"))
 
 -- a subcommand that reads a journal and uses no device
 abbrev pub on_journal : Environment → Text → App
-on_journal e name = with_rule (new_app name) (standing_option_rule (codes "journal") (text_of e.journal))
+on_journal e name =
+    with_rule (new_app name) (standing_option_rule (codes "journal") (text_of e.journal))
 
 abbrev pub log_app : Environment → App
 log_app e = on_journal e (codes "log")
@@ -108,7 +122,8 @@ abbrev pub sim_app : Environment → App
 sim_app e = with_rule (with_rule (with_rule (with_rule (with_rule (with_rule (new_app (codes "sim"))
     (standing_option_rule (codes "table") (text_of e.table))) (needed_option_rule (codes "id")))
     (needed_option_rule (codes "flash"))) (needed_option_rule (codes "socket")))
-    (default_option_rule (codes "mode") (codes "600"))) (default_option_rule (codes "clients") (codes "1"))
+    (default_option_rule (codes "mode") (codes "600")))
+    (default_option_rule (codes "clients") (codes "1"))
 
 -- the program's name, where a subcommand has to follow, or a flag that asks for help or the version
 abbrev pub bare_app : App
@@ -116,11 +131,15 @@ bare_app =
     let a = new_app (codes "stmflash") in
     record a { top = record a.top { subcommand_required = true; has_version = true } }
 
--- all subcommands, where these values stand in the place of options; `kinds` reads the word of `protect`
+-- all subcommands, where these values stand in the place of options; `kinds`
+-- reads the word of `protect`
 unfoldable pub command_set : Environment → ValueParser → App
-command_set e kinds = with_subcommand (with_subcommand (with_subcommand (with_subcommand (with_subcommand
-    (with_subcommand (with_subcommand (with_subcommand (with_subcommand (with_subcommand (with_subcommand bare_app
-    (info_app e).top) (read_app e).top) (write_app e).top) (verify_app e).top) (erase_app e).top) (undo_app e).top)
+command_set e kinds =
+    with_subcommand (with_subcommand (with_subcommand (with_subcommand (with_subcommand
+    (with_subcommand
+    (with_subcommand (with_subcommand (with_subcommand (with_subcommand (with_subcommand bare_app
+    (info_app e).top) (read_app e).top) (write_app e).top) (verify_app e).top) (erase_app e).top)
+    (undo_app e).top)
     (log_app e).top) (keep_app e).top) (go_app e).top) (protect_app e kinds).top) (sim_app e).top
 
 -- c is the command that a stands for, with no global argument
@@ -129,7 +148,8 @@ Makes a c = (app_of c ≡ a) × ((fields_of c).has_globals ≡ false)
 
 -- what `clap` finds in the words, for the subcommands of a
 abbrev pub Reads : App → List Text → ArgMatches → Type 0
-Reads a words m = (rows_of (found_of m) ≡ matches_of a words) × (subcommand_rows_of m ≡ subcommand_of a words)
+Reads a words m =
+    (rows_of (found_of m) ≡ matches_of a words) × (subcommand_rows_of m ≡ subcommand_of a words)
 
 abbrev pub kind_words : List Text
 kind_words = codes "write-unprotect" ∷ codes "readout-protect" ∷ codes "readout-unprotect" ∷ []

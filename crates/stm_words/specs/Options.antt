@@ -9,11 +9,13 @@ use Rattle.stm_words.specs.Request.{IsDevice, IsFlag}
 
 -- the word that was given under this id names the device
 abbrev pub NamesDevice : Found → Device → Type 0
-NamesDevice given device = (word : List ℕ) × (first_value given (codes "device") ≡ Some word) × IsDevice word device
+NamesDevice given device = (word : List ℕ) × (first_value given (codes "device") ≡ Some word)
+    × IsDevice word device
 
 -- the flag was given, or the environment says so
 abbrev pub IsFlagOr : Bool → Found → List ℕ → Bool → Type 0
-IsFlagOr standing given id b = (was_given : Bool) × IsFlag given id was_given × (b ≡ (was_given || standing))
+IsFlagOr standing given id b = (was_given : Bool) × IsFlag given id was_given
+    × (b ≡ (was_given || standing))
 
 -- The options that words give; `is_fresh` is what the environment says.
 abbrev pub AreOptions : Bool → Found → Options → Type 0

@@ -13,7 +13,8 @@ pub record IsRange (word : List ℕ) (first last : ℕ) : Type 0 where
 
 -- the word names the pages from one to another
 abbrev pub IsFromTo : List ℕ → ℕ → ℕ → Type 0
-IsFromTo word first last = (((number_of word ≡ Some first) × (first ≡ last)) ⊎ IsRange word first last) × (first ≤ last)
+IsFromTo word first last =
+    (((number_of word ≡ Some first) × (first ≡ last)) ⊎ IsRange word first last) × (first ≤ last)
 
 -- the pages that a word names
 pub record NamesPages (word pages : List ℕ) : Type 0 where
@@ -25,4 +26,5 @@ pub record NamesPages (word pages : List ℕ) : Type 0 where
 -- the pages that words name, in their order
 abbrev pub NameAll : List (List ℕ) → List ℕ → Type 0
 NameAll [] pages = pages ≡ []
-NameAll (word ∷ words) pages = (some : List ℕ) × (rest : List ℕ) × NamesPages word some × NameAll words rest × (pages ≡ some ++ rest)
+NameAll (word ∷ words) pages = (some : List ℕ) × (rest : List ℕ) × NamesPages word some
+    × NameAll words rest × (pages ≡ some ++ rest)

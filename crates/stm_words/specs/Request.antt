@@ -1,5 +1,6 @@
 -- What the words ask for.
-use Rattle.std.specs.Prelude.{◌≡◌, ℕ, Bool, List, [], None, Some, codes, false, map, option_and_then, option_map, true, unwrap_or}
+use Rattle.std.specs.Prelude.{◌≡◌, ℕ, Bool, List, [], None, Some, codes, false, map}
+use Rattle.std.specs.Prelude.{option_and_then, option_map, true, unwrap_or}
 use Rattle.clap.specs.Matches.{first_value, matched_of, one_text, raw_values}
 use Rattle.clap.specs.declared.parser.matches.Found.{Found}
 use Rattle.stm_words.specs.declared.device.Device.{Device}
@@ -7,7 +8,8 @@ use Rattle.stm_words.specs.declared.device.Device.TheVariants.{Simulator, Socket
 use Rattle.stm_words.specs.declared.image_file.ImageFile.{ImageFile}
 use Rattle.stm_words.specs.declared.kept.Kept.{Kept}
 use Rattle.stm_words.specs.declared.task.Task.{Task}
-use Rattle.stm_words.specs.declared.task.Task.TheVariants.{Info, Read, Write, Verify, Erase, Undo, Go, Protect}
+use Rattle.stm_words.specs.declared.task.Task.TheVariants.{Info, Read, Write, Verify, Erase, Undo}
+use Rattle.stm_words.specs.declared.task.Task.TheVariants.{Go, Protect}
 use Rattle.stm_words.specs.Number.{number_of}
 use Rattle.stm_words.specs.Pages.{NameAll}
 
@@ -22,7 +24,8 @@ IsSimulator (Socket path) = ⊥
 
 -- b tells whether the flag of this id was given
 abbrev pub IsFlag : Found → List ℕ → Bool → Type 0
-IsFlag given id b = (one_text given id ≡ None → b ≡ false) × (one_text given id ≡ Some (codes "true") → b ≡ true)
+IsFlag given id b =
+    (one_text given id ≡ None → b ≡ false) × (one_text given id ≡ Some (codes "true") → b ≡ true)
     × (one_text given id ≡ Some (codes "false") → b ≡ false)
 
 -- all words that were given under this id
@@ -31,7 +34,9 @@ texts_of given id = unwrap_or (option_map raw_values (matched_of given id)) []
 
 -- the image that a subcommand's words name
 abbrev pub IsImageFile : Found → ImageFile → Type 0
-IsImageFile given image = (first_value given (codes "IMAGE") ≡ Some image.name.now) × IsFlag given (codes "force") image.is_raw
+IsImageFile given image =
+    (first_value given (codes "IMAGE") ≡ Some image.name.now)
+    × IsFlag given (codes "force") image.is_raw
 
 -- the pages that `erase` names
 abbrev pub IsErase : Found → Task → Type 0
@@ -53,10 +58,17 @@ IsKept given kept = (first_value given (codes "journal") ≡ Some kept.journal.n
 -- the subcommand of this name, with these words, asks for this
 abbrev pub IsTask : List ℕ → Found → Task → Type 0
 IsTask name given (Info is_raw) = (name ≡ codes "info") × IsFlag given (codes "raw") is_raw
-IsTask name given (Read range out) = (name ≡ codes "read") × (first_value given (codes "OUT") ≡ Some out.now)
-IsTask name given (Write image verifies) = (name ≡ codes "write") × IsImageFile given image × IsFlag given (codes "check") verifies
+IsTask name given (Read range out) =
+    (name ≡ codes "read") × (first_value given (codes "OUT") ≡ Some out.now)
+IsTask name given (Write image verifies) =
+    (name ≡ codes "write") × IsImageFile given image × IsFlag given (codes "check") verifies
 IsTask name given (Verify image) = (name ≡ codes "verify") × IsImageFile given image
 IsTask name given (Erase is_all pages) = (name ≡ codes "erase") × IsErase given (Erase is_all pages)
-IsTask name given (Undo count) = (name ≡ codes "undo") × (option_and_then number_of (first_value given (codes "COUNT")) ≡ Some count)
-IsTask name given (Go address) = (name ≡ codes "go") × (option_and_then number_of (first_value given (codes "ADDRESS")) ≡ Some address)
-IsTask name given (Protect kind) = (name ≡ codes "protect") × (first_value given (codes "KIND") ≡ Some kind.now)
+IsTask name given (Undo count) =
+    (name ≡ codes "undo")
+    × (option_and_then number_of (first_value given (codes "COUNT")) ≡ Some count)
+IsTask name given (Go address) =
+    (name ≡ codes "go")
+    × (option_and_then number_of (first_value given (codes "ADDRESS")) ≡ Some address)
+IsTask name given (Protect kind) =
+    (name ≡ codes "protect") × (first_value given (codes "KIND") ≡ Some kind.now)

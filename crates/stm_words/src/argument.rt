@@ -1,7 +1,10 @@
 // The options and further words of which subcommands are made, for `clap`.
 ghost use Rattle.std.specs.Prelude.{◌≡◌, false, option_map};
 ghost use Rattle.clap.specs.Words.{new_rule, rule_of};
-ghost use Rattle.stm_words.specs.CommandSet.{TakesKinds, default_option_rule, default_rule, flag_rule, kind_rule, letter_rule, needed_option_rule, needed_rule, option_rule, range_rule, repeated_rule, standing_option_rule};
+ghost use Rattle.stm_words.specs.CommandSet.{TakesKinds, default_option_rule, default_rule};
+ghost use Rattle.stm_words.specs.CommandSet.{flag_rule, kind_rule, letter_rule, needed_option_rule};
+ghost use Rattle.stm_words.specs.CommandSet.{needed_rule, option_rule, range_rule, repeated_rule};
+ghost use Rattle.stm_words.specs.CommandSet.{standing_option_rule};
 
 use crate::help;
 use clap::{Arg, ArgAction};
@@ -51,7 +54,8 @@ pub fn standing_option<'a>(
     standing: Option<&'a str>,
     help: &'a str,
 ) -> Arg<'a>
-    ensures rule { rule_of result ≡ standing_option_rule name.entry.now (option_map (λ s. s.now) standing.entry) }
+    ensures rule { rule_of result
+        ≡ standing_option_rule name.entry.now (option_map (λ s. s.now) standing.entry) }
     ensures local { result.global ≡ false }
 {
     match standing {

@@ -1,6 +1,9 @@
 // The subcommands and their words, for `clap`.
 ghost use Rattle.std.specs.Prelude.{IfOk};
-ghost use Rattle.stm_words.specs.CommandSet.{Makes, TakesKinds, command_set, erase_app, go_app, info_app, keep_app, log_app, on_device, on_journal, protect_app, read_app, sim_app, undo_app, verify_app, write_app};
+ghost use Rattle.stm_words.specs.CommandSet.{Makes, TakesKinds, command_set, erase_app, go_app};
+ghost use Rattle.stm_words.specs.CommandSet.{info_app, keep_app, log_app, on_device, on_journal};
+ghost use Rattle.stm_words.specs.CommandSet.{protect_app, read_app, sim_app, undo_app, verify_app};
+ghost use Rattle.stm_words.specs.CommandSet.{write_app};
 
 use crate::argument::{
     default_option, flag, kind, letter, needed, needed_option, option, optional, range, repeated,
@@ -125,7 +128,8 @@ fn go<'a>(alloc: Global, environment: Environment<'a>) -> Result<Command<'a>, Al
 }
 
 fn protect<'a>(alloc: Global, environment: Environment<'a>) -> Result<Command<'a>, AllocError>
-    ensures { IfOk result (λ c. (p : _) × Makes (protect_app environment.entry p) c × TakesKinds p) }
+    ensures { IfOk result
+        (λ c. (p : _) × Makes (protect_app environment.entry p) c × TakesKinds p) }
 {
     on_device(alloc, environment, "protect", help::PROTECT)?.arg(kind(alloc))
 }
@@ -148,7 +152,8 @@ pub fn command_set<'a>(
     alloc: Global,
     environment: Environment<'a>,
 ) -> Result<Command<'a>, AllocError>
-    ensures { IfOk result (λ c. (p : _) × Makes (command_set environment.entry p) c × TakesKinds p) }
+    ensures { IfOk result
+        (λ c. (p : _) × Makes (command_set environment.entry p) c × TakesKinds p) }
 {
     Command::new(alloc, "stmflash")
         .about(help::STMFLASH)

@@ -17,8 +17,8 @@ pub enum Device<'a> {
 }
 
 impl<'a> Device<'a> {
-    /// The device that the word names. A word that begins `sim:` is cut at its first two colons, and the file's name is
-    /// not empty; any other word but the empty one is a path.
+    /// The device that the word names. A word that begins `sim:` is cut at its first two colons,
+    /// and the file's name is not empty; any other word but the empty one is a path.
     pub fn parse(word: &'a str) -> Option<Device<'a>>
         ensures { IfSome result (IsDevice word.entry.now) }
     {

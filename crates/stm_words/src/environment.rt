@@ -1,7 +1,7 @@
 // What stands in the place of options that the words don't give.
 
-/// What stands in the place of options that the words don't give: values of environment variables, or names of installed
-/// files. A word goes before it.
+/// What stands in the place of options that the words don't give: values of environment variables,
+/// or names of installed files. A word goes before it.
 #[derive(Clone, Copy, Debug)]
 pub struct Environment<'a> {
     /// The file of the chip table.

@@ -1,7 +1,9 @@
 // Numbers as words give them.
 ghost use Rattle.std.specs.Prelude.{◌≡◌, ◌≤◌, ◌<◌, ◌^◌, length, true};
 ghost use Rattle.std.specs.List.{list_all};
-ghost use Rattle.stm_words.specs.Number.{decimal_number, digit_value, has_leading_zero, hex_number, is_decimal_digit, is_hex_digit, number_of, number_of_digits};
+ghost use Rattle.stm_words.specs.Number.{decimal_number, digit_value, has_leading_zero, hex_number};
+ghost use Rattle.stm_words.specs.Number.{is_decimal_digit, is_hex_digit, number_of};
+ghost use Rattle.stm_words.specs.Number.{number_of_digits};
 
 fn is_decimal_digit(c: u8) -> bool
     ensures { result ≡ is_decimal_digit c }
@@ -104,8 +106,8 @@ fn decimal_number(digits: &[u8]) -> Option<u32>
     if n < 1 << 32 { Some(n as u32) } else { None }
 }
 
-/// The number that a word gives: `0x` and 1 to 8 hexadecimal digits of either case, or decimal digits without leading
-/// zeros, up to 4294967295.
+/// The number that a word gives: `0x` and 1 to 8 hexadecimal digits of either case, or decimal
+/// digits without leading zeros, up to 4294967295.
 pub fn parse_number(word: &str) -> Option<u32>
     ensures { result ≡ number_of word.now }
 {

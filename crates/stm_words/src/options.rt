@@ -31,8 +31,8 @@ pub struct Options<'a> {
 }
 
 impl<'a> Options<'a> {
-    /// The options that the words of a subcommand give. The environment says that the device is fresh, where the words
-    /// don't.
+    /// The options that the words of a subcommand give. The environment says that the device is
+    /// fresh, where the words don't.
     pub fn parse(
         environment: Environment<'a>,
         given: &ArgMatches<'a>,

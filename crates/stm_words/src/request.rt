@@ -25,8 +25,8 @@ pub enum Request<'a> {
 }
 
 impl<'a> Request<'a> {
-    /// What the words that `clap` found ask for. The first word that can't be read decides, options before further words;
-    /// then a stop that there can't be; then an erase that names no pages.
+    /// What the words that `clap` found ask for. The first word that can't be read decides, options
+    /// before further words; then a stop that there can't be; then an erase that names no pages.
     pub fn parse(
         alloc: Global,
         environment: Environment<'a>,

@@ -44,7 +44,8 @@ pub enum Task<'a> {
 }
 
 impl<'a> Task<'a> {
-    /// What the subcommand of this name asks of a device. A name that is none of a device's subcommands is refused.
+    /// What the subcommand of this name asks of a device. A name that is none of a
+    /// device's subcommands is refused.
     pub fn parse(alloc: Global, name: &str, given: &ArgMatches<'a>) -> Result<Task<'a>, Unread<'a>>
         ensures { IfOk result (IsTask name.now (found_of given.now)) }
     {

@@ -12,8 +12,9 @@ use clap::error::ErrorKind;
 use clap::{ArgMatches, Error};
 use std::alloc::Global;
 
-/// What the words say: the subcommand and its values, as `clap` defines them for the command set. The first word is the
-/// program's name. What the environment has stands for an option that the words don't give; a word goes before it.
+/// What the words say: the subcommand and its values, as `clap` defines them for the command set.
+/// The first word is the program's name. What the environment has stands for an option that the
+/// words don't give; a word goes before it.
 pub fn read_words<'a>(
     alloc: Global,
     environment: Environment<'a>,
@@ -23,7 +24,8 @@ pub fn read_words<'a>(
         × (fault_of (command_set environment.entry p) (map (λ s. s.now) words.entry.now) ≡ [])
         × Reads (command_set environment.entry p) (map (λ s. s.now) words.entry.now) m) }
     ensures fault { IfErr result (λ e. (kind_of e ≡ OutOfMemory) ⊎ ((p : _) × TakesKinds p
-        × IsAmong (kind_of e) (fault_of (command_set environment.entry p) (map (λ s. s.now) words.entry.now)))) }
+        × IsAmong (kind_of e)
+        (fault_of (command_set environment.entry p) (map (λ s. s.now) words.entry.now)))) }
 {
     command_set(alloc, environment)?.try_get_matches_from(words)
 }
