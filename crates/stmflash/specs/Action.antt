@@ -1,5 +1,6 @@
 -- Which action a task asks for, and what each does with a device.
-use Rattle.std.specs.Prelude.{◌≡◌, ℕ, Bool, true, false, List, [], ◌∷◌, Some, None, Result, Ok, Err, IfErr, IsTrue, OnOk, MatchResult}
+use Rattle.std.specs.Prelude.{◌≡◌, ℕ, Bool, true, false, List, [], ◌∷◌, Some, None, Result, Ok, Err}
+use Rattle.std.specs.Prelude.{IfErr, IsTrue, OnOk, MatchResult}
 use Rattle.stm_image.specs.Pairs.{Pairs}
 use Rattle.stm_wire.specs.declared.protection.Protection.{Protection}
 use Rattle.stm_wire.specs.Chip.{ChipData, is_inside}
@@ -38,20 +39,25 @@ use Rattle.stmflash.specs.Reading.{ReadsRange}
 
 -- some bytes mean it, by the words that name the image's file
 abbrev pub ComesOfFile : ImageFile → Content → Type 0
-ComesOfFile image content = (bytes : List ℕ) × ComesOf (is_hex image.is_raw bytes) image.range bytes (Ok content)
+ComesOfFile image content = (bytes : List ℕ)
+    × ComesOf (is_hex image.is_raw bytes) image.range bytes (Ok content)
 
 -- the action that a task asks for
 abbrev pub IsFor : Task → Action → Type 0
 IsFor (task.Info is_raw) does = does ≡ action.Info
 IsFor (task.Read range out) does = does ≡ action.Read range
-IsFor (task.Write image true) does = (content : Content) × (does ≡ action.WriteAndVerify content) × ComesOfFile image content
-IsFor (task.Write image false) does = (content : Content) × (does ≡ action.Write content) × ComesOfFile image content
-IsFor (task.Verify image) does = (content : Content) × (does ≡ action.Verify content) × ComesOfFile image content
+IsFor (task.Write image true) does = (content : Content) × (does ≡ action.WriteAndVerify content)
+    × ComesOfFile image content
+IsFor (task.Write image false) does = (content : Content) × (does ≡ action.Write content)
+    × ComesOfFile image content
+IsFor (task.Verify image) does = (content : Content) × (does ≡ action.Verify content)
+    × ComesOfFile image content
 IsFor (task.Erase true pages) does = does ≡ action.EraseAll
 IsFor (task.Erase false pages) does = does ≡ action.Erase pages
 IsFor (task.Undo count) does = does ≡ action.Undo count
 IsFor (task.Go address) does = does ≡ action.Go address
-IsFor (task.Protect word) does = (kind : Protection) × (does ≡ action.Protect kind) × (protection_of word.now ≡ Some kind)
+IsFor (task.Protect word) does = (kind : Protection) × (does ≡ action.Protect kind)
+    × (protection_of word.now ≡ Some kind)
 
 -- and the one on a device that is said to be fresh from reset: an undo of its own
 abbrev pub on_fresh : Bool → Action → Action
@@ -64,58 +70,88 @@ HandsOn told (Ok x) result = result ≡ Ok (told x)
 HandsOn told (Err fault) result = result ≡ Err (Session fault)
 
 -- one call of a session
-abbrev pub Calls : {R T : Type 0} → (T → Answer) → (R → R → Result T Fault → Type 0) → R → R → Result Answer Failure → Type 0
-Calls {R} {T} told Done old new result = (said : Result T Fault) × Done old new said × HandsOn told said result
+abbrev pub Calls : {R T : Type 0} → (T → Answer) → (R → R → Result T Fault → Type 0) → R → R
+    → Result Answer Failure → Type 0
+Calls {R} {T} told Done old new result = (said : Result T Fault) × Done old new said
+    × HandsOn told said result
 
 -- The image is placed first; where it can't be, that is the answer, and nothing more is called.
-pub record PlacesFirst {R : Type 0} (view : R → RigState) (table : List ChipData) (content : Content) (Done : Pairs → R → R → Result Answer Fault → Type 0) (old new : R) (result : Result Answer Failure) : Type 0 where
+pub record PlacesFirst {R : Type 0} (view : R → RigState) (table : List ChipData)
+    (content : Content) (Done : Pairs → R → R → Result Answer Fault → Type 0) (old new : R)
+    (result : Result Answer Failure) : Type 0 where
   pub mid : R
   pub image : Result Pairs Failure
   pub places : ImageOn view table content old mid image
-  pub goes_on : MatchResult image (λ image. Calls (λ said. said) (Done image) mid new result) (λ failure. (new ≡ mid) × (result ≡ Err failure))
+  pub goes_on : MatchResult image (λ image. Calls (λ said. said) (Done image) mid new result)
+      (λ failure. (new ≡ mid) × (result ≡ Err failure))
 
 -- What `undo` promises.
-pub record TakesBack (table : List ChipData) (count : ℕ) (old new : RigState) (taken : Result ℕ Fault) : Type 0 where
+pub record TakesBack (table : List ChipData) (count : ℕ) (old new : RigState)
+    (taken : Result ℕ Fault) : Type 0 where
   pub promised : UndoContract table count old new taken
   pub cause : HasSessionCause old new taken
   pub puts : SendsAsUndo table count old new taken
 
 -- And `undo_fresh`: the same of a device that is fresh from reset.
-pub record TakesBackFresh (table : List ChipData) (count : ℕ) (old new : RigState) (taken : Result ℕ Fault) : Type 0 where
+pub record TakesBackFresh (table : List ChipData) (count : ℕ) (old new : RigState)
+    (taken : Result ℕ Fault) : Type 0 where
   pub promised : IsReset old.device → UndoContract table count old new taken
   pub cause : HasSessionCause old new taken
   pub puts : SendsAsUndo table count old new taken
 
 -- What `go` and `protect` promise of their frame, on a device that allows it.
-pub record Parts (turns : List Turn) (frame : List ℕ) (Allows : Device → Type 0) (old new : RigState) (parted : Result (Unit {0}) Fault) : Type 0 where
+pub record Parts (turns : List Turn) (frame : List ℕ) (Allows : Device → Type 0)
+    (old new : RigState) (parted : Result (Unit {0}) Fault) : Type 0 where
   pub cause : HasSessionCause old new parted
   pub puts : GoesOn (IsLeaving turns) old.calls new.calls
   pub sent : OnOk parted (GoesOn (IsSettledThen turns) old.calls new.calls)
-  pub refused : old.is_honest → (fault : Fault) → open_refusal (journal_of old.journal) ≡ Some fault → RefusesUnsent (IsUntouched old) fault old new parted
-  pub unsent_calls : old.is_honest → (fault : Fault) → open_refusal (journal_of old.journal) ≡ Some fault → GoesOn AreFetches old.calls new.calls
-  pub leaves : old.is_honest → IsSafe old.device → open_refusal (journal_of old.journal) ≡ None → Leaves frame old new parted
-  pub goes : old.is_honest → open_refusal (journal_of old.journal) ≡ None → Allows old.device → IfErr parted IsOutsideFault
+  pub refused : old.is_honest → (fault : Fault) → open_refusal (journal_of old.journal) ≡ Some fault
+      → RefusesUnsent (IsUntouched old) fault old new parted
+  pub unsent_calls : old.is_honest → (fault : Fault)
+      → open_refusal (journal_of old.journal) ≡ Some fault → GoesOn AreFetches old.calls new.calls
+  pub leaves : old.is_honest → IsSafe old.device → open_refusal (journal_of old.journal) ≡ None
+      → Leaves frame old new parted
+  pub goes : old.is_honest → open_refusal (journal_of old.journal) ≡ None → Allows old.device
+      → IfErr parted IsOutsideFault
 
 -- Each action is the calls of its own, and hands on what they answer.
-abbrev pub Does : {R : Type 0} → (R → RigState) → List ChipData → Action → R → R → Result Answer Failure → Type 0
-Does view table action.Info old new result = Calls answer.Told (λ a b said. Asks table (view a) (view b) said) old new result
-Does view table (action.Read range) old new result = Calls (λ said. said) (ReadsRange view table range) old new result
+abbrev pub Does : {R : Type 0} → (R → RigState) → List ChipData → Action → R → R
+    → Result Answer Failure → Type 0
+Does view table action.Info old new result =
+    Calls answer.Told (λ a b said. Asks table (view a) (view b) said) old new result
+Does view table (action.Read range) old new result =
+    Calls (λ said. said) (ReadsRange view table range) old new result
 Does view table (action.Write content) old new result =
-    PlacesFirst view table content (λ image a b said. RunsTold table (writes image ∷ []) (view a) (view b) said) old new result
+    PlacesFirst view table content
+    (λ image a b said. RunsTold table (writes image ∷ []) (view a) (view b) said) old new result
 Does view table (action.WriteAndVerify content) old new result =
-    PlacesFirst view table content (λ image. RunsIfRoom view table (writes image ∷ (verifies image ∷ []))) old new result
+    PlacesFirst view table content
+    (λ image. RunsIfRoom view table (writes image ∷ (verifies image ∷ []))) old new result
 Does view table (action.Verify content) old new result =
-    PlacesFirst view table content (λ image a b said. RunsTold table (verifies image ∷ []) (view a) (view b) said) old new result
-Does view table (action.Erase pages) old new result = Calls (λ said. said) (λ a b said. RunsTold table (erases pages.items ∷ []) (view a) (view b) said) old new result
-Does view table action.EraseAll old new result = Calls (λ said. said) (ErasesAll view table) old new result
-Does view table (action.Undo count) old new result = Calls answer.Undone (λ a b said. TakesBack table count (view a) (view b) said) old new result
-Does view table (action.UndoFresh count) old new result = Calls answer.Undone (λ a b said. TakesBackFresh table count (view a) (view b) said) old new result
+    PlacesFirst view table content
+    (λ image a b said. RunsTold table (verifies image ∷ []) (view a) (view b) said) old new result
+Does view table (action.Erase pages) old new result =
+    Calls (λ said. said)
+    (λ a b said. RunsTold table (erases pages.items ∷ []) (view a) (view b) said) old new result
+Does view table action.EraseAll old new result =
+    Calls (λ said. said) (ErasesAll view table) old new result
+Does view table (action.Undo count) old new result =
+    Calls answer.Undone (λ a b said. TakesBack table count (view a) (view b) said) old new result
+Does view table (action.UndoFresh count) old new result =
+    Calls answer.Undone (λ a b said. TakesBackFresh table count (view a) (view b) said)
+    old new result
 Does view table (action.Go address) old new result =
-    Calls (λ done. answer.Nothing) (λ a b said. Parts (go_turns address) (go_frame address) (λ d. CanLeave 0x21 d × IsTrue (is_inside d.chip address)) (view a) (view b) said) old new result
+    Calls (λ done. answer.Nothing) (λ a b said. Parts (go_turns address) (go_frame address)
+    (λ d. CanLeave 0x21 d × IsTrue (is_inside d.chip address)) (view a) (view b) said)
+    old new result
 Does view table (action.Protect kind) old new result =
-    Calls (λ done. answer.Nothing) (λ a b said. Parts (protect_turns (protection_code kind)) (command (protection_code kind)) (CanLeave (protection_code kind)) (view a) (view b) said) old new result
+    Calls (λ done. answer.Nothing) (λ a b said. Parts (protect_turns (protection_code kind))
+    (command (protection_code kind)) (CanLeave (protection_code kind)) (view a) (view b) said)
+    old new result
 
 -- What is done on a device: the question that needs no table, or an action.
-abbrev pub Works : {R : Type 0} → (R → RigState) → List ChipData → Work → R → R → Result Answer Failure → Type 0
-Works view table work.Identify old new result = Calls answer.Identified (λ a b said. Identifies (view a) (view b) said) old new result
+abbrev pub Works : {R : Type 0} → (R → RigState) → List ChipData → Work → R → R
+    → Result Answer Failure → Type 0
+Works view table work.Identify old new result =
+    Calls answer.Identified (λ a b said. Identifies (view a) (view b) said) old new result
 Works view table (work.Act does) old new result = Does view table does old new result

@@ -1,5 +1,6 @@
 -- What a step of the program does with a device: a run of just some commands, or an asking first.
-use Rattle.std.specs.Prelude.{◌≡◌, ◌⊎◌, List, [], ◌∷◌, length, None, Result, Err, IfErr, IfOk, OnOk, MatchResult}
+use Rattle.std.specs.Prelude.{◌≡◌, ◌⊎◌, List, [], ◌∷◌, length, None, Result, Err, IfErr, IfOk, OnOk}
+use Rattle.std.specs.Prelude.{MatchResult}
 use Rattle.std.specs.List.{range_with_len}
 use Rattle.stm_wire.specs.Chip.{ChipData}
 use Rattle.stm_wire.specs.Dialogue.{GoesOn}
@@ -26,7 +27,9 @@ use Rattle.stmflash.specs.declared.answer.Answer.{Answer}
 use Rattle.stmflash.specs.Answer.{outcomes_told}
 
 -- What `run` promises of just these commands.
-pub record RunsJust {T : Type 0} (table : List ChipData) (commands : List CommandData) (old new : RigState) (result : Result T Fault) (outcomes_of : T → List OutcomeData) : Type 0 where
+pub record RunsJust {T : Type 0} (table : List ChipData) (commands : List CommandData)
+    (old new : RigState) (result : Result T Fault)
+    (outcomes_of : T → List OutcomeData) : Type 0 where
   pub promised : RunContract table commands old new result outcomes_of
   pub cause : HasSessionCause old new result
   pub puts : SendsAsRun table (is_whole result) (length commands) old new
@@ -38,14 +41,18 @@ abbrev pub LacksMemory : {R : Type 0} → R → R → Result Answer Fault → Ty
 LacksMemory old new result = (result ≡ Err Memory) × (new ≡ old)
 
 -- a run of just these commands, their outcomes told as an answer
-abbrev pub RunsTold : List ChipData → List CommandData → RigState → RigState → Result Answer Fault → Type 0
+abbrev pub RunsTold : List ChipData → List CommandData → RigState → RigState
+    → Result Answer Fault → Type 0
 RunsTold table commands old new result = RunsJust table commands old new result outcomes_told
 
-abbrev pub RunsIfRoom : {R : Type 0} → (R → RigState) → List ChipData → List CommandData → R → R → Result Answer Fault → Type 0
-RunsIfRoom view table commands old new result = RunsTold table commands (view old) (view new) result ⊎ LacksMemory old new result
+abbrev pub RunsIfRoom : {R : Type 0} → (R → RigState) → List ChipData → List CommandData → R → R
+    → Result Answer Fault → Type 0
+RunsIfRoom view table commands old new result =
+    RunsTold table commands (view old) (view new) result ⊎ LacksMemory old new result
 
 -- What `info` promises.
-pub record Asks (table : List ChipData) (old new : RigState) (told : Result Info Fault) : Type 0 where
+pub record Asks (table : List ChipData) (old new : RigState)
+    (told : Result Info Fault) : Type 0 where
   pub promised : InfoContract table old new told
   pub describes : IfOk told (Describes table)
   pub cause : HasSessionCause old new told
@@ -61,15 +68,20 @@ pub record Identifies (old new : RigState) (said : Result Told Fault) : Type 0 w
   pub accepted : old.is_honest → OnOk said (unsent_refusal (journal_of old.journal) ≡ None)
   pub told : old.is_honest → IsSafe old.device → IfOk said (Tells old.device)
 
--- The device is asked what it is, and by what it tells the step goes on; a fault of the asking is the step's, and nothing more
--- was called.
-pub record AsksFirst {R T E : Type 0} (view : R → RigState) (table : List ChipData) (fails : Fault → E) (Then : Info → R → R → Result T E → Type 0) (old new : R) (result : Result T E) : Type 0 where
+-- The device is asked what it is, and by what it tells the step goes on; a fault of the asking is
+-- the step's, and nothing more was called.
+pub record AsksFirst {R T E : Type 0} (view : R → RigState) (table : List ChipData)
+    (fails : Fault → E) (Then : Info → R → R → Result T E → Type 0) (old new : R)
+    (result : Result T E) : Type 0 where
   pub mid : R
   pub told : Result Info Fault
   pub asks : Asks table (view old) (view mid) told
-  pub goes_on : MatchResult told (λ info. Then info mid new result) (λ fault. (new ≡ mid) × (result ≡ Err (fails fault)))
+  pub goes_on : MatchResult told (λ info. Then info mid new result)
+      (λ fault. (new ≡ mid) × (result ≡ Err (fails fault)))
 
 -- Every page is erased, as many as the device is told to have.
-abbrev pub ErasesAll : {R : Type 0} → (R → RigState) → List ChipData → R → R → Result Answer Fault → Type 0
+abbrev pub ErasesAll : {R : Type 0} → (R → RigState) → List ChipData → R → R
+    → Result Answer Fault → Type 0
 ErasesAll view table old new result =
-    AsksFirst view table (λ fault. fault) (λ told. RunsIfRoom view table (erases (range_with_len 0 told.pages) ∷ [])) old new result
+    AsksFirst view table (λ fault. fault)
+    (λ told. RunsIfRoom view table (erases (range_with_len 0 told.pages) ∷ [])) old new result

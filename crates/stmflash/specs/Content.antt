@@ -1,5 +1,6 @@
 -- The image that the bytes of a file mean.
-use Rattle.std.specs.Prelude.{◌≡◌, ◌⊎◌, ℕ, ◌+◌, ◌^◌, ◌<◌, ◌&&◌, ◌==◌, nat_le, not, Bool, true, false, List, [], ◌∷◌, length, Option, Some, None, Result, Ok, Err}
+use Rattle.std.specs.Prelude.{◌≡◌, ◌⊎◌, ℕ, ◌+◌, ◌^◌, ◌<◌, ◌&&◌, ◌==◌, nat_le, not, Bool, true}
+use Rattle.std.specs.Prelude.{false, List, [], ◌∷◌, length, Option, Some, None, Result, Ok, Err}
 use Rattle.stm_image.specs.declared.faults.RawFault.TheVariants.{PastEnd, Memory}
 use Rattle.stm_image.specs.Pairs.{Pairs, raw_pairs}
 use Rattle.stm_image.specs.Text.{Means, Stands, IsOutOfMemory}
@@ -36,7 +37,9 @@ IsNoRawImage start bytes (Raw Memory) = Unit {0}
 IsNoRawImage start bytes _ = ⊥
 
 abbrev pub IsNoPlace : Range → List ℕ → Failure → Type 0
-IsNoPlace range bytes failure = IsNoRawImage range.start bytes failure ⊎ ((failure ≡ Session OutOfFlash) × (has_room range.length (length bytes) ≡ false))
+IsNoPlace range bytes failure =
+    IsNoRawImage range.start bytes failure
+    ⊎ ((failure ≡ Session OutOfFlash) × (has_room range.length (length bytes) ≡ false))
 
 -- the HEX text is refused
 abbrev pub IsNoHex : List ℕ → Failure → Type 0
@@ -69,7 +72,9 @@ IsRawImage start bytes (Ok image) = image ≡ raw_pairs start bytes
 IsRawImage start bytes (Err failure) = IsNoRawImage start bytes failure
 
 -- The image that is placed; or the device is asked where its flash begins.
-abbrev pub ImageOn : {R : Type 0} → (R → RigState) → List ChipData → Content → R → R → Result Pairs Failure → Type 0
+abbrev pub ImageOn : {R : Type 0} → (R → RigState) → List ChipData → Content → R → R
+    → Result Pairs Failure → Type 0
 ImageOn view table (Placed image) old new result = (result ≡ Ok image) × (new ≡ old)
 ImageOn view table (AtBase bytes) old new result =
-    AsksFirst view table (λ fault. Session fault) (λ told mid last said. (last ≡ mid) × IsRawImage told.base bytes.items said) old new result
+    AsksFirst view table (λ fault. Session fault)
+    (λ told mid last said. (last ≡ mid) × IsRawImage told.base bytes.items said) old new result

@@ -3,7 +3,8 @@ use Rattle.std.specs.Prelude.{ℕ, Bool, true, false, List, [], ◌∷◌, ◌==
 
 -- the code of Erase Memory or Extended Erase Memory, and its complement
 abbrev pub begins_erase : List ℕ → Bool
-begins_erase (code ∷ check ∷ rest) = ((code == 0x43) && (check == 0xBC)) || ((code == 0x44) && (check == 0xBB))
+begins_erase (code ∷ check ∷ rest) =
+    ((code == 0x43) && (check == 0xBC)) || ((code == 0x44) && (check == 0xBB))
 begins_erase _ = false
 
 -- One of them begins somewhere.

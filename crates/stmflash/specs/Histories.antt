@@ -1,11 +1,13 @@
--- What the program does with a device is a history of the headline: over any Rig, and from one run of it on a simulator to the next.
+-- What the program does with a device is a history of the headline: over any Rig, and from one run
+-- of it on a simulator to the next.
 use Rattle.std.specs.Prelude.{◌≡◌, ℕ, List, [], Result, Ok, IsSome}
 use Rattle.stm_wire.specs.Chip.{ChipData}
 use Rattle.stm_wire.specs.Device.{Device, Phase, IsReadyPhase}
 use Rattle.stm_wire.specs.Memory.{MemoryData, rig_state}
 use Rattle.stm_wire.specs.Rig.{RigState}
 use Rattle.stm_journal.specs.Journals.{journal_of}
-use Rattle.stm_session.specs.Events.{AllLead, Happening, Knows, Leads, World, end_of, lost_owed, lost_power, now_of}
+use Rattle.stm_session.specs.Events.{AllLead, Happening, Knows, Leads, World, end_of, lost_owed}
+use Rattle.stm_session.specs.Events.{lost_power, now_of}
 use Rattle.stm_session.specs.Fresh.{IsReset}
 use Rattle.stm_session.specs.Headline.{IsStart, oldest_of, oldest_start}
 use Rattle.stm_session.specs.Moments.{SameMake}
@@ -17,7 +19,8 @@ use Rattle.stmflash.specs.declared.failure.Failure.{Failure}
 use Rattle.stmflash.specs.Action.{Does}
 use Rattle.stmflash.specs.SimulatorFile.{StandsSo, simulator_at}
 
--- From one Rig to another some events lead, one after another, none of which gives up the way back; another can follow.
+-- From one Rig to another some events lead, one after another, none of which gives up the way
+-- back; another can follow.
 pub record IsHistory {R : Type 0} (view : R → RigState) (old new : R) : Type 0 where
   pub history : List (Happening R)
   pub leads : AllLead view history (now_of (view old))
@@ -49,8 +52,10 @@ abbrev pub IsSaidRightly : Action → Device → Type 0
 IsSaidRightly (action.UndoFresh count) d = IsReset d
 IsSaidRightly does d = Unit {0}
 
--- an action can be done on this Rig: what was begun before can be taken back, and the table knows the device
-pub record CanAct {R : Type 0} (view : R → RigState) (table : List ChipData) (starts : List (List ℕ)) (does : Action) (old : R) : Type 0 where
+-- an action can be done on this Rig: what was begun before can be taken back, and
+-- the table knows the device
+pub record CanAct {R : Type 0} (view : R → RigState) (table : List ChipData)
+    (starts : List (List ℕ)) (does : Action) (old : R) : Type 0 where
   pub honest : (view old).is_honest
   pub start : IsStart starts (now_of (view old))
   pub knows : Knows table (now_of (view old))
@@ -60,25 +65,34 @@ pub record CanAct {R : Type 0} (view : R → RigState) (table : List ChipData) (
 -- Each action is a history.
 abbrev pub ActionsAreHistories : (R : Type 0) → (R → RigState) → Type 0
 ActionsAreHistories R view =
-    (table : List ChipData) (starts : List (List ℕ)) (does : Action) (old new : R) (result : Result Answer Failure)
-    → CanAct view table starts does old → Does view table does old new result → IsHistory view old new
+    (table : List ChipData) (starts : List (List ℕ)) (does : Action) (old new : R)
+    (result : Result Answer Failure)
+    → CanAct view table starts does old → Does view table does old new result
+    → IsHistory view old new
 
--- An action, whatever came of it; a loss of power; owed bytes that are lost between two runs of the program; and an undo of everything
--- that answers Ok: every byte of the flash is as it was at the start of the oldest segment, or as the action found it.
+-- An action, whatever came of it; a loss of power; owed bytes that are lost between two runs of the
+-- program; and an undo of everything that answers Ok: every byte of the flash is as it was at the
+-- start of the oldest segment, or as the action found it.
 abbrev pub StoppedActionsAreTakenBack : (R : Type 0) → (R → RigState) → Type 0
 StoppedActionsAreTakenBack R view =
-    (table : List ChipData) (starts : List (List ℕ)) (does : Action) (first mid again last : R) (said : Result Answer Failure)
-    (told : Answer) (w : World) → CanAct view table starts does first → Does view table does first mid said
-    → Leads view lost_power (now_of (view mid)) w → Leads view lost_owed w (now_of (view again)) → (view again).is_honest
-    → Does view table (action.Undo 0) again last (Ok told) → (view last).device.flash ≡ oldest_start starts (now_of (view first))
+    (table : List ChipData) (starts : List (List ℕ)) (does : Action) (first mid again last : R)
+    (said : Result Answer Failure)
+    (told : Answer) (w : World) → CanAct view table starts does first
+    → Does view table does first mid said
+    → Leads view lost_power (now_of (view mid)) w → Leads view lost_owed w (now_of (view again))
+    → (view again).is_honest
+    → Does view table (action.Undo 0) again last (Ok told)
+    → (view last).device.flash ≡ oldest_start starts (now_of (view first))
 
 -- A simulator that starts ready beside an empty journal is where a session can begin.
 abbrev pub StoredCanBegin : Type 0
 StoredCanBegin =
-    (chip : ChipData) (flash : List ℕ) (phase : Phase) (rig : MemoryData) → StandsSo (simulator_at chip flash phase) [] rig
+    (chip : ChipData) (flash : List ℕ) (phase : Phase) (rig : MemoryData)
+    → StandsSo (simulator_at chip flash phase) [] rig
     → IsReadyPhase rig.device.codes phase → IsStart [] (now_of (rig_state rig))
 
--- One that starts as another was left, whose device was of the same make as that which this started with, has lost owed bytes alone.
+-- One that starts as another was left, whose device was of the same make as that which this started
+-- with, has lost owed bytes alone.
 abbrev pub StoredGoesOn : Type 0
 StoredGoesOn =
     (chip : ChipData) (flash journal : List ℕ) (phase : Phase) (first left next : MemoryData)

@@ -1,7 +1,9 @@
 -- The words that name a protection.
 use Rattle.std.specs.Prelude.{ℕ, if◌then◌else◌, List, codes, bytes_eq, Option, Some, None}
 use Rattle.stm_wire.specs.declared.protection.Protection.{Protection}
-use Rattle.stm_wire.specs.declared.protection.Protection.TheVariants.{WriteUnprotect, ReadoutProtect, ReadoutUnprotect}
+use Rattle.stm_wire.specs.declared.protection.Protection.TheVariants.{WriteUnprotect}
+use Rattle.stm_wire.specs.declared.protection.Protection.TheVariants.{ReadoutProtect}
+use Rattle.stm_wire.specs.declared.protection.Protection.TheVariants.{ReadoutUnprotect}
 
 -- no other word names one
 abbrev pub protection_of : List ℕ → Option Protection

@@ -1,5 +1,6 @@
 -- Which part of a flash is read.
-use Rattle.std.specs.Prelude.{◌≡◌, ℕ, ◌+◌, ◌-◌, ◌||◌, nat_lt, nat_le, if◌then◌else◌, [], ◌∷◌, List, Option, Some, None, option_map, MatchOption, Result, Err}
+use Rattle.std.specs.Prelude.{◌≡◌, ℕ, ◌+◌, ◌-◌, ◌||◌, nat_lt, nat_le, if◌then◌else◌, [], ◌∷◌, List}
+use Rattle.std.specs.Prelude.{Option, Some, None, option_map, MatchOption, Result, Err}
 use Rattle.std.specs.Option.{unwrap_or}
 use Rattle.stm_wire.specs.Chip.{ChipData}
 use Rattle.stm_wire.specs.Rig.{RigState}
@@ -26,13 +27,19 @@ to_the_end start base size =
     if nat_lt from base || nat_le (base + size) from then None else Some (from, base + size - from)
 
 -- just this part is read; none is refused before anything is called
-abbrev pub ReadsPart : {R : Type 0} → (R → RigState) → List ChipData → Option (ℕ × ℕ) → R → R → Result Answer Fault → Type 0
+abbrev pub ReadsPart : {R : Type 0} → (R → RigState) → List ChipData → Option (ℕ × ℕ) → R → R
+    → Result Answer Fault → Type 0
 ReadsPart view table None old new result = (result ≡ Err OutOfFlash) × (new ≡ old)
-ReadsPart view table (Some part) old new result = RunsTold table (reads part.0 part.1 ∷ []) (view old) (view new) result
+ReadsPart view table (Some part) old new result =
+    RunsTold table (reads part.0 part.1 ∷ []) (view old) (view new) result
 
--- The part that a range names is read; where it has no length, or none is given, the device is asked where its flash ends.
-abbrev pub ReadsRange : {R : Type 0} → (R → RigState) → List ChipData → Option Range → R → R → Result Answer Fault → Type 0
+-- The part that a range names is read; where it has no length, or none is given, the device is
+-- asked where its flash ends.
+abbrev pub ReadsRange : {R : Type 0} → (R → RigState) → List ChipData → Option Range → R → R
+    → Result Answer Fault → Type 0
 ReadsRange view table range old new result =
     MatchOption (part_given range)
-    (AsksFirst view table (λ fault. fault) (λ told. ReadsPart view table (to_the_end (start_given range) told.base told.size)) old new result)
+    (AsksFirst view table (λ fault. fault)
+    (λ told. ReadsPart view table (to_the_end (start_given range) told.base told.size))
+    old new result)
     (λ part. ReadsPart view table (Some part) old new result)

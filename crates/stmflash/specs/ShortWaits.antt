@@ -1,5 +1,6 @@
 -- How long short waits on a line may go on.
-use Rattle.std.specs.Prelude.{ℕ, ◌+◌, ◌-◌, ◌^◌, ◌&&◌, if◌then◌else◌, min, nat_le, Bool, false, Option, Some, None, option_map}
+use Rattle.std.specs.Prelude.{ℕ, ◌+◌, ◌-◌, ◌^◌, ◌&&◌, if◌then◌else◌, min, nat_le, Bool, false}
+use Rattle.std.specs.Prelude.{Option, Some, None, option_map}
 use Rattle.std.specs.Option.{option_or}
 use Rattle.stm_wire.specs.declared.rig.Patience.{Patience}
 use Rattle.stm_wire.specs.declared.rig.Patience.TheVariants.{Brief, Long}
@@ -23,11 +24,14 @@ one_more n = min (n + 1) (2 ^ 32 - 1)
 abbrev pub with_put : WaitsData → WaitsData
 with_put w = record w { puts = one_more w.puts }
 
--- A short get behind one byte, or none, goes on with the row; one behind a batch ends it, and so does a long one.
+-- A short get behind one byte, or none, goes on with the row; one behind a batch ends
+-- it, and so does a long one.
 abbrev pub with_get : Patience → Option ℕ → WaitsData → WaitsData
 with_get Long at w = no_waits w.limit
 with_get Brief at w =
-    if nat_le w.puts 1 then record w { puts = 0; gets = one_more w.gets; since = option_or w.since at } else no_waits w.limit
+    if nat_le w.puts 1
+    then record w { puts = 0; gets = one_more w.gets; since = option_or w.since at }
+    else no_waits w.limit
 
 -- they are over where there were 16 gets and they have gone on for so long
 abbrev pub is_over_after : Option ℕ → ℕ → Option ℕ → Bool

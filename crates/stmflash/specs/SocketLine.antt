@@ -8,7 +8,8 @@ pub record LineState : Type 0 where
   pub sent : Option (List ℕ)
   -- put and not sent yet
   pub waiting : List ℕ
-  -- the bytes that reads will give from here on, where the runtime tells them; the system's tells nothing
+  -- the bytes that reads will give from here on, where the runtime tells them;
+  -- the system's tells nothing
   pub ahead : Option (List ℕ)
   -- read and not taken yet
   pub held : List ℕ
@@ -33,11 +34,12 @@ pub record SendsAll (old new : LineState) : Type 0 where
   pub sent : Appends old.sent new.sent old.waiting
   pub none_waits : new.waiting ≡ []
 
--- The byte is the next one: the first that was held, or, where none was, the first of what a read gave. Those behind it are
--- held.
+-- The byte is the next one: the first that was held, or, where none was, the first of what a read
+-- gave. Those behind it are held.
 abbrev pub IsNextByte : ℕ → LineState → LineState → Type 0
 IsNextByte byte old new =
-    ((old.held ≡ byte ∷ new.held) × (new.ahead ≡ old.ahead)) ⊎ ((old.held ≡ []) × Consumes old.ahead new.ahead (byte ∷ new.held))
+    ((old.held ≡ byte ∷ new.held) × (new.ahead ≡ old.ahead))
+    ⊎ ((old.held ≡ []) × Consumes old.ahead new.ahead (byte ∷ new.held))
 
 -- Nothing was held, and nothing was read.
 pub record StaysQuiet (old new : LineState) : Type 0 where

@@ -73,8 +73,8 @@ impl Action {
         }
     }
 
-    /// The same for a device that was reset since the last session, where that is said: an undo settles it with 7F alone, as all
-    /// others do anyway.
+    /// The same for a device that was reset since the last session, where that is said: an undo
+    /// settles it with 7F alone, as all others do anyway.
     pub fn on_fresh(self, is_fresh: bool) -> Action
         ensures { result ≡ on_fresh is_fresh self }
     {

@@ -50,7 +50,8 @@ pub enum Answer {
 }
 
 impl Answer {
-    /// What the device says itself, with the name of the chip table that was read; any other answer as it is.
+    /// What the device says itself, with the name of the chip table that was read;
+    /// any other answer as it is.
     pub fn beside(self, alloc: Global, table: &str) -> Result<Answer, AllocError> {
         match self {
             Answer::Identified(told) => Ok(Answer::IdentifiedBeside {

@@ -18,8 +18,8 @@ pub struct BoundSocket<'a> {
 }
 
 impl<'a> BoundSocket<'a> {
-    /// Makes a socket at this path, with this mode: who may connect. One that is there and on which nobody listens is removed
-    /// first.
+    /// Makes a socket at this path, with this mode: who may connect. One that is there and on which
+    /// nobody listens is removed first.
     pub fn bind<R: Files + Net>(rt: &R, path: &'a str, mode: u32) -> io::Result<BoundSocket<'a>> {
         let listener = match UnixListener::bind(rt, path) {
             Err(e) if e.kind() == ErrorKind::AddrInUse && is_dead(rt, path) => {

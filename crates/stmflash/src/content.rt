@@ -49,7 +49,8 @@ pub fn read_content<'a, R: Files + AllocGlobal>(
     content_of(rt.alloc(), bytes, image.is_raw, image.range)
 }
 
-/// Refuses bytes that are more than any flash has, or, unless they are said to be raw, no raw image by how they begin.
+/// Refuses bytes that are more than any flash has, or, unless they are said to be raw, no raw
+/// image by how they begin.
 fn check_raw<'a>(bytes: &[u8], image: &ImageFile<'a>) -> Result<(), Failure<'a>> {
     if bytes.len() > RAW {
         return Err(Failure::CannotRead(image.name));

@@ -3,8 +3,8 @@
 use std::fmt;
 use std::fmt::{Display, Formatter, Write};
 
-/// A text as it is printed, within one line: a control character (U+0000 to U+001F, U+007F to U+009F) is printed as `\n`, `\t`,
-/// `\r`, or by its number, as `\x1b`.
+/// A text as it is printed, within one line: a control character (U+0000 to U+001F, U+007F to
+/// U+009F) is printed as `\n`, `\t`, `\r`, or by its number, as `\x1b`.
 #[derive(Clone, Copy, Debug)]
 pub struct Escaped<T>(pub T);
 

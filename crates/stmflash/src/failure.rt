@@ -70,7 +70,8 @@ pub enum Failure<'a> {
 }
 
 impl<'a> Failure<'a> {
-    /// The program's exit status: 2 for what its words ask, 3 for a stop that was asked for, 1 for all else.
+    /// The program's exit status: 2 for what its words ask, 3 for a stop that was
+    /// asked for, 1 for all else.
     pub fn status(&self) -> u8 {
         match self {
             Failure::Usage(_) => 2,

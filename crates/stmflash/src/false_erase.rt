@@ -11,7 +11,8 @@ const CONNECT: u8 = 0x7F;
 /// How many bytes a write command has at most, and how its place is aligned.
 const BLOCK: usize = 256;
 
-/// Whether bytes begin with the code of an erase command and its complement (AN3155, sections 3.7 and 3.8).
+/// Whether bytes begin with the code of an erase command and its complement
+/// (AN3155, sections 3.7 and 3.8).
 fn begins_erase(bytes: &[u8]) -> bool
     ensures { result ≡ begins_erase bytes.now }
 {
@@ -33,8 +34,8 @@ fn has_erase(bytes: &[u8]) -> bool
     }
 }
 
-/// Whether an erase command begins behind a 7F in a block, so that a device which loses power within it may take the rest of
-/// the block for one.
+/// Whether an erase command begins behind a 7F in a block, so that a device which loses power
+/// within it may take the rest of the block for one.
 pub fn has_false_erase(block: &[u8]) -> bool
     ensures { result ≡ has_false_erase block.now }
 {
@@ -50,7 +51,8 @@ pub fn has_false_erase(block: &[u8]) -> bool
     }
 }
 
-/// Whether one of a placed image's blocks has such bytes. What the image doesn't name within a block is left as 0xFF.
+/// Whether one of a placed image's blocks has such bytes. What the image doesn't name within
+/// a block is left as 0xFF.
 fn has_false_erase_placed(image: &Image) -> bool {
     let mut block = [0xFF_u8; BLOCK];
     let mut number = 0_u32;
@@ -75,7 +77,8 @@ fn has_false_erase_placed(image: &Image) -> bool {
     has_false_erase(&block)
 }
 
-/// Whether a block of an image has such bytes. The flash is taken to begin at the beginning of a block.
+/// Whether a block of an image has such bytes. The flash is taken to begin at
+/// the beginning of a block.
 pub fn has_false_erases(content: &Content) -> bool {
     match content {
         Content::Placed(image) => has_false_erase_placed(image),

@@ -9,7 +9,8 @@ use std::{fs, io};
 
 /// Reads a source to its end, or so many bytes of it.
 pub fn read_up_to<S: Read + Drop>(alloc: Global, source: S, most: u64) -> io::Result<Vec<u8>>
-    ensures { IfOk result (λ bytes. IfSome (S.remaining source) (λ told. bytes.items ≡ take most told)) }
+    ensures { IfOk result
+        (λ bytes. IfSome (S.remaining source) (λ told. bytes.items ≡ take most told)) }
 {
     let mut bytes = Vec::new(alloc);
     source.take(most).read_to_end(&mut bytes)?;

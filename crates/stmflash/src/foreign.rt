@@ -45,7 +45,8 @@ pub fn foreign_form(bytes: &[u8]) -> Option<Foreign> {
     is_record(behind(bytes), b':', 8).then_some(hex)
 }
 
-/// Whether bytes begin with this one and then, up to the line's end, with digits of base 16, more than so many.
+/// Whether bytes begin with this one and then, up to the line's end, with digits of
+/// base 16, more than so many.
 fn is_record(bytes: &[u8], first: u8, digits: usize) -> bool {
     let Some((head, rest)) = bytes.split_first() else {
         return false;

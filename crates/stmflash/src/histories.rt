@@ -1,5 +1,7 @@
-// What the program does with a device is a history of the headline: each law is the contract of a function that does nothing.
-ghost use Rattle.stmflash.specs.Histories.{ActionsAreHistories, StoppedActionsAreTakenBack, StoredCanBegin, StoredGoesOn};
+// What the program does with a device is a history of the headline: each law is the contract of a
+// function that does nothing.
+ghost use Rattle.stmflash.specs.Histories.{ActionsAreHistories, StoppedActionsAreTakenBack};
+ghost use Rattle.stmflash.specs.Histories.{StoredCanBegin, StoredGoesOn};
 
 use crate::answer::Answer;
 use stm_session::{
@@ -7,8 +9,8 @@ use stm_session::{
 };
 use stm_wire::Rig;
 
-/// Each action, from any state that can be taken back, is a history of the headline; and one that was stopped is taken back, after a
-/// loss of power too, by an undo of everything that answers Ok.
+/// Each action, from any state that can be taken back, is a history of the headline; and one that
+/// was stopped is taken back, after a loss of power too, by an undo of everything that answers Ok.
 pub fn actions_are_histories<L: Rig>()
     ensures history { ActionsAreHistories L L.view }
     ensures back { StoppedActionsAreTakenBack L L.view }
@@ -17,8 +19,8 @@ pub fn actions_are_histories<L: Rig>()
     a_run_is_known_by_its_outcomes::<L, Answer>();
 }
 
-/// A simulator that starts ready beside an empty journal is where a session can begin; and one that starts as another was left by a
-/// run of the program has lost owed bytes alone.
+/// A simulator that starts ready beside an empty journal is where a session can begin; and one that
+/// starts as another was left by a run of the program has lost owed bytes alone.
 pub fn a_stored_simulator_goes_on()
     ensures begins { StoredCanBegin }
     ensures goes_on { StoredGoesOn }

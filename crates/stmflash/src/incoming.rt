@@ -1,5 +1,6 @@
 // Bytes that came on a line together, and are taken one by one.
-ghost use Rattle.std.specs.Prelude.{◌≡◌, ◌≤◌, ◌∷◌, [], IfOk, List, ℕ, MatchOption, MatchResult, drop, length, take};
+ghost use Rattle.std.specs.Prelude.{◌≡◌, ◌≤◌, ◌∷◌, [], IfOk, List, ℕ, MatchOption, MatchResult};
+ghost use Rattle.std.specs.Prelude.{drop, length, take};
 ghost use Rattle.std.specs.Io.KnownBytes.{Consumes, Keeps};
 
 use std::io;
@@ -50,8 +51,8 @@ impl Incoming {
         Some(byte)
     }
 
-    /// Takes what a stream has in place of what was here, and answers how much: 0 at the stream's end. Where the read fails,
-    /// all stays as it was.
+    /// Takes what a stream has in place of what was here, and answers how much: 0 at the stream's
+    /// end. Where the read fails, all stays as it was.
     fn fill<S: Read>(&mut self, stream: &mut S) -> io::Result<usize>
         ensures { MatchResult result
             (λ count. (count ≡ length self.new)
@@ -69,8 +70,9 @@ impl Incoming {
         Ok(count)
     }
 
-    /// Takes the next byte that comes on a stream, with those behind it, where none is here; None where the stream's time was
-    /// over without one. Its end is an error. A signal that comes while it is waited for is no answer.
+    /// Takes the next byte that comes on a stream, with those behind it, where none is here; None
+    /// where the stream's time was over without one. Its end is an error. A signal that comes while
+    /// it is waited for is no answer.
     pub fn receive<S: Read>(&mut self, stream: &mut S) -> io::Result<Option<u8>>
         requires { self.old ≡ [] }
         ensures { IfOk result (λ answer. MatchOption answer

@@ -1,5 +1,6 @@
 // A journal in a file, for a Rig with any line.
-ghost use Rattle.std.specs.Prelude.{◌≡◌, ◌≤◌, ◌<◌, ◌-◌, ◌^◌, None, true, false, IfOk, OnErr, OnOk, length};
+ghost use Rattle.std.specs.Prelude.{◌≡◌, ◌≤◌, ◌<◌, ◌-◌, ◌^◌, None, true, false, IfOk, OnErr, OnOk};
+ghost use Rattle.std.specs.Prelude.{length};
 ghost use Rattle.std.specs.Io.KnownBytes.{Appends, IsAtEnd};
 ghost use Rattle.stmflash.specs.JournalFile.{JournalBytes, IsNew, ahead_of, journal_bytes};
 
@@ -31,8 +32,9 @@ pub enum Unusable {
     Unread(io::Error),
 }
 
-/// A journal in a file, which is made by the first append. It is locked from before it is read until this is dropped. After
-/// an append has failed, the file's end is not known, and nothing more is added: it has to be opened and read again.
+/// A journal in a file, which is made by the first append. It is locked from before it is read
+/// until this is dropped. After an append has failed, the file's end is not known, and nothing more
+/// is added: it has to be opened and read again.
 #[derive(Drop)]
 pub struct JournalFile<'a, R: Files> {
     rt: &'a R,
@@ -47,7 +49,8 @@ pub struct JournalFile<'a, R: Files> {
 impl<'a, R: Files> Model for JournalFile<'a, R> {
     ghost Value = { JournalBytes };
 
-    ghost view = { λ j. journal_bytes R.File.contents j.writing (ahead_of R.File.remaining j.reading) };
+    ghost view = { λ j.
+        journal_bytes R.File.contents j.writing (ahead_of R.File.remaining j.reading) };
 }
 
 impl<'a, R: Locks + AllocGlobal> JournalFile<'a, R> {
@@ -95,7 +98,8 @@ impl<'a, R: Locks + AllocGlobal> JournalFile<'a, R> {
         })
     }
 
-    /// Opens the file to add at its end, and makes it where it is not there. Its name is on the disk then.
+    /// Opens the file to add at its end, and makes it where it is not there. Its
+    /// name is on the disk then.
     fn begin(&mut self) -> io::Result<R::File>
         ensures known { self.new.known ≡ self.old.known }
         ensures failed { self.new.has_failed ≡ self.old.has_failed }
@@ -137,8 +141,8 @@ impl<'a, R: Locks + AllocGlobal> JournalFile<'a, R> {
         Ok(file)
     }
 
-    /// Adds the bytes at the end of the file, and answers once they are on the disk. Where it fails, a beginning of them
-    /// may have been added, and stays.
+    /// Adds the bytes at the end of the file, and answers once they are on the disk. Where it
+    /// fails, a beginning of them may have been added, and stays.
     pub fn append(&mut self, bytes: &[u8]) -> io::Result<()>
         ensures added { OnOk result (Appends self.old.known self.new.known bytes.now) }
         ensures ok { OnOk result ((self.old.has_failed ≡ false) × (self.new.has_failed ≡ false)) }
@@ -171,7 +175,8 @@ impl<'a, R: Locks + AllocGlobal> JournalFile<'a, R> {
 }
 
 impl<'a, R: Files> JournalFile<'a, R> {
-    /// Reads from a place on, and answers how many bytes; 0 at or past the end. A file that is not there is empty.
+    /// Reads from a place on, and answers how many bytes; 0 at or past the end. A file
+    /// that is not there is empty.
     pub fn fetch(&mut self, at: u64, buf: &mut [u8]) -> io::Result<usize>
         ensures known { self.new.known ≡ self.old.known }
         ensures failed { self.new.has_failed ≡ self.old.has_failed }
@@ -195,7 +200,8 @@ impl<'a, R: Files> JournalFile<'a, R> {
         self.reading.is_some()
     }
 
-    /// Whether another program has it: the file wasn't there at first, and was made before this program did.
+    /// Whether another program has it: the file wasn't there at first, and was made
+    /// before this program did.
     pub fn is_in_use(&self) -> bool {
         self.is_in_use
     }

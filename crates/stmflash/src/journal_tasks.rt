@@ -40,8 +40,8 @@ pub fn log<'a, R: Locks + AllocGlobal>(rt: &R, name: &'a str) -> Result<Answer, 
     Ok(Answer::Logged(log_lines(rt.alloc(), &journal)?))
 }
 
-/// Lets the writes and erases of a journal stay: the journal is removed, or renamed to a name that isn't there. It is locked
-/// until then.
+/// Lets the writes and erases of a journal stay: the journal is removed, or renamed to a name that
+/// isn't there. It is locked until then.
 pub fn keep<'a, R: Locks + AllocGlobal>(rt: &R, kept: &Kept<'a>) -> Result<Answer, Failure<'a>> {
     let (journal, _locked) = load(rt, kept.journal, JournalFile::open(rt, kept.journal))?;
     let count = count_kept(&journal)?;
@@ -52,7 +52,8 @@ pub fn keep<'a, R: Locks + AllocGlobal>(rt: &R, kept: &Kept<'a>) -> Result<Answe
     Ok(Answer::Kept(count))
 }
 
-/// Removes a file, where it is there, and answers once that is on the disk. A symbolic link is followed.
+/// Removes a file, where it is there, and answers once that is on the disk. A
+/// symbolic link is followed.
 fn remove<'a, R: Files + AllocGlobal>(rt: &R, name: &'a str) -> Result<(), Failure<'a>> {
     let done = match fs::canonicalize(rt, name) {
         Ok(path) => match fs::remove_file(rt, path.as_str()) {
@@ -68,8 +69,9 @@ fn remove<'a, R: Files + AllocGlobal>(rt: &R, name: &'a str) -> Result<(), Failu
     }
 }
 
-/// Renames a file, where it is there, to a name that isn't, and answers once that is on the disk. A symbolic link is
-/// followed. The file gets the new name first, and a file that is made there meanwhile stays.
+/// Renames a file, where it is there, to a name that isn't, and answers once that is on the
+/// disk. A symbolic link is followed. The file gets the new name first, and a file that is
+/// made there meanwhile stays.
 fn rename<'a, R: Files + AllocGlobal>(
     rt: &R,
     name: &'a str,
@@ -105,8 +107,8 @@ fn rename_unless_there<R: Files + AllocGlobal>(rt: &R, name: &str, to: &str) -> 
     }
 }
 
-/// Takes the old name from a file that has a new one too, once the new one is on the disk. Where it can't be taken, the file
-/// has the old one alone.
+/// Takes the old name from a file that has a new one too, once the new one is on the disk. Where it
+/// can't be taken, the file has the old one alone.
 fn take_name<R: Files>(rt: &R, path: &str, to: &str) -> io::Result<()> {
     sync_folder(rt, to)?;
     if let Err(e) = fs::remove_file(rt, path) {
@@ -116,7 +118,8 @@ fn take_name<R: Files>(rt: &R, path: &str, to: &str) -> io::Result<()> {
     sync_folder(rt, path)
 }
 
-/// Goes on with a renaming that was broken off when the file had both names. Any other file of the new name stays.
+/// Goes on with a renaming that was broken off when the file had both names. Any other
+/// file of the new name stays.
 fn end_renaming<R: Files + AllocGlobal>(
     rt: &R,
     name: &str,

@@ -1,8 +1,10 @@
 // What a journal says, told in lines.
-ghost use Rattle.std.specs.Prelude.{◌≡◌, ◌/◌, ◌%◌, ◌∷◌, ◌++◌, ◌==◌, ◌+◌, [], IfOk, OnOk, Some, codes, decimal};
+ghost use Rattle.std.specs.Prelude.{◌≡◌, ◌/◌, ◌%◌, ◌∷◌, ◌++◌, ◌==◌, ◌+◌, [], IfOk, OnOk, Some};
+ghost use Rattle.std.specs.Prelude.{codes, decimal};
 ghost use Rattle.hex.specs.Hex.{encode_upper};
 ghost use Rattle.stm_journal.specs.States.{intent_at, segment_of};
-ghost use Rattle.stmflash.specs.Logging.{end_text, id_text, intent_text, kept_text, line_of, log_text, numbers_of, range_text, stage_text};
+ghost use Rattle.stmflash.specs.Logging.{end_text, id_text, intent_text, kept_text, line_of};
+ghost use Rattle.stmflash.specs.Logging.{log_text, numbers_of, range_text, stage_text};
 
 use std::alloc::{AllocError, Global};
 use stm_journal::{Intent, Journal, Stage};
@@ -104,7 +106,8 @@ fn add_standing(
     count: usize,
 ) -> Result<(), AllocError>
     ensures { OnOk result (out.new.items
-        ≡ out.old.items ++ (codes ": " ++ stage_text stage ++ (codes ", " ++ decimal count ++ codes " pages"))) }
+        ≡ out.old.items
+        ++ (codes ": " ++ stage_text stage ++ (codes ", " ++ decimal count ++ codes " pages"))) }
 {
     out.extend_from_slice(b": ")?;
     add_stage(out, stage)?;
@@ -165,7 +168,8 @@ fn add_end(out: &mut Vec<u8>, alloc: Global, journal: &Journal) -> Result<(), Al
     out.extend_from_slice(b" can be undone\n")
 }
 
-/// What a journal says: the device, a line for each segment, the oldest first, and what can be done next.
+/// What a journal says: the device, a line for each segment, the oldest first,
+/// and what can be done next.
 pub fn log_lines(alloc: Global, journal: &Journal) -> Result<Vec<u8>, AllocError>
     ensures { IfOk result (λ text. text.items ≡ log_text journal.now.state) }
 {

@@ -1,4 +1,5 @@
-//! Flashes an STM32 through the bootloader in its ROM (ST AN3155), over a Unix socket or a simulator of one.
+//! Flashes an STM32 through the bootloader in its ROM (ST AN3155), over a Unix
+//! socket or a simulator of one.
 #![tactic(auto)]
 
 mod action;

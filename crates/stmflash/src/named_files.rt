@@ -41,7 +41,8 @@ impl<'a> NamedFiles<'a> {
         self.out
     }
 
-    /// Refuses a file that is to be written and is one of the others: the journal, then OUT, then the simulator's own two.
+    /// Refuses a file that is to be written and is one of the others: the journal, then OUT, then
+    /// the simulator's own two.
     pub fn check<R: Files + AllocGlobal>(&self, rt: &R) -> Result<(), Failure<'a>> {
         if self.is_read(rt, self.journal) || self.is_devices(rt, self.journal)? {
             return Err(Failure::CannotWrite(self.journal));

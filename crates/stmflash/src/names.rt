@@ -9,8 +9,8 @@ use std::{fs, io};
 /// How many symbolic links are followed one after another.
 const LINKS: u32 = 40;
 
-/// The path of the file that a name means, behind its symbolic links. Where there is no such file, the path at which it would
-/// be made.
+/// The path of the file that a name means, behind its symbolic links. Where there is no such file,
+/// the path at which it would be made.
 pub fn resolve<R: Files + AllocGlobal>(rt: &R, name: &str) -> io::Result<PathBuf> {
     match fs::canonicalize(rt, name) {
         Ok(path) => Ok(path),
@@ -54,8 +54,9 @@ pub fn is_named<R: Files>(rt: &R, file: &R::File, name: &str) -> bool {
     }
 }
 
-/// Whether two names mean one file. Files that are there are compared by device and inode, so that links of either kind are
-/// followed; of two that are not there, the folders are, and the names in them.
+/// Whether two names mean one file. Files that are there are compared by device and
+/// inode, so that links of either kind are followed; of two that are not there, the
+/// folders are, and the names in them.
 pub fn is_same_file<R: Files + AllocGlobal>(rt: &R, one: &str, other: &str) -> bool {
     if one == other {
         return true;

@@ -1,5 +1,5 @@
-// A use of a device: the files that belong to it are opened, the task is done, and they are closed, whatever came of it.
-// Nothing is printed here but what goes on, on standard error.
+// A use of a device: the files that belong to it are opened, the task is done, and they are closed,
+// whatever came of it. Nothing is printed here but what goes on, on standard error.
 
 use crate::answer::Answer;
 use crate::escaped::Escaped;
@@ -70,8 +70,9 @@ pub fn use_device<'a, R: Locks + Net + Clock + AllocGlobal, E: Write + IsTermina
     Ok(answer.beside(rt.alloc(), options.table)?)
 }
 
-/// Tells on a terminal what is to be known before a device is opened: that the journal of a write or an erase isn't there yet,
-/// as one isn't whose name was mistyped; and of an image's bytes of an erase.
+/// Tells on a terminal what is to be known before a device is opened: that the journal of a
+/// write or an erase isn't there yet, as one isn't whose name was mistyped; and of an
+/// image's bytes of an erase.
 fn tell_notes<R: Files, E: Write + IsTerminal>(
     rt: &R,
     options: &Options,

@@ -1,5 +1,6 @@
 // Bytes that are put on a line one by one, and sent together.
-ghost use Rattle.std.specs.Prelude.{◌≡◌, ◌≤◌, ◌++◌, ◌∷◌, [], List, ℕ, OnOk, length, take, MatchBool};
+ghost use Rattle.std.specs.Prelude.{◌≡◌, ◌≤◌, ◌++◌, ◌∷◌, [], List, ℕ, OnOk, length, take};
+ghost use Rattle.std.specs.Prelude.{MatchBool};
 ghost use Rattle.std.specs.Io.KnownBytes.{Appends, Keeps};
 ghost use Rattle.stmflash.specs.Outgoing.{SendsInTurn};
 
@@ -49,7 +50,8 @@ impl Outgoing {
         true
     }
 
-    /// Sends what waits, in one call where the stream takes it so. Nothing waits then, also where this failed.
+    /// Sends what waits, in one call where the stream takes it so. Nothing waits
+    /// then, also where this failed.
     pub fn send<S: Write>(&mut self, stream: &mut S) -> io::Result<()>
         ensures sent { OnOk result
             (Appends (S.contents stream.old) (S.contents stream.new) self.old) }

@@ -25,8 +25,8 @@ pub enum Output<'a, R: Files> {
 }
 
 impl<'a, R: Files + AllocGlobal> Output<'a, R> {
-    /// The output among the files that are named. It is tried whether it can be written: a file is opened, and stays as it is;
-    /// and one is made beside it, and removed.
+    /// The output among the files that are named. It is tried whether it can be written: a file is
+    /// opened, and stays as it is; and one is made beside it, and removed.
     pub fn open(rt: &R, files: NamedFiles<'a>) -> Result<Output<'a, R>, Failure<'a>> {
         let Some(name) = files.out() else {
             return Ok(Output::Printed);
@@ -69,8 +69,9 @@ impl<'a, R: Files + AllocGlobal> Output<'a, R> {
     }
 }
 
-/// Puts bytes in a file, in place of what it held: all of them, or, where this fails or is broken off, none. The names are
-/// compared once more, since files were made by now, and links may have been.
+/// Puts bytes in a file, in place of what it held: all of them, or, where this fails or
+/// is broken off, none. The names are compared once more, since files were made by now,
+/// and links may have been.
 fn replace<'a, R: Files + AllocGlobal>(
     rt: &R,
     name: &'a str,

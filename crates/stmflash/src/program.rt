@@ -13,10 +13,11 @@ use std::net::Net;
 use std::time::Clock;
 use stm_words::{Environment, Request, Unread, read_request};
 
-/// Runs the program on its words, the first of which is its name, and on what stands in the place of words. It answers the
-/// exit status: 0 where all was done or help was asked for, 1 after a fault, 2 where the words can't be done, 3 where a
-/// simulator was stopped. A fault is one line on `err`, whatever the names in it; of words that `clap` refuses its text stands
-/// there. While a line or a journal is open nothing is printed but what goes on, where that is shown.
+/// Runs the program on its words, the first of which is its name, and on what stands in the place
+/// of words. It answers the exit status: 0 where all was done or help was asked for, 1 after a
+/// fault, 2 where the words can't be done, 3 where a simulator was stopped. A fault is one line on
+/// `err`, whatever the names in it; of words that `clap` refuses its text stands there. While a
+/// line or a journal is open nothing is printed but what goes on, where that is shown.
 pub fn program<'a, R: Locks + Net + Clock + AllocGlobal, O: Write, E: Write + IsTerminal>(
     rt: &R,
     environment: Environment<'a>,
@@ -43,7 +44,8 @@ pub fn program<'a, R: Locks + Net + Clock + AllocGlobal, O: Write, E: Write + Is
     }
 }
 
-/// Tells a fault, in one line that is written at once. Where there is no memory for the line, it is written in parts.
+/// Tells a fault, in one line that is written at once. Where there is no memory for the
+/// line, it is written in parts.
 pub fn fail<R: AllocGlobal, E: Write>(rt: &R, failure: &Failure, err: &mut E) -> u8 {
     let _ = match format!(in rt.alloc(); "stmflash: {}\n", Escaped(failure)) {
         Ok(line) => err.write_all(line.as_bytes()),
@@ -65,8 +67,8 @@ fn print_answer<R: AllocGlobal, O: Write, E: Write>(
     }
 }
 
-/// Prints an answer as one text, so that who takes a line of it and goes has taken none of its parts. Where there is no memory
-/// for the text, it is printed in parts.
+/// Prints an answer as one text, so that who takes a line of it and goes has taken none of its
+/// parts. Where there is no memory for the text, it is printed in parts.
 fn print_at_once<R: AllocGlobal, O: Write>(rt: &R, answer: &Answer, out: &mut O) -> io::Result<()> {
     let mut text = Vec::new(rt.alloc());
     match answer.print(&mut text) {

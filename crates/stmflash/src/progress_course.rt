@@ -130,7 +130,8 @@ impl<'a> Course<'a> {
         self.place
     }
 
-    /// Takes up what a call told, and answers whether another page is begun, or something else is done with this one.
+    /// Takes up what a call told, and answers whether another page is begun, or something
+    /// else is done with this one.
     pub fn see(&mut self, seen: Seen) -> bool {
         match seen {
             Seen::Id(id) => {

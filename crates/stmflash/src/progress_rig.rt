@@ -8,8 +8,8 @@ use std::io::Write;
 use std::time::Clock;
 use stm_wire::{Patience, Rig, RigFault};
 
-/// A Rig whose calls are shown as they go on. Each call is the inner Rig's, and so is what it tells of itself: what is
-/// promised on the inner one is promised on this one.
+/// A Rig whose calls are shown as they go on. Each call is the inner Rig's, and so is what it tells
+/// of itself: what is promised on the inner one is promised on this one.
 #[derive(Drop)]
 pub struct ProgressRig<'a, L: Rig + Drop, W: Drop, C> {
     inner: L,

@@ -25,8 +25,8 @@ pub enum Style {
 }
 
 impl Style {
-    /// How a session is shown on standard error. Nothing is where that can't be written, or is the journal: a file that is
-    /// opened later has the number of one that is closed.
+    /// How a session is shown on standard error. Nothing is where that can't be written, or is the
+    /// journal: a file that is opened later has the number of one that is closed.
     pub fn of<R: Files, E: Write + IsTerminal>(rt: &R, options: &Options, err: &mut E) -> Style
         ensures silent { options.now.progress ≡ Silent → result ≡ Hidden }
     {

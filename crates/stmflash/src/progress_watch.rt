@@ -26,7 +26,8 @@ const READ: u8 = 0x11;
 
 const WRITE: u8 = 0x31;
 
-/// How many bytes a line of the journal has at most that names a page without its bytes, and what may stand before it.
+/// How many bytes a line of the journal has at most that names a page without its bytes, and
+/// what may stand before it.
 const SHORT: usize = 20;
 
 /// What was put since the last get, and what came since the last command.

@@ -17,8 +17,8 @@ const ALONE: u32 = 0o600;
 /// Who may use a file that takes no other's place, as far as the process's mask lets them.
 const ANYONE: u32 = 0o666;
 
-/// Bytes that stand on the disk beside a file, ready to take its place: all of them, or, where that fails or never comes,
-/// none. What a symbolic link names is replaced, and the link stays.
+/// Bytes that stand on the disk beside a file, ready to take its place: all of them, or, where that
+/// fails or never comes, none. What a symbolic link names is replaced, and the link stays.
 #[derive(Drop)]
 pub struct Replacement<R: Files> {
     target: PathBuf,
@@ -27,8 +27,8 @@ pub struct Replacement<R: Files> {
 }
 
 impl<R: Files + AllocGlobal> Replacement<R> {
-    /// Writes bytes beside the file of this name, and puts them on the disk. Where that file is there, its mode is kept, and
-    /// its owner and group as far as the system lets them.
+    /// Writes bytes beside the file of this name, and puts them on the disk. Where that file is
+    /// there, its mode is kept, and its owner and group as far as the system lets them.
     pub fn prepare(rt: &R, name: &str, bytes: &[u8]) -> io::Result<Replacement<R>> {
         let target = resolve(rt, name)?;
         let (beside, mut file) = create_beside(rt, target.as_path().as_str())?;
@@ -76,7 +76,8 @@ impl<R: Files + AllocGlobal> Replacement<R> {
         Ok(file)
     }
 
-    /// Takes the place where no file is, and answers the file, open; none where one was made there in the meantime.
+    /// Takes the place where no file is, and answers the file, open; none where one was
+    /// made there in the meantime.
     pub fn place_new(self, rt: &R) -> io::Result<Option<R::File>> {
         let Replacement {
             target,
@@ -149,7 +150,8 @@ fn fill<R: Files>(
     file.sync_all()
 }
 
-/// Gives a file the owner, the group and the mode that another has; the first two as far as the system lets them.
+/// Gives a file the owner, the group and the mode that another has; the first two as far
+/// as the system lets them.
 fn keep_rights<R: Files>(
     rt: &R,
     told: &Metadata,

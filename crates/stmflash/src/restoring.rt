@@ -40,7 +40,8 @@ fn feed(rig: &mut MemoryRig, byte: u8) -> Result<(), AllocError>
 
 /// Whether the simulator is connected, with a rest of this many bytes.
 fn has_rest(rig: &MemoryRig, size: usize) -> bool
-    ensures { IsTrue result → (rest : List ℕ) × (rig.now.device.phase ≡ Connected rest) × (length rest ≡ size) }
+    ensures { IsTrue result
+        → (rest : List ℕ) × (rig.now.device.phase ≡ Connected rest) × (length rest ≡ size) }
 {
     match rig.rest() {
         Some(rest) => rest.len() == size,
@@ -48,8 +49,8 @@ fn has_rest(rig: &MemoryRig, size: usize) -> bool
     }
 }
 
-/// Feeds bytes to a simulator that waits for a command. They have to stay in its rest: false where one of them ended a
-/// list.
+/// Feeds bytes to a simulator that waits for a command. They have to stay in its rest: false where
+/// one of them ended a list.
 fn lengthen(rig: &mut MemoryRig, bytes: &[u8]) -> Result<bool, AllocError>
     requires { IsSettled rig.old.device }
     ensures { IfOk result (λ stays. IsTrue stays
@@ -69,7 +70,8 @@ fn lengthen(rig: &mut MemoryRig, bytes: &[u8]) -> Result<bool, AllocError>
 /// Lets a simulator that waits for a command leave the bootloader, for its flash's first byte.
 fn leave(rig: &mut MemoryRig, base: u32) -> Result<bool, AllocError>
     requires { IsSettled rig.old.device }
-    ensures { IfOk result (λ left. IsTrue left → Becomes (standing_at Gone rig.old.device) rig.old rig.new) }
+    ensures { IfOk result
+        (λ left. IsTrue left → Becomes (standing_at Gone rig.old.device) rig.old rig.new) }
 {
     let [a, b, c, d] = base.to_be_bytes();
     if !lengthen(rig, &[GO, !GO, a, b, c, d])? {
@@ -79,8 +81,8 @@ fn leave(rig: &mut MemoryRig, base: u32) -> Result<bool, AllocError>
     Ok(rig.is_gone())
 }
 
-/// Brings a fresh simulator, whose flash begins at this base, to where it stood. False where the bytes of its rest don't
-/// all stay there, so that no device stands so.
+/// Brings a fresh simulator, whose flash begins at this base, to where it stood. False where the
+/// bytes of its rest don't all stay there, so that no device stands so.
 pub fn stand(rig: &mut MemoryRig, standing: &Standing, base: u32) -> Result<bool, AllocError>
     requires fresh { rig.old.device.phase ≡ Fresh }
     requires owes_nothing { rig.old.device.owed ≡ [] }

@@ -27,8 +27,8 @@ const SLOW: u64 = 10;
 /// How many bytes are read and written at a time.
 const ROOM: usize = 512;
 
-/// Takes bytes that come, as many as there are and the buffer holds, and answers how many: none at the end of input, or where a
-/// read failed.
+/// Takes bytes that come, as many as there are and the buffer holds, and answers how many: none at
+/// the end of input, or where a read failed.
 fn read_some<R: Read>(reader: &mut R, bytes: &mut [u8]) -> usize
     ensures within { result ≤ length bytes.old }
     ensures length { length bytes.new ≡ length bytes.old }
@@ -72,7 +72,8 @@ fn take_owed(sim: &mut Simulator, owed: &mut [u8]) -> usize
     count
 }
 
-/// Writes the bytes that the simulator owes, as many at a time as there is room for. False where a write failed.
+/// Writes the bytes that the simulator owes, as many at a time as there is room for.
+/// False where a write failed.
 fn write_owed<W: Write>(sim: &mut Simulator, writer: &mut W) -> bool
     ensures { sim.new ≡ record sim.old { owed = sim.new.owed } }
 {
@@ -89,8 +90,8 @@ fn write_owed<W: Write>(sim: &mut Simulator, writer: &mut W) -> bool
     false
 }
 
-/// Takes the bytes that came, feeds them, and writes the bytes owed. False at the end of input, or where a read, a write or a
-/// step failed.
+/// Takes the bytes that came, feeds them, and writes the bytes owed. False at the end of input, or
+/// where a read, a write or a step failed.
 pub fn serve_bytes<R: Read, W: Write>(sim: &mut Simulator, reader: &mut R, writer: &mut W) -> bool
     ensures { IsTrue result → (bytes : List ℕ) × (0 < length bytes)
         × Consumes (R.remaining reader.old) (R.remaining reader.new) bytes
@@ -130,7 +131,8 @@ pub fn serve<'a, R: Locks + Net + AllocGlobal>(
     Ok(Answer::Nothing)
 }
 
-/// Refuses a socket that is one of the simulator's files, and files of which one is the table or the other.
+/// Refuses a socket that is one of the simulator's files, and files of which one
+/// is the table or the other.
 fn check<'a, R: Files + AllocGlobal>(rt: &R, served: &Served<'a>) -> Result<(), Failure<'a>> {
     let line = line_name(rt.alloc(), served.flash)?;
     if is_same_file(rt, served.flash, served.table) {
@@ -161,8 +163,8 @@ fn accept(listener: &UnixListener) -> io::Result<UnixStream> {
     Err(io::Error::from(ErrorKind::Interrupted))
 }
 
-/// Serves one client after the other, and writes the simulator's files after each. A client that goes, or takes no reply for a
-/// while, leaves the device with its rest.
+/// Serves one client after the other, and writes the simulator's files after each. A client that
+/// goes, or takes no reply for a while, leaves the device with its rest.
 fn serve_clients<'a, R: Locks + AllocGlobal>(
     rt: &R,
     sim: &mut Simulator,

@@ -2,19 +2,22 @@
 ghost use Rattle.std.specs.Prelude.{◌≡◌, option_map};
 ghost use Rattle.std.specs.Duration.{as_nanos};
 ghost use Rattle.std.specs.Time.{instant_nanos};
-ghost use Rattle.stmflash.specs.ShortWaits.{WaitsData, no_waits, with_put, with_get, is_over_at, is_over_in};
+ghost use Rattle.stmflash.specs.ShortWaits.{WaitsData, no_waits, with_put, with_get, is_over_at};
+ghost use Rattle.stmflash.specs.ShortWaits.{is_over_in};
 
 use std::marker::Model;
 use std::mem;
 use std::time::{Duration, Instant};
 use stm_wire::Patience;
 
-/// How many gets go on before anything is over: a bootloader that is settled byte by byte has refused one long before.
+/// How many gets go on before anything is over: a bootloader that is settled byte by byte has
+/// refused one long before.
 const FEWEST: u32 = 16;
 
-/// The short gets on a line that follow one another, with one byte put between two of them or none, as draining and
-/// settling byte by byte have them. They are over once there were 16 and they have gone on for so long: no bootloader
-/// needs as many. A get that waits long ends them, and so does a batch of bytes, to which a device may owe no reply.
+/// The short gets on a line that follow one another, with one byte put between two of them or none,
+/// as draining and settling byte by byte have them. They are over once there were 16 and they have
+/// gone on for so long: no bootloader needs as many. A get that waits long ends them, and so does a
+/// batch of bytes, to which a device may owe no reply.
 #[derive(Drop)]
 pub struct ShortWaits {
     limit: Option<Duration>,

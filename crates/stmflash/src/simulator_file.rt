@@ -1,4 +1,5 @@
-// A simulator between two runs of the program: its flash is in a file, and where it stands in another beside it.
+// A simulator between two runs of the program: its flash is in a file, and where it
+// stands in another beside it.
 ghost use Rattle.std.specs.Prelude.{◌≡◌, length, IfOk, IfSome};
 ghost use Rattle.stm_wire.specs.Chip.{flash_size};
 ghost use Rattle.stm_wire.specs.Memory.{rig_state};
@@ -33,8 +34,8 @@ pub struct StoredSimulator {
     ghost is_whole: { length flash.items ≡ flash_size chip },
 }
 
-/// The two files of a simulator, which this program has for itself: the flash's is locked from before it is read until this is
-/// dropped.
+/// The two files of a simulator, which this program has for itself: the flash's is locked from
+/// before it is read until this is dropped.
 #[derive(Drop)]
 pub struct SimulatorFiles<'r, 'a, R: Files> {
     rt: &'r R,
@@ -47,10 +48,12 @@ pub struct SimulatorFiles<'r, 'a, R: Files> {
 }
 
 impl StoredSimulator {
-    /// The simulator, standing as it was left, beside a journal of these bytes. None where a device never stands so.
+    /// The simulator, standing as it was left, beside a journal of these bytes. None where
+    /// a device never stands so.
     pub fn start(self, alloc: Global, journal: Vec<u8>) -> Result<Option<MemoryRig>, AllocError>
         ensures { IfOk result (λ started. IfSome started (λ rig.
-            StandsSo (simulator_at self.chip self.flash.items (phase_of self.standing)) journal.items rig)) }
+            StandsSo (simulator_at self.chip self.flash.items (phase_of self.standing))
+            journal.items rig)) }
     {
         let StoredSimulator {
             chip,
@@ -132,8 +135,8 @@ impl<'r, 'a, R: Locks + AllocGlobal> SimulatorFiles<'r, 'a, R> {
         }
     }
 
-    /// The simulator that the two files hold. A flash that isn't there is erased, and without the other file the device is
-    /// fresh.
+    /// The simulator that the two files hold. A flash that isn't there is erased, and without the
+    /// other file the device is fresh.
     pub fn load(&mut self, chip: Chip) -> Result<StoredSimulator, Failure<'a>> {
         let alloc = self.rt.alloc();
         let size = chip.flash_size() as usize;
@@ -219,9 +222,10 @@ impl<'r, 'a, R: Locks + AllocGlobal> SimulatorFiles<'r, 'a, R> {
         self.store(rig.flash(), line.as_slice())
     }
 
-    /// Writes both files. All bytes stand on the disk before either is replaced. Then the line's file is removed, the flash's
-    /// replaced, and the line's made again: whatever is left by a program that was killed in between, no line stands beside a
-    /// flash that it isn't of, and a device without a line is fresh.
+    /// Writes both files. All bytes stand on the disk before either is replaced. Then the line's
+    /// file is removed, the flash's replaced, and the line's made again: whatever is left by a
+    /// program that was killed in between, no line stands beside a flash that it isn't of, and a
+    /// device without a line is fresh.
     pub fn store(&mut self, flash: &[u8], line: &[u8]) -> Result<(), Failure<'a>> {
         let flash = match Replacement::prepare(self.rt, self.file, flash) {
             Ok(beside) => beside,
@@ -258,7 +262,8 @@ impl<'r, 'a, R: Locks + AllocGlobal> SimulatorFiles<'r, 'a, R> {
         }
     }
 
-    /// Refuses to take the place of the journal: since names were compared it was made, and links may have been.
+    /// Refuses to take the place of the journal: since names were compared it was made,
+    /// and links may have been.
     fn check(&self, flash: &str, line: &str) -> Result<(), Failure<'a>> {
         let Some(journal) = self.journal else {
             return Ok(());

@@ -3,9 +3,11 @@ ghost use Rattle.std.specs.Prelude.{◌≡◌, ◌≤◌, drop, length, OnErr, O
 ghost use Rattle.std.specs.Io.KnownBytes.{Appends};
 ghost use Rattle.std.proofs.Common.{refl};
 ghost use Rattle.stm_wire.specs.Memory.{PutsInMemory, GetsInMemory, rig_state};
-ghost use Rattle.stm_wire.specs.Rig.{AppendsHonestly, FetchesHonestly, FetchesWithin, GetsHonestly, HasCause, PutsHonestly, Records, entry_of_get};
+ghost use Rattle.stm_wire.specs.Rig.{AppendsHonestly, FetchesHonestly, FetchesWithin, GetsHonestly};
+ghost use Rattle.stm_wire.specs.Rig.{HasCause, PutsHonestly, Records, entry_of_get};
 ghost use Rattle.stm_wire.specs.Rig.{Enters, FetchesAside, GetsAside, PutsAside};
-ghost use Rattle.stmflash.specs.SimulatorRig.{SimulatorState, simulator_rig_state, AppendsToFile, FetchesUnlessFailed};
+ghost use Rattle.stmflash.specs.SimulatorRig.{SimulatorState, simulator_rig_state, AppendsToFile};
+ghost use Rattle.stmflash.specs.SimulatorRig.{FetchesUnlessFailed};
 ghost use Rattle.stmflash.specs.SimulatorRigLaws.{follows};
 
 use crate::journal_file::JournalFile;
@@ -17,12 +19,14 @@ use std::io::ErrorKind;
 use std::marker::Model;
 use stm_wire::{MemoryRig, Patience, Rig, RigCall, RigFault};
 
-/// A simulated device, and a journal kept in a file. The device, the steps to a stop and the record are those of a Rig in
-/// memory, which also holds the journal's bytes: each append goes to it first, and by what its journal grew, the file
-/// grows too. After the file has failed once, no journal byte is added or told any more.
+/// A simulated device, and a journal kept in a file. The device, the steps to a stop and the record
+/// are those of a Rig in memory, which also holds the journal's bytes: each append goes to it
+/// first, and by what its journal grew, the file grows too. After the file has failed once, no
+/// journal byte is added or told any more.
 ///
-/// It follows the model, and the journal in memory is the model's. No contract says what a file holds: an append that the
-/// file refused stands whole in memory, and a beginning of it in the file.
+/// It follows the model, and the journal in memory is the model's. No contract says
+/// what a file holds: an append that the file refused stands whole in memory, and a
+/// beginning of it in the file.
 #[derive(Drop)]
 pub struct SimulatorRig<'a, 'f, R: Files> {
     memory: MemoryRig,
@@ -36,7 +40,8 @@ pub struct SimulatorRig<'a, 'f, R: Files> {
 impl<'a, 'f, R: Files> Model for SimulatorRig<'a, 'f, R> {
     ghost Value = { SimulatorState };
 
-    ghost view = { λ rig. record { memory = rig.memory; file = rig.file; journal_failures = rig.journal_failures } };
+    ghost view = { λ rig.
+        record { memory = rig.memory; file = rig.file; journal_failures = rig.journal_failures } };
 }
 
 impl<'a, 'f, R: Locks + AllocGlobal> SimulatorRig<'a, 'f, R> {
@@ -46,7 +51,8 @@ impl<'a, 'f, R: Locks + AllocGlobal> SimulatorRig<'a, 'f, R> {
         file: JournalFile<'a, R>,
         simulator: SimulatorFiles<'a, 'f, R>,
     ) -> SimulatorRig<'a, 'f, R>
-        ensures starts { result ≡ record { memory = memory; file = file.entry; journal_failures = 0 } }
+        ensures starts { result
+            ≡ record { memory = memory; file = file.entry; journal_failures = 0 } }
         ensures honest { (rig_state memory).is_honest → (simulator_rig_state result).is_honest }
     {
         SimulatorRig {
@@ -66,7 +72,8 @@ impl<'a, 'f, R: Locks + AllocGlobal> SimulatorRig<'a, 'f, R> {
         (self.memory, self.file, self.simulator)
     }
 
-    /// Whether the simulator's files were to be written before a line of the journal, and couldn't be.
+    /// Whether the simulator's files were to be written before a line of the
+    /// journal, and couldn't be.
     pub fn is_unstored(&self) -> bool {
         self.is_unstored
     }
@@ -84,8 +91,9 @@ impl<'a, 'f, R: Locks + AllocGlobal> SimulatorRig<'a, 'f, R> {
         answer
     }
 
-    /// Adds to the file what the journal in memory has from this place on. A line that says that a segment was taken back goes
-    /// there once the simulator's files hold the flash that this left: else the way back would be lost with them.
+    /// Adds to the file what the journal in memory has from this place on. A line that says that a
+    /// segment was taken back goes there once the simulator's files hold the flash that this left:
+    /// else the way back would be lost with them.
     fn append_to_file(&mut self, start: usize) -> io::Result<()>
         requires { start ≤ length self.old.memory.journal }
         ensures added { OnOk result (Appends
@@ -132,7 +140,8 @@ impl<'a, 'f, R: Locks + AllocGlobal> Rig for SimulatorRig<'a, 'f, R> {
             ≡ (simulator_rig_state self.old).journal_failures }
         ensures recorded { Records (RigCall.Put byte) result
             (simulator_rig_state self.old).calls (simulator_rig_state self.new).calls }
-        ensures entered { Enters (RigCall.Put byte) (simulator_rig_state self.old) (simulator_rig_state self.new) }
+        ensures entered { Enters (RigCall.Put byte) (simulator_rig_state self.old)
+            (simulator_rig_state self.new) }
         ensures aside { PutsAside (simulator_rig_state self.old) (simulator_rig_state self.new) }
         ensures honest { (simulator_rig_state self.old).is_honest
             → PutsHonestly byte result
@@ -151,8 +160,10 @@ impl<'a, 'f, R: Locks + AllocGlobal> Rig for SimulatorRig<'a, 'f, R> {
             ≡ (simulator_rig_state self.old).journal_failures }
         ensures recorded { Records (entry_of_get result) result
             (simulator_rig_state self.old).calls (simulator_rig_state self.new).calls }
-        ensures entered { Enters (entry_of_get result) (simulator_rig_state self.old) (simulator_rig_state self.new) }
-        ensures aside { GetsAside patience (simulator_rig_state self.old) (simulator_rig_state self.new) }
+        ensures entered { Enters (entry_of_get result) (simulator_rig_state self.old)
+            (simulator_rig_state self.new) }
+        ensures aside { GetsAside patience (simulator_rig_state self.old)
+            (simulator_rig_state self.new) }
         ensures honest { (simulator_rig_state self.old).is_honest
             → GetsHonestly result
             (simulator_rig_state self.old) (simulator_rig_state self.new) }
@@ -170,7 +181,8 @@ impl<'a, 'f, R: Locks + AllocGlobal> Rig for SimulatorRig<'a, 'f, R> {
             ≡ (simulator_rig_state self.old).line_failures }
         ensures recorded { Records (RigCall.Append (length bytes.now)) result
             (simulator_rig_state self.old).calls (simulator_rig_state self.new).calls }
-        ensures entered { Enters (RigCall.Append (length bytes.now)) (simulator_rig_state self.old) (simulator_rig_state self.new) }
+        ensures entered { Enters (RigCall.Append (length bytes.now)) (simulator_rig_state self.old)
+            (simulator_rig_state self.new) }
         ensures aside { PutsAside (simulator_rig_state self.old) (simulator_rig_state self.new) }
         ensures honest { (simulator_rig_state self.old).is_honest
             → AppendsHonestly bytes.now result
@@ -198,8 +210,10 @@ impl<'a, 'f, R: Locks + AllocGlobal> Rig for SimulatorRig<'a, 'f, R> {
             ≡ (simulator_rig_state self.old).line_failures }
         ensures recorded { Records RigCall.Fetch result
             (simulator_rig_state self.old).calls (simulator_rig_state self.new).calls }
-        ensures entered { Enters RigCall.Fetch (simulator_rig_state self.old) (simulator_rig_state self.new) }
-        ensures aside { FetchesAside buf.new result (simulator_rig_state self.old) (simulator_rig_state self.new) }
+        ensures entered { Enters RigCall.Fetch (simulator_rig_state self.old)
+            (simulator_rig_state self.new) }
+        ensures aside { FetchesAside buf.new result (simulator_rig_state self.old)
+            (simulator_rig_state self.new) }
         ensures honest { (simulator_rig_state self.old).is_honest
             → FetchesHonestly at buf.old buf.new result
             (simulator_rig_state self.old) (simulator_rig_state self.new) }

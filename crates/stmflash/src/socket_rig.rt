@@ -50,7 +50,8 @@ impl<'a, S: Timed + Drop, R: Locks + Clock + AllocGlobal> SocketRig<'a, S, R> {
         }
     }
 
-    /// Whether the device was given up: it answered nothing for too long, or didn't take what was sent.
+    /// Whether the device was given up: it answered nothing for too long, or
+    /// didn't take what was sent.
     pub fn has_given_up(&self) -> bool {
         self.line.has_given_up()
     }

@@ -1,9 +1,11 @@
 // Where a simulator stands between two runs, and the line of its file that says so.
-ghost use Rattle.std.specs.Prelude.{◌≡◌, ◌&&◌, ◌||◌, nat_le, nat_lt, length, option_map, IfOk, List, ℕ};
+ghost use Rattle.std.specs.Prelude.{◌≡◌, ◌&&◌, ◌||◌, nat_le, nat_lt, length, option_map, IfOk};
+ghost use Rattle.std.specs.Prelude.{List, ℕ};
 ghost use Rattle.std.specs.List.{list_all};
 ghost use Rattle.std.specs.Result.{result_ok};
 ghost use Rattle.hex.specs.Hex.{decode_of, encode_upper};
-ghost use Rattle.stmflash.specs.Standing.{are_upper_digits, is_upper_digit, line_of, phase_from, phase_of, rest_of_digits, standing_of};
+ghost use Rattle.stmflash.specs.Standing.{are_upper_digits, is_upper_digit, line_of, phase_from};
+ghost use Rattle.stmflash.specs.Standing.{phase_of, rest_of_digits, standing_of};
 
 use hex::FromHexError;
 use std::alloc::{AllocError, Global};
@@ -61,8 +63,8 @@ fn rest_of(alloc: Global, digits: &[u8]) -> Result<Option<Standing>, AllocError>
 }
 
 impl Standing {
-    /// What a line says: `fresh`, `idle`, `gone`, or `rest` and the rest's bytes in upper-case digits. None where it has
-    /// another form.
+    /// What a line says: `fresh`, `idle`, `gone`, or `rest` and the rest's bytes in upper-case
+    /// digits. None where it has another form.
     pub fn parse(alloc: Global, line: &[u8]) -> Result<Option<Standing>, AllocError>
         ensures { IfOk result (λ standing. option_map phase_of standing ≡ standing_of line.now) }
     {
@@ -87,7 +89,8 @@ impl Standing {
 
 /// The line of a device that is gone, or else connected with this rest, or else fresh.
 pub fn line_of(alloc: Global, is_gone: bool, rest: Option<&[u8]>) -> Result<Vec<u8>, AllocError>
-    ensures { IfOk result (λ line. line.items ≡ line_of (phase_from is_gone (option_map (λ r. r.now) rest.entry))) }
+    ensures { IfOk result
+        (λ line. line.items ≡ line_of (phase_from is_gone (option_map (λ r. r.now) rest.entry))) }
 {
     if is_gone {
         return Vec::from_slice(alloc, GONE);

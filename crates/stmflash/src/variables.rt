@@ -36,7 +36,8 @@ impl Variables {
         })
     }
 
-    /// What stands in the place of words. Where no variable names a table, it is the installed one, where there is one.
+    /// What stands in the place of words. Where no variable names a table, it is the installed
+    /// one, where there is one.
     pub fn environment<R: Files>(&self, rt: &R) -> Environment<'_> {
         Environment {
             table: match &self.table {

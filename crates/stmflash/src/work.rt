@@ -39,7 +39,8 @@ impl Work {
         )
     }
 
-    /// Whether it writes an image whose bytes a device that loses power in the midst would take for an erase.
+    /// Whether it writes an image whose bytes a device that loses power in the midst
+    /// would take for an erase.
     pub fn writes_false_erases(&self) -> bool {
         match self {
             Work::Act(Action::Write(content)) | Work::Act(Action::WriteAndVerify(content)) => {
