@@ -1,8 +1,10 @@
 //! Does one job of a layer, so that a script of `bench/` can time it.
 //!
-//! - `touched TABLE ID RAW TIMES` looks up, so many times, the pages of a chip that an image of its whole flash touches.
+//! - `touched TABLE ID RAW TIMES` looks up, so many times, the pages of a chip that an image of
+//!   its whole flash touches.
 //! - `load TABLE ID JOURNAL` loads a journal.
-//! - `settle TABLE ID LIMIT TIMES` settles a device that was reset, so many times, with so many bytes that it ignores.
+//! - `settle TABLE ID LIMIT TIMES` settles a device that was reset, so many times, with so
+//!   many bytes that it ignores.
 //!
 //! ID is decimal.
 #![tactic(auto)]

@@ -1,7 +1,9 @@
-//! Changes a device in memory and takes it back, so that `tools/allocations` can refuse each of its allocations in turn.
+//! Changes a device in memory and takes it back, so that `tools/allocations` can refuse each of
+//! its allocations in turn.
 //!
-//! It says one line, whatever was refused, where each call answered as it may, the flash was what each Ok answer promises, and in
-//! the end what it was at first; and otherwise what was wrong, with status 1. With a word it says each answer before that.
+//! It says one line, whatever was refused, where each call answered as it may, the flash was what
+//! each Ok answer promises, and in the end what it was at first; and otherwise what was wrong, with
+//! status 1. With a word it says each answer before that.
 #![tactic(auto)]
 
 use std::alloc::Global;
@@ -31,7 +33,8 @@ enum Change {
     Erase,
 }
 
-/// The changes of each case, of which each is a segment. The flash is 00 at first, and there is no journal.
+/// The changes of each case, of which each is a segment. The flash is 00 at first,
+/// and there is no journal.
 const CASES: [&[Change]; 3] = [
     &[Change::Write([1, 2, 3, 4])],
     &[Change::Erase],

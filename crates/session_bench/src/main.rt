@@ -1,9 +1,10 @@
-//! Does sessions over a simulator in memory, so that a script of `bench/` can time them, and tells what the last of them put on
-//! the line.
+//! Does sessions over a simulator in memory, so that a script of `bench/` can time them, and tells
+//! what the last of them put on the line.
 //!
-//! `VERB TABLE ID RAW` makes a device of the table's chip ID (decimal) with an erased flash. VERB is `nothing`, or the last of
-//! these calls, of which those before it are made too: `write` writes the raw file from the chip's base on; then `rewrite`
-//! writes it again, `verify` compares it, `read` reads as many bytes, or `undo` takes all back.
+//! `VERB TABLE ID RAW` makes a device of the table's chip ID (decimal) with an erased flash. VERB
+//! is `nothing`, or the last of these calls, of which those before it are made too: `write` writes
+//! the raw file from the chip's base on; then `rewrite` writes it again, `verify` compares it,
+//! `read` reads as many bytes, or `undo` takes all back.
 #![tactic(auto)]
 
 use std::{env, fs, io};
@@ -24,7 +25,8 @@ struct Bench {
     size: u32,
 }
 
-// A device of the table's chip with this number, and the image of this file, or `None` once it is told what is wrong.
+// A device of the table's chip with this number, and the image of this file, or `None` once
+// it is told what is wrong.
 fn bench_of(rt: &HostRuntime, name: &str, id: &str, raw: &str) -> io::Result<Option<Bench>> {
     let text = fs::read(rt, name)?;
     let bytes = fs::read(rt, raw)?;
@@ -88,7 +90,8 @@ impl Bench {
         }
     }
 
-    // What the calls from this one on put on the line: bytes put, bytes that came, and how often the line turned.
+    // What the calls from this one on put on the line: bytes put, bytes that came, and
+    // how often the line turned.
     fn tell(&self, rt: &HostRuntime, start: usize) -> io::Result<()> {
         let mut puts = 0u64;
         let mut gets = 0u64;

@@ -182,8 +182,8 @@ fn commands_that_are_stopped_are_taken_back(rt: HostRuntime) -> Result<(), Fail>
     Ok(())
 }
 
-/// The same where the device loses its power behind the stop, after which the page of the command at
-/// work holds other bytes; and whether that page was spoilt.
+/// The same where the device loses its power behind the stop, after which the page of the command
+/// at work holds other bytes; and whether that page was spoilt.
 fn taken_back_unpowered(rt: &HostRuntime, steps: u64) -> Result<(u32, bool), Fail> {
     let table = table(rt)?;
     let mut rig = fresh_device(rt, &table)?;

@@ -1,9 +1,9 @@
 // A loss of power behind a stop in an erase or a write, and a second one behind a stop in its undo,
 // each with other bytes in the pages at risk; then an undo that ends.
 //
-// The stops of a run are behind its `erase` line, in its frame, and behind a part of what follows; its
-// steps were counted by the model of tools/soak. Those of the undo are behind some steps, and behind
-// as many as settle a device that was reset and has an intent.
+// The stops of a run are behind its `erase` line, in its frame, and behind a part of what follows;
+// its steps were counted by the model of tools/soak. Those of the undo are behind some steps, and
+// behind as many as settle a device that was reset and has an intent.
 use crate::devices::{is_same, table};
 use crate::every_stop::is_counted;
 use crate::stop_sweeps_wide::wide;

@@ -82,8 +82,8 @@ fn a_write_is_refused(rt: HostRuntime) -> Result<(), Fail> {
     Ok(())
 }
 
-// The longest list of such a chip: a count FF and 256 bytes, and then their check, which is refused.
-// The second batch ends in the midst of a pair, and a single byte ends that.
+// The longest list of such a chip: a count FF and 256 bytes, and then their check, which is
+// refused. The second batch ends in the midst of a pair, and a single byte ends that.
 #[test]
 fn a_write_of_256_bytes_is_refused(rt: HostRuntime) -> Result<(), Fail> {
     let acts = [

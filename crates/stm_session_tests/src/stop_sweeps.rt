@@ -154,7 +154,8 @@ fn lost_replies_do_no_harm(rt: HostRuntime) -> Result<(), Fail> {
     Ok(())
 }
 
-// A page at risk holds bytes that nobody wrote, and the device is fresh: two batches, and it is connected.
+// A page at risk holds bytes that nobody wrote, and the device is fresh: two
+// batches, and it is connected.
 #[test]
 fn pages_that_lost_their_power_come_back(rt: HostRuntime) -> Result<(), Fail> {
     for between in [Between::Power(0xA5, false), Between::Power(0x5A, true)] {

@@ -34,7 +34,8 @@ pub enum Between {
     /// So many of the bytes that it owes are lost, or all where it owes fewer.
     Lost(u32),
     Reset,
-    /// Its power: every page that the unfinished newest segment keeps, or just that of the intent, holds this byte then.
+    /// Its power: every page that the unfinished newest segment keeps, or just that of the
+    /// intent, holds this byte then.
     Power(u8, bool),
 }
 
@@ -177,8 +178,8 @@ fn lose_page(rt: &HostRuntime, rig: &mut MemoryRig, n: u16, byte: u8) -> Result<
     Ok(())
 }
 
-/// The device loses its power, and the pages at risk hold this byte everywhere: the intent's, or all that
-/// the unfinished newest segment keeps.
+/// The device loses its power, and the pages at risk hold this byte everywhere: the intent's, or
+/// all that the unfinished newest segment keeps.
 pub fn lose_power(rt: &HostRuntime, rig: &mut MemoryRig, byte: u8, all: bool) -> Result<(), Fail> {
     let Ok(journal) = Journal::load(rt.alloc(), rig) else {
         return Err(Fail::new("a bad journal"));

@@ -1,5 +1,6 @@
 // Each byte that comes during a write, and during its undo, comes as another, or gets lost, or is
-// the last to come: on a good line the flash then comes back. Hours of `rt try`, and seconds once built.
+// the last to come: on a good line the flash then comes back. Hours of
+// `rt try`, and seconds once built.
 use crate::stopped_runs::{Case, Change};
 use crate::troubled_runs::{TROUBLES, Troubled, first_failure};
 use std::test::Fail;

@@ -1,4 +1,5 @@
-//! Tests of images, chip tables and journals, each by what a library shows to its users: this crate holds nothing else.
+//! Tests of images, chip tables and journals, each by what a library shows to its users: this
+//! crate holds nothing else.
 #![tactic(auto)]
 
 #[cfg(test)]

@@ -8,7 +8,8 @@ fn next<L: Rig>(line: &mut L) -> Result<Option<u8>, RigFault> {
     line.get(Patience::Brief)
 }
 
-/// How many bytes of the journal a line gives from its beginning on, and what stands in the buffer then.
+/// How many bytes of the journal a line gives from its beginning on, and what
+/// stands in the buffer then.
 fn fetched<L: Rig>(line: &mut L) -> Result<(usize, [u8; 4]), RigFault> {
     let mut buf = [7; 4];
     let count = line.fetch(0, &mut buf)?;

@@ -20,7 +20,8 @@ fn rig_with(
     Ok(MemoryRig::new(alloc, chip, flash, Vec::new(alloc)).ok_or("length")?)
 }
 
-/// A Rig with chip 0412, or one of 256 pages of 256 bytes that is erased by 44; its flash is all `byte`.
+/// A Rig with chip 0412, or one of 256 pages of 256 bytes that is erased by 44;
+/// its flash is all `byte`.
 pub(crate) fn rig_of(alloc: Global, kind: EraseKind, byte: u8) -> Result<MemoryRig, Fail> {
     let layout = match kind {
         EraseKind::Page => (32, 1024),
@@ -29,7 +30,8 @@ pub(crate) fn rig_of(alloc: Global, kind: EraseKind, byte: u8) -> Result<MemoryR
     rig_with(alloc, 0x0412, layout, (kind, 0xFF), byte)
 }
 
-/// A Rig with a chip of four pages of 256 bytes whose erased places hold 00; its flash is all `byte`.
+/// A Rig with a chip of four pages of 256 bytes whose erased places hold 00;
+/// its flash is all `byte`.
 fn rig_erased_to_zero(alloc: Global, byte: u8) -> Result<MemoryRig, Fail> {
     rig_with(alloc, 0x0A03, (4, 256), (EraseKind::Page, 0x00), byte)
 }

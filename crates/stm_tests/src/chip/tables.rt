@@ -89,7 +89,8 @@ fn refuses_a_second_chip(rt: HostRuntime) -> Result<(), Fail> {
             "[[chip]]\nid = 0x410\nbase = 0x08000000\npages = [[32, 1024]]\nerase = \"page\"\n",
             TableFault::TwiceId(2),
         ),
-        // In one entry a broken limit comes before an id that was there; the first faulty entry decides.
+        // In one entry a broken limit comes before an id that was there; the
+        // first faulty entry decides.
         (
             "[[chip]]\nid = 0x410\nbase = 0\npages = [[32, 1024]]\nerase = \"page\"\n[[chip]]\n",
             TableFault::Limit(2),
@@ -208,7 +209,8 @@ fn reads_each_beginning(rt: HostRuntime) -> Result<(), Fail> {
             Err(other) => assert!(rt; false, "{other} at {end}"),
         }
     }
-    // A chip ends at its last quotation mark, at the end of that line and, but for the last chip, at the blank line.
+    // A chip ends at its last quotation mark, at the end of that line and, but for the last
+    // chip, at the blank line.
     assert_eq!(rt; read, 14);
     assert_eq!(rt; empty, 1);
     Ok(())

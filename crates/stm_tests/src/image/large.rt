@@ -12,8 +12,8 @@ const RECORDS: usize = 4375;
 /// How many bytes these have.
 const BYTES: usize = 70_000;
 
-/// An order of records: the first one, how far it is from each to the next, and how many there are. Past the last record
-/// the first one follows.
+/// An order of records: the first one, how far it is from each to the next, and how many there are.
+/// Past the last record the first one follows.
 #[derive(Clone, Copy)]
 struct Order {
     first: usize,

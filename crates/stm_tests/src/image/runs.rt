@@ -1,4 +1,5 @@
-// Runs: records that overlap, that go on after each other, and that end at the last address; what is laid, compared and copied.
+// Runs: records that overlap, that go on after each other, and that end at the last address; what
+// is laid, compared and copied.
 use crate::image::{fault, means};
 use std::test::Fail;
 use stm_image::{HexFault, Image, read_hex, read_raw, write_hex};

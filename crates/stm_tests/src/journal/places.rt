@@ -1,4 +1,5 @@
-// Kept pages found by their places, over Rigs that bring few bytes at once, or other bytes than before.
+// Kept pages found by their places, over Rigs that bring few bytes at once, or
+// other bytes than before.
 ghost use Rattle.std.specs.Prelude.{◌≡◌, ◌^◌, ◌-◌};
 ghost use Rattle.stm_wire.specs.Unmodelled.{unmodelled};
 
@@ -202,7 +203,8 @@ fn beginnings_are_never_bad(rt: HostRuntime) -> Result<(), Fail> {
     Ok(())
 }
 
-/// Lines longer than what is kept of a line: what says a page, and what is bad; and void with a mark behind.
+/// Lines longer than what is kept of a line: what says a page, and what is bad; and
+/// void with a mark behind.
 #[test]
 fn long_lines(rt: HostRuntime) -> Result<(), Fail> {
     let rows: [(&[u8], u8, bool); 6] = [

@@ -1,4 +1,5 @@
-// How long each get waits: the replies of a command may take as long as an erase, and a device that waits stays silent.
+// How long each get waits: the replies of a command may take as long as an erase, and a device
+// that waits stays silent.
 ghost use Rattle.std.specs.Prelude.{◌^◌, ◌-◌, Some};
 ghost use Rattle.stm_wire.specs.Unmodelled.{unmodelled};
 
@@ -82,7 +83,8 @@ impl Rig for Watch {
 #[test]
 fn settling_waits_briefly_but_for_the_reply_to_7f(rt: HostRuntime) -> Result<(), Fail> {
     let mut watch = Watch::new(rig_of(rt.alloc(), EraseKind::Page, 0xFF)?);
-    // The device is fresh and ignores the byte: a draining, a batch of fourteen bytes, two bytes, 7F, the byte twice.
+    // The device is fresh and ignores the byte: a draining, a batch of fourteen bytes, two
+    // bytes, 7F, the byte twice.
     assert_eq!(rt; settle(&mut watch, 0x05, 16), Ok(()));
     assert_eq!(rt; watch.waits(), (7, 1, 1));
     // Now it is settled, and refuses in the first batch.

@@ -70,8 +70,8 @@ fn stopped(alloc: Global, make: Make, fill: u8, bytes: &[u8]) -> Option<MemoryRi
 /// Replies of one kind: after so many bytes were put, this byte came so often.
 type Replies = (u32, u8, u32);
 
-/// How many bytes settling put after the first `before` calls, and how many runs of more than one byte with no get
-/// between; or None where the replies to them are not these.
+/// How many bytes settling put after the first `before` calls, and how many runs of more than one
+/// byte with no get between; or None where the replies to them are not these.
 fn puts_with_replies(calls: &[RigCall], before: usize, replies: &[Replies]) -> Option<(u32, u32)> {
     let mut puts = 0_u32;
     let mut batches = 0_u32;
@@ -268,7 +268,8 @@ fn a_device_that_is_gone_stays_quiet(rt: HostRuntime) {
     assert!(rt; is_changed(&rig, 0, 0, 0xFF, 0x00));
 }
 
-// The device was reset when three bytes of its settling were sent: it ignores all others, and is connected at the end.
+// The device was reset when three bytes of its settling were sent: it ignores all others, and
+// is connected at the end.
 #[test]
 fn a_reset_device_is_connected(rt: HostRuntime) {
     let mut rig = stopped(

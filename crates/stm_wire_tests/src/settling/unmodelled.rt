@@ -71,8 +71,9 @@ fn a_line_that_is_always_quiet_is_quiet(rt: HostRuntime) {
     assert_eq!(rt; ending, (Err(WireFault::Quiet), 131_073, 131_074));
 }
 
-// Sixteen acknowledgements refuse nothing, and the one of 7F is due; but then the byte has to be quiet. The gets: one at
-// first, fifteen for a batch of fourteen bytes, two for each of the two bytes left, one for 7F and one for the last byte.
+// Sixteen acknowledgements refuse nothing, and the one of 7F is due; but then the byte has to be
+// quiet. The gets: one at first, fifteen for a batch of fourteen bytes, two for each of the two
+// bytes left, one for 7F and one for the last byte.
 #[test]
 fn acknowledgements_end_nothing(rt: HostRuntime) {
     let mut line = Acknowledging {

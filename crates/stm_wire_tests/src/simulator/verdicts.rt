@@ -47,7 +47,8 @@ fn connect(rig: &mut MemoryRig) -> Result<(), Fail> {
     Ok(())
 }
 
-/// Whether a connected device has this verdict at the last byte of a list, and none before it; it is connected again.
+/// Whether a connected device has this verdict at the last byte of a list, and none before
+/// it; it is connected again.
 fn agrees(rig: &mut MemoryRig, bytes: &[u8], due: Verdict) -> Result<bool, Fail> {
     for (i, byte) in bytes.iter().enumerate() {
         let wanted = if i + 1 == bytes.len() {
@@ -88,7 +89,8 @@ struct LongFrame {
     check: u8,
 }
 
-/// Whether a long frame has its verdict at its check; none where it is cut before it; and another with another check.
+/// Whether a long frame has its verdict at its check; none where it is cut before it; and
+/// another with another check.
 fn agrees_on_long(alloc: Global, kind: EraseKind, frame: LongFrame) -> Result<bool, Fail> {
     let mut rig = rig_of(alloc, kind, 0x00)?;
     connect(&mut rig)?;
