@@ -3,11 +3,12 @@
 #               at bin/stmflash-unproved
 #   make        proves and builds bin/stmflash
 #   make tests  the tests of the program alone (tests/), on the one that `make demo` leaves (needs python3)
-#   make test   the whole gate: every proof from nothing, the wrong bodies, the tests of the libraries, the programs; then each
+#   make test   the whole gate: every proof from nothing, the tests of the libraries, the programs, and the wrong bodies; then each
 #               allocation of small sessions and of the program refused in turn, journals of 1 GB (1.2 GB free in TMPDIR),
-#               images of 2 MiB, a Debian package that is packed, installed, used and removed (left out where there is no dpkg), the demo, the
-#               tests of the program, on the proved one and on the demo's, the program and the simulator over a real socket, 60
-#               kills of the program there, and random sessions: 300, and 2,000 of the proved one (python3)
+#               images of 2 MiB, a Debian package that is packed, installed, used and removed (left out where there is no
+#               dpkg), the demo, the tests of the program (whole on the proved one, without those that wait on the demo's and
+#               on the one that Rattle's own compiler made), the program and the simulator over a real socket, 60 kills of the
+#               program there, and random sessions: 300, and 2,000 of the proved one (python3)
 #   make install PREFIX=/usr/local DESTDIR=
 #               what `make` left at bin/stmflash, the line to a serial port, manual pages, chips.toml, completions, unit, udev rule;
 #               it proves and builds nothing, so that it needs no `rt`, also under sudo
@@ -53,13 +54,14 @@ tests:
 # stmflash.by-rattle by Rattle's own.
 test:
 	rt ci
+	python3 tools/wrong-bodies --built
 	python3 tools/allocations crates/refused_memory/out/refused_memory
 	python3 tools/refused-program crates/stmflash/out/stmflash
 	python3 tools/large-journals crates/stmflash/out/stmflash
 	python3 tools/large-images crates/hex_bench/out/hex_bench
 	sh packaging/try-deb crates/stmflash/out/stmflash
 	sh tools/demo.sh
-	python3 tests/run crates/stmflash/out/stmflash crates/stmflash/out/stmflash.by-rattle bin/stmflash-unproved
+	python3 tests/run crates/stmflash/out/stmflash --brief crates/stmflash/out/stmflash.by-rattle bin/stmflash-unproved
 	sh tools/socket.sh bin/stmflash-unproved
 	python3 tools/kills bin/stmflash-unproved 60
 	python3 tools/soak bin/stmflash-unproved --sessions 300 --jobs $(JOBS)
