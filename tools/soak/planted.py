@@ -2,7 +2,7 @@
 
     python3 tools/soak/planted.py [EDIT]..
 
-An EDIT is a wrong body of crates/NAME/must-fail, which the prover refuses too; without any a few are taken that only a stop, a reset
+An EDIT is a wrong body of crates/NAME, which the prover refuses too; without any a few are taken that only a stop, a reset
 or a chip of 512 pages shows.
 """
 
@@ -17,10 +17,10 @@ TOP = os.path.dirname(os.path.dirname(HERE))
 SEED = "planted"
 EDITS = (
     "crates/stm_session/must-fail/settles_with_connect.edit",
-    "crates/stm_session/must-fail/keeps_page_one_alone.edit",
+    "crates/stm_session/wrong-bodies/keeps_page_one_alone.edit",
     "crates/stm_session/must-fail/undone_before_its_pages.edit",
-    "crates/stm_session/must-fail/keeps_a_page_behind_its_erase.edit",
-    "crates/stm_journal/must-fail/no_mark.edit",
+    "crates/stm_session/wrong-bodies/keeps_a_page_behind_its_erase.edit",
+    "crates/stm_journal/wrong-bodies/no_mark.edit",
 )
 
 
