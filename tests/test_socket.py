@@ -71,6 +71,36 @@ class Socket(Served):
         self.assertServed()
         self.assertHolds(ZEROS, b"idle\n")
 
+    def test_a_page_that_is_lost_under_the_program_ends_it(self):
+        """Behind the first byte of an undo, which has read the journal by then, blanks stand in place of a page's digits: nothing
+        is erased or written, and the undo succeeds once the digits are there again."""
+        self.store("flash", ZEROS)
+        self.serve(3)
+        self.assertTold(self.use("erase", "5", "--wait", WAIT, device="board"), "segment 1: 1 pages erased\n")
+        journal = self.held("journal")
+        lost = with_page(HEAD, b" ", b"\nerase 5\nend 1\n")
+        listener = socket.socket(socket.AF_UNIX, socket.SOCK_STREAM)
+        self.addCleanup(listener.close)
+        listener.settimeout(PATIENCE)
+        listener.bind(self.path("device"))
+        listener.listen()
+        host = self.start("undo", "--table", "table", "--device", "device", "--journal", "journal", "--wait", WAIT)
+        line, _ = listener.accept()
+        with line, self.connect() as board:
+            first = line.recv(1)
+            with open(self.path("journal"), "r+b") as file:
+                file.write(lost)
+            board.sendall(first)
+            sent = first + relay(line, board)
+        out, err = host.communicate(timeout=PATIENCE)
+        self.assertEqual((host.returncode, out, err), (1, b"", b"stmflash: bad journal line 3\n"))
+        self.assertNotIn(b"\x31\xce", sent)
+        self.assertFile("journal", lost)
+        self.store("journal", journal)
+        self.assertTold(self.use("undo", "--wait", WAIT, device="board"), "undone 1\n")
+        self.assertServed()
+        self.assertHolds(ZEROS, b"idle\n")
+
     def test_tells_what_a_device_says_that_no_table_has(self):
         self.serve(2)
         self.store("table", TABLE.replace(b"0x412", b"0x413"))
