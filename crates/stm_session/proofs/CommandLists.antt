@@ -7,7 +7,7 @@ use Rattle.std.proofs.lemmas.List.Sums.{fold_push}
 use Rattle.stm_wire.specs.Chip.{ChipData}
 use Rattle.stm_journal.specs.declared.entry.Entry.{Entry}
 use Rattle.stm_session.specs.Answers.{OutcomeData, agrees, agreeing, answers_of, first_difference, in_front_of, outcome_of, segments_of, verified_or}
-use Rattle.stm_session.specs.Doing.{lines_if}
+use Rattle.stm_session.specs.OneCommand.{lines_if}
 use Rattle.stm_session.specs.Lines.{run_entries, segment_entries}
 use Rattle.stm_session.specs.Meaning.{CommandData, writes, erases, verifies, reads, before_if, changes_of, flash_after, flash_after_all, flashes_before, is_change}
 use Rattle.stm_session.proofs.Whole.{same-after}

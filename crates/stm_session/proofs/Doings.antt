@@ -11,7 +11,7 @@ use Rattle.stm_session.specs.declared.fault.Fault.{Fault}
 use Rattle.stm_session.specs.declared.fault.Fault.TheVariants as faults
 use Rattle.stm_session.specs.Answers.{OutcomeData}
 use Rattle.stm_session.specs.Asking.{Asks, IsStill}
-use Rattle.stm_session.specs.Doing.{AmidOne, Does, answer_on, command_lines, flash_left, lines_if}
+use Rattle.stm_session.specs.OneCommand.{AmidOne, Does, answer_on, command_lines, flash_left, lines_if}
 use Rattle.stm_session.specs.Fault.{IsOutsideFault}
 use Rattle.stm_session.specs.Lines.{depth_at, is_named_at, segment_entries}
 use Rattle.stm_session.specs.Meaning.{CommandData, before_if, flash_after, is_change}

@@ -18,7 +18,7 @@ use Rattle.stm_journal.specs.Newest.{KeepsSame, pages_of_segments}
 use Rattle.stm_journal.specs.States.{SegmentData}
 use Rattle.stm_session.specs.declared.fault.Fault.{Fault}
 use Rattle.stm_session.specs.Fault.{IsOutsideFault}
-use Rattle.stm_session.specs.GoingBack.{AmidBack, AmidBackBy, GoesBack, GoesBackBy, going_lines, undo_lines}
+use Rattle.stm_session.specs.SegmentsBack.{AmidBack, AmidBackBy, GoesBack, GoesBackBy, going_lines, undo_lines}
 use Rattle.stm_session.specs.Lines.{is_torn_at, program_entries, return_entries, taken_entries, text_added, undo_entries, work_entries}
 use Rattle.stm_session.specs.Steps.{AddsLines, AreIntents, Goes, Stands}
 use Rattle.stm_session.specs.Undoable.{state_at}

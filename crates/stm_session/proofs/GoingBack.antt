@@ -18,13 +18,13 @@ use Rattle.stm_journal.specs.Newest.{pages_of_segments}
 use Rattle.stm_journal.specs.States.{StateData, SegmentData}
 use Rattle.stm_session.specs.declared.fault.Fault.{Fault}
 use Rattle.stm_session.specs.Fault.{IsOutsideFault}
-use Rattle.stm_session.specs.GoingBack.{AmidBack, GoesBack, going_lines}
+use Rattle.stm_session.specs.SegmentsBack.{AmidBack, GoesBack, going_lines}
 use Rattle.stm_session.specs.Lines.{is_torn_at, text_added, taken_entries}
 use Rattle.stm_session.specs.Order.{Follows, AreTakenBack}
 use Rattle.stm_session.specs.Sending.{most_of_command}
 use Rattle.stm_session.specs.StepLaws.{StepLaws}
 use Rattle.stm_session.specs.Steps.{IsSteady, Stands, torn_after}
-use Rattle.stm_session.specs.TakingBack.{AmidTakingBack, TakesBack, return_lines, taking_lines}
+use Rattle.stm_session.specs.SegmentBack.{AmidTakingBack, TakesBack, return_lines, taking_lines}
 use Rattle.stm_session.specs.Undoable.{Undoable, newest_kept, state_at}
 use Rattle.stm_session.specs.Undoes.{flash_taken_back}
 use Rattle.stm_session.proofs.Going.{at_exit}

@@ -12,7 +12,7 @@ use Rattle.stm_session.specs.declared.outcome.Outcome.TheVariants as outcome
 use Rattle.stm_session.specs.Answers.{OutcomeData, first_difference, outcome_data, pages_that_differ, verified_or}
 use Rattle.stm_session.specs.Asking.{Asks}
 use Rattle.stm_session.specs.Contents.{IsMade, command_of}
-use Rattle.stm_session.specs.Doing.{Does, answer_on, flash_left}
+use Rattle.stm_session.specs.OneCommand.{Does, answer_on, flash_left}
 use Rattle.stm_session.specs.Lines.{depth_at, is_named_at, segment_entries}
 use Rattle.stm_session.specs.Meaning.{flash_after, is_change, verifies}
 use Rattle.stm_session.specs.Segments.{Changes}

@@ -10,7 +10,7 @@ use Rattle.stm_journal.specs.States.{is_unfinished}
 use Rattle.stm_session.specs.declared.fault.Fault.{Fault}
 use Rattle.stm_session.specs.declared.fault.Fault.TheVariants as fault
 use Rattle.stm_session.specs.Answers.{OutcomeData, agreeing}
-use Rattle.stm_session.specs.Doing.{AmidOne, Does, TellsDifference, command_lines, flash_left, lines_if}
+use Rattle.stm_session.specs.OneCommand.{AmidOne, Does, TellsDifference, command_lines, flash_left, lines_if}
 use Rattle.stm_session.specs.Fault.{IsOutsideFault}
 use Rattle.stm_session.specs.Lines.{depth_at, is_named_at, segment_entries}
 use Rattle.stm_session.specs.Meaning.{CommandData, flash_after, is_change}

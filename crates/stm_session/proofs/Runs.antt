@@ -9,7 +9,7 @@ use Rattle.stm_wire.specs.Rig.{RigState, IsModel}
 use Rattle.stm_journal.specs.declared.entry.Entry.{Entry}
 use Rattle.stm_journal.specs.Journals.{Loaded}
 use Rattle.stm_session.specs.Answers.{OutcomeData, outcome_of}
-use Rattle.stm_session.specs.Doing.{AmidOne, Does, answer_on, command_lines, flash_left, lines_if}
+use Rattle.stm_session.specs.OneCommand.{AmidOne, Does, answer_on, command_lines, flash_left, lines_if}
 use Rattle.stm_session.specs.Lines.{depth_at, is_named_at, is_torn_at, run_entries, segment_entries, text_added}
 use Rattle.stm_session.specs.Meaning.{CommandData, before_if, changes_of, flash_after, flash_after_all, flashes_before, is_change}
 use Rattle.stm_session.specs.Moments.{SameMake}

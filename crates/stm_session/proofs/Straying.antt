@@ -14,7 +14,7 @@ use Rattle.stm_session.specs.declared.fault.Fault.{Fault}
 use Rattle.stm_session.specs.declared.fault.Fault.TheVariants as fault
 use Rattle.stm_session.specs.Asking.{Asks, IsStill}
 use Rattle.stm_session.specs.Fault.{IsOutsideFault, fault_of}
-use Rattle.stm_session.specs.Meeting.{Strays, Meets}
+use Rattle.stm_session.specs.JournalDevice.{Strays, Meets}
 use Rattle.stm_session.specs.Moments.{SameMake}
 use Rattle.stm_session.specs.Refusal.{first_refusal, refused_unless}
 use Rattle.stm_session.specs.Refusals.{erase_code, undo_misfit}

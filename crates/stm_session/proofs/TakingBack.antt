@@ -30,7 +30,7 @@ use Rattle.stm_session.specs.Lines.{is_torn_at, program_entries, return_entries,
 use Rattle.stm_session.specs.Order.{Follows, AreReturned}
 use Rattle.stm_session.specs.StepLaws.{StepLaws}
 use Rattle.stm_session.specs.Steps.{AddsLines, AreIntents, KeepsFlashes, IsSteady, Stands, Goes}
-use Rattle.stm_session.specs.TakingBack.{AmidTakingBack, TakesBack, newest_at, return_lines, with_pages}
+use Rattle.stm_session.specs.SegmentBack.{AmidTakingBack, TakesBack, newest_at, return_lines, with_pages}
 use Rattle.stm_session.specs.Undoable.{newest_kept, state_at}
 use Rattle.stm_session.proofs.Going.{at_exit, goes_as, goes_failed, goes_ok, goes_then, stands_later, stands_more}
 use Rattle.stm_session.proofs.Keeping.{depth_text, good_at, keeps_undone, unfinished_is}

@@ -16,9 +16,9 @@ use Rattle.stm_journal.specs.States.{intent_of}
 use Rattle.stm_session.specs.declared.fault.Fault.{Fault}
 use Rattle.stm_session.specs.Fault.{IsOutsideFault}
 use Rattle.stm_session.specs.Fresh.{settling_limit}
-use Rattle.stm_session.specs.GoingBack.{AmidBackBy, GoesBackBy, undo_lines}
+use Rattle.stm_session.specs.SegmentsBack.{AmidBackBy, GoesBackBy, undo_lines}
 use Rattle.stm_session.specs.Lines.{is_torn_at, text_added}
-use Rattle.stm_session.specs.Meeting.{Meets}
+use Rattle.stm_session.specs.JournalDevice.{Meets}
 use Rattle.stm_session.specs.Moments.{SameMake}
 use Rattle.stm_session.specs.Promises.{UndoContract}
 use Rattle.stm_session.specs.Refusal.{Refuses, chip_with, table_refusal}

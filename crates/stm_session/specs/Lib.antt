@@ -26,13 +26,13 @@ pub mod Headline
 pub mod Rows
 pub mod Steps
 pub mod StepLaws
-pub mod TakingBack
-pub mod GoingBack
-pub mod Meeting
+pub mod SegmentBack
+pub mod SegmentsBack
+pub mod JournalDevice
 pub mod Changing
 pub mod Contents
 pub mod ChangeOrder
 pub mod Segments
-pub mod Doing
+pub mod OneCommand
 pub mod RunOrder
 pub mod Kept

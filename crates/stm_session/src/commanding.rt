@@ -15,10 +15,10 @@ ghost use Rattle.stm_session.specs.Segments.{Changes};
 ghost use Rattle.stm_session.specs.Steps.{IsSteady};
 
 use crate::Fault;
-use crate::beginning::begin_segment;
 use crate::change::Change;
-use crate::closing::end_segment;
-use crate::turning::turn_pages;
+use crate::page_changes::turn_pages;
+use crate::segment_begin::begin_segment;
+use crate::segment_end::end_segment;
 use std::alloc::Global;
 use stm_journal::Journal;
 use stm_wire::{Chip, Rig};

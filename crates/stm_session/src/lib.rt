@@ -2,34 +2,32 @@
 //! the first command is begun.
 #![tactic(auto)]
 
-mod beginning;
 mod change;
 mod changing;
 mod check;
-mod closing;
 mod command;
 mod command_check;
 mod commanding;
 mod comparing;
 mod contact;
 mod content;
-mod doing;
 mod erasing;
 mod fault;
-mod finding;
-mod going_back;
+mod go_and_protect;
 mod headline;
 mod identifying;
 mod information;
 mod inspect;
+mod journal_chip;
+mod journal_device;
 mod laws;
 mod laws_of_steps;
-mod leave;
 mod listing;
-mod meeting;
+mod one_command;
 mod opening;
 mod outcome;
 mod page_at_work;
+mod page_changes;
 mod programming;
 mod reading;
 mod restoring;
@@ -38,13 +36,16 @@ mod reversal;
 mod rewriting;
 mod running;
 mod saving;
+mod segment_back;
+mod segment_begin;
+mod segment_end;
+mod segments_back;
 mod settling;
-mod taking_back;
-mod turning;
 
 pub use command::Command;
 pub use contact::Told;
 pub use fault::Fault;
+pub use go_and_protect::{go, protect};
 pub use headline::{a_session_can_be_taken_back, the_first_difference_is_the_first};
 pub use identifying::identify;
 pub use information::Info;
@@ -58,7 +59,6 @@ pub use laws::{
     asking_keeps_what_can_be_taken_back, lost_bytes_keep_what_can_be_taken_back,
     reads_in_the_flash_are_not_refused,
 };
-pub use leave::{go, protect};
 pub use outcome::{Outcome, Report};
 pub use reversal::{undo, undo_fresh};
 pub use running::run;

@@ -11,10 +11,10 @@ ghost use Rattle.stm_session.specs.Sending.{SendsAsUndo};
 ghost use Rattle.stm_session.specs.Undoes.{taken_count};
 
 use crate::Fault;
-use crate::finding::find_named;
-use crate::going_back::go_back;
+use crate::journal_chip::find_named;
+use crate::journal_device::meet;
 use crate::laws_of_steps::step_laws;
-use crate::meeting::meet;
+use crate::segments_back::go_back;
 use std::alloc::Global;
 use stm_chip::Table;
 use stm_journal::Journal;

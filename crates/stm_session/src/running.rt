@@ -20,8 +20,8 @@ ghost use Rattle.stm_session.specs.Sending.{SendsAsRun, is_whole, most_of_comman
 ghost use Rattle.stm_session.specs.Steps.{IsSteady};
 
 use crate::command_check::check_commands;
-use crate::doing::run_command;
 use crate::laws_of_steps::step_laws;
+use crate::one_command::run_command;
 use crate::opening::open;
 use crate::{Command, Fault, Outcome, Report};
 use std::alloc::Global;

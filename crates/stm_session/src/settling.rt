@@ -8,7 +8,7 @@ ghost use Rattle.stm_journal.specs.States.{intent_of};
 ghost use Rattle.stm_session.specs.Fault.{HasSessionCause, IsOfLine};
 ghost use Rattle.stm_session.specs.Fresh.{EndsWell, IsAsSaid, byte_of, limit_of, settling_limit};
 ghost use Rattle.stm_session.specs.Fresh.{undo_way};
-ghost use Rattle.stm_session.specs.Meeting.{Strays};
+ghost use Rattle.stm_session.specs.JournalDevice.{Strays};
 ghost use Rattle.stm_session.specs.Steps.{Goes};
 ghost use Rattle.stm_session.specs.Undoable.{Undoable};
 ghost use Rattle.stm_session.specs.Undoes.{IsWithinLimit, byte_at_journal, risked_at};

@@ -1,0 +1,100 @@
+use Rattle.std.proofs.Common.{None, true, arith}
+use Rattle.stm_wire.specs.PartLaws.{part_longer}
+use Rattle.stm_session.proofs.SentParts.{part_after, part_fails, part_fails_after}
+use Rattle.std.proofs.Common.{◌∷◌, [], refl}
+use Rattle.std.proofs.Common.{◌≡◌, ◌++◌, ℕ, List, subst, rules}
+use Rattle.stm_wire.specs.Frames.{get_turns}
+use Rattle.stm_session.specs.Fault.{Cause, of_refusal}
+use Rattle.stm_session.specs.Order.{Step, AsksInOrder, Begin, IsAsking, IsGet, IsGetId, Sends, StopsBy, id_turns}
+use Rattle.stm_session.proofs.CutShort.{begin_after, begin_all, begin_on, by_fault, halts, order_stops, part_stops}
+use Rattle.stm_session.proofs.Orders.{order_then}
+use Rattle.stm_session.proofs.Unread.{none_some}
+use Rattle.stm_session.proofs.journal_device.ask_misfit.Goals as goal
+
+pub returns-in_err-can_erase-clause-puts : goal.returns-in_err-can_erase-clause-puts
+returns-in_err-can_erase-clause-puts g c =
+    let V = g.R.Rig.view in
+    part_fails None 261 268 (V c.args.rig.now).calls (V c.ask_erase.new.rig).calls _ c.from_residual.result (omega arith) c.from_residual.ensures.1 c.in_err-can_erase.ensures.puts
+
+pub returns-then-not-can_erase-clause-puts : goal.returns-then-not-can_erase-clause-puts
+returns-then-not-can_erase-clause-puts g c =
+    let V = g.R.Rig.view in
+    part_longer None true 261 268 (V c.args.rig.now).calls (V c.ask_erase.new.rig).calls (omega arith) c.in_ok-can_erase.ensures.puts
+
+pub returns-in_err-id-clause-puts : goal.returns-in_err-id-clause-puts
+returns-in_err-id-clause-puts g c =
+    let V = g.R.Rig.view in
+    part_fails_after None 261 7 268 (V c.args.rig.now).calls (V c.ask_erase.new.rig).calls (V c.ask_id.new.rig).calls _ c.from_residual-in_err-id.result (omega arith) c.from_residual-in_err-id.ensures.1
+    c.in_ok-can_erase.ensures.puts c.in_err-id.ensures.puts
+
+pub returns-then-id-clause-puts : goal.returns-then-id-clause-puts
+returns-then-id-clause-puts g c =
+    let V = g.R.Rig.view in
+    part_after None true 261 7 268 (V c.args.rig.now).calls (V c.ask_erase.new.rig).calls (V c.ask_id.new.rig).calls (omega arith) c.in_ok-can_erase.ensures.puts c.in_ok-id.ensures.puts
+
+pub returns-clause-puts : goal.returns-clause-puts
+returns-clause-puts g c =
+    let V = g.R.Rig.view in
+    part_after None true 261 7 268 (V c.args.rig.now).calls (V c.ask_erase.new.rig).calls (V c.ask_id.new.rig).calls (omega arith) c.in_ok-can_erase.ensures.puts c.in_ok-id.ensures.puts
+
+pub returns-then-not-can_erase-clause-order : goal.returns-then-not-can_erase-clause-order
+returns-then-not-can_erase-clause-order g c torn none = none_some _ _ none refl
+
+pub returns-then-id-clause-order : goal.returns-then-id-clause-order
+returns-then-id-clause-order g c torn none = none_some _ _ none refl
+
+pub returns-clause-order : goal.returns-clause-order
+returns-clause-order g c torn none =
+    let V = g.R.Rig.view in
+    let got = c.in_ok-can_erase.ensures.order torn in
+    let a = V c.args.rig.now in
+    let d = V c.ask_id.new.rig in
+    let P : ℕ → Type 0 = λ id. AsksInOrder id torn a d in
+    let own : List Step = Sends (id_turns c.in_ok-id.id) ∷ [] in
+    let same : c.in_ok-id.id ≡ c.args.chip.now.id = search rules in
+    subst P same (got.0, got.1, order_then torn (Sends (get_turns got.0 got.1) ∷ []) own a.calls (V c.ask_erase.new.rig).calls d.calls got.2 (c.in_ok-id.ensures.order torn))
+
+pub returns-in_err-can_erase-clause-stops : goal.returns-in_err-can_erase-clause-stops
+returns-in_err-can_erase-clause-stops g c torn =
+    let V = g.R.Rig.view in
+    let more : List Step = Sends (id_turns 0) ∷ [] in
+    let later : IsGetId more = record { high = _; low = _; is = refl } in
+    part_stops (Begin IsGet) (Begin IsAsking) torn (V c.args.rig.now) (V c.ask_erase.new.rig) _ c.from_residual.result c.from_residual.ensures.1
+    (begin_on IsGet IsAsking (λ xs get. (more, record { first = xs; is_get = get; second = more; is_get_id = later; is = refl }))) (c.in_err-can_erase.ensures.stops torn)
+
+pub returns-in_err-id-clause-stops : goal.returns-in_err-id-clause-stops
+returns-in_err-id-clause-stops g c torn =
+    let V = g.R.Rig.view in
+    let a = V c.args.rig.now in
+    let d = V c.ask_id.new.rig in
+    let got = c.in_ok-can_erase.ensures.order torn in
+    let before : List Step = Sends (get_turns got.0 got.1) ∷ [] in
+    let get : IsGet before = record { version = got.0; codes = got.1; is = refl } in
+    by_fault (λ (k : Cause). StopsBy (Begin IsAsking) k torn a d) _ c.from_residual-in_err-id.result c.from_residual-in_err-id.ensures.1
+    (order_stops (Begin IsGetId) (Begin IsAsking) _ torn before (begin_after IsGetId IsAsking before (λ ys get_id. record { first = before; is_get = get; second = ys; is_get_id = get_id; is = refl }))
+    a (V c.ask_erase.new.rig) d got.2 (c.in_err-id.ensures.stops torn))
+
+pub returns-then-not-can_erase-clause-refuses : goal.returns-then-not-can_erase-clause-refuses
+returns-then-not-can_erase-clause-refuses g c torn =
+    let V = g.R.Rig.view in
+    let got = c.in_ok-can_erase.ensures.order torn in
+    let before : List Step = Sends (get_turns got.0 got.1) ∷ [] in
+    let more : List Step = Sends (id_turns 0) ∷ [] in
+    let get : IsGet before = record { version = got.0; codes = got.1; is = refl } in
+    let later : IsGetId more = record { high = _; low = _; is = refl } in
+    let begun : Begin IsAsking before = (more, record { first = before; is_get = get; second = more; is_get_id = later; is = refl }) in
+    halts (Begin IsAsking) of_refusal torn before (V c.args.rig.now) (V c.ask_erase.new.rig) begun refl got.2
+
+pub returns-then-id-clause-refuses : goal.returns-then-id-clause-refuses
+returns-then-id-clause-refuses g c torn =
+    let V = g.R.Rig.view in
+    let a = V c.args.rig.now in
+    let d = V c.ask_id.new.rig in
+    let got = c.in_ok-can_erase.ensures.order torn in
+    let before : List Step = Sends (get_turns got.0 got.1) ∷ [] in
+    let own : List Step = Sends (id_turns c.in_ok-id.id) ∷ [] in
+    let get : IsGet before = record { version = got.0; codes = got.1; is = refl } in
+    let get_id : IsGetId own = record { high = _; low = _; is = refl } in
+    let asking : IsAsking (before ++ own) = record { first = before; is_get = get; second = own; is_get_id = get_id; is = refl } in
+    halts (Begin IsAsking) of_refusal torn (before ++ own) a d (begin_all IsAsking (before ++ own) asking) refl
+    (order_then torn before own a.calls (V c.ask_erase.new.rig).calls d.calls got.2 (c.in_ok-id.ensures.order torn))

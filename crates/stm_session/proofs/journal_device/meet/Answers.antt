@@ -1,0 +1,177 @@
+use Rattle.std.proofs.Common.{◌≡◌, ◌∙◌, [], None, inr, sym}
+use Rattle.stm_session.specs.Refusals.{undo_misfit}
+use Rattle.stm_session.proofs.Going.{at_exit, asks_go, asks_fail, goes_failed, goes_then}
+use Rattle.stm_session.proofs.Misfitting.{own_misfit}
+use Rattle.stm_session.proofs.Unread.{none_some}
+use Rattle.stm_session.proofs.Straying.{strays_failed, strays_asked, strays_unasked, misfit_was}
+use Rattle.std.proofs.Common.{◌+◌, ◌*◌, Bool, true, arith}
+use Rattle.stm_wire.specs.Dialogue.{GoesOn}
+use Rattle.stm_session.specs.Fresh.{byte_of, limit_of, undo_way}
+use Rattle.stm_wire.specs.Parts.{IsSession}
+use Rattle.stm_wire.specs.PartLaws.{session_joins, session_longer, session_weaker, settling_is_session}
+use Rattle.stm_journal.specs.States.{intent_of}
+use Rattle.stm_session.specs.Sending.{is_whole, most_of_reaching}
+use Rattle.stm_session.proofs.Sending.{same_fault}
+use Rattle.std.proofs.Common.{Option, subst}
+use Rattle.std.specs.Prelude.{IfSome}
+use Rattle.stm_session.specs.declared.fault.Fault.{Fault}
+use Rattle.stm_session.specs.Fault.{Cause, cause_of}
+use Rattle.stm_session.specs.Order.{Begin, IsAsking, ReachesInPart, StopsBy, asking_steps}
+use Rattle.stm_session.proofs.CutShort.{by_fault}
+use Rattle.stm_session.proofs.Reaching.{asks_stop, settle_stops}
+use Rattle.stm_session.proofs.Orders.{settles_then}
+use Rattle.stm_session.proofs.journal_device.meet.Goals as goal
+
+pub returns-in_err-settle_intended-clause-honest : goal.returns-in_err-settle_intended-clause-honest
+returns-in_err-settle_intended-clause-honest g c h said flashes loaded undoable chip =
+    let V = g.R.Rig.view in
+    let l = c.args.journal.now in
+    goes_failed flashes [] [] l l (V c.args.rig.now) (V c.settle_intended.new.rig) _ c.from_residual.result (c.in_err-settle_intended.ensures.honest h said flashes loaded undoable chip) c.from_residual.ensures.1
+
+pub returns-in_err-misfit-clause-honest : goal.returns-in_err-misfit-clause-honest
+returns-in_err-misfit-clause-honest g c h said flashes loaded undoable chip =
+    let V = g.R.Rig.view in
+    let l = c.args.journal.now in
+    let first = c.in_ok-settle_intended.ensures.honest h said flashes loaded undoable chip in
+    let model = g.met.R.Rig.model c.settle_intended.new.rig first.honest in
+    goes_then flashes [] [] l l (V c.args.rig.now) (V c.settle_intended.new.rig) (V c.ask_misfit.new.rig) (tt {0}) c.from_residual-in_err-misfit.result model first
+    (asks_fail c.step_laws.ensures flashes l (V c.settle_intended.new.rig) (V c.ask_misfit.new.rig) first.steady [] l _ c.from_residual-in_err-misfit.result
+    (c.in_err-misfit.ensures.honest first.honest first.steady.settled) c.from_residual-in_err-misfit.ensures.1) (λ y p. p)
+
+pub returns-in-Some-clause-honest : goal.returns-in-Some-clause-honest
+returns-in-Some-clause-honest g c h said flashes loaded undoable chip =
+    let V = g.R.Rig.view in
+    let first = c.in_ok-settle_intended.ensures.honest h said flashes loaded undoable chip in
+    let model = g.met.R.Rig.model c.settle_intended.new.rig first.honest in
+    let still = (at_exit _ (V c.args.rig.now) (V c.settle_intended.new.rig) model first.moments).make.chip ∙ chip in
+    let done : c.in_ok-misfit.misfit ≡ undo_misfit c.args.chip.now c.args.chip.now.id (V c.settle_intended.new.rig).device = (c.in_ok-misfit.ensures.honest first.honest first.steady.settled).done in
+    let none : undo_misfit c.args.chip.now c.args.chip.now.id (V c.settle_intended.new.rig).device ≡ None = own_misfit c.args.chip.now (V c.settle_intended.new.rig).device model.device still in
+    let is = c.in-Some.is in
+    absurd (none_some _ _ none (sym done ∙ is))
+
+pub returns-in-None-clause-honest : goal.returns-in-None-clause-honest
+returns-in-None-clause-honest g c h said flashes loaded undoable chip =
+    let V = g.R.Rig.view in
+    let l = c.args.journal.now in
+    let first = c.in_ok-settle_intended.ensures.honest h said flashes loaded undoable chip in
+    let model = g.met.R.Rig.model c.settle_intended.new.rig first.honest in
+    goes_then flashes [] [] l l (V c.args.rig.now) (V c.settle_intended.new.rig) (V c.ask_misfit.new.rig) (tt {0}) _ model first
+    (asks_go c.step_laws.ensures flashes l (V c.settle_intended.new.rig) (V c.ask_misfit.new.rig) first.steady _ (tt {0})
+    (c.in_ok-misfit.ensures.honest first.honest first.steady.settled) (λ done. tt)) (λ y p. p)
+
+pub returns-in_err-settle_intended-clause-elsewhere : goal.returns-in_err-settle_intended-clause-elsewhere
+returns-in_err-settle_intended-clause-elsewhere g c h said loaded harmless owed within =
+    let V = g.R.Rig.view in
+    strays_failed c.args.chip.now (V c.args.rig.now) (V c.settle_intended.new.rig) _ c.from_residual.result (c.in_err-settle_intended.ensures.strays h said loaded harmless owed within) c.from_residual.ensures.1
+
+pub returns-in_err-misfit-clause-elsewhere : goal.returns-in_err-misfit-clause-elsewhere
+returns-in_err-misfit-clause-elsewhere g c h said loaded harmless owed within =
+    let V = g.R.Rig.view in
+    let first = c.in_ok-settle_intended.ensures.strays h said loaded harmless owed within in
+    let asks = c.in_err-misfit.ensures.honest first.honest first.settled in
+    strays_unasked c.step_laws.ensures c.args.chip.now (V c.args.rig.now) (V c.settle_intended.new.rig) (V c.ask_misfit.new.rig) _ first (g.met.R.Rig.model c.ask_misfit.new.rig asks.honest) _ c.from_residual-in_err-misfit.result asks c.from_residual-in_err-misfit.ensures.1
+
+pub returns-in-Some-clause-elsewhere : goal.returns-in-Some-clause-elsewhere
+returns-in-Some-clause-elsewhere g c h said loaded harmless owed within =
+    let V = g.R.Rig.view in
+    let first = c.in_ok-settle_intended.ensures.strays h said loaded harmless owed within in
+    let asks = c.in_ok-misfit.ensures.honest first.honest first.settled in
+    let said = asks.done ∙ misfit_was c.args.chip.now (V c.args.rig.now) (V c.settle_intended.new.rig) first.left in
+    let is = c.in-Some.is in
+    let kept = strays_asked c.step_laws.ensures c.args.chip.now (V c.args.rig.now) (V c.settle_intended.new.rig) (V c.ask_misfit.new.rig) _ first (g.met.R.Rig.model c.ask_misfit.new.rig asks.honest) _ asks in
+    record { moments = kept.0; honest = asks.honest; left = kept.1; accepted = tt; refused = inr (sym said ∙ is) }
+
+pub returns-in-None-clause-elsewhere : goal.returns-in-None-clause-elsewhere
+returns-in-None-clause-elsewhere g c h said loaded harmless owed within =
+    let V = g.R.Rig.view in
+    let first = c.in_ok-settle_intended.ensures.strays h said loaded harmless owed within in
+    let asks = c.in_ok-misfit.ensures.honest first.honest first.settled in
+    let said = asks.done ∙ misfit_was c.args.chip.now (V c.args.rig.now) (V c.settle_intended.new.rig) first.left in
+    let is = c.in-None.is in
+    let kept = strays_asked c.step_laws.ensures c.args.chip.now (V c.args.rig.now) (V c.settle_intended.new.rig) (V c.ask_misfit.new.rig) _ first (g.met.R.Rig.model c.ask_misfit.new.rig asks.honest) _ asks in
+    record { moments = kept.0; honest = asks.honest; left = kept.1; accepted = sym said ∙ is; refused = tt }
+
+pub returns-in_err-settle_intended-clause-puts : goal.returns-in_err-settle_intended-clause-puts
+returns-in_err-settle_intended-clause-puts g c =
+    let V = g.R.Rig.view in
+    let way = undo_way c.args.is_fresh c.args.chip.now.kind (intent_of c.args.journal.now.state) in
+    let byte = byte_of way in
+    let limit = limit_of way in
+    let a = (V c.args.rig.now).calls in
+    let b = (V c.settle_intended.new.rig).calls in
+    let whole = is_whole c.from_residual.result in
+    session_longer None byte limit whole (4100 * (limit + 4)) (most_of_reaching limit) a b (omega arith) (settling_is_session None byte limit whole (4100 * (limit + 4)) a b c.settle_intended.ensures.calls)
+
+pub returns-in_err-misfit-clause-puts : goal.returns-in_err-misfit-clause-puts
+returns-in_err-misfit-clause-puts g c =
+    let V = g.R.Rig.view in
+    let way = undo_way c.args.is_fresh c.args.chip.now.kind (intent_of c.args.journal.now.state) in
+    let byte = byte_of way in
+    let limit = limit_of way in
+    let a = (V c.args.rig.now).calls in
+    let b = (V c.settle_intended.new.rig).calls in
+    let d = (V c.ask_misfit.new.rig).calls in
+    let P : Bool → Type 0 = λ w. GoesOn (IsSession None byte limit w (most_of_reaching limit)) a d in
+    same_fault P _ c.from_residual-in_err-misfit.result c.from_residual-in_err-misfit.ensures.1
+    (session_joins None byte limit _ (4100 * (limit + 4)) 268 a b d (settling_is_session None byte limit true (4100 * (limit + 4)) a b c.settle_intended.ensures.calls) c.in_err-misfit.ensures.puts)
+
+pub returns-in-Some-clause-puts : goal.returns-in-Some-clause-puts
+returns-in-Some-clause-puts g c =
+    let V = g.R.Rig.view in
+    let way = undo_way c.args.is_fresh c.args.chip.now.kind (intent_of c.args.journal.now.state) in
+    let byte = byte_of way in
+    let limit = limit_of way in
+    let a = (V c.args.rig.now).calls in
+    let b = (V c.settle_intended.new.rig).calls in
+    let d = (V c.ask_misfit.new.rig).calls in
+    session_weaker None byte limit _ (most_of_reaching limit) (most_of_reaching limit) a d (omega arith)
+    (session_joins None byte limit true (4100 * (limit + 4)) 268 a b d (settling_is_session None byte limit true (4100 * (limit + 4)) a b c.settle_intended.ensures.calls) c.in_ok-misfit.ensures.puts)
+
+pub returns-in-None-clause-puts : goal.returns-in-None-clause-puts
+returns-in-None-clause-puts g c =
+    let V = g.R.Rig.view in
+    let way = undo_way c.args.is_fresh c.args.chip.now.kind (intent_of c.args.journal.now.state) in
+    let byte = byte_of way in
+    let limit = limit_of way in
+    let a = (V c.args.rig.now).calls in
+    let b = (V c.settle_intended.new.rig).calls in
+    let d = (V c.ask_misfit.new.rig).calls in
+    session_joins None byte limit true (4100 * (limit + 4)) 268 a b d (settling_is_session None byte limit true (4100 * (limit + 4)) a b c.settle_intended.ensures.calls) c.in_ok-misfit.ensures.puts
+
+pub returns-in-None-clause-order : goal.returns-in-None-clause-order
+returns-in-None-clause-order g c torn =
+    let V = g.R.Rig.view in
+    let way = undo_way c.args.is_fresh c.args.chip.now.kind (intent_of c.args.journal.now.state) in
+    let asked = c.in_ok-misfit.ensures.order torn c.in-None.is in (
+      asked.0,
+      asked.1,
+      settles_then way torn (asking_steps asked.0 asked.1 c.args.chip.now.id) (V c.args.rig.now).calls (V c.settle_intended.new.rig).calls (V c.ask_misfit.new.rig).calls
+          c.settle_intended.ensures.calls c.in_ok-settle_intended.ensures.settled asked.2,
+    )
+
+pub returns-in_err-settle_intended-clause-stops : goal.returns-in_err-settle_intended-clause-stops
+returns-in_err-settle_intended-clause-stops g c torn =
+    let V = g.R.Rig.view in
+    let way = undo_way c.args.is_fresh c.args.chip.now.kind (intent_of c.args.journal.now.state) in
+    let a = (V c.args.rig.now).calls in
+    let b = (V c.settle_intended.new.rig).calls in
+    by_fault (λ (k : Cause). GoesOn (ReachesInPart way k torn) a b) _ c.from_residual.result c.from_residual.ensures.1 (settle_stops way _ torn a b c.in_err-settle_intended.ensures.sent c.settle_intended.ensures.calls)
+
+pub returns-in_err-misfit-clause-stops : goal.returns-in_err-misfit-clause-stops
+returns-in_err-misfit-clause-stops g c torn =
+    let V = g.R.Rig.view in
+    let way = undo_way c.args.is_fresh c.args.chip.now.kind (intent_of c.args.journal.now.state) in
+    let a = V c.args.rig.now in
+    let d = V c.ask_misfit.new.rig in
+    by_fault (λ (k : Cause). GoesOn (ReachesInPart way k torn) a.calls d.calls) _ c.from_residual-in_err-misfit.result c.from_residual-in_err-misfit.ensures.1
+    (asks_stop way _ torn a (V c.settle_intended.new.rig) d c.settle_intended.ensures.calls c.in_ok-settle_intended.ensures.settled (c.in_err-misfit.ensures.stops torn))
+
+pub returns-in-Some-clause-stops : goal.returns-in-Some-clause-stops
+returns-in-Some-clause-stops g c torn =
+    let V = g.R.Rig.view in
+    let way = undo_way c.args.is_fresh c.args.chip.now.kind (intent_of c.args.journal.now.state) in
+    let a = V c.args.rig.now in
+    let b = V c.settle_intended.new.rig in
+    let d = V c.ask_misfit.new.rig in
+    let P : Option Fault → Type 0 = λ o. IfSome o (λ fault. StopsBy (Begin IsAsking) (cause_of fault) torn b d) in
+    asks_stop way _ torn a b d c.settle_intended.ensures.calls c.in_ok-settle_intended.ensures.settled (subst P c.in-Some.is (c.in_ok-misfit.ensures.refuses torn))

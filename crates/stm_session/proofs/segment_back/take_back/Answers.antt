@@ -1,0 +1,146 @@
+use Rattle.std.proofs.Common.{ℕ, ◌≡◌, ◌<◌, ◌∙◌, ◌∷◌, ◌++◌, [], sym, ap, arith, length}
+use Rattle.stm_wire.specs.Chip.{ChipData}
+use Rattle.stm_journal.specs.declared.entry.Entry.TheVariants.{Undoes}
+use Rattle.stm_journal.specs.Flashes.{flashes_before_segments}
+use Rattle.stm_session.specs.SegmentBack.{newest_at, return_lines}
+use Rattle.stm_session.specs.Undoable.{state_at}
+use Rattle.stm_session.proofs.Keeping.{depth_text, good_at}
+use Rattle.stm_session.proofs.TakingBack.{back_failed, back_then, first_flash, intents_returns, takes_as, undone_fails, undone_goes}
+use Rattle.std.proofs.Common.{Some, true}
+use Rattle.stm_session.specs.Sending.{is_whole, most_of_command}
+use Rattle.stm_session.proofs.SentParts.{line_part, part_after, part_fails}
+use Rattle.std.proofs.Common.{refl, subst}
+use Rattle.stm_journal.specs.Journals.{Loaded}
+use Rattle.stm_session.specs.Order.{Adds, Follows, IsTakenBack}
+use Rattle.stm_session.specs.Undoable.{newest_kept}
+use Rattle.stm_session.proofs.Orders.{does_add, does_then}
+use Rattle.std.proofs.Common.{List, refl}
+use Rattle.stm_session.specs.Fault.{Cause}
+use Rattle.stm_session.specs.Order.{Step, Are, AreReturned, Begin, Stops, StopsBy}
+use Rattle.stm_session.proofs.CutShort.{begin_after, begin_on, by_fault, line_stops, part_stops, stop_after}
+use Rattle.stm_session.proofs.segment_back.take_back.Goals as goal
+
+pub returns-in_err-restore_lines-clause-honest : goal.returns-in_err-restore_lines-clause-honest
+returns-in_err-restore_lines-clause-honest g c flash flashes steady chip =
+    let V = g.R.Rig.view in
+    let a = V c.args.rig.now in
+    back_failed (return_lines c.args.chip.now a.device.flash (newest_at a.journal)) (Undoes (length (state_at a.journal).stack) ∷ []) flash flashes c.restore_lines.new.journal c.restore_lines.new.journal a (V c.restore_lines.new.rig) _
+    c.from_residual.result (c.in_err-restore_lines.ensures.honest (flash ∷ flashes) steady chip) c.from_residual.ensures.1
+
+pub returns-in_err-undone-clause-honest : goal.returns-in_err-undone-clause-honest
+returns-in_err-undone-clause-honest g c flash flashes steady chip =
+    let V = g.R.Rig.view in
+    let l = c.args.journal.now in
+    let l2 = c.restore_lines.new.journal in
+    let a = V c.args.rig.now in
+    let b = V c.restore_lines.new.rig in
+    let d = V c.undone.new.rig in
+    let first = c.in_ok-restore_lines.ensures.honest (flash ∷ flashes) steady chip in
+    let model = g.met.R.Rig.model c.restore_lines.new.rig first.steady.honest in
+    let k : ℕ = length l2.state.stack in
+    let k_is = depth_text l2 b.journal first.steady.loaded in
+    let number : k ≡ length (state_at a.journal).stack = c.in_ok-restore_lines.ensures.same.depth ∙ depth_text l a.journal steady.loaded in
+    let some : 0 < length (state_at b.journal).stack = omega (arith, c.requires.some, c.in_ok-restore_lines.ensures.same.depth, k_is) in
+    let before = ap (λ (p : ChipData). flashes_before_segments p (state_at a.journal).stack a.device.flash) (sym chip) ∙ steady.keeps.before in
+    let restored = first.done ∙ first_flash c.args.chip.now (state_at a.journal).stack a.device.flash flash flashes before in
+    let front = return_lines c.args.chip.now a.device.flash (newest_at a.journal) in
+    takes_as (front ++ Undoes k ∷ []) (front ++ Undoes (length (state_at a.journal).stack) ∷ []) flash flashes c.undone.new.self a d c.from_residual-in_err-undone.result (ap (λ (m : ℕ). front ++ Undoes m ∷ []) number)
+    (back_then front (Undoes k ∷ []) flash flashes l2 c.undone.new.self a b d (tt {0}) c.from_residual-in_err-undone.result model (intents_returns c.args.chip.now a.device.flash (newest_at a.journal)) first
+    (undone_fails c.step_laws.ensures flash flashes l2 c.undone.new.self k b d model first.steady k_is some restored c.undone.new.self _ c.from_residual-in_err-undone.result
+    (c.in_err-undone.ensures.honest first.steady.honest first.steady.loaded) c.in_err-undone.ensures.left c.from_residual-in_err-undone.ensures.1))
+
+pub returns-clause-honest : goal.returns-clause-honest
+returns-clause-honest g c flash flashes steady chip =
+    let V = g.R.Rig.view in
+    let l = c.args.journal.now in
+    let l2 = c.restore_lines.new.journal in
+    let a = V c.args.rig.now in
+    let b = V c.restore_lines.new.rig in
+    let d = V c.undone.new.rig in
+    let first = c.in_ok-restore_lines.ensures.honest (flash ∷ flashes) steady chip in
+    let model = g.met.R.Rig.model c.restore_lines.new.rig first.steady.honest in
+    let k : ℕ = length l2.state.stack in
+    let k_is = depth_text l2 b.journal first.steady.loaded in
+    let number : k ≡ length (state_at a.journal).stack = c.in_ok-restore_lines.ensures.same.depth ∙ depth_text l a.journal steady.loaded in
+    let some : 0 < length (state_at b.journal).stack = omega (arith, c.requires.some, c.in_ok-restore_lines.ensures.same.depth, k_is) in
+    let before = ap (λ (p : ChipData). flashes_before_segments p (state_at a.journal).stack a.device.flash) (sym chip) ∙ steady.keeps.before in
+    let restored = first.done ∙ first_flash c.args.chip.now (state_at a.journal).stack a.device.flash flash flashes before in
+    let front = return_lines c.args.chip.now a.device.flash (newest_at a.journal) in
+    let appends = c.in_ok-undone.ensures.honest first.steady.honest first.steady.loaded in
+    let has = c.in_ok-undone.ensures.text first.steady.honest first.steady.loaded (state_at b.journal) (state_at d.journal) (good_at l2 b.journal first.steady.loaded) (good_at c.undone.new.self d.journal appends.loaded) in
+    takes_as (front ++ Undoes k ∷ []) (front ++ Undoes (length (state_at a.journal).stack) ∷ []) flash flashes c.undone.new.self a d _ (ap (λ (m : ℕ). front ++ Undoes m ∷ []) number)
+    (back_then front (Undoes k ∷ []) flash flashes l2 c.undone.new.self a b d (tt {0}) _ model (intents_returns c.args.chip.now a.device.flash (newest_at a.journal)) first
+    (undone_goes c.step_laws.ensures flash flashes l2 c.undone.new.self k b d model first.steady k_is some restored _ (tt {0}) appends c.in_ok-undone.ensures.after has))
+
+pub returns-in_err-restore_lines-clause-puts : goal.returns-in_err-restore_lines-clause-puts
+returns-in_err-restore_lines-clause-puts g c =
+    let V = g.R.Rig.view in
+    part_fails (Some c.args.chip.now) most_of_command most_of_command (V c.args.rig.now).calls (V c.restore_lines.new.rig).calls _ c.from_residual.result (omega arith) c.from_residual.ensures.1 c.in_err-restore_lines.ensures.puts
+
+pub returns-in_err-undone-clause-puts : goal.returns-in_err-undone-clause-puts
+returns-in_err-undone-clause-puts g c =
+    let V = g.R.Rig.view in
+    let l = c.restore_lines.new.journal in
+    let b = (V c.restore_lines.new.rig).calls in
+    let d = (V c.undone.new.rig).calls in
+    let whole = is_whole c.from_residual-in_err-undone.result in
+    part_after (Some c.args.chip.now) whole most_of_command 0 most_of_command (V c.args.rig.now).calls b d (omega arith) c.in_ok-restore_lines.ensures.puts
+    (line_part (Some c.args.chip.now) whole 0 l (Undoes (length l.state.stack) ∷ []) c.undone.result b d c.undone.ensures.calls)
+
+pub returns-clause-puts : goal.returns-clause-puts
+returns-clause-puts g c =
+    let V = g.R.Rig.view in
+    let l = c.restore_lines.new.journal in
+    let b = (V c.restore_lines.new.rig).calls in
+    let d = (V c.undone.new.rig).calls in
+    part_after (Some c.args.chip.now) true most_of_command 0 most_of_command (V c.args.rig.now).calls b d (omega arith) c.in_ok-restore_lines.ensures.puts
+    (line_part (Some c.args.chip.now) true 0 l (Undoes (length l.state.stack) ∷ []) c.undone.result b d c.undone.ensures.calls)
+
+pub returns-clause-order : goal.returns-clause-order
+returns-clause-order g c =
+    let V = g.R.Rig.view in
+    let l = c.args.journal.now in
+    let l2 = c.restore_lines.new.journal in
+    let l3 = c.undone.new.self in
+    let a = V c.args.rig.now in
+    let b = V c.restore_lines.new.rig in
+    let d = V c.undone.new.rig in
+    let k = length l2.state.stack in
+    let pages = newest_kept l.state.stack in
+    let first = c.in_ok-restore_lines.ensures.order in
+    let last = does_add (tt {0}) (Undoes k ∷ []) l2 l3 b d c.in_ok-undone.ensures.calls (ap (λ (m : Loaded). m.is_torn) c.in_ok-undone.ensures.after) in
+    let taken : IsTakenBack c.args.chip.now pages k (first.0 ++ Adds (Undoes k ∷ []) ∷ []) = record { returns = first.0; are_returns = first.1; is = refl } in
+    let P : ℕ → Type 0 = λ m. Follows (IsTakenBack c.args.chip.now pages m) l l3 a d in
+    subst P c.in_ok-restore_lines.ensures.same.depth (first.0 ++ Adds (Undoes k ∷ []) ∷ [], taken, does_then first.0 (Adds (Undoes k ∷ []) ∷ []) l l2 l3 a b d first.2 last)
+
+pub returns-in_err-restore_lines-clause-stops : goal.returns-in_err-restore_lines-clause-stops
+returns-in_err-restore_lines-clause-stops g c =
+    let V = g.R.Rig.view in
+    let chip = c.args.chip.now in
+    let l = c.args.journal.now in
+    let pages = newest_kept l.state.stack in
+    let k = length l.state.stack in
+    let own : List Step = Adds (Undoes k ∷ []) ∷ [] in
+    part_stops (Begin (AreReturned chip pages)) (Begin (IsTakenBack chip pages k)) l.is_torn (V c.args.rig.now) (V c.restore_lines.new.rig) _ c.from_residual.result c.from_residual.ensures.1
+    (begin_on (AreReturned chip pages) (IsTakenBack chip pages k) (λ xs returned. (own, record { returns = xs; are_returns = returned; is = refl }))) c.in_err-restore_lines.ensures.stops
+
+pub returns-in_err-undone-clause-stops : goal.returns-in_err-undone-clause-stops
+returns-in_err-undone-clause-stops g c =
+    let V = g.R.Rig.view in
+    let chip = c.args.chip.now in
+    let l = c.args.journal.now in
+    let l2 = c.restore_lines.new.journal in
+    let a = V c.args.rig.now in
+    let b = V c.restore_lines.new.rig in
+    let d = V c.undone.new.rig in
+    let pages = newest_kept l.state.stack in
+    let k = length l2.state.stack in
+    let own : List Step = Adds (Undoes k ∷ []) ∷ [] in
+    let first = c.in_ok-restore_lines.ensures.order in
+    let Taken : ℕ → List Step → Type 0 = λ m. IsTakenBack chip pages m in
+    let P : ℕ → Type 0 = λ m. Stops (Begin (Taken m)) l.is_torn a d c.from_residual-in_err-undone.result in
+    subst P c.in_ok-restore_lines.ensures.same.depth
+    (by_fault (λ (cause : Cause). StopsBy (Begin (Taken k)) cause l.is_torn a d) _ c.from_residual-in_err-undone.result c.from_residual-in_err-undone.ensures.1
+    (stop_after (Begin (Are own)) (Begin (Taken k)) _ first.0 l l2 a b d first.2
+    (line_stops (Unit {0}) (Begin (Are own)) l2.is_torn (Undoes k ∷ []) _ b d (own, refl) ([], refl) c.in_err-undone.ensures.calls)
+    (begin_after (Are own) (Taken k) first.0 (λ ys is. record { returns = first.0; are_returns = first.1; is = ap (λ (zs : List Step). first.0 ++ zs) is }))))

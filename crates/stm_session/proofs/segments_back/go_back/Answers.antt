@@ -1,0 +1,116 @@
+use Rattle.std.proofs.Common.{◌∙◌, ◌*◌, ◌≤◌, ◌++◌, List, Some, true, refl, subst, arith}
+use Rattle.stm_journal.specs.declared.kept.Kept.{Kept}
+use Rattle.stm_session.specs.Order.{AreTakenBack}
+use Rattle.stm_session.specs.Sending.{most_of_command, most_of_undo}
+use Rattle.stm_session.proofs.Going.{at_exit}
+use Rattle.stm_session.proofs.GoingAll.{all_back, all_failed, work_failed}
+use Rattle.stm_session.proofs.Keeping.{fits_pages}
+use Rattle.stm_session.proofs.Orders.{does_then}
+use Rattle.stm_session.proofs.SentParts.{part_after, part_fails, part_fails_after}
+use Rattle.std.proofs.Common.{◌≤◌, length, arith}
+use Rattle.stm_journal.specs.Newest.{pages_of_segments}
+use Rattle.stm_journal.specs.States.{intent_of}
+use Rattle.stm_session.specs.Order.{Step, AreAllTakenBack, Begin, IsWorkRewritten}
+use Rattle.stm_session.proofs.CutShort.{begin_after, begin_on, part_stops, then_stops}
+use Rattle.stm_session.proofs.UndoOrders.{pages_count, some_segments}
+use Rattle.stm_session.proofs.segments_back.go_back.Goals as goal
+
+pub take_back_newest-requires-clause-fits : goal.take_back_newest-requires-clause-fits
+take_back_newest-requires-clause-fits g c = fits_pages c.args.chip.now c.args.journal.now.state.stack c.rewrite_at_work.new.journal.state.stack c.in_ok-rewrite_at_work.ensures.same.same c.requires.fits
+
+pub returns-in_err-rewrite_at_work-clause-honest : goal.returns-in_err-rewrite_at_work-clause-honest
+returns-in_err-rewrite_at_work-clause-honest g c flashes steady chip =
+    let V = g.R.Rig.view in
+    let a = V c.args.rig.now in
+    let b = V c.rewrite_at_work.new.rig in
+    let l2 = c.rewrite_at_work.new.journal in
+    work_failed c.args.taken flashes a b c.requires.one c.args.chip.now chip l2 l2 _ c.from_residual.result (c.in_err-rewrite_at_work.ensures.honest flashes steady chip) c.from_residual.ensures.1
+
+pub returns-in_err-take_back_newest-clause-honest : goal.returns-in_err-take_back_newest-clause-honest
+returns-in_err-take_back_newest-clause-honest g c flashes steady chip =
+    let V = g.R.Rig.view in
+    let a = V c.args.rig.now in
+    let b = V c.rewrite_at_work.new.rig in
+    let d = V c.take_back_newest.new.rig in
+    let l2 = c.rewrite_at_work.new.journal in
+    let l3 = c.take_back_newest.new.journal in
+    let first = c.in_ok-rewrite_at_work.ensures.honest flashes steady chip in
+    let model = g.met.R.Rig.model c.rewrite_at_work.new.rig first.honest in
+    let still = (at_exit _ a b model first.moments).make.chip ∙ chip in
+    all_failed c.args.taken flashes a b c.requires.one c.args.chip.now chip d l2 l3 model first _ c.from_residual-in_err-take_back_newest.result
+    (c.in_err-take_back_newest.ensures.honest flashes first.steady still) c.from_residual-in_err-take_back_newest.ensures.1
+
+pub returns-clause-honest : goal.returns-clause-honest
+returns-clause-honest g c flashes steady chip =
+    let V = g.R.Rig.view in
+    let a = V c.args.rig.now in
+    let b = V c.rewrite_at_work.new.rig in
+    let d = V c.take_back_newest.new.rig in
+    let l2 = c.rewrite_at_work.new.journal in
+    let l3 = c.take_back_newest.new.journal in
+    let first = c.in_ok-rewrite_at_work.ensures.honest flashes steady chip in
+    let model = g.met.R.Rig.model c.rewrite_at_work.new.rig first.honest in
+    let still = (at_exit _ a b model first.moments).make.chip ∙ chip in
+    all_back c.args.taken flashes a b c.requires.one c.args.chip.now chip d l2 l3 model first (c.in_ok-take_back_newest.ensures.honest flashes first.steady still)
+
+pub returns-in_err-rewrite_at_work-clause-puts : goal.returns-in_err-rewrite_at_work-clause-puts
+returns-in_err-rewrite_at_work-clause-puts g c =
+    let V = g.R.Rig.view in
+    let most : 6291456 ≤ most_of_undo c.args.taken = omega arith in
+    part_fails (Some c.args.chip.now) 6291456 (most_of_undo c.args.taken) (V c.args.rig.now).calls (V c.rewrite_at_work.new.rig).calls _ c.from_residual.result most c.from_residual.ensures.1 c.in_err-rewrite_at_work.ensures.puts
+
+pub returns-in_err-take_back_newest-clause-puts : goal.returns-in_err-take_back_newest-clause-puts
+returns-in_err-take_back_newest-clause-puts g c =
+    let V = g.R.Rig.view in
+    let more = c.args.taken * most_of_command in
+    part_fails_after (Some c.args.chip.now) 6291456 more (most_of_undo c.args.taken) (V c.args.rig.now).calls (V c.rewrite_at_work.new.rig).calls (V c.take_back_newest.new.rig).calls _ c.from_residual-in_err-take_back_newest.result
+    (omega arith) c.from_residual-in_err-take_back_newest.ensures.1 c.in_ok-rewrite_at_work.ensures.puts c.in_err-take_back_newest.ensures.puts
+
+pub returns-clause-puts : goal.returns-clause-puts
+returns-clause-puts g c =
+    let V = g.R.Rig.view in
+    let more = c.args.taken * most_of_command in
+    part_after (Some c.args.chip.now) true 6291456 more (most_of_undo c.args.taken) (V c.args.rig.now).calls (V c.rewrite_at_work.new.rig).calls (V c.take_back_newest.new.rig).calls
+    (omega arith) c.in_ok-rewrite_at_work.ensures.puts c.in_ok-take_back_newest.ensures.puts
+
+pub returns-clause-order : goal.returns-clause-order
+returns-clause-order g c =
+    let V = g.R.Rig.view in
+    let first = c.in_ok-rewrite_at_work.ensures.order in
+    let back = c.in_ok-take_back_newest.ensures.order in
+    let T : List (List Kept) → Type 0 = λ segments. AreTakenBack c.args.chip.now c.args.taken segments back.0 in (
+      first.0 ++ back.0,
+      record { first = first.0; is_first = first.1; back = back.0; are_back = subst T c.in_ok-rewrite_at_work.ensures.same.same back.1; is = refl },
+      does_then first.0 back.0 c.args.journal.now c.rewrite_at_work.new.journal c.take_back_newest.new.journal (V c.args.rig.now) (V c.rewrite_at_work.new.rig) (V c.take_back_newest.new.rig) first.2 back.2,
+    )
+
+pub returns-in_err-rewrite_at_work-clause-stops : goal.returns-in_err-rewrite_at_work-clause-stops
+returns-in_err-rewrite_at_work-clause-stops g c =
+    let V = g.R.Rig.view in
+    let chip = c.args.chip.now in
+    let l = c.args.journal.now in
+    let intent = intent_of l.state in
+    let segments = pages_of_segments l.state.stack in
+    let deep : c.args.taken ≤ length segments = omega (arith, pages_count l.state.stack, c.requires.some) in
+    let more = some_segments chip c.args.taken segments deep in
+    let All = AreAllTakenBack chip intent c.args.taken segments in
+    part_stops (Begin (IsWorkRewritten chip intent)) (Begin All) l.is_torn (V c.args.rig.now) (V c.rewrite_at_work.new.rig) _ c.from_residual.result c.from_residual.ensures.1
+    (begin_on (IsWorkRewritten chip intent) All (λ xs work. (more.0, record { first = xs; is_first = work; back = more.0; are_back = more.1; is = refl }))) c.in_err-rewrite_at_work.ensures.stops
+
+pub returns-in_err-take_back_newest-clause-stops : goal.returns-in_err-take_back_newest-clause-stops
+returns-in_err-take_back_newest-clause-stops g c =
+    let V = g.R.Rig.view in
+    let chip = c.args.chip.now in
+    let l = c.args.journal.now in
+    let l2 = c.rewrite_at_work.new.journal in
+    let intent = intent_of l.state in
+    let segments = pages_of_segments l.state.stack in
+    let first = c.in_ok-rewrite_at_work.ensures.order in
+    let Back : List (List Kept) → List Step → Type 0 = λ ss. AreTakenBack chip c.args.taken ss in
+    let All = AreAllTakenBack chip intent c.args.taken segments in
+    let same = c.in_ok-rewrite_at_work.ensures.same.same in
+    then_stops (Begin (Back (pages_of_segments l2.state.stack))) (Begin All) first.0 l l2 (V c.args.rig.now) (V c.rewrite_at_work.new.rig) (V c.take_back_newest.new.rig) _
+    c.from_residual-in_err-take_back_newest.result c.from_residual-in_err-take_back_newest.ensures.1 first.2 c.in_err-take_back_newest.ensures.stops
+    (begin_after (Back (pages_of_segments l2.state.stack)) All first.0 (λ ys back.
+    let T : List (List Kept) → Type 0 = λ ss. Back ss ys in
+    record { first = first.0; is_first = first.1; back = ys; are_back = subst T same back; is = refl }))

@@ -1,0 +1,154 @@
+use Rattle.std.proofs.Common.{◌≡◌, ◌∙◌, ◌+◌, ◌<◌, length, refl, arith}
+use Rattle.stm_session.proofs.Going.{at_exit}
+use Rattle.stm_session.proofs.GoingBack.{goes_back_all, goes_back_failed, goes_back_more, goes_back_nowhere, next_flash, rest_depth, rest_fits, rest_next, some_left, steady_split}
+use Rattle.std.proofs.Common.{◌≤◌, ◌*◌, Bool, Some, true}
+use Rattle.stm_wire.specs.Dialogue.{GoesOn}
+use Rattle.stm_wire.specs.Parts.{IsPart}
+use Rattle.stm_wire.specs.PartLaws.{nothing_is_part}
+use Rattle.stm_session.specs.Sending.{most_of_command}
+use Rattle.stm_session.proofs.Sending.{same_fault}
+use Rattle.stm_session.proofs.SentParts.{commands_next, commands_within}
+use Rattle.std.proofs.Common.{[], ℕ, ◌++◌, drop, sym, subst}
+use Rattle.stm_journal.specs.Newest.{pages_of_segments}
+use Rattle.stm_session.specs.Order.{Follows, AreTakenBack, IsTakenBack}
+use Rattle.stm_session.specs.Undoable.{newest_kept}
+use Rattle.stm_session.proofs.Orders.{does_nothing, does_then, segments_count, segments_split, taken_next}
+use Rattle.std.proofs.Common.{List}
+use Rattle.stm_session.specs.Order.{Step, Begin}
+use Rattle.stm_session.proofs.CutShort.{then_stops}
+use Rattle.stm_session.proofs.UndoOrders.{back_begun, pages_count}
+use Rattle.stm_session.proofs.segments_back.take_back_newest.Goals as goal
+
+pub loop-i-init : goal.loop-i-init
+loop-i-init g c =
+    let V = g.R.Rig.view in
+    record {
+      rest = refl;
+      line = refl;
+      journal = refl;
+      stays = λ h. h;
+      puts = nothing_is_part (Some c.args.chip.now) true _ (V c.args.rig.now).calls;
+      order = ([], refl, does_nothing c.args.journal.now (V c.args.rig.now));
+      honest = λ flashes steady chip. goes_back_nowhere c.step_laws.ensures flashes c.args.journal.now (V c.args.rig.now) (g.met.R.Rig.model c.args.rig.now steady.honest) steady;
+    }
+
+pub take_back-requires-clause-fits : goal.take_back-requires-clause-fits
+take_back-requires-clause-fits g c = rest_fits c.args.chip.now c.loop-i.i c.args.journal.now.state c.loop-i.journal.state c.loop-i.invariant.rest c.requires.fits
+
+pub take_back-requires-clause-some : goal.take_back-requires-clause-some
+take_back-requires-clause-some g c =
+    let lt : c.loop-i.i < c.args.taken = omega (arith, c.loop-i-test.true) in
+    let depth = rest_depth c.loop-i.i c.args.journal.now.state c.loop-i.journal.state c.loop-i.invariant.rest (omega (arith, lt, c.requires.some)) in
+    omega (arith, lt, depth, c.requires.some)
+
+pub returns-in_err-take_back-clause-honest : goal.returns-in_err-take_back-clause-honest
+returns-in_err-take_back-clause-honest g c flashes steady chip =
+    let V = g.R.Rig.view in
+    let l = c.args.journal.now in
+    let l2 = c.loop-i.journal in
+    let a = V c.args.rig.now in
+    let b = V c.loop-i.rig in
+    let d = V c.take_back.new.rig in
+    let i = c.loop-i.i in
+    let lt : i < c.args.taken = omega (arith, c.loop-i-test.true) in
+    let within : i < length l.state.stack = omega (arith, lt, c.requires.some) in
+    let depth = rest_depth i l.state l2.state c.loop-i.invariant.rest (omega (arith, within)) in
+    let some : 0 < length l2.state.stack = omega (arith, within, depth) in
+    let so_far = c.loop-i.invariant.honest flashes steady chip in
+    let model = g.met.R.Rig.model c.loop-i.rig so_far.steady.honest in
+    let still = (at_exit _ a b model so_far.moments).make.chip ∙ chip in
+    let split = next_flash i flashes (some_left _ l2 b so_far.steady some) in
+    let next = c.in_err-take_back.ensures.honest _ _ (steady_split c.args.chip.now i flashes l l2 c.take_back.new.journal a b d model steady so_far chip within split) still in
+    goes_back_failed c.args.chip.now i flashes l l2 c.take_back.new.journal a b d model steady so_far chip within split c.args.taken c.take_back.new.journal _ c.from_residual.result (omega (arith, lt)) next c.from_residual.ensures.1
+
+pub loop-i-preserved : goal.loop-i-preserved
+loop-i-preserved g c =
+    let V = g.R.Rig.view in
+    let l = c.args.journal.now in
+    let l2 = c.loop-i.journal in
+    let a = V c.args.rig.now in
+    let b = V c.loop-i.rig in
+    let d = V c.take_back.new.rig in
+    let i = c.loop-i.i in
+    let lt : i < c.args.taken = omega (arith, c.loop-i-test.true) in
+    let within : i < length l.state.stack = omega (arith, lt, c.requires.some) in
+    let depth = rest_depth i l.state l2.state c.loop-i.invariant.rest (omega (arith, within)) in
+    let some : 0 < length l2.state.stack = omega (arith, within, depth) in
+    record {
+      rest = rest_next i _ _ _ c.loop-i.invariant.rest c.in_ok-take_back.ensures.rest;
+      line = c.in_ok-take_back.ensures.cause.line_done ∙ c.loop-i.invariant.line;
+      journal = c.in_ok-take_back.ensures.cause.journal_done ∙ c.loop-i.invariant.journal;
+      stays = λ h. c.in_ok-take_back.ensures.cause.honest (c.loop-i.invariant.stays h);
+      puts = commands_next c.args.chip.now i true a.calls b.calls d.calls c.loop-i.invariant.puts c.in_ok-take_back.ensures.puts;
+      order =
+          let all = pages_of_segments l.state.stack in
+          let below = pages_of_segments (drop 1 l2.state.stack) in
+          let before = c.loop-i.invariant.order in
+          let one = c.in_ok-take_back.ensures.order in
+          let P : ℕ → Type 0 = λ m. IsTakenBack c.args.chip.now (newest_kept l2.state.stack) m one.0 in (
+            before.0 ++ one.0,
+            taken_next c.args.chip.now all i (newest_kept l2.state.stack) below before.0 one.0 (sym c.loop-i.invariant.rest ∙ segments_split l2.state.stack some) before.1 (subst P (segments_count l2.state.stack some) one.1),
+            does_then before.0 one.0 l l2 c.take_back.new.journal a b d before.2 one.2,
+          );
+      honest = λ flashes steady chip.
+          let so_far = c.loop-i.invariant.honest flashes steady chip in
+          let model = g.met.R.Rig.model c.loop-i.rig so_far.steady.honest in
+          let still = (at_exit _ a b model so_far.moments).make.chip ∙ chip in
+          let split = next_flash i flashes (some_left _ l2 b so_far.steady some) in
+          let next = c.in_ok-take_back.ensures.honest _ _ (steady_split c.args.chip.now i flashes l l2 c.take_back.new.journal a b d model steady so_far chip within split) still in
+          goes_back_more c.args.chip.now i flashes l l2 c.take_back.new.journal a b d model steady so_far chip within split _ (i + 1) (omega arith) next;
+    }
+
+pub returns-clause-honest : goal.returns-clause-honest
+returns-clause-honest g c flashes steady chip =
+    let V = g.R.Rig.view in
+    let all : c.loop-i.i ≡ c.args.taken = omega (arith, c.loop-i-test.false, c.loop-i.auto.i-end) in
+    goes_back_all c.loop-i.i c.args.taken flashes c.loop-i.journal (V c.args.rig.now) (V c.loop-i.rig) all (c.loop-i.invariant.honest flashes steady chip)
+
+pub returns-in_err-take_back-clause-puts : goal.returns-in_err-take_back-clause-puts
+returns-in_err-take_back-clause-puts g c =
+    let V = g.R.Rig.view in
+    let chip = c.args.chip.now in
+    let i = c.loop-i.i in
+    let a = (V c.args.rig.now).calls in
+    let d = (V c.take_back.new.rig).calls in
+    let le : i + 1 ≤ c.args.taken = omega (arith, c.loop-i-test.true) in
+    let P : Bool → Type 0 = λ w. GoesOn (IsPart (Some chip) w (c.args.taken * most_of_command)) a d in
+    same_fault P _ c.from_residual.result c.from_residual.ensures.1
+    (commands_within chip (i + 1) c.args.taken _ a d le (commands_next chip i _ a (V c.loop-i.rig).calls d c.loop-i.invariant.puts c.in_err-take_back.ensures.puts))
+
+pub returns-clause-puts : goal.returns-clause-puts
+returns-clause-puts g c =
+    let V = g.R.Rig.view in
+    let all : c.loop-i.i ≡ c.args.taken = omega (arith, c.loop-i-test.false, c.loop-i.auto.i-end) in
+    commands_within c.args.chip.now c.loop-i.i c.args.taken true (V c.args.rig.now).calls (V c.loop-i.rig).calls (omega (arith, all)) c.loop-i.invariant.puts
+
+pub returns-clause-order : goal.returns-clause-order
+returns-clause-order g c =
+    let V = g.R.Rig.view in
+    let l = c.args.journal.now in
+    let all : c.loop-i.i ≡ c.args.taken = omega (arith, c.loop-i-test.false, c.loop-i.auto.i-end) in
+    let P : ℕ → Type 0 = λ m. Follows (AreTakenBack c.args.chip.now m (pages_of_segments l.state.stack)) l c.loop-i.journal (V c.args.rig.now) (V c.loop-i.rig) in
+    subst P all c.loop-i.invariant.order
+
+pub returns-in_err-take_back-clause-stops : goal.returns-in_err-take_back-clause-stops
+returns-in_err-take_back-clause-stops g c =
+    let V = g.R.Rig.view in
+    let chip = c.args.chip.now in
+    let l = c.args.journal.now in
+    let l2 = c.loop-i.journal in
+    let i = c.loop-i.i in
+    let lt : i < c.args.taken = omega (arith, c.loop-i-test.true) in
+    let within : i < length l.state.stack = omega (arith, lt, c.requires.some) in
+    let depth = rest_depth i l.state l2.state c.loop-i.invariant.rest (omega (arith, within)) in
+    let some : 0 < length l2.state.stack = omega (arith, within, depth) in
+    let all = pages_of_segments l.state.stack in
+    let below = pages_of_segments (drop 1 l2.state.stack) in
+    let before = c.loop-i.invariant.order in
+    let deep : c.args.taken ≤ length all = omega (arith, pages_count l.state.stack, c.requires.some) in
+    let Taken : ℕ → List Step → Type 0 = λ m. Begin (IsTakenBack chip (newest_kept l2.state.stack) m) in
+    then_stops (Taken (length l2.state.stack)) (Begin (AreTakenBack chip c.args.taken all)) before.0 l l2 (V c.args.rig.now) (V c.loop-i.rig) (V c.take_back.new.rig) _ c.from_residual.result c.from_residual.ensures.1
+    before.2 c.in_err-take_back.ensures.stops
+    (λ ys begun.
+    let P : ℕ → Type 0 = λ m. Taken m ys in
+    back_begun chip all c.args.taken i (newest_kept l2.state.stack) below before.0 lt deep (sym c.loop-i.invariant.rest ∙ segments_split l2.state.stack some) before.1 ys (subst P (segments_count l2.state.stack some) begun))

@@ -1,0 +1,5 @@
+use Rattle.stm_session.proofs.GoingBack.{IsBackSoFar}
+use Rattle.stm_session.proofs.segments_back.take_back_newest.Given as goal
+
+abbrev pub invariant-loop-i : goal.invariant-loop-i
+invariant-loop-i g l = IsBackSoFar l.chip l.i l.fn.journal l.journal (g.R.Rig.view l.fn.rig) (g.R.Rig.view l.rig)

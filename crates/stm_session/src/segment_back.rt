@@ -1,0 +1,95 @@
+// Taking the newest segment back.
+ghost use Rattle.std.specs.Prelude.{◌≡◌, ◌<◌, ◌∷◌, List, ℕ, drop, length, Some, OnOk};
+ghost use Rattle.stm_wire.specs.Dialogue.{GoesOn};
+ghost use Rattle.stm_wire.specs.Parts.{IsPart};
+ghost use Rattle.stm_journal.specs.Fits.{AllFit};
+ghost use Rattle.stm_journal.specs.Newest.{KeepsSame, pages_of_segments};
+ghost use Rattle.stm_session.specs.Fault.{HasSessionCause};
+ghost use Rattle.stm_session.specs.Order.{Begin, Follows, AreReturned, IsTakenBack, Stops};
+ghost use Rattle.stm_session.specs.Undoable.{newest_kept};
+ghost use Rattle.stm_session.specs.Sending.{is_whole, most_of_command};
+ghost use Rattle.stm_session.specs.Steps.{IsSteady, Goes};
+ghost use Rattle.stm_session.specs.SegmentBack.{TakesBack, newest_at, return_lines, taking_lines};
+ghost use Rattle.stm_session.specs.SegmentBack.{with_pages};
+
+use crate::Fault;
+use crate::laws_of_steps::step_laws;
+use crate::returning::restore_line;
+use std::alloc::Global;
+use stm_journal::Journal;
+use stm_wire::{Chip, Rig};
+
+/// Gives each page of the newest segment what that keeps of it, in the order of their lines.
+pub fn restore_lines<R: Rig>(
+    alloc: Global,
+    rig: &mut R,
+    journal: &mut Journal,
+    chip: &Chip,
+) -> Result<(), Fault>
+    requires fits { AllFit chip.now journal.old.state.stack }
+    ensures same { OnOk result (KeepsSame journal.old.state journal.new.state) }
+    ensures cause { HasSessionCause (R.view rig.old) (R.view rig.new) result }
+    ensures puts { let old = R.view rig.old in let new = R.view rig.new in
+        GoesOn (IsPart (Some chip.now) (is_whole result) most_of_command) old.calls new.calls }
+    ensures order { let old = R.view rig.old in let new = R.view rig.new in
+        let pages = newest_kept journal.old.state.stack in
+        OnOk result (Follows (AreReturned chip.now pages) journal.old journal.new old new) }
+    ensures stops { let old = R.view rig.old in let new = R.view rig.new in
+        let pages = newest_kept journal.old.state.stack in
+        Stops (Begin (AreReturned chip.now pages)) journal.old.is_torn old new result }
+    ensures honest { let old = R.view rig.old in let new = R.view rig.new in
+        (flashes : List (List ℕ)) → IsSteady flashes journal.old old → old.device.chip ≡ chip.now
+        → let pages = newest_at old.journal in
+        Goes flashes (return_lines chip.now old.device.flash pages) journal.new old new result
+        (λ _. new.device.flash ≡ with_pages chip.now pages old.device.flash) }
+{
+    step_laws();
+    chip.keeps_limits();
+    let newest = journal.depth();
+    let count = journal.kept_count(newest);
+    for i in 0..count {
+        let Some(place) = journal.kept_place(newest, i) else {
+            unreachable!()
+        };
+        let Some((n, _)) = journal.kept(newest, i) else {
+            unreachable!()
+        };
+        restore_line(alloc, rig, journal, chip, n, place)?;
+    }
+    Ok(())
+}
+
+/// Takes the newest segment back.
+pub fn take_back<R: Rig>(
+    alloc: Global,
+    rig: &mut R,
+    journal: &mut Journal,
+    chip: &Chip,
+) -> Result<(), Fault>
+    requires some { 0 < length journal.old.state.stack }
+    requires fits { AllFit chip.now journal.old.state.stack }
+    ensures rest { let pages = pages_of_segments journal.old.state.stack in
+        OnOk result (pages_of_segments journal.new.state.stack ≡ drop 1 pages) }
+    ensures cause { HasSessionCause (R.view rig.old) (R.view rig.new) result }
+    ensures puts { let old = R.view rig.old in let new = R.view rig.new in
+        GoesOn (IsPart (Some chip.now) (is_whole result) most_of_command) old.calls new.calls }
+    ensures order { let old = R.view rig.old in let new = R.view rig.new in
+        let stack = journal.old.state.stack in
+        let Taken = IsTakenBack chip.now (newest_kept stack) (length stack) in
+        OnOk result (Follows Taken journal.old journal.new old new) }
+    ensures stops { let old = R.view rig.old in let new = R.view rig.new in
+        let stack = journal.old.state.stack in
+        let Taken = IsTakenBack chip.now (newest_kept stack) (length stack) in
+        Stops (Begin Taken) journal.old.is_torn old new result }
+    ensures honest { let old = R.view rig.old in let new = R.view rig.new in
+        (flash : List ℕ) (flashes : List (List ℕ))
+        → IsSteady (flash ∷ flashes) journal.old old → old.device.chip ≡ chip.now
+        → let lines = taking_lines chip.now old.device.flash old.journal in
+        TakesBack lines flash flashes journal.new old new result }
+{
+    step_laws();
+    restore_lines(alloc, rig, journal, chip)?;
+    let _depth = journal.depth();
+    journal.undone(rig)?;
+    Ok(())
+}

@@ -1,0 +1,87 @@
+// Taking the newest segments back, one after another, and before them the page at work.
+ghost use Rattle.std.specs.Prelude.{◌≡◌, ◌≤◌, ◌*◌, List, ℕ, length, Some, OnOk};
+ghost use Rattle.stm_wire.specs.Dialogue.{GoesOn};
+ghost use Rattle.stm_wire.specs.Parts.{IsPart};
+ghost use Rattle.stm_journal.specs.Fits.{AllFit};
+ghost use Rattle.stm_journal.specs.Newest.{pages_of_segments};
+ghost use Rattle.stm_journal.specs.States.{intent_of};
+ghost use Rattle.stm_session.specs.Fault.{HasSessionCause};
+ghost use Rattle.stm_session.specs.SegmentsBack.{GoesBack, GoesBackBy, undo_lines};
+ghost use Rattle.stm_session.specs.Order.{Begin, Follows, AreAllTakenBack, AreTakenBack, Stops};
+ghost use Rattle.stm_session.specs.Sending.{is_whole, most_of_command, most_of_undo};
+ghost use Rattle.stm_session.specs.Steps.{IsSteady};
+
+use crate::Fault;
+use crate::laws_of_steps::step_laws;
+use crate::page_at_work::rewrite_at_work;
+use crate::segment_back::take_back;
+use std::alloc::Global;
+use stm_journal::Journal;
+use stm_wire::{Chip, Rig};
+
+/// Takes so many segments back, the newest first.
+pub fn take_back_newest<R: Rig>(
+    alloc: Global,
+    rig: &mut R,
+    journal: &mut Journal,
+    chip: &Chip,
+    taken: u32,
+) -> Result<(), Fault>
+    requires some { taken ≤ length journal.old.state.stack }
+    requires fits { AllFit chip.now journal.old.state.stack }
+    ensures cause { HasSessionCause (R.view rig.old) (R.view rig.new) result }
+    ensures puts { let old = R.view rig.old in let new = R.view rig.new in
+        let most = taken * most_of_command in
+        GoesOn (IsPart (Some chip.now) (is_whole result) most) old.calls new.calls }
+    ensures order { let old = R.view rig.old in let new = R.view rig.new in
+        let Taken = AreTakenBack chip.now taken (pages_of_segments journal.old.state.stack) in
+        OnOk result (Follows Taken journal.old journal.new old new) }
+    ensures stops { let old = R.view rig.old in let new = R.view rig.new in
+        let Taken = AreTakenBack chip.now taken (pages_of_segments journal.old.state.stack) in
+        Stops (Begin Taken) journal.old.is_torn old new result }
+    ensures honest { let old = R.view rig.old in let new = R.view rig.new in
+        (flashes : List (List ℕ)) → IsSteady flashes journal.old old → old.device.chip ≡ chip.now
+        → GoesBack taken flashes journal.new old new result }
+{
+    step_laws();
+    for i in 0..taken {
+        take_back(alloc, rig, journal, chip)?;
+    }
+    Ok(())
+}
+
+/// Takes so many segments back, the newest first, behind a journal that was loaded: the page of its
+/// intent is written before.
+pub fn go_back<R: Rig>(
+    alloc: Global,
+    rig: &mut R,
+    journal: &mut Journal,
+    chip: &Chip,
+    taken: u32,
+) -> Result<(), Fault>
+    requires one { 1 ≤ taken }
+    requires some { taken ≤ length journal.old.state.stack }
+    requires fits { AllFit chip.now journal.old.state.stack }
+    ensures cause { HasSessionCause (R.view rig.old) (R.view rig.new) result }
+    ensures puts { let old = R.view rig.old in let new = R.view rig.new in
+        let most = most_of_undo taken in
+        GoesOn (IsPart (Some chip.now) (is_whole result) most) old.calls new.calls }
+    ensures order { let old = R.view rig.old in let new = R.view rig.new in
+        let intent = intent_of journal.old.state in
+        let segments = pages_of_segments journal.old.state.stack in
+        let Taken = AreAllTakenBack chip.now intent taken segments in
+        OnOk result (Follows Taken journal.old journal.new old new) }
+    ensures stops { let old = R.view rig.old in let new = R.view rig.new in
+        let intent = intent_of journal.old.state in
+        let segments = pages_of_segments journal.old.state.stack in
+        let Taken = AreAllTakenBack chip.now intent taken segments in
+        Stops (Begin Taken) journal.old.is_torn old new result }
+    ensures honest { let old = R.view rig.old in let new = R.view rig.new in
+        (flashes : List (List ℕ)) → IsSteady flashes journal.old old → old.device.chip ≡ chip.now
+        → GoesBackBy (undo_lines taken old) taken flashes journal.new old new result }
+{
+    step_laws();
+    rewrite_at_work(alloc, rig, journal, chip)?;
+    take_back_newest(alloc, rig, journal, chip, taken)?;
+    Ok(())
+}
