@@ -1,5 +1,5 @@
 -- What a fault comes of, behind calls that answered Ok.
-use Rattle.std.proofs.Common.{◌≡◌, ◌∙◌, ℕ, Result, Ok, Err, IsErrAnd, arith, subst, sym}
+use Rattle.std.proofs.Common.{◌≡◌, ◌∙◌, Result, Ok, Err, IsErrAnd, arith, subst, sym}
 use Rattle.stm_wire.specs.Rig.{RigState, Rises}
 use Rattle.stm_session.specs.declared.fault.Fault.{Fault}
 use Rattle.stm_session.specs.Fault.{Cause, of_line, of_protocol, of_file, of_memory, of_session, of_refusal, cause_of, HasSessionCause, KeepsFileCountBy, KeepsLineCountBy, RisesBy}
