@@ -12,10 +12,9 @@ use crate::on_device::read_chips;
 use crate::simulator_file::{SimulatorFiles, line_name};
 use crate::standing::line_of;
 use std::fs::Files;
-use std::io;
 use std::io::{ErrorKind, Read, Write};
 use std::net::Net;
-use std::os::unix::net::{UnixListener, UnixStream};
+use std::os::unix::net::UnixListener;
 use std::time::Duration;
 use stm_session::Fault;
 use stm_wire::Simulator;
@@ -151,18 +150,6 @@ fn check<'a, R: Files + AllocGlobal>(rt: &R, served: &Served<'a>) -> Result<(), 
     Ok(())
 }
 
-/// Takes the next client. A signal that comes while it is waited for is no end.
-fn accept(listener: &UnixListener) -> io::Result<UnixStream> {
-    for _ in 0..u64::MAX {
-        match listener.accept() {
-            Ok((stream, _)) => return Ok(stream),
-            Err(e) if e.kind() == ErrorKind::Interrupted => {}
-            Err(e) => return Err(e),
-        }
-    }
-    Err(io::Error::from(ErrorKind::Interrupted))
-}
-
 /// Serves one client after the other, and writes the simulator's files after each. A client that
 /// goes, or takes no reply for a while, leaves the device with its rest.
 fn serve_clients<'a, R: Locks + AllocGlobal>(
@@ -173,8 +160,9 @@ fn serve_clients<'a, R: Locks + AllocGlobal>(
     served: &Served<'a>,
 ) -> Result<(), Failure<'a>> {
     for _ in 0..served.clients {
-        let stream = match accept(listener) {
-            Ok(stream) => stream,
+        // a signal that comes meanwhile is no end: `accept` goes on by itself
+        let stream = match listener.accept() {
+            Ok((stream, _)) => stream,
             Err(e) => {
                 return Err(Failure::of_file(&e, Failure::CannotConnect(served.socket)));
             }
