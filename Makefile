@@ -54,7 +54,7 @@ tests:
 # stmflash.by-rattle by Rattle's own.
 test:
 	rt ci
-	python3 tools/wrong-bodies --built --minutes 40
+	python3 tools/wrong-bodies --built --minutes 30
 	python3 tools/allocations crates/refused_memory/out/refused_memory
 	python3 tools/refused-program crates/stmflash/out/stmflash
 	python3 tools/large-journals crates/stmflash/out/stmflash
