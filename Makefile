@@ -9,6 +9,8 @@
 #               dpkg), the demo, the tests of the program (whole on the proved one, without those that wait on the demo's and
 #               on the one that Rattle's own compiler made), the program and the simulator over a real socket, 60 kills of the
 #               program there, and random sessions: 300, and 2,000 of the proved one (python3)
+#   make wrong-bodies
+#               has the prover refuse the wrong bodies of every crate that the gate leaves out (tools/wrong-bodies)
 #   make install PREFIX=/usr/local DESTDIR=
 #               what `make` left at bin/stmflash, the line to a serial port, manual pages, chips.toml, completions, unit, udev rule;
 #               it proves and builds nothing, so that it needs no `rt`, also under sudo
@@ -31,7 +33,7 @@ BINARY ?= $(STMFLASH_BINARY)
 JOBS ?= $(shell nproc)
 SOAKED = $(if $(wildcard bin/stmflash),bin/stmflash,bin/stmflash-unproved)
 
-.PHONY: all demo tests test soak install deb pictures bench beside clean
+.PHONY: all demo tests test wrong-bodies soak install deb pictures bench beside clean
 
 all:
 	cd crates/stmflash && rt check
@@ -54,7 +56,7 @@ tests:
 # stmflash.by-rattle by Rattle's own.
 test:
 	rt ci
-	python3 tools/wrong-bodies --built --minutes 30
+	python3 tools/wrong-bodies --built stm_image stm_chip
 	python3 tools/allocations crates/refused_memory/out/refused_memory
 	python3 tools/refused-program crates/stmflash/out/stmflash
 	python3 tools/large-journals crates/stmflash/out/stmflash
@@ -66,6 +68,9 @@ test:
 	python3 tools/kills bin/stmflash-unproved 60
 	python3 tools/soak bin/stmflash-unproved --sessions 300 --jobs $(JOBS)
 	python3 tools/soak crates/stmflash/out/stmflash --sessions 2000 --jobs $(JOBS)
+
+wrong-bodies:
+	python3 tools/wrong-bodies
 
 soak:
 	@test -x bin/stmflash || test -x bin/stmflash-unproved || sh tools/demo.sh
