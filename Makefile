@@ -10,7 +10,7 @@
 #               on the one that Rattle's own compiler made), the program and the simulator over a real socket, 60 kills of the
 #               program there, and random sessions: 300, and 2,000 of the proved one (python3)
 #   make wrong-bodies
-#               has the prover refuse the wrong bodies of every crate that the gate leaves out (tools/wrong-bodies)
+#               has the prover refuse the wrong bodies of the large crates that the gate leaves out (tools/wrong-bodies)
 #   make install PREFIX=/usr/local DESTDIR=
 #               what `make` left at bin/stmflash, the line to a serial port, manual pages, chips.toml, completions, unit, udev rule;
 #               it proves and builds nothing, so that it needs no `rt`, also under sudo
@@ -56,7 +56,6 @@ tests:
 # stmflash.by-rattle by Rattle's own.
 test:
 	rt ci
-	python3 tools/wrong-bodies --built stm_image stm_chip
 	python3 tools/allocations crates/refused_memory/out/refused_memory
 	python3 tools/refused-program crates/stmflash/out/stmflash
 	python3 tools/large-journals crates/stmflash/out/stmflash

@@ -20,7 +20,7 @@ EDITS = (
     "crates/stm_session/wrong-bodies/keeps_page_one_alone.edit",
     "crates/stm_session/must-fail/undone_before_its_pages.edit",
     "crates/stm_session/wrong-bodies/keeps_a_page_behind_its_erase.edit",
-    "crates/stm_journal/wrong-bodies/no_mark.edit",
+    "crates/stm_journal/must-fail/no_mark.edit",
 )
 
 
