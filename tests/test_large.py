@@ -26,6 +26,16 @@ def hex_of(data, base):
 
 
 class Large(Place):
+    def test_stands_inside_the_longest_list(self):
+        """A simulator that was left one byte before the end of a list of 65,520 pages is read, settled, and left idle."""
+        self.store("table", b'[[chip]]\nid = 0x470\nbase = 0x08000000\npages = [[2, 256]]\nerase = "extended"\n')
+        self.store("flash", b"\x5a" * 512)
+        self.store("flash.line", b"rest 44BBFFEF" + b"0000" * 65520 + b"\n")
+        said = self.use("info", device="sim:0470:flash")
+        self.assertEqual((said.status, said.err), (0, b""))
+        self.assertFile("flash", b"\x5a" * 512)
+        self.assertFile("flash.line", b"idle\n")
+
     def test_takes_back_a_segment_of_all_pages(self):
         """A HEX text whose records fall, over a whole flash of 2 MiB (of 128 KiB by a slow program), in one segment; read
         back whole, and taken back."""

@@ -17,8 +17,9 @@ use std::alloc::{AllocError, Global};
 use std::fs::Files;
 use stm_wire::{Chip, MemoryRig};
 
-/// How many bytes the file that tells where a simulator stands is read to: more than any line has.
-const LINE: u64 = 65_536;
+/// How many bytes the file that tells where a simulator stands is read to: more than any line has,
+/// whose longest has two digits for each byte of a list of 65,520 pages.
+const LINE: u64 = 524_288;
 
 /// The name of the file that tells where a simulator stands.
 pub fn line_name(alloc: Global, file: &str) -> Result<String, AllocError> {
