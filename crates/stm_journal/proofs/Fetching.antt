@@ -10,8 +10,7 @@ use Rattle.stm_journal.specs.declared.fault.JournalFault.{JournalFault}
 use Rattle.stm_journal.specs.declared.fault.JournalFault.TheVariants.{File, Bad, OtherDevice, Memory}
 use Rattle.stm_journal.specs.Summary.{Summary}
 use Rattle.stm_journal.specs.Journals.{Loaded, IsLoaded, journal_of}
-use Rattle.stm_wire.specs.declared.rig.RigCall.{RigCall}
-use Rattle.stm_wire.specs.declared.rig.RigCall.TheVariants.{Put, Get, Append, Fetch}
+use Rattle.stm_wire.specs.Call.{Call, Put, Get, Append, Fetch}
 use Rattle.stm_wire.specs.Dialogue.{GoesOn}
 use Rattle.std.proofs.Common.{Option, Some, None}
 use Rattle.stm_journal.specs.Calls.{AreFetches, Loads, IsUntouched, IsFaultOf, KeepsDevice}
@@ -139,21 +138,21 @@ Loads-done l l2 tail n before after a b c has got some none is =
     }
 
 -- calls after calls
-pub AreFetches-append : (xs ys : List RigCall) → AreFetches xs → AreFetches ys → AreFetches (xs ++ ys)
+pub AreFetches-append : (xs ys : List Call) → AreFetches xs → AreFetches ys → AreFetches (xs ++ ys)
 AreFetches-append [] ys x y = y
 AreFetches-append (Put byte ∷ xs) ys x y = absurd x
 AreFetches-append (Get answer ∷ xs) ys x y = absurd x
 AreFetches-append (Append n ∷ xs) ys x y = absurd x
 AreFetches-append (Fetch ∷ xs) ys x y = AreFetches-append xs ys x y
 
-pub GoesOn-fetches : (a b c : Option (List RigCall)) → GoesOn AreFetches a b → GoesOn AreFetches b c → GoesOn AreFetches a c
+pub GoesOn-fetches : (a b c : Option (List Call)) → GoesOn AreFetches a b → GoesOn AreFetches b c → GoesOn AreFetches a c
 GoesOn-fetches None b c p q =
-    let G : Option (List RigCall) → Type 0 = λ o. GoesOn AreFetches o c in
+    let G : Option (List Call) → Type 0 = λ o. GoesOn AreFetches o c in
     subst G p q
 GoesOn-fetches (Some past) b c p q =
-    let G : Option (List RigCall) → Type 0 = λ o. GoesOn AreFetches o c in
+    let G : Option (List Call) → Type 0 = λ o. GoesOn AreFetches o c in
     let r = subst G p.1 q in
-    (p.0 ++ r.0, r.1 ∙ ap (λ (xs : List RigCall). Some xs) (append_assoc past p.0 r.0), AreFetches-append p.0 r.0 p.2 r.2)
+    (p.0 ++ r.0, r.1 ∙ ap (λ (xs : List Call). Some xs) (append_assoc past p.0 r.0), AreFetches-append p.0 r.0 p.2 r.2)
 
 -- the numbers stay small
 pub short-read : (l : Loaded) (tail : Summary) (n : ℕ) (before after : List ℕ) (a b c : RigState) → IsModel a → HasRead l tail a b → Fetches l.size before after b c (Ok n) → n ≤ length after

@@ -1,8 +1,7 @@
 -- What the calls of a journal do to the Rig's journal, its device, its counts and its record.
-use Rattle.std.specs.Prelude.{◌≡◌, ◌⊎◌, ℕ, ◌≤◌, List, [], ◌∷◌, ◌++◌, Some, Result, Ok, Err, OnOk}
-use Rattle.std.specs.Prelude.{IfOk, IfErr}
-use Rattle.stm_wire.specs.declared.rig.RigCall.{RigCall}
-use Rattle.stm_wire.specs.declared.rig.RigCall.TheVariants.{Put, Get, Append, Fetch}
+use Rattle.std.specs.Prelude.{◌≡◌, ◌⊎◌, ℕ, ◌≤◌, List, [], ◌∷◌, ◌++◌, take, Some, Result, Ok, Err}
+use Rattle.std.specs.Prelude.{OnOk, IfOk, IfErr}
+use Rattle.stm_wire.specs.Call.{Call, Put, Get, Append, Fetch}
 use Rattle.stm_wire.specs.Device.{Device, LosesOwed}
 use Rattle.stm_wire.specs.Rig.{RigState, Rises, LeftByAppend, LeftByGet}
 use Rattle.stm_wire.specs.Moments.{LeavesOnly}
@@ -32,16 +31,20 @@ pub record HasJournalCause {T : Type 0} (old new : RigState)
   pub line_count : new.line_failures ≡ old.line_failures
   pub honest : old.is_honest → new.is_honest
 
--- one append of so many bytes; one that failed may be missing in the record, and a call that failed
--- for another cause made none
-abbrev pub AppendsOnce : {T : Type 0} → ℕ → Result T JournalFault → List RigCall → Type 0
-AppendsOnce n (Ok x) calls = calls ≡ Append n ∷ []
-AppendsOnce n (Err File) calls = (calls ≡ []) ⊎ (calls ≡ Append n ∷ [])
-AppendsOnce n (Err (Bad line)) calls = calls ≡ []
-AppendsOnce n (Err OtherDevice) calls = calls ≡ []
-AppendsOnce n (Err Memory) calls = calls ≡ []
+-- nothing was appended, or a beginning of these bytes
+abbrev pub AppendsInPart : List ℕ → List Call → Type 0
+AppendsInPart bytes calls = (calls ≡ []) ⊎ ((n : ℕ) × (calls ≡ Append (take n bytes) ∷ []))
 
-abbrev pub AreFetches : List RigCall → Type 0
+-- one append of these bytes; one that failed added a beginning of them, or is missing in the record,
+-- and a call that failed for another cause made none
+abbrev pub AppendsOnce : {T : Type 0} → List ℕ → Result T JournalFault → List Call → Type 0
+AppendsOnce bytes (Ok x) calls = calls ≡ Append bytes ∷ []
+AppendsOnce bytes (Err File) calls = AppendsInPart bytes calls
+AppendsOnce bytes (Err (Bad line)) calls = calls ≡ []
+AppendsOnce bytes (Err OtherDevice) calls = calls ≡ []
+AppendsOnce bytes (Err Memory) calls = calls ≡ []
+
+abbrev pub AreFetches : List Call → Type 0
 AreFetches [] = Unit {0}
 AreFetches (Put byte ∷ calls) = ⊥
 AreFetches (Get answer ∷ calls) = ⊥

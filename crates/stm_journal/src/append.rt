@@ -1,5 +1,5 @@
 // Bytes added to the journal of a Rig.
-ghost use Rattle.std.specs.Prelude.{◌≡◌, length, IfErr};
+ghost use Rattle.std.specs.Prelude.{◌≡◌, IfErr};
 ghost use Rattle.stm_wire.specs.Dialogue.{GoesOn};
 ghost use Rattle.stm_journal.specs.Calls.{HasJournalCause, AppendsOnce, AddsBytes};
 
@@ -10,7 +10,7 @@ use stm_wire::Rig;
 pub(crate) fn append<R: Rig>(rig: &mut R, bytes: &[u8]) -> Result<(), JournalFault>
     ensures cause { HasJournalCause (R.view rig.old) (R.view rig.new) result }
     ensures calls { let old = R.view rig.old in let new = R.view rig.new in
-        GoesOn (AppendsOnce (length bytes.now) result) old.calls new.calls }
+        GoesOn (AppendsOnce bytes.now result) old.calls new.calls }
     ensures answers { IfErr result (λ e. e ≡ JournalFault.File) }
     ensures honest { let old = R.view rig.old in let new = R.view rig.new in
         old.is_honest → AddsBytes bytes.now old new result }

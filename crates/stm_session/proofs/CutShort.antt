@@ -4,8 +4,7 @@ use Rattle.std.specs.Prelude.{IfErr}
 use Rattle.std.proofs.lemmas.List.{length-replicate, map-append, take-append-drop, take_more}
 use Rattle.stm_wire.specs.declared.fault.WireFault.{WireFault}
 use Rattle.stm_wire.specs.declared.fault.WireFault.TheVariants.{Line, Nack, Quiet, Garbled}
-use Rattle.stm_wire.specs.declared.rig.RigCall.{RigCall}
-use Rattle.stm_wire.specs.declared.rig.RigCall.TheVariants.{Append}
+use Rattle.stm_wire.specs.Call.{Call, Append}
 use Rattle.stm_wire.specs.Chip.{ChipData, page_size}
 use Rattle.stm_wire.specs.Dialogue.{Turn, GoesOn, IsBrokenOff}
 use Rattle.stm_wire.specs.DialogueLaws.{GoesOn-append, GoesOn-nothing, GoesOn-weaker, broken_off_is_cut_short}
@@ -36,7 +35,7 @@ stop_as P Q cause torn a b weaker stops =
 
 -- steps are cut short behind others
 module _ (P Q : List Step → Type 0) (cause : Cause) (torn : Bool) (xs : List Step) (longer : (ys : List Step) → P ys → Q (xs ++ ys)) where
-  pub cut_after : (before later : List RigCall) → before ≡ acts_of_steps torn xs → AreCutShort P cause (torn_behind torn xs) later → AreCutShort Q cause torn (before ++ later)
+  pub cut_after : (before later : List Call) → before ≡ acts_of_steps torn xs → AreCutShort P cause (torn_behind torn xs) later → AreCutShort Q cause torn (before ++ later)
   cut_after before later is cut =
       let F : Bool → Type 0 = λ t. FailsBy cause t cut.failed cut.last in
       record {
@@ -45,14 +44,14 @@ module _ (P Q : List Step → Type 0) (cause : Cause) (torn : Bool) (xs : List S
         allowed = subst Q (sym (append_assoc xs cut.done (step_in cut.failed))) (longer (cut.done ++ step_in cut.failed) cut.allowed);
         last = cut.last;
         fails = subst F (sym (torn-append torn xs cut.done)) cut.fails;
-        is = ap₂ (λ (l m : List RigCall). l ++ m) is cut.is ∙ sym (append_assoc (acts_of_steps torn xs) (acts_of_steps (torn_behind torn xs) cut.done) cut.last)
-            ∙ ap (λ (l : List RigCall). l ++ cut.last) (sym (steps-append torn xs cut.done));
+        is = ap₂ (λ (l m : List Call). l ++ m) is cut.is ∙ sym (append_assoc (acts_of_steps torn xs) (acts_of_steps (torn_behind torn xs) cut.done) cut.last)
+            ∙ ap (λ (l : List Call). l ++ cut.last) (sym (steps-append torn xs cut.done));
       }
 
   pub order_stops : (a b c : RigState) → GoesOn (IsInOrder torn xs) a.calls b.calls → StopsBy P cause (torn_behind torn xs) b c → StopsBy Q cause torn a c
   order_stops a b c first stops =
       GoesOn-append (IsInOrder torn xs) (λ calls. AreCutShort P cause (torn_behind torn xs) (acts_of calls)) (λ calls. AreCutShort Q cause torn (acts_of calls)) a.calls b.calls c.calls first stops
-      (λ cs ds x y. let R : List RigCall → Type 0 = λ l. AreCutShort Q cause torn l in subst R (sym (acts-append cs ds)) (cut_after (acts_of cs) (acts_of ds) x y))
+      (λ cs ds x y. let R : List Call → Type 0 = λ l. AreCutShort Q cause torn l in subst R (sym (acts-append cs ds)) (cut_after (acts_of cs) (acts_of ds) x y))
 
 pub stop_after : (P Q : List Step → Type 0) (cause : Cause) (xs : List Step) (l l2 : Loaded) (a b c : RigState) → DoesSteps xs l l2 a b → StopsBy P cause l2.is_torn b c → ((ys : List Step) → P ys → Q (xs ++ ys))
     → StopsBy Q cause l.is_torn a c
@@ -70,7 +69,7 @@ pub halts_first : (Q : List Step → Type 0) (cause : Cause) (torn : Bool) (a : 
 halts_first Q cause torn a allowed idle = halts Q cause torn [] a a allowed idle (GoesOn-nothing (IsInOrder torn []) a.calls refl)
 
 -- a dialogue is broken off
-broken_fails : (torn : Bool) (e : WireFault) (turns : List Turn) (calls : List RigCall) → IsBrokenOff e turns calls → FailsBy (cause_of (fault_of e)) torn (Some (Sends turns)) calls
+broken_fails : (torn : Bool) (e : WireFault) (turns : List Turn) (calls : List Call) → IsBrokenOff e turns calls → FailsBy (cause_of (fault_of e)) torn (Some (Sends turns)) calls
 broken_fails torn Line turns calls broken = broken
 broken_fails torn Nack turns calls broken = (Nack, (λ (is : Nack ≡ Line). cc), broken)
 broken_fails torn Quiet turns calls broken = (Quiet, (λ (is : Quiet ≡ Line). cc), broken)
@@ -83,18 +82,18 @@ sent_stops Q torn e turns a b allowed broken =
 
 -- the file fails, or refuses before it is asked
 pub line_stops : (T : Type 0) (Q : List Step → Type 0) (torn : Bool) (entries : List Entry) (e : JournalFault) (a b : RigState) → Q [] → Q (Adds entries ∷ [])
-    → GoesOn (AppendsOnce {T = T} (length (added_bytes torn entries)) (Err e)) a.calls b.calls → StopsBy Q (cause_of (fault_of_journal e)) torn a b
+    → GoesOn (AppendsOnce {T = T} (added_bytes torn entries) (Err e)) a.calls b.calls → StopsBy Q (cause_of (fault_of_journal e)) torn a b
 line_stops T Q torn entries e a b none one once =
-    GoesOn-weaker (AppendsOnce {T = T} (length (added_bytes torn entries)) (Err e)) (λ calls. AreCutShort Q (cause_of (fault_of_journal e)) torn (acts_of calls)) a.calls b.calls once (by_cause e)
+    GoesOn-weaker (AppendsOnce {T = T} (added_bytes torn entries) (Err e)) (λ calls. AreCutShort Q (cause_of (fault_of_journal e)) torn (acts_of calls)) a.calls b.calls once (by_cause e)
   where
-    by_cause : (e : JournalFault) (calls : List RigCall) → AppendsOnce {T = T} (length (added_bytes torn entries)) (Err e) calls → AreCutShort Q (cause_of (fault_of_journal e)) torn (acts_of calls)
+    by_cause : (e : JournalFault) (calls : List Call) → AppendsOnce {T = T} (added_bytes torn entries) (Err e) calls → AreCutShort Q (cause_of (fault_of_journal e)) torn (acts_of calls)
     by_cause File calls is =
         record {
           done = [];
           failed = Some (Adds entries);
           allowed = one;
           last = acts_of calls;
-          fails = ⊎_elim (λ e. inl (ap acts_of e)) (λ e. inr (ap acts_of e)) is;
+          fails = ⊎_elim (λ e. inl (ap acts_of e)) (λ e. inr (e.0, ap acts_of e.1)) is;
           is = refl;
         }
     by_cause (Bad line) calls is = record { done = []; failed = None; allowed = none; last = []; fails = refl; is = ap acts_of is }
@@ -107,7 +106,7 @@ pub command_stops : {U : Type 0} (Q : List Step → Type 0) (torn : Bool) (e : W
 command_stops Q torn e turns a b result is allowed broken = by_fault (λ k. StopsBy Q k torn a b) (fault_of e) result is (sent_stops Q torn e turns a b allowed broken)
 
 pub append_stops : {U : Type 0} (T : Type 0) (Q : List Step → Type 0) (torn : Bool) (entries : List Entry) (e : JournalFault) (a b : RigState) (result : Result U Fault) → IsErrAnd result (λ x. x ≡ fault_of_journal e) → Q [] → Q (Adds entries ∷ [])
-    → GoesOn (AppendsOnce {T = T} (length (added_bytes torn entries)) (Err e)) a.calls b.calls → Stops Q torn a b result
+    → GoesOn (AppendsOnce {T = T} (added_bytes torn entries) (Err e)) a.calls b.calls → Stops Q torn a b result
 append_stops T Q torn entries e a b result is none one once = by_fault (λ k. StopsBy Q k torn a b) (fault_of_journal e) result is (line_stops T Q torn entries e a b none one once)
 
 pub memory_stops : {U : Type 0} (Q : List Step → Type 0) (torn : Bool) (xs : List Step) (a b : RigState) (result : Result U Fault) → IsErrAnd result (λ x. x ≡ faults.Memory) → Q xs → GoesOn (IsInOrder torn xs) a.calls b.calls

@@ -6,7 +6,7 @@ use Rattle.std.proofs.lemmas.Bool.{false≢true}
 use Rattle.stm_wire.specs.declared.chip.EraseKind.{EraseKind}
 use Rattle.stm_wire.specs.declared.chip.EraseKind.TheVariants.{Page, Extended}
 use Rattle.stm_wire.specs.declared.intent.Intent.{Intent}
-use Rattle.stm_wire.specs.declared.rig.RigCall.{RigCall}
+use Rattle.stm_wire.specs.Call.{Call}
 use Rattle.stm_wire.specs.Command.{with_rest}
 use Rattle.stm_wire.specs.Chip.{ChipData}
 use Rattle.stm_wire.specs.Device.{Device, IsDevice, IsSettled}
@@ -58,7 +58,7 @@ connect_run : (n : ℕ) → IsSettlingRun 0x7F 0 (take n (0x7F ∷ []))
 connect_run zero = (0, refl)
 connect_run (suc n) = (1, ap (λ (xs : List ℕ). 0x7F ∷ xs) (take-nil n))
 
-pub connect_settles : (a b : Option (List RigCall)) → GoesOn (PutsPart (0x7F ∷ []) 2) a b → GoesOn (SettlesWithin 0x7F 0) a b
+pub connect_settles : (a b : Option (List Call)) → GoesOn (PutsPart (0x7F ∷ []) 2) a b → GoesOn (SettlesWithin 0x7F 0) a b
 connect_settles a b p =
     GoesOn-weaker (PutsPart (0x7F ∷ []) 2) (SettlesWithin 0x7F 0) a b p
     (λ xs t. record { line = t.line; puts = subst (IsSettlingRun 0x7F 0) (sym t.puts.1) (connect_run t.puts.0); few = omega (arith, t.few) })

@@ -9,7 +9,7 @@ use Rattle.stm_image.specs.Pairs.{Pairs}
 use Rattle.stm_wire.specs.Chip.{ChipData, erased_byte, erased_page, page_count, page_offset, page_size}
 use Rattle.stm_wire.specs.DialogueLaws.{GoesOn-weaker}
 use Rattle.stm_wire.specs.Rig.{RigState}
-use Rattle.stm_wire.specs.declared.rig.RigCall.{RigCall}
+use Rattle.stm_wire.specs.Call.{Call}
 use Rattle.stm_chip.specs.Plan.{frames_of}
 use Rattle.stm_journal.specs.declared.entry.Entry.TheVariants.{Names, Opens, Keeps}
 use Rattle.stm_journal.specs.Journals.{begin_entries}
@@ -29,7 +29,7 @@ use Rattle.stm_session.specs.Undoable.{has_companion}
 use Rattle.stm_session.proofs.KeptSteps.{Leads, keeps_front, keeps_then, leads_nothing, leads_reads, leads_rewrite, leads_then}
 
 -- all of these are allowed too
-pub cut_as : (P Q : List Step → Type 0) (cause : Cause) (torn : Bool) (acts : List RigCall) → ((xs : List Step) → P xs → Q xs) → AreCutShort P cause torn acts → AreCutShort Q cause torn acts
+pub cut_as : (P Q : List Step → Type 0) (cause : Cause) (torn : Bool) (acts : List Call) → ((xs : List Step) → P xs → Q xs) → AreCutShort P cause torn acts → AreCutShort Q cause torn acts
 cut_as P Q cause torn acts weaker cut = record { done = cut.done; failed = cut.failed; allowed = weaker (cut.done ++ step_in cut.failed) cut.allowed; last = cut.last; fails = cut.fails; is = cut.is }
 
 -- the first lines of a segment

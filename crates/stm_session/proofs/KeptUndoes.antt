@@ -3,7 +3,7 @@ use Rattle.std.proofs.Common.{◌≡◌, ◌⊎◌, ⊎_elim, inl, inr, ℕ, zer
 use Rattle.std.specs.Prelude.{bytes_eq}
 use Rattle.std.proofs.lemmas.List.{length-map}
 use Rattle.stm_wire.specs.declared.intent.Intent.{Intent}
-use Rattle.stm_wire.specs.declared.rig.RigCall.{RigCall}
+use Rattle.stm_wire.specs.Call.{Call}
 use Rattle.stm_wire.specs.Chip.{ChipData, erased_byte, page_size}
 use Rattle.stm_wire.specs.DialogueLaws.{GoesOn-weaker}
 use Rattle.stm_wire.specs.Frames.{read_turns}
@@ -158,8 +158,8 @@ undo_stops_back is_fresh table count old new fault (inr cut) =
     let Taken : List Step → Type 0 = AreAllTakenBack cut.chip (intent_of s) cut.taken (pages_of_segments s.stack) in
     let Begun : List Step → Type 0 = IsAfter asked (Begin Taken) in
     let Back : List Step → Type 0 = IsAfter asked (PutsBackFrom cut.chip s) in
-    let Old : List RigCall → Type 0 = λ calls. ReachesInPart way cause torn calls ⊎ SettlesThen way (AreCutShort Begun cause torn) calls in
-    let New : List RigCall → Type 0 = λ calls. ReachesInPart way cause torn calls ⊎ SettlesThen way (AreCutShort Back cause torn) calls in
+    let Old : List Call → Type 0 = λ calls. ReachesInPart way cause torn calls ⊎ SettlesThen way (AreCutShort Begun cause torn) calls in
+    let New : List Call → Type 0 = λ calls. ReachesInPart way cause torn calls ⊎ SettlesThen way (AreCutShort Back cause torn) calls in
     let begun : (steps : List Step) → Begun steps → Back steps =
     λ steps x. (x.0, x.1, puts_front cut.chip (pages_at_first (intent_of s) (pages_of_segments s.stack)) x.0 x.2.0 (all_puts cut.chip (intent_of s) cut.taken (pages_of_segments s.stack) (x.0 ++ x.2.0) (no_intent s) x.2.1)) in
     inr (record {

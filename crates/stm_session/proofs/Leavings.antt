@@ -3,7 +3,7 @@ use Rattle.std.proofs.Common.{◌≡◌, ℕ, ⊎_elim, inl, inr, List, ◌++◌
 use Rattle.std.proofs.Math.Seq.{take-length}
 use Rattle.stm_wire.specs.declared.fault.WireFault.{WireFault}
 use Rattle.stm_wire.specs.declared.fault.WireFault.TheVariants.{Line, Nack, Quiet, Garbled}
-use Rattle.stm_wire.specs.declared.rig.RigCall.{RigCall}
+use Rattle.stm_wire.specs.Call.{Call}
 use Rattle.stm_wire.specs.Chip.{ChipData, is_inside}
 use Rattle.stm_wire.specs.Command.{CanGo, CanProtect}
 use Rattle.stm_wire.specs.Device.{Device}
@@ -29,19 +29,19 @@ use Rattle.stm_session.proofs.Openings.{left_by_loading, moments_of_asking, mome
 use Rattle.stm_session.proofs.Unbegun.{further}
 
 -- the journal was read, the device settled, and then came a dialogue
-pub settled_then : (turns : List Turn) (a b c d : Option (List RigCall)) → GoesOn AreFetches a b → GoesOn (SettlesWithin 0x7F 131072) b c → GoesOn (EndsSettled 0x7F 131072) b c → Adds (calls_of turns) c d
+pub settled_then : (turns : List Turn) (a b c d : Option (List Call)) → GoesOn AreFetches a b → GoesOn (SettlesWithin 0x7F 131072) b c → GoesOn (EndsSettled 0x7F 131072) b c → Adds (calls_of turns) c d
     → GoesOn (IsSettledThen turns) a d
 settled_then turns a b c d fetched settles settled said =
     GoesOn-append AreFetches Then (IsSettledThen turns) a b d fetched
     (GoesOn-append Both (λ xs. xs ≡ calls_of turns) Then b c d (GoesOn-both (SettlesWithin 0x7F 131072) (EndsSettled 0x7F 131072) b c settles settled)
-    (GoesOn-adds (λ xs. xs ≡ calls_of turns) (calls_of turns) c d said refl) (λ xs ys x y. (xs, ap (λ (l : List RigCall). xs ++ l) y, x)))
-    (λ fetches rest are x. record { fetches = fetches; are_fetches = are; settling = x.0; settles = x.2.0; settled = x.2.1; is = ap (λ (l : List RigCall). fetches ++ l) x.1 })
+    (GoesOn-adds (λ xs. xs ≡ calls_of turns) (calls_of turns) c d said refl) (λ xs ys x y. (xs, ap (λ (l : List Call). xs ++ l) y, x)))
+    (λ fetches rest are x. record { fetches = fetches; are_fetches = are; settling = x.0; settles = x.2.0; settled = x.2.1; is = ap (λ (l : List Call). fetches ++ l) x.1 })
   where
-    Both : List RigCall → Type 0
+    Both : List Call → Type 0
     Both xs = SettlesWithin 0x7F 131072 xs × EndsSettled 0x7F 131072 xs
 
-    Then : List RigCall → Type 0
-    Then xs = (settling : List RigCall) × (xs ≡ settling ++ calls_of turns) × Both settling
+    Then : List Call → Type 0
+    Then xs = (settling : List Call) × (xs ≡ settling ++ calls_of turns) × Both settling
 
 -- a fault of talking to a device is none of the journal or of memory
 heard_or_not : (cause : Cause) → IsHeard cause → IsUnheard cause → ⊥

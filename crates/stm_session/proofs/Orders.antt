@@ -6,8 +6,7 @@ use Rattle.std.proofs.lemmas.Slice.Eq.{bytes_eq-Decides}
 use Rattle.std.proofs.lemmas.List.{drop-append-le, length-drop, length-map, map-append, take-append-le, take_all, take_more}
 use Rattle.std.proofs.Math.Seq.{drop-append_seam}
 use Rattle.stm_wire.specs.declared.chip.EraseKind.{EraseKind}
-use Rattle.stm_wire.specs.declared.rig.RigCall.{RigCall}
-use Rattle.stm_wire.specs.declared.rig.RigCall.TheVariants.{Put, Get, Append, Fetch}
+use Rattle.stm_wire.specs.Call.{Call, Put, Get, Append, Fetch}
 use Rattle.stm_wire.specs.Chip.{ChipData, erased_byte}
 use Rattle.stm_wire.specs.Dialogue.{Turn, Adds as AddsCalls, AreLineCalls, GoesOn, calls_of}
 use Rattle.stm_wire.specs.DialogueLaws.{GoesOn-adds, GoesOn-append, GoesOn-nothing, GoesOn-weaker, calls_of-are_line}
@@ -27,17 +26,17 @@ use Rattle.stm_journal.specs.States.{SegmentData}
 use Rattle.stm_session.specs.Order.{Step, Adds, Sends, AreReturned, AreTakenBack, DoesSteps, IsInOrder, IsReturned, IsTakenBack, SettlesFirst, SettlesThen, acts_of, acts_of_steps, page_address, program_steps, read_steps, restore_steps, rewrite_steps, torn_behind, write_step, write_steps}
 use Rattle.stm_session.specs.Undoable.{newest_kept}
 
-pub acts-append : (xs ys : List RigCall) → acts_of (xs ++ ys) ≡ acts_of xs ++ acts_of ys
+pub acts-append : (xs ys : List Call) → acts_of (xs ++ ys) ≡ acts_of xs ++ acts_of ys
 acts-append [] ys = refl
-acts-append (Put byte ∷ xs) ys = ap (λ (l : List RigCall). Put byte ∷ l) (acts-append xs ys)
-acts-append (Get answer ∷ xs) ys = ap (λ (l : List RigCall). Get answer ∷ l) (acts-append xs ys)
-acts-append (Append n ∷ xs) ys = ap (λ (l : List RigCall). Append n ∷ l) (acts-append xs ys)
+acts-append (Put byte ∷ xs) ys = ap (λ (l : List Call). Put byte ∷ l) (acts-append xs ys)
+acts-append (Get answer ∷ xs) ys = ap (λ (l : List Call). Get answer ∷ l) (acts-append xs ys)
+acts-append (Append n ∷ xs) ys = ap (λ (l : List Call). Append n ∷ l) (acts-append xs ys)
 acts-append (Fetch ∷ xs) ys = acts-append xs ys
 
 pub steps-append : (torn : Bool) (xs ys : List Step) → acts_of_steps torn (xs ++ ys) ≡ acts_of_steps torn xs ++ acts_of_steps (torn_behind torn xs) ys
 steps-append torn [] ys = refl
-steps-append torn (Adds entries ∷ xs) ys = ap (λ (l : List RigCall). Append (length (added_bytes torn entries)) ∷ l) (steps-append false xs ys)
-steps-append torn (Sends turns ∷ xs) ys = ap (λ (l : List RigCall). calls_of turns ++ l) (steps-append torn xs ys) ∙ sym (append_assoc (calls_of turns) (acts_of_steps torn xs) (acts_of_steps (torn_behind torn xs) ys))
+steps-append torn (Adds entries ∷ xs) ys = ap (λ (l : List Call). Append (added_bytes torn entries) ∷ l) (steps-append false xs ys)
+steps-append torn (Sends turns ∷ xs) ys = ap (λ (l : List Call). calls_of turns ++ l) (steps-append torn xs ys) ∙ sym (append_assoc (calls_of turns) (acts_of_steps torn xs) (acts_of_steps (torn_behind torn xs) ys))
 
 pub torn-append : (torn : Bool) (xs ys : List Step) → torn_behind torn (xs ++ ys) ≡ torn_behind (torn_behind torn xs) ys
 torn-append torn [] ys = refl
@@ -45,11 +44,11 @@ torn-append torn (Adds entries ∷ xs) ys = torn-append false xs ys
 torn-append torn (Sends turns ∷ xs) ys = torn-append torn xs ys
 
 -- steps after others
-pub order_then : (torn : Bool) (xs ys : List Step) (a b c : Option (List RigCall)) → GoesOn (IsInOrder torn xs) a b → GoesOn (IsInOrder (torn_behind torn xs) ys) b c → GoesOn (IsInOrder torn (xs ++ ys)) a c
+pub order_then : (torn : Bool) (xs ys : List Step) (a b c : Option (List Call)) → GoesOn (IsInOrder torn xs) a b → GoesOn (IsInOrder (torn_behind torn xs) ys) b c → GoesOn (IsInOrder torn (xs ++ ys)) a c
 order_then torn xs ys a b c p q =
     GoesOn-append (IsInOrder torn xs) (IsInOrder (torn_behind torn xs) ys) (IsInOrder torn (xs ++ ys)) a b c p q
     (λ cs ds x y.
-    acts-append cs ds ∙ ap (λ (l : List RigCall). l ++ acts_of ds) x ∙ ap (λ (l : List RigCall). acts_of_steps torn xs ++ l) y ∙ sym (steps-append torn xs ys))
+    acts-append cs ds ∙ ap (λ (l : List Call). l ++ acts_of ds) x ∙ ap (λ (l : List Call). acts_of_steps torn xs ++ l) y ∙ sym (steps-append torn xs ys))
 
 pub does_then : (xs ys : List Step) (l l2 l3 : Loaded) (a b c : RigState) → DoesSteps xs l l2 a b → DoesSteps ys l2 l3 b c → DoesSteps (xs ++ ys) l l3 a c
 does_then xs ys l l2 l3 a b c p q =
@@ -67,7 +66,7 @@ pub does_nothing : (l : Loaded) (a : RigState) → DoesSteps [] l l a a
 does_nothing l a = record { acts = GoesOn-nothing (IsInOrder l.is_torn []) a.calls refl; torn = refl }
 
 -- fetches
-pub fetches-act : (calls : List RigCall) → AreFetches calls → acts_of calls ≡ []
+pub fetches-act : (calls : List Call) → AreFetches calls → acts_of calls ≡ []
 fetches-act [] is = refl
 fetches-act (Put byte ∷ calls) is = absurd is
 fetches-act (Get answer ∷ calls) is = absurd is
@@ -78,19 +77,19 @@ pub does_fetch : (l : Loaded) (a b : RigState) → GoesOn AreFetches a.calls b.c
 does_fetch l a b p = record { acts = GoesOn-weaker AreFetches (IsInOrder l.is_torn []) a.calls b.calls p fetches-act; torn = refl }
 
 -- one append
-pub does_add : {T : Type 0} (x : T) (entries : List Entry) (l l2 : Loaded) (a b : RigState) → GoesOn (AppendsOnce (length (added_bytes l.is_torn entries)) (Ok x)) a.calls b.calls → l2.is_torn ≡ false
+pub does_add : {T : Type 0} (x : T) (entries : List Entry) (l l2 : Loaded) (a b : RigState) → GoesOn (AppendsOnce (added_bytes l.is_torn entries) (Ok x)) a.calls b.calls → l2.is_torn ≡ false
     → DoesSteps (Adds entries ∷ []) l l2 a b
 does_add x entries l l2 a b p torn =
     record {
-      acts = GoesOn-weaker (AppendsOnce (length (added_bytes l.is_torn entries)) (Ok x)) (IsInOrder l.is_torn (Adds entries ∷ [])) a.calls b.calls p (λ calls is. ap (λ (cs : List RigCall). acts_of cs) is);
+      acts = GoesOn-weaker (AppendsOnce (added_bytes l.is_torn entries) (Ok x)) (IsInOrder l.is_torn (Adds entries ∷ [])) a.calls b.calls p (λ calls is. ap (λ (cs : List Call). acts_of cs) is);
       torn = torn;
     }
 
 -- calls of the line are acts
-pub acts-line : (calls : List RigCall) → AreLineCalls calls → acts_of calls ≡ calls
+pub acts-line : (calls : List Call) → AreLineCalls calls → acts_of calls ≡ calls
 acts-line [] is = refl
-acts-line (Put byte ∷ calls) is = ap (λ (l : List RigCall). Put byte ∷ l) (acts-line calls is)
-acts-line (Get answer ∷ calls) is = ap (λ (l : List RigCall). Get answer ∷ l) (acts-line calls is)
+acts-line (Put byte ∷ calls) is = ap (λ (l : List Call). Put byte ∷ l) (acts-line calls is)
+acts-line (Get answer ∷ calls) is = ap (λ (l : List Call). Get answer ∷ l) (acts-line calls is)
 acts-line (Append n ∷ calls) is = absurd is
 acts-line (Fetch ∷ calls) is = absurd is
 
@@ -98,7 +97,7 @@ acts-line (Fetch ∷ calls) is = absurd is
 acts-calls : (turns : List Turn) → acts_of (calls_of turns) ≡ calls_of turns
 acts-calls turns = acts-line (calls_of turns) (calls_of-are_line turns)
 
-pub order_sent : (torn : Bool) (turns : List Turn) (a b : Option (List RigCall)) → AddsCalls (calls_of turns) a b → GoesOn (IsInOrder torn (Sends turns ∷ [])) a b
+pub order_sent : (torn : Bool) (turns : List Turn) (a b : Option (List Call)) → AddsCalls (calls_of turns) a b → GoesOn (IsInOrder torn (Sends turns ∷ [])) a b
 order_sent torn turns a b adds = GoesOn-adds (IsInOrder torn (Sends turns ∷ [])) (calls_of turns) a b adds (acts-calls turns ∙ sym (append-nil (calls_of turns)))
 
 pub does_erase : (chip : ChipData) (n : ℕ) (kind : EraseKind) (l : Loaded) (a b : RigState) → kind ≡ chip.kind → AddsCalls (calls_of (erase_turns kind n)) a.calls b.calls → DoesSteps (Sends (erase_turns chip.kind n) ∷ []) l l a b
@@ -123,7 +122,7 @@ pub does_writes : (chip : ChipData) (n : ℕ) (page : List ℕ) (l : Loaded) (fr
     → DoesSteps (write_steps chip n page frames) l l a b
 does_writes chip n page l frames a b p = record { acts = p; torn = sym (torn-writes chip n page l.is_torn frames) }
 
-pub writes_next : (chip : ChipData) (n : ℕ) (page : List ℕ) (torn : Bool) (frames : List Frame) (d : Frame) (i : ℕ) (a b c : Option (List RigCall)) → i < length frames
+pub writes_next : (chip : ChipData) (n : ℕ) (page : List ℕ) (torn : Bool) (frames : List Frame) (d : Frame) (i : ℕ) (a b c : Option (List Call)) → i < length frames
     → GoesOn (IsInOrder torn (write_steps chip n page (take i frames))) a b → GoesOn (IsInOrder torn (write_step chip n page (get_or frames i d) ∷ [])) b c
     → GoesOn (IsInOrder torn (write_steps chip n page (take (i + 1) frames))) a c
 writes_next chip n page torn frames d i a b c lt p q =
@@ -171,55 +170,55 @@ taken_next chip segments i pages below xs ys at are is =
     next (x ∷ segments) (suc i) xs at (first, rest, e, one, more) = (first, rest ++ ys, ap (λ (zs : List Step). zs ++ ys) e ∙ append_assoc first rest ys, one, next segments i rest at more)
 
 -- settling, and then steps
-same_calls : (past xs ys : List RigCall) → past ++ xs ≡ past ++ ys → xs ≡ ys
+same_calls : (past xs ys : List Call) → past ++ xs ≡ past ++ ys → xs ≡ ys
 same_calls [] xs ys is = is
-same_calls (call ∷ past) xs ys is = same_calls past xs ys (ap (λ (l : List RigCall). drop 1 l) is)
+same_calls (call ∷ past) xs ys is = same_calls past xs ys (ap (λ (l : List Call). drop 1 l) is)
 
 -- calls of which both are said
-pub GoesOn-both : (P Q : List RigCall → Type 0) (a b : Option (List RigCall)) → GoesOn P a b → GoesOn Q a b → GoesOn (λ xs. P xs × Q xs) a b
+pub GoesOn-both : (P Q : List Call → Type 0) (a b : Option (List Call)) → GoesOn P a b → GoesOn Q a b → GoesOn (λ xs. P xs × Q xs) a b
 GoesOn-both P Q None b p q = p
 GoesOn-both P Q (Some past) b p q =
-    let same : p.0 ≡ q.0 = same_calls past p.0 q.0 (ap (λ (o : Option (List RigCall)). list_in o) (sym p.1 ∙ q.1)) in
+    let same : p.0 ≡ q.0 = same_calls past p.0 q.0 (ap (λ (o : Option (List Call)). list_in o) (sym p.1 ∙ q.1)) in
     (p.0, p.1, (p.2, subst Q (sym same) q.2))
   where
-    list_in : Option (List RigCall) → List RigCall
+    list_in : Option (List Call) → List Call
     list_in None = []
     list_in (Some l) = l
 
-pub settles_and : (way : Way) (P Then : List RigCall → Type 0) (a b c : Option (List RigCall)) → GoesOn (SettlesWithin (byte_of way) (limit_of way)) a b → GoesOn (EndsWell way) a b → GoesOn P b c → ((xs : List RigCall) → P xs → Then (acts_of xs))
+pub settles_and : (way : Way) (P Then : List Call → Type 0) (a b c : Option (List Call)) → GoesOn (SettlesWithin (byte_of way) (limit_of way)) a b → GoesOn (EndsWell way) a b → GoesOn P b c → ((xs : List Call) → P xs → Then (acts_of xs))
     → GoesOn (SettlesThen way Then) a c
 settles_and way P Then a b c p e q f =
     GoesOn-append (λ xs. SettlesWithin (byte_of way) (limit_of way) xs × EndsWell way xs) P (SettlesThen way Then) a b c (GoesOn-both (SettlesWithin (byte_of way) (limit_of way)) (EndsWell way) a b p e) q
-    (λ xs ys x y. (xs, acts_of ys, x.0, x.1, acts-append xs ys ∙ ap (λ (l : List RigCall). l ++ acts_of ys) (acts-line xs x.0.line), f ys y))
+    (λ xs ys x y. (xs, acts_of ys, x.0, x.1, acts-append xs ys ∙ ap (λ (l : List Call). l ++ acts_of ys) (acts-line xs x.0.line), f ys y))
 
-pub settles_then : (way : Way) (torn : Bool) (steps : List Step) (a b c : Option (List RigCall)) → GoesOn (SettlesWithin (byte_of way) (limit_of way)) a b → GoesOn (EndsWell way) a b → GoesOn (IsInOrder torn steps) b c
+pub settles_then : (way : Way) (torn : Bool) (steps : List Step) (a b c : Option (List Call)) → GoesOn (SettlesWithin (byte_of way) (limit_of way)) a b → GoesOn (EndsWell way) a b → GoesOn (IsInOrder torn steps) b c
     → GoesOn (SettlesFirst way torn steps) a c
 settles_then way torn steps a b c p e q = settles_and way (IsInOrder torn steps) (λ rest. rest ≡ acts_of_steps torn steps) a b c p e q (λ xs x. x)
 
 -- and then further calls
-pub settled_and : (way : Way) (Then P Now : List RigCall → Type 0) (a b c : Option (List RigCall)) → GoesOn (SettlesThen way Then) a b → GoesOn P b c → ((xs ys : List RigCall) → Then xs → P ys → Now (xs ++ acts_of ys))
+pub settled_and : (way : Way) (Then P Now : List Call → Type 0) (a b c : Option (List Call)) → GoesOn (SettlesThen way Then) a b → GoesOn P b c → ((xs ys : List Call) → Then xs → P ys → Now (xs ++ acts_of ys))
     → GoesOn (SettlesThen way Now) a c
 settled_and way Then P Now a b c p q f =
     GoesOn-append (SettlesThen way Then) P (SettlesThen way Now) a b c p q
-    (λ cs ds x y. (x.0, x.1 ++ acts_of ds, x.2, x.3, acts-append cs ds ∙ ap (λ (l : List RigCall). l ++ acts_of ds) x.4 ∙ append_assoc x.0 x.1 (acts_of ds), f x.1 ds x.5 y))
+    (λ cs ds x y. (x.0, x.1 ++ acts_of ds, x.2, x.3, acts-append cs ds ∙ ap (λ (l : List Call). l ++ acts_of ds) x.4 ∙ append_assoc x.0 x.1 (acts_of ds), f x.1 ds x.5 y))
 
-pub settled_then : (way : Way) (torn : Bool) (xs ys : List Step) (a b c : Option (List RigCall)) → torn_behind torn xs ≡ torn → GoesOn (SettlesFirst way torn xs) a b → GoesOn (IsInOrder torn ys) b c
+pub settled_then : (way : Way) (torn : Bool) (xs ys : List Step) (a b c : Option (List Call)) → torn_behind torn xs ≡ torn → GoesOn (SettlesFirst way torn xs) a b → GoesOn (IsInOrder torn ys) b c
     → GoesOn (SettlesFirst way torn (xs ++ ys)) a c
 settled_then way torn xs ys a b c still p q =
     settled_and way (λ rest. rest ≡ acts_of_steps torn xs) (IsInOrder torn ys) (λ rest. rest ≡ acts_of_steps torn (xs ++ ys)) a b c p q
     (λ cs ds x y.
-    ap (λ (l : List RigCall). l ++ acts_of ds) x ∙ ap (λ (l : List RigCall). acts_of_steps torn xs ++ l) (y ∙ ap (λ (t : Bool). acts_of_steps t ys) (sym still)) ∙ sym (steps-append torn xs ys))
+    ap (λ (l : List Call). l ++ acts_of ds) x ∙ ap (λ (l : List Call). acts_of_steps torn xs ++ l) (y ∙ ap (λ (t : Bool). acts_of_steps t ys) (sym still)) ∙ sym (steps-append torn xs ys))
 
-pub fetched_and : (way : Way) (Then : List RigCall → Type 0) (a b c : Option (List RigCall)) → GoesOn AreFetches a b → GoesOn (SettlesThen way Then) b c → GoesOn (SettlesThen way Then) a c
+pub fetched_and : (way : Way) (Then : List Call → Type 0) (a b c : Option (List Call)) → GoesOn AreFetches a b → GoesOn (SettlesThen way Then) b c → GoesOn (SettlesThen way Then) a c
 fetched_and way Then a b c p q =
     GoesOn-append AreFetches (SettlesThen way Then) (SettlesThen way Then) a b c p q
-    (λ cs ds x y. (y.0, y.1, y.2, y.3, acts-append cs ds ∙ ap (λ (l : List RigCall). l ++ acts_of ds) (fetches-act cs x) ∙ y.4, y.5))
+    (λ cs ds x y. (y.0, y.1, y.2, y.3, acts-append cs ds ∙ ap (λ (l : List Call). l ++ acts_of ds) (fetches-act cs x) ∙ y.4, y.5))
 
-pub fetched_then : (way : Way) (torn : Bool) (steps : List Step) (a b c : Option (List RigCall)) → GoesOn AreFetches a b → GoesOn (SettlesFirst way torn steps) b c → GoesOn (SettlesFirst way torn steps) a c
+pub fetched_then : (way : Way) (torn : Bool) (steps : List Step) (a b c : Option (List Call)) → GoesOn AreFetches a b → GoesOn (SettlesFirst way torn steps) b c → GoesOn (SettlesFirst way torn steps) a c
 fetched_then way torn steps a b c p q = fetched_and way (λ rest. rest ≡ acts_of_steps torn steps) a b c p q
 
 -- the frame that writes a part of a page
-pub order_written : (chip : ChipData) (n : ℕ) (page : List ℕ) (f : Frame) (torn : Bool) (address : ℕ) → address ≡ page_address chip n + f.offset → (bytes : List ℕ) → bytes ≡ take f.length (drop f.offset page) → (a b : Option (List RigCall))
+pub order_written : (chip : ChipData) (n : ℕ) (page : List ℕ) (f : Frame) (torn : Bool) (address : ℕ) → address ≡ page_address chip n + f.offset → (bytes : List ℕ) → bytes ≡ take f.length (drop f.offset page) → (a b : Option (List Call))
     → AddsCalls (calls_of (write_turns address bytes)) a b → GoesOn (IsInOrder torn (write_step chip n page f ∷ [])) a b
 order_written chip n page f torn address at bytes part a b adds =
     let P : ℕ → Type 0 = λ k. AddsCalls (calls_of (write_turns k bytes)) a b in
@@ -260,7 +259,7 @@ reads_next start blocks bytes answer many whole =
     (ap (λ (l : List ℕ). take 256 l) last ∙ take_all 256 answer (omega (arith, whole)))
 
 -- one block of a page more is read
-pub blocks_next : (torn : Bool) (start blocks : ℕ) (bytes answer : List ℕ) (a b c : Option (List RigCall)) → length bytes ≡ 256 * blocks → length answer ≡ 256 → GoesOn (IsInOrder torn (read_steps start blocks bytes)) a b
+pub blocks_next : (torn : Bool) (start blocks : ℕ) (bytes answer : List ℕ) (a b c : Option (List Call)) → length bytes ≡ 256 * blocks → length answer ≡ 256 → GoesOn (IsInOrder torn (read_steps start blocks bytes)) a b
     → GoesOn (IsInOrder torn (Sends (read_turns (start + 256 * blocks) answer) ∷ [])) b c → GoesOn (IsInOrder torn (read_steps start (suc blocks) (bytes ++ answer))) a c
 blocks_next torn start blocks bytes answer a b c many whole p q =
     let own = Sends (read_turns (start + 256 * blocks) answer) ∷ [] in

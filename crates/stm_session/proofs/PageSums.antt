@@ -5,7 +5,7 @@ use Rattle.std.specs.List.{list_any}
 use Rattle.std.proofs.lemmas.Bool.{false≢true, eq-eqb}
 use Rattle.std.proofs.lemmas.List.{length-set, get_or-set_other}
 use Rattle.std.proofs.lemmas.List.Sums.{sum_by-set}
-use Rattle.stm_wire.specs.declared.rig.RigCall.{RigCall}
+use Rattle.stm_wire.specs.Call.{Call}
 use Rattle.stm_wire.specs.Chip.{ChipData, flash_size, page_count, page_size, IsChip}
 use Rattle.stm_wire.specs.Dialogue.{GoesOn}
 use Rattle.stm_wire.specs.Parts.{IsPart}
@@ -82,13 +82,13 @@ kept_within chip pages i once fit = let all = within chip.sizes pages once (are_
 
 -- The pages of the newest segment are put back, one after another.
 module _ (chip : ChipData) (pages : List Kept) (once : PagesOnce pages) (fit : AllKeptFit chip pages) (limits : IsChip chip) (whole : Bool) where
-  pub pages_within : (i : ℕ) (a b : Option (List RigCall)) → GoesOn (IsPart (Some chip) whole (13 * kept_size chip (take i pages))) a b → GoesOn (IsPart (Some chip) whole most_of_command) a b
+  pub pages_within : (i : ℕ) (a b : Option (List Call)) → GoesOn (IsPart (Some chip) whole (13 * kept_size chip (take i pages))) a b → GoesOn (IsPart (Some chip) whole most_of_command) a b
   pages_within i a b p =
       let some = kept_size chip (take i pages) in
       let le : some ≤ flash_size chip = kept_within chip pages i once fit in
       part_longer (Some chip) whole (13 * some) most_of_command a b (omega (arith, le, limits.size)) p
 
-  pub pages_next : (i : ℕ) (kept : Kept) (n : ℕ) (a b c : Option (List RigCall)) → slice_get pages i ≡ Some kept → kept.page ≡ n → GoesOn (IsPart (Some chip) true (13 * kept_size chip (take i pages))) a b
+  pub pages_next : (i : ℕ) (kept : Kept) (n : ℕ) (a b c : Option (List Call)) → slice_get pages i ≡ Some kept → kept.page ≡ n → GoesOn (IsPart (Some chip) true (13 * kept_size chip (take i pages))) a b
       → GoesOn (IsPart (Some chip) whole (13 * page_size chip n)) b c → GoesOn (IsPart (Some chip) whole (13 * kept_size chip (take (i + 1) pages))) a c
   pages_next i kept n a b c is number p q =
       let now = kept_size chip (take i pages) in

@@ -1,7 +1,7 @@
 -- How sessions end that reached no device, or another one.
 use Rattle.std.proofs.Common.{◌≡◌, inl, inr, ⊎_elim, ℕ, Bool, List, [], ◌∷◌, ◌++◌, None, Result, Ok, Err, IsErrAnd, refl, sym, ◌∙◌, ap, subst, append-nil}
 use Rattle.std.specs.Prelude.{IfErr, IfOk, Option}
-use Rattle.stm_wire.specs.declared.rig.RigCall.{RigCall}
+use Rattle.stm_wire.specs.Call.{Call}
 use Rattle.stm_wire.specs.Dialogue.{GoesOn}
 use Rattle.stm_wire.specs.DialogueLaws.{GoesOn-append, GoesOn-weaker}
 use Rattle.stm_wire.specs.Rig.{RigState}
@@ -29,29 +29,29 @@ told_then (Err e) A B then p = tt
 
 module _ (way : Way) (cause : Cause) (torn : Bool) where
   -- settling ends
-  pub settle_stops : (a b : Option (List RigCall)) → IsHeard cause → GoesOn (SettlesWithin (byte_of way) (limit_of way)) a b → GoesOn (ReachesInPart way cause torn) a b
+  pub settle_stops : (a b : Option (List Call)) → IsHeard cause → GoesOn (SettlesWithin (byte_of way) (limit_of way)) a b → GoesOn (ReachesInPart way cause torn) a b
   settle_stops a b heard settles =
       GoesOn-weaker (SettlesWithin (byte_of way) (limit_of way)) (ReachesInPart way cause torn) a b settles
-      (λ xs s. inr (inl (heard, subst (λ (l : List RigCall). SettlesWithin (byte_of way) (limit_of way) l) (sym (acts-line xs s.line)) s)))
+      (λ xs s. inr (inl (heard, subst (λ (l : List Call). SettlesWithin (byte_of way) (limit_of way) l) (sym (acts-line xs s.line)) s)))
 
   -- the questions do
   pub asks_stop : (a b c : RigState) → GoesOn (SettlesWithin (byte_of way) (limit_of way)) a.calls b.calls → GoesOn (EndsWell way) a.calls b.calls → StopsBy (Begin IsAsking) cause torn b c → GoesOn (ReachesInPart way cause torn) a.calls c.calls
   asks_stop a b c settles ends stops =
-      let Cut : List RigCall → Type 0 = λ acts. AreCutShort (Begin IsAsking) cause torn acts in
+      let Cut : List Call → Type 0 = λ acts. AreCutShort (Begin IsAsking) cause torn acts in
       GoesOn-weaker (SettlesThen way Cut) (ReachesInPart way cause torn) a.calls c.calls (settles_and way (λ calls. Cut (acts_of calls)) Cut a.calls b.calls c.calls settles ends stops (λ xs x. x)) (λ xs s. inr (inr s))
 
   -- the journal can't be read, or is refused
-  pub unread_stops : (a b : Option (List RigCall)) → GoesOn AreFetches a b → GoesOn (ReachesInPart way cause torn) a b
+  pub unread_stops : (a b : Option (List Call)) → GoesOn AreFetches a b → GoesOn (ReachesInPart way cause torn) a b
   unread_stops a b fetches = GoesOn-weaker AreFetches (ReachesInPart way cause torn) a b fetches (λ xs are. inl (fetches-act xs are))
 
   -- it was read before
-  pub fetched_stops : (a b c : Option (List RigCall)) → GoesOn AreFetches a b → GoesOn (ReachesInPart way cause torn) b c → GoesOn (ReachesInPart way cause torn) a c
+  pub fetched_stops : (a b c : Option (List Call)) → GoesOn AreFetches a b → GoesOn (ReachesInPart way cause torn) b c → GoesOn (ReachesInPart way cause torn) a c
   fetched_stops a b c fetches stops =
       GoesOn-append AreFetches (ReachesInPart way cause torn) (ReachesInPart way cause torn) a b c fetches stops
       (λ xs ys x y.
-      let same : acts_of (xs ++ ys) ≡ acts_of ys = acts-append xs ys ∙ ap (λ (l : List RigCall). l ++ acts_of ys) (fetches-act xs x) in
+      let same : acts_of (xs ++ ys) ≡ acts_of ys = acts-append xs ys ∙ ap (λ (l : List Call). l ++ acts_of ys) (fetches-act xs x) in
       ⊎_elim (λ none. inl (same ∙ none))
-      (λ some. ⊎_elim (λ part. inr (inl (part.0, subst (λ (l : List RigCall). SettlesWithin (byte_of way) (limit_of way) l) (sym same) part.1))) (λ s. inr (inr (s.0, s.1, s.2, s.3, same ∙ s.4, s.5))) some) y)
+      (λ some. ⊎_elim (λ part. inr (inl (part.0, subst (λ (l : List Call). SettlesWithin (byte_of way) (limit_of way) l) (sym same) part.1))) (λ s. inr (inr (s.0, s.1, s.2, s.3, same ∙ s.4, s.5))) some) y)
 
   idle_later : (k : Cause) (t : Bool) → IsRefusedLater k → FailsBy k t None []
   idle_later of_refusal t is = refl

@@ -2,7 +2,7 @@
 use Rattle.std.proofs.Common.{◌≡◌, ℕ, zero, suc, ◌+◌, ◌*◌, ◌<◌, ◌≤◌, ◌==◌, ◌&&◌, nat_lt, Bool, true, false, if◌then◌else◌, List, Option, Some, ap, arith}
 use Rattle.std.proofs.lemmas.Bool.Decides.{nat_tests}
 use Rattle.std.proofs.lemmas.List.Sums.{sum_by_more}
-use Rattle.stm_wire.specs.declared.rig.RigCall.{RigCall}
+use Rattle.stm_wire.specs.Call.{Call}
 use Rattle.stm_wire.specs.Chip.{ChipData, flash_size, page_count, page_offset, page_size, IsChip}
 use Rattle.stm_wire.specs.Dialogue.{GoesOn}
 use Rattle.stm_wire.specs.PageLaws.{offset_within, page_within}
@@ -36,11 +36,11 @@ extra_within true most = omega arith
 extra_within false most = omega arith
 
 module _ (chip : ChipData) (n : ℕ) (whole : Bool) where
-  pub turned_next : (a b c : Option (List RigCall)) → n < page_count chip → GoesOn (IsPart (Some chip) true (most_below chip n)) a b → GoesOn (IsPart (Some chip) whole (most_of_page chip n)) b c
+  pub turned_next : (a b c : Option (List Call)) → n < page_count chip → GoesOn (IsPart (Some chip) true (most_below chip n)) a b → GoesOn (IsPart (Some chip) whole (most_of_page chip n)) b c
       → GoesOn (IsPart (Some chip) whole (most_below chip (n + 1))) a c
   turned_next a b c lt p q = part_after (Some chip) whole (most_below chip n) (most_of_page chip n) (most_below chip (n + 1)) a b c (below_next chip n lt) p q
 
-  pub turned_within : (a b : Option (List RigCall)) → IsChip chip → GoesOn (IsPart (Some chip) whole (most_below chip n)) a b → GoesOn (IsPart (Some chip) whole most_of_command) a b
+  pub turned_within : (a b : Option (List Call)) → IsChip chip → GoesOn (IsPart (Some chip) whole (most_below chip n)) a b → GoesOn (IsPart (Some chip) whole most_of_command) a b
   turned_within a b limits p =
       part_longer (Some chip) whole (most_below chip n) most_of_command a b
       (omega (arith, limits.size, offset_within chip.sizes n, extra_within (nat_lt 1 n) (3 * flash_size chip))) p

@@ -4,8 +4,7 @@ use Rattle.std.specs.Prelude.{◌≡◌, ℕ, Bool, true, false, List, [], ◌�
 use Rattle.stm_wire.specs.declared.chip.EraseKind.{EraseKind}
 use Rattle.stm_wire.specs.declared.chip.EraseKind.TheVariants.{Page, Extended}
 use Rattle.stm_wire.specs.declared.intent.Intent.{Intent}
-use Rattle.stm_wire.specs.declared.rig.RigCall.{RigCall}
-use Rattle.stm_wire.specs.declared.rig.RigCall.TheVariants.{Put, Get}
+use Rattle.stm_wire.specs.Call.{Call, Put, Get}
 use Rattle.stm_wire.specs.Device.{Device, Fresh}
 use Rattle.stm_wire.specs.Intents.{settling_byte}
 use Rattle.stm_wire.specs.Reply.{ack}
@@ -36,7 +35,7 @@ limit_of (Settles byte limit) = limit
 limit_of Connects = 0
 
 -- how that ends where the device is settled
-abbrev pub EndsWell : Way → List RigCall → Type 0
+abbrev pub EndsWell : Way → List Call → Type 0
 EndsWell (Settles byte limit) calls = EndsSettled byte limit calls
 EndsWell Connects calls = calls ≡ Put 0x7F ∷ Get (Some ack) ∷ []
 

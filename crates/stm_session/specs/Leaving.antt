@@ -7,7 +7,7 @@ use Rattle.stm_wire.specs.Moments.{FedAndTaken, LeavesOnly, PartlyFed}
 use Rattle.stm_wire.specs.Rig.{RigState}
 use Rattle.stm_wire.specs.Settling.{SettlesWithin}
 use Rattle.stm_wire.specs.SettlingCalls.{EndsSettled}
-use Rattle.stm_wire.specs.declared.rig.RigCall.{RigCall}
+use Rattle.stm_wire.specs.Call.{Call}
 use Rattle.stm_journal.specs.Calls.{AreFetches, IsUntouched}
 use Rattle.stm_session.specs.declared.fault.Fault.{Fault}
 use Rattle.stm_session.specs.Fault.{IsJournalOrMemory}
@@ -15,10 +15,10 @@ use Rattle.stm_session.specs.Moments.{IsSafe, IsUnbegun, SameMake}
 
 -- the journal was read, the device was settled with 7F, which it refused or it was fresh, and then
 -- came this dialogue, whole
-pub record IsSettledThen (turns : List Turn) (calls : List RigCall) : Type 0 where
-  pub fetches : List RigCall
+pub record IsSettledThen (turns : List Turn) (calls : List Call) : Type 0 where
+  pub fetches : List Call
   pub are_fetches : AreFetches fetches
-  pub settling : List RigCall
+  pub settling : List Call
   pub settles : SettlesWithin 0x7F 131072 settling
   pub settled : EndsSettled 0x7F 131072 settling
   pub is : calls ≡ fetches ++ (settling ++ calls_of turns)

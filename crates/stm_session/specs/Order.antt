@@ -6,8 +6,7 @@ use Rattle.std.specs.Prelude.{bytes_eq, Option, Some, None, Result, IfErr}
 use Rattle.stm_wire.specs.declared.intent.Intent.{Intent}
 use Rattle.stm_wire.specs.declared.fault.WireFault.{WireFault}
 use Rattle.stm_wire.specs.declared.fault.WireFault.TheVariants.{Line}
-use Rattle.stm_wire.specs.declared.rig.RigCall.{RigCall}
-use Rattle.stm_wire.specs.declared.rig.RigCall.TheVariants.{Put, Get, Append, Fetch}
+use Rattle.stm_wire.specs.Call.{Call, Put, Get, Append, Fetch}
 use Rattle.stm_wire.specs.Chip.{ChipData, erased_byte, page_offset, page_size}
 use Rattle.stm_wire.specs.Dialogue.{Turn, GoesOn, IsBrokenOff, calls_of}
 use Rattle.stm_wire.specs.Frames.{erase_turns, get_id_turns, get_turns, read_turns, write_turns}
@@ -20,7 +19,7 @@ use Rattle.stm_chip.specs.Plan.{frames_of}
 use Rattle.stm_journal.specs.declared.entry.Entry.{Entry}
 use Rattle.stm_journal.specs.declared.entry.Entry.TheVariants.{Erases, Programs, Undoes}
 use Rattle.stm_journal.specs.declared.kept.Kept.{Kept}
-use Rattle.stm_journal.specs.Calls.{AreFetches}
+use Rattle.stm_journal.specs.Calls.{AppendsInPart, AreFetches}
 use Rattle.stm_journal.specs.Journals.{Loaded, IsLoaded, added_bytes}
 use Rattle.stm_journal.specs.Newest.{pages_of_segments}
 use Rattle.stm_journal.specs.States.{intent_of, intent_page}
@@ -35,7 +34,7 @@ pub data Step : Type 0 where
   Sends : List Turn → Step
 
 -- the calls but for fetches
-abbrev pub acts_of : List RigCall → List RigCall
+abbrev pub acts_of : List Call → List Call
 acts_of [] = []
 acts_of (Put byte ∷ calls) = Put byte ∷ acts_of calls
 acts_of (Get answer ∷ calls) = Get answer ∷ acts_of calls
@@ -44,10 +43,10 @@ acts_of (Fetch ∷ calls) = acts_of calls
 
 -- the calls that steps are, where a torn tail stands at first or not: that is
 -- ended with the next line
-abbrev pub acts_of_steps : Bool → List Step → List RigCall
+abbrev pub acts_of_steps : Bool → List Step → List Call
 acts_of_steps torn [] = []
 acts_of_steps torn (Adds entries ∷ steps) =
-    Append (length (added_bytes torn entries)) ∷ acts_of_steps false steps
+    Append (added_bytes torn entries) ∷ acts_of_steps false steps
 acts_of_steps torn (Sends turns ∷ steps) = calls_of turns ++ acts_of_steps torn steps
 
 -- a torn tail still stands behind the steps
@@ -57,7 +56,7 @@ torn_behind torn (Adds entries ∷ steps) = torn_behind false steps
 torn_behind torn (Sends turns ∷ steps) = torn_behind torn steps
 
 -- the calls are just these steps
-abbrev pub IsInOrder : Bool → List Step → List RigCall → Type 0
+abbrev pub IsInOrder : Bool → List Step → List Call → Type 0
 IsInOrder torn steps calls = acts_of calls ≡ acts_of_steps torn steps
 
 -- These steps were done, and the journal in memory knows whether a torn tail stands behind them.
@@ -80,12 +79,11 @@ step_in (Some step) = step ∷ []
 -- off, by the line, or by another byte than is due, a refusal or silence; or the file took its
 -- lines only in part. Where something is refused, or memory fails, no step failed; nor where
 -- the journal can't be read.
-abbrev pub FailsBy : Cause → Bool → Option Step → List RigCall → Type 0
+abbrev pub FailsBy : Cause → Bool → Option Step → List Call → Type 0
 FailsBy of_line torn (Some (Sends turns)) calls = IsBrokenOff Line turns calls
 FailsBy of_protocol torn (Some (Sends turns)) calls = (fault : WireFault) × (fault ≢ Line)
     × IsBrokenOff fault turns calls
-FailsBy of_file torn (Some (Adds entries)) calls =
-    (calls ≡ []) ⊎ (calls ≡ Append (length (added_bytes torn entries)) ∷ [])
+FailsBy of_file torn (Some (Adds entries)) calls = AppendsInPart (added_bytes torn entries) calls
 FailsBy of_file torn None calls = calls ≡ []
 FailsBy of_memory torn None calls = calls ≡ []
 FailsBy of_session torn None calls = calls ≡ []
@@ -95,11 +93,11 @@ FailsBy _ torn step calls = ⊥
 -- Calls that end with a fault: some steps were done whole, and perhaps one more was begun, which
 -- failed; all these are allowed.
 pub record AreCutShort (Allowed : List Step → Type 0) (cause : Cause) (torn : Bool)
-    (acts : List RigCall) : Type 0 where
+    (acts : List Call) : Type 0 where
   pub done : List Step
   pub failed : Option Step
   pub allowed : Allowed (done ++ step_in failed)
-  pub last : List RigCall
+  pub last : List Call
   pub fails : FailsBy cause (torn_behind torn done) failed last
   pub is : acts ≡ acts_of_steps torn done ++ last
 
@@ -236,13 +234,13 @@ pub record AreAllTakenBack (chip : ChipData) (intent : Option Intent) (taken : �
   pub is : steps ≡ first ++ back
 
 -- a device was settled, and it showed that it is; and then came such calls
-abbrev pub SettlesThen : Way → (List RigCall → Type 0) → List RigCall → Type 0
+abbrev pub SettlesThen : Way → (List Call → Type 0) → List Call → Type 0
 SettlesThen way Then calls =
-    (settling rest : List RigCall) × SettlesWithin (byte_of way) (limit_of way) settling
+    (settling rest : List Call) × SettlesWithin (byte_of way) (limit_of way) settling
     × EndsWell way settling × (acts_of calls ≡ settling ++ rest) × Then rest
 
 -- and then these steps
-abbrev pub SettlesFirst : Way → Bool → List Step → List RigCall → Type 0
+abbrev pub SettlesFirst : Way → Bool → List Step → List Call → Type 0
 SettlesFirst way torn steps calls = SettlesThen way (λ rest. rest ≡ acts_of_steps torn steps) calls
 
 -- which commands the device has: Get, and what it answers
@@ -284,7 +282,7 @@ ReachesInOrder way id torn old new = (version : ℕ) × (codes : List ℕ)
 -- Of a session that reached no device, or was told that it is another, this was done: nothing;
 -- or it was settled in part, which the line or the device ended; or it was settled, and then
 -- asked, or asked in part.
-abbrev pub ReachesInPart : Way → Cause → Bool → List RigCall → Type 0
+abbrev pub ReachesInPart : Way → Cause → Bool → List Call → Type 0
 ReachesInPart way cause torn calls =
     (acts_of calls ≡ [])
     ⊎ ((IsHeard cause × SettlesWithin (byte_of way) (limit_of way) (acts_of calls))

@@ -3,7 +3,7 @@ use Rattle.std.specs.Prelude.{◌≡◌, ◌⊎◌, ℕ, ◌+◌, ◌*◌, ◌<�
 use Rattle.std.specs.Prelude.{true, false, List, [], ◌++◌, Option, Some, None, Result, Ok, Err}
 use Rattle.std.specs.Prelude.{IfOk}
 use Rattle.stm_wire.specs.declared.intent.Intent.{Intent}
-use Rattle.stm_wire.specs.declared.rig.RigCall.{RigCall}
+use Rattle.stm_wire.specs.Call.{Call}
 use Rattle.stm_wire.specs.declared.fault.WireFault.{WireFault}
 use Rattle.stm_wire.specs.Chip.{ChipData, flash_size, page_offset, page_size}
 use Rattle.stm_wire.specs.Dialogue.{Turn, GoesOn, IsBrokenOff, calls_of}
@@ -95,19 +95,19 @@ pub record SendsAsUndo (table : List ChipData) (count : ℕ) (old new : RigState
       (most_of_reaching (limit_of way) + most_of_undo taken)) old.calls new.calls
 
 -- nothing of a dialogue, or all of it, or it was broken off
-abbrev pub IsBegun : List Turn → List RigCall → Type 0
+abbrev pub IsBegun : List Turn → List Call → Type 0
 IsBegun turns calls =
     (calls ≡ [])
     ⊎ ((calls ≡ calls_of turns) ⊎ ((fault : WireFault) × IsBrokenOff fault turns calls))
 
 -- The journal was read; then came a beginning of settling with 7F, and then a
 -- beginning of this dialogue.
-pub record IsLeaving (turns : List Turn) (calls : List RigCall) : Type 0 where
-  pub fetches : List RigCall
+pub record IsLeaving (turns : List Turn) (calls : List Call) : Type 0 where
+  pub fetches : List Call
   pub are_fetches : AreFetches fetches
-  pub settling : List RigCall
+  pub settling : List Call
   pub settles : SettlesWithin 0x7F 131072 settling
-  pub said : List RigCall
+  pub said : List Call
   pub begun : IsBegun turns said
   pub is : calls ≡ fetches ++ (settling ++ said)
   pub few : AreFew (most_calls 0) calls

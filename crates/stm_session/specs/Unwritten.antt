@@ -1,10 +1,9 @@
 -- Calls that add nothing to the journal.
 use Rattle.std.specs.Prelude.{List, [], ◌∷◌}
-use Rattle.stm_wire.specs.declared.rig.RigCall.{RigCall}
-use Rattle.stm_wire.specs.declared.rig.RigCall.TheVariants.{Put, Get, Append, Fetch}
+use Rattle.stm_wire.specs.Call.{Call, Put, Get, Append, Fetch}
 
 -- no call is an append
-abbrev pub AppendsNothing : List RigCall → Type 0
+abbrev pub AppendsNothing : List Call → Type 0
 AppendsNothing [] = Unit {0}
 AppendsNothing (Put byte ∷ calls) = AppendsNothing calls
 AppendsNothing (Get answer ∷ calls) = AppendsNothing calls

@@ -1,6 +1,6 @@
 -- How runs of calls that hold a dialogue join.
 use Rattle.std.proofs.Common.{IfErr, IsErrAnd, ◌≡◌, ℕ, List, [], ◌∷◌, ◌++◌, Option, Some, None, Result, Ok, Err, refl, sym, ◌∙◌, ap, subst, inl, arith, append-nil}
-use Rattle.stm_wire.specs.declared.rig.RigCall.{RigCall}
+use Rattle.stm_wire.specs.Call.{Call}
 use Rattle.stm_wire.specs.declared.fault.WireFault.{WireFault}
 use Rattle.stm_wire.specs.declared.fault.WireFault.TheVariants.{Line, Nack, Quiet, Garbled}
 use Rattle.stm_wire.specs.Device.{Device, LosesOwed}
@@ -27,7 +27,7 @@ count_kept before now Garbled other same = same
 -- two dialogues, both held
 pub Holds-append : (xs ys : List ℕ) (s t : List Turn) (a b c : RigState) → Holds xs s a b → Holds ys t b c → Holds (xs ++ ys) (s ++ t) a c
 Holds-append xs ys s t a b c p q =
-    let A : List RigCall → Type 0 = λ zs. Adds zs a.calls c.calls in
+    let A : List Call → Type 0 = λ zs. Adds zs a.calls c.calls in
     record {
       recorded = subst A (sym (calls_of-append s t)) (Adds-append (calls_of s) (calls_of t) a.calls b.calls c.calls p.recorded q.recorded);
       line_count = q.line_count ∙ p.line_count;
@@ -48,7 +48,7 @@ pub BreaksOff-second : (fault : WireFault) (xs ys : List ℕ) (s t : List Turn) 
 BreaksOff-second fault xs ys s t a b c p q =
     record {
       recorded = GoesOn-append (λ zs. zs ≡ calls_of s) (IsBrokenOff fault t) (IsBrokenOff fault (s ++ t)) a.calls b.calls c.calls (Adds-GoesOn (λ zs. zs ≡ calls_of s) (calls_of s) a.calls b.calls p.recorded refl) q.recorded
-          (λ cs ds u v. let P : List RigCall → Type 0 = λ zs. IsBrokenOff fault (s ++ t) (zs ++ ds) in subst P (sym u) (broken-second fault s t ds v));
+          (λ cs ds u v. let P : List Call → Type 0 = λ zs. IsBrokenOff fault (s ++ t) (zs ++ ds) in subst P (sym u) (broken-second fault s t ds v));
       line_count = omega (arith, p.line_count, q.line_count);
       line_cause = λ e. let R : ℕ → Type 0 = λ n. Rises n c.line_failures in subst R p.line_count (q.line_cause e);
       line_kept = (let K : ℕ → Type 0 = λ n. KeepsCount n c.line_failures fault in subst K p.line_count q.line_kept);
@@ -84,7 +84,7 @@ BreaksOff-first fault xs ys s t a b p =
     }
 
 -- the last turn was not as it should: another reply byte came, or none
-pub breaks_at : (fault : WireFault) (bytes : List ℕ) (turns : List Turn) (turn : Turn) (call : RigCall) (a b c : RigState) → (fault ≡ Line → ⊥) → FailsBy fault turn call
+pub breaks_at : (fault : WireFault) (bytes : List ℕ) (turns : List Turn) (turn : Turn) (call : Call) (a b c : RigState) → (fault ≡ Line → ⊥) → FailsBy fault turn call
     → Holds bytes turns a b → Adds (call ∷ []) b.calls c.calls → c.line_failures ≡ b.line_failures → c.journal_failures ≡ b.journal_failures
     → (b.is_honest → SentHonestly [] b c) → BreaksOff fault bytes (turns ++ turn ∷ []) a c
 breaks_at fault bytes turns turn call a b c other fails p added line journal honest =
@@ -92,8 +92,8 @@ breaks_at fault bytes turns turn call a b c other fails p added line journal hon
       recorded = GoesOn-append (λ zs. zs ≡ calls_of turns) (λ zs. zs ≡ call ∷ []) (IsBrokenOff fault (turns ++ turn ∷ [])) a.calls b.calls c.calls
           (Adds-GoesOn (λ zs. zs ≡ calls_of turns) (calls_of turns) a.calls b.calls p.recorded refl) (Adds-GoesOn (λ zs. zs ≡ call ∷ []) (call ∷ []) b.calls c.calls added refl)
           (λ cs ds u v.
-          let P : List RigCall → Type 0 = λ zs. IsBrokenOff fault (turns ++ turn ∷ []) (zs ++ ds) in
-          let Q : List RigCall → Type 0 = λ zs. IsBrokenOff fault (turn ∷ []) zs in
+          let P : List Call → Type 0 = λ zs. IsBrokenOff fault (turns ++ turn ∷ []) (zs ++ ds) in
+          let Q : List Call → Type 0 = λ zs. IsBrokenOff fault (turn ∷ []) zs in
           subst P (sym u) (broken-second fault turns (turn ∷ []) ds (subst Q (sym v) (inl (fails, refl)))));
       line_count = omega (arith, line, p.line_count);
       line_cause = λ e. absurd (other e);
@@ -116,7 +116,7 @@ breaks_at fault bytes turns turn call a b c other fails p added line journal hon
 pub left-here : (xs : List ℕ) (a : RigState) (d : Device) → LosesOwed a.device d → LeftBySending xs a d a.journal
 left-here xs a d l = (refl, (0, (a.device, refl, l)))
 
-adds-none : (o : Option (List RigCall)) → Adds [] o o
+adds-none : (o : Option (List Call)) → Adds [] o o
 adds-none None = refl
 adds-none (Some past) = ap (λ zs. Some zs) (sym (append-nil past))
 

@@ -1,7 +1,6 @@
 -- A put and a get as turns of a dialogue.
 use Rattle.std.proofs.Common.{◌≡◌, ⊎_elim, ℕ, List, [], ◌∷◌, ◌++◌, drop, Option, Some, None, Ok, Err, refl, sym, ◌∙◌, ap, subst, inl, append-nil}
-use Rattle.stm_wire.specs.declared.rig.RigCall.{RigCall}
-use Rattle.stm_wire.specs.declared.rig.RigCall.TheVariants.{Put, Get}
+use Rattle.stm_wire.specs.Call.{Call, Put, Get}
 use Rattle.stm_wire.specs.declared.fault.RigFault.{RigFault}
 use Rattle.stm_wire.specs.declared.fault.WireFault.{WireFault}
 use Rattle.stm_wire.specs.declared.fault.WireFault.TheVariants.{Line, Nack, Quiet, Garbled}
@@ -23,11 +22,11 @@ left-put byte a d journal l = (
       l.1.1,
 )
 
-recorded-ok : {T : Type 0} (call : RigCall) (u : T) (c d : Option (List RigCall)) → Records call (Ok u) c d → Adds (call ∷ []) c d
+recorded-ok : {T : Type 0} (call : Call) (u : T) (c d : Option (List Call)) → Records call (Ok u) c d → Adds (call ∷ []) c d
 recorded-ok call u None d r = r
 recorded-ok call u (Some past) d r = r
 
-recorded-err : (T : Type 0) (turn : Turn) (call : RigCall) (e : RigFault) (c d : Option (List RigCall)) → FailsBy Line turn call → Records {T = T} call (Err e) c d → GoesOn (IsBrokenOff Line (turn ∷ [])) c d
+recorded-err : (T : Type 0) (turn : Turn) (call : Call) (e : RigFault) (c d : Option (List Call)) → FailsBy Line turn call → Records {T = T} call (Err e) c d → GoesOn (IsBrokenOff Line (turn ∷ [])) c d
 recorded-err T turn call e None d fails r = r
 recorded-err T turn call e (Some past) d fails r =
     ⊎_elim
@@ -95,7 +94,7 @@ got-honestly x a b model p =
 pub Holds-get : (turn : Turn) (byte : ℕ) (a b : RigState) → call_of turn ≡ Get (Some byte) → (a.is_honest → IsModel a) → HasCause {T = Option ℕ} a.line_failures b.line_failures (Ok (Some byte)) → b.journal_failures ≡ a.journal_failures
     → Records {T = Option ℕ} (Get (Some byte)) (Ok (Some byte)) a.calls b.calls → (a.is_honest → GetsHonestly (Ok (Some byte)) a b) → Holds [] (turn ∷ []) a b
 Holds-get turn byte a b is model line journal recorded honest =
-    let A : RigCall → Type 0 = λ call. Adds (call ∷ []) a.calls b.calls in
+    let A : Call → Type 0 = λ call. Adds (call ∷ []) a.calls b.calls in
     record {
       recorded = subst A (sym is) (recorded-ok {T = Option ℕ} (Get (Some byte)) (Some byte) a.calls b.calls recorded);
       line_count = line.done;
@@ -133,7 +132,7 @@ BreaksOff-reply fault turn x a b other fails model line journal recorded honest 
 -- the byte that was learned is one that the turn takes
 pub Holds-retold : (x y : Turn) (a b : RigState) → call_of y ≡ call_of x → Holds [] (x ∷ []) a b → Holds [] (y ∷ []) a b
 Holds-retold x y a b same p =
-    let A : RigCall → Type 0 = λ call. Adds (call ∷ []) a.calls b.calls in
+    let A : Call → Type 0 = λ call. Adds (call ∷ []) a.calls b.calls in
     record { recorded = subst A (sym same) p.recorded; line_count = p.line_count; journal_count = p.journal_count; honestly = p.honestly }
 
 -- a turn at which the host hears
@@ -143,7 +142,7 @@ IsHeard Acknowledged = Unit {0}
 IsHeard (Expects byte) = Unit {0}
 IsHeard (Learns byte) = Unit {0}
 
-fails-retold : (fault : WireFault) (x : ℕ) (turn : Turn) (call : RigCall) → IsHeard turn → FailsBy fault (Learns x) call → FailsBy fault turn call
+fails-retold : (fault : WireFault) (x : ℕ) (turn : Turn) (call : Call) → IsHeard turn → FailsBy fault (Learns x) call → FailsBy fault turn call
 fails-retold fault x (Says byte) call h f = absurd h
 fails-retold Line x Acknowledged call h f = f
 fails-retold Line x (Expects byte) call h f = f
@@ -154,7 +153,7 @@ fails-retold Quiet x (Learns byte) call h f = f
 fails-retold Nack x turn call h f = absurd f
 fails-retold Garbled x turn call h f = absurd f
 
-broken-retold : (fault : WireFault) (x : ℕ) (turn : Turn) (calls : List RigCall) → IsHeard turn → IsBrokenOff fault (Learns x ∷ []) calls → IsBrokenOff fault (turn ∷ []) calls
+broken-retold : (fault : WireFault) (x : ℕ) (turn : Turn) (calls : List Call) → IsHeard turn → IsBrokenOff fault (Learns x ∷ []) calls → IsBrokenOff fault (turn ∷ []) calls
 broken-retold fault x turn [] h b = b
 broken-retold fault x turn (call ∷ calls) h b = ⊎_elim (λ last. inl (fails-retold fault x turn call h last.0, last.1)) (λ on. absurd on.1) b
 

@@ -1,7 +1,6 @@
 -- How the calls of settling end at a fault, on any line.
 use Rattle.std.proofs.Common.{◌≡◌, inl, inr, ⊎_elim, ℕ, ◌+◌, List, [], ◌∷◌, ◌++◌, replicate, Bool, Option, Some, None, Result, Ok, Err, IfErr, IsErrAnd, refl, sym, ◌∙◌, ap, subst, append_assoc}
-use Rattle.stm_wire.specs.declared.rig.RigCall.{RigCall}
-use Rattle.stm_wire.specs.declared.rig.RigCall.TheVariants.{Put, Get}
+use Rattle.stm_wire.specs.Call.{Call, Put, Get}
 use Rattle.stm_wire.specs.declared.fault.WireFault.{WireFault}
 use Rattle.stm_wire.specs.declared.fault.WireFault.TheVariants.{Quiet, Garbled}
 use Rattle.stm_wire.specs.Reply.{ack}
@@ -13,44 +12,44 @@ use Rattle.stm_wire.proofs.Holding.{if_err_weaker}
 use Rattle.stm_wire.proofs.Talking.{puts_of-append, replicate-add}
 use Rattle.stm_wire.proofs.SettlingCalls.{TookSoFar, adds_goes}
 
-pub fails_garbled : (quiet garbled : List RigCall → Type 0) (a b : Option (List RigCall)) → GoesOn garbled a b → FailsAs quiet garbled a b Garbled
+pub fails_garbled : (quiet garbled : List Call → Type 0) (a b : Option (List Call)) → GoesOn garbled a b → FailsAs quiet garbled a b Garbled
 fails_garbled quiet garbled a b p = record { named = λ n. cc; quiet_end = λ n. absurd (let h : Garbled ≡ Quiet = n in cc); garbled_end = λ _. p }
 
-pub fails_quiet : (quiet garbled : List RigCall → Type 0) (a b : Option (List RigCall)) → GoesOn quiet a b → FailsAs quiet garbled a b Quiet
+pub fails_quiet : (quiet garbled : List Call → Type 0) (a b : Option (List Call)) → GoesOn quiet a b → FailsAs quiet garbled a b Quiet
 fails_quiet quiet garbled a b p = record { named = λ n. cc; quiet_end = λ _. p; garbled_end = λ n. absurd (let h : Quiet ≡ Garbled = n in cc) }
 
 -- a part's fault is that of the whole
-pub fails_weaker : (q g q' g' : List RigCall → Type 0) (a b c d : Option (List RigCall)) (fault : WireFault) → (GoesOn q a b → GoesOn q' c d) → (GoesOn g a b → GoesOn g' c d) → FailsAs q g a b fault → FailsAs q' g' c d fault
+pub fails_weaker : (q g q' g' : List Call → Type 0) (a b c d : Option (List Call)) (fault : WireFault) → (GoesOn q a b → GoesOn q' c d) → (GoesOn g a b → GoesOn g' c d) → FailsAs q g a b fault → FailsAs q' g' c d fault
 fails_weaker q g q' g' a b c d fault k l f = record { named = f.named; quiet_end = λ e. k (f.quiet_end e); garbled_end = λ e. l (f.garbled_end e) }
 
-pub fails_all_weaker : {T : Type 0} (q g q' g' : List RigCall → Type 0) (a b c d : Option (List RigCall)) (r : Result T WireFault) → (GoesOn q a b → GoesOn q' c d) → (GoesOn g a b → GoesOn g' c d)
+pub fails_all_weaker : {T : Type 0} (q g q' g' : List Call → Type 0) (a b c d : Option (List Call)) (r : Result T WireFault) → (GoesOn q a b → GoesOn q' c d) → (GoesOn g a b → GoesOn g' c d)
     → IfErr r (FailsAs q g a b) → IfErr r (FailsAs q' g' c d)
 fails_all_weaker q g q' g' a b c d r k l f = if_err_weaker (FailsAs q g a b) (FailsAs q' g' c d) r (λ fault. fails_weaker q g q' g' a b c d fault k l) f
 
 -- and where it is handed on
-pub fails_on : {T : Type 0} (q g q' g' : List RigCall → Type 0) (a b c d : Option (List RigCall)) (fault : WireFault) (r : Result T WireFault) → (GoesOn q a b → GoesOn q' c d) → (GoesOn g a b → GoesOn g' c d)
+pub fails_on : {T : Type 0} (q g q' g' : List Call → Type 0) (a b c d : Option (List Call)) (fault : WireFault) (r : Result T WireFault) → (GoesOn q a b → GoesOn q' c d) → (GoesOn g a b → GoesOn g' c d)
     → FailsAs q g a b fault → IsErrAnd r (λ e. e ≡ fault) → IfErr r (FailsAs q' g' c d)
 fails_on q g q' g' a b c d fault (Ok u) k l f e = absurd e
 fails_on q g q' g' a b c d fault (Err x) k l f e = subst (FailsAs q' g' c d) (sym e) (fails_weaker q g q' g' a b c d fault k l f)
 
-pub never_so : (P : List RigCall → Type 0) (a b : Option (List RigCall)) → GoesOn Never a b → GoesOn P a b
+pub never_so : (P : List Call → Type 0) (a b : Option (List Call)) → GoesOn Never a b → GoesOn P a b
 never_so P a b p = GoesOn-weaker Never P a b p (λ xs x. absurd x)
 
 -- calls before the others
-pub never_after : (P Q : List RigCall → Type 0) (a b c : Option (List RigCall)) → GoesOn P a b → GoesOn Never b c → GoesOn Q a c
+pub never_after : (P Q : List Call → Type 0) (a b c : Option (List Call)) → GoesOn P a b → GoesOn Never b c → GoesOn Q a c
 never_after P Q a b c p q = GoesOn-append P Never Q a b c p q (λ us vs u v. absurd v)
 
-pub floods_before : (us vs : List RigCall) → Floods vs → Floods (us ++ vs)
+pub floods_before : (us vs : List Call) → Floods vs → Floods (us ++ vs)
 floods_before us vs v = record { before = us ++ v.before; bytes = v.bytes; is = ap (λ z. us ++ z) v.is ∙ sym (append_assoc us v.before (taken v.bytes)); many = v.many }
 
-pub floods_after : (P : List RigCall → Type 0) (a b c : Option (List RigCall)) → GoesOn P a b → GoesOn Floods b c → GoesOn Floods a c
+pub floods_after : (P : List Call → Type 0) (a b c : Option (List Call)) → GoesOn P a b → GoesOn Floods b c → GoesOn Floods a c
 floods_after P a b c p q = GoesOn-append P Floods Floods a b c p q (λ us vs u v. floods_before us vs v)
 
-pub floods : (seen : Bool) (a b : Option (List RigCall)) (count : ℕ) → count ≡ 4097 → GoesOn (TookSoFar count seen) a b → GoesOn Floods a b
+pub floods : (seen : Bool) (a b : Option (List Call)) (count : ℕ) → count ≡ 4097 → GoesOn (TookSoFar count seen) a b → GoesOn Floods a b
 floods seen a b count e p = GoesOn-weaker (TookSoFar count seen) Floods a b p (λ us u. record { before = []; bytes = u.bytes; is = u.is; many = u.many ∙ e })
 
 -- the bytes of a part belong to the limit
-past_calls : (byte m n limit : ℕ) (P : List RigCall → Type 0) (us vs : List RigCall) → m + n ≡ limit → puts_of us ≡ replicate m byte → IsPast byte n P vs → IsPast byte limit P (us ++ vs)
+past_calls : (byte m n limit : ℕ) (P : List Call → Type 0) (us vs : List Call) → m + n ≡ limit → puts_of us ≡ replicate m byte → IsPast byte n P vs → IsPast byte limit P (us ++ vs)
 past_calls byte m n limit P us vs e u v = record {
   before = us ++ v.before;
   last = v.last;
@@ -59,44 +58,44 @@ past_calls byte m n limit P us vs e u v = record {
   has = v.has;
 }
 
-pub past_after : (byte m n limit most : ℕ) (P : List RigCall → Type 0) (a b c : Option (List RigCall)) → m + n ≡ limit → GoesOn (PutsAll (replicate m byte) most) a b → GoesOn (IsPast byte n P) b c → GoesOn (IsPast byte limit P) a c
+pub past_after : (byte m n limit most : ℕ) (P : List Call → Type 0) (a b c : Option (List Call)) → m + n ≡ limit → GoesOn (PutsAll (replicate m byte) most) a b → GoesOn (IsPast byte n P) b c → GoesOn (IsPast byte limit P) a c
 past_after byte m n limit most P a b c e p q = GoesOn-append (PutsAll (replicate m byte) most) (IsPast byte n P) (IsPast byte limit P) a b c p q (λ us vs u v. past_calls byte m n limit P us vs e u.puts v)
 
-pub garbled_after : (byte m n limit most : ℕ) (a b c : Option (List RigCall)) → m + n ≡ limit → GoesOn (PutsAll (replicate m byte) most) a b → GoesOn (EndsGarbled byte n) b c → GoesOn (EndsGarbled byte limit) a c
+pub garbled_after : (byte m n limit most : ℕ) (a b c : Option (List Call)) → m + n ≡ limit → GoesOn (PutsAll (replicate m byte) most) a b → GoesOn (EndsGarbled byte n) b c → GoesOn (EndsGarbled byte limit) a c
 garbled_after byte m n limit most a b c e p q = GoesOn-append (PutsAll (replicate m byte) most) (EndsGarbled byte n) (EndsGarbled byte limit) a b c p q
     (λ us vs u v. ⊎_elim
     (λ (f : Floods vs). inl (floods_before us vs f))
     (λ (f : IsPast byte n (IsGarbled byte) vs). inr (past_calls byte m n limit (IsGarbled byte) us vs e u.puts f)) v)
 
 -- the whole limit was put, and then came these
-pub past_now : (byte limit most : ℕ) (P : List RigCall → Type 0) (a b c : Option (List RigCall)) → GoesOn (PutsAll (replicate limit byte) most) a b → GoesOn P b c → GoesOn (IsPast byte limit P) a c
+pub past_now : (byte limit most : ℕ) (P : List Call → Type 0) (a b c : Option (List Call)) → GoesOn (PutsAll (replicate limit byte) most) a b → GoesOn P b c → GoesOn (IsPast byte limit P) a c
 past_now byte limit most P a b c p q = GoesOn-append (PutsAll (replicate limit byte) most) P (IsPast byte limit P) a b c p q
     (λ us vs u v. record { before = us; last = vs; is = refl; puts = u.puts; has = v })
 
-pub garbled_flood : (byte limit : ℕ) (a b : Option (List RigCall)) → GoesOn Floods a b → GoesOn (EndsGarbled byte limit) a b
+pub garbled_flood : (byte limit : ℕ) (a b : Option (List Call)) → GoesOn Floods a b → GoesOn (EndsGarbled byte limit) a b
 garbled_flood byte limit a b p = GoesOn-weaker Floods (EndsGarbled byte limit) a b p (λ us u. inl u)
 
-pub garbled_past : (byte limit : ℕ) (a b : Option (List RigCall)) → GoesOn (IsPast byte limit (IsGarbled byte)) a b → GoesOn (EndsGarbled byte limit) a b
+pub garbled_past : (byte limit : ℕ) (a b : Option (List Call)) → GoesOn (IsPast byte limit (IsGarbled byte)) a b → GoesOn (EndsGarbled byte limit) a b
 garbled_past byte limit a b p = GoesOn-weaker (IsPast byte limit (IsGarbled byte)) (EndsGarbled byte limit) a b p (λ us u. inr u)
 
 -- Connecting:
 
 -- another byte than ACK came for 7F,
-pub garbled_first : (byte : ℕ) (a b : Option (List RigCall)) → GoesOn IsNoAck a b → GoesOn (IsGarbled byte) a b
+pub garbled_first : (byte : ℕ) (a b : Option (List Call)) → GoesOn IsNoAck a b → GoesOn (IsGarbled byte) a b
 garbled_first byte a b p = GoesOn-weaker IsNoAck (IsGarbled byte) a b p (λ us u. unacknowledged u)
 
 -- or one for the byte after it,
-pub garbled_second : (byte : ℕ) (a b c : Option (List RigCall)) → Adds (Put 0x7F ∷ Get (Some ack) ∷ []) a b → GoesOn (IsAnswerTo byte) b c → GoesOn (IsGarbled byte) a c
+pub garbled_second : (byte : ℕ) (a b c : Option (List Call)) → Adds (Put 0x7F ∷ Get (Some ack) ∷ []) a b → GoesOn (IsAnswerTo byte) b c → GoesOn (IsGarbled byte) a c
 garbled_second byte a b c p q =
     let head = Put 0x7F ∷ Get (Some ack) ∷ [] in
     GoesOn-append (λ zs. zs ≡ head) (IsAnswerTo byte) (IsGarbled byte) a b c (adds_goes head a b p) q (λ us vs u v. answered_once vs v (ap (λ z. z ++ vs) u))
 
 -- or for the next one not NACK alone
-pub garbled_third : (byte : ℕ) (a b c : Option (List RigCall)) → Adds (Put 0x7F ∷ Get (Some ack) ∷ Put byte ∷ Get None ∷ []) a b → GoesOn (IsUnconfirmed byte) b c → GoesOn (IsGarbled byte) a c
+pub garbled_third : (byte : ℕ) (a b c : Option (List Call)) → Adds (Put 0x7F ∷ Get (Some ack) ∷ Put byte ∷ Get None ∷ []) a b → GoesOn (IsUnconfirmed byte) b c → GoesOn (IsGarbled byte) a c
 garbled_third byte a b c p q =
     let head = Put 0x7F ∷ Get (Some ack) ∷ Put byte ∷ Get None ∷ [] in
     GoesOn-append (λ zs. zs ≡ head) (IsUnconfirmed byte) (IsGarbled byte) a b c (adds_goes head a b p) q (λ us vs u v. unconfirmed vs v (ap (λ z. z ++ vs) u))
 
 -- these calls before the others
-pub adds_before : (calls : List RigCall) (P Q : List RigCall → Type 0) (a b c : Option (List RigCall)) → Adds calls a b → GoesOn P b c → ((vs : List RigCall) → P vs → Q (calls ++ vs)) → GoesOn Q a c
-adds_before calls P Q a b c p q f = GoesOn-append (λ zs. zs ≡ calls) P Q a b c (adds_goes calls a b p) q (λ us vs u v. subst (λ (zs : List RigCall). Q (zs ++ vs)) (sym u) (f vs v))
+pub adds_before : (calls : List Call) (P Q : List Call → Type 0) (a b c : Option (List Call)) → Adds calls a b → GoesOn P b c → ((vs : List Call) → P vs → Q (calls ++ vs)) → GoesOn Q a c
+adds_before calls P Q a b c p q f = GoesOn-append (λ zs. zs ≡ calls) P Q a b c (adds_goes calls a b p) q (λ us vs u v. subst (λ (zs : List Call). Q (zs ++ vs)) (sym u) (f vs v))

@@ -2,8 +2,7 @@
 use Rattle.std.proofs.Common.{◌≡◌, ◌≢◌, ⊎_elim, ℕ, zero, suc, ◌+◌, ◌*◌, ◌-◌, ◌<◌, ◌≤◌, min, List, [], ◌∷◌, ◌++◌, length, take, replicate, Option, Some, None, Result, Ok, Err, IsErrAnd, refl, sym, ◌∙◌, ap, subst, arith, append_assoc, append-nil, take_all}
 use Rattle.std.proofs.Math.Seq.{take-append-add}
 use Rattle.std.proofs.lemmas.List.{take_min, take-append-le, length-append}
-use Rattle.stm_wire.specs.declared.rig.RigCall.{RigCall}
-use Rattle.stm_wire.specs.declared.rig.RigCall.TheVariants.{Put, Get, Append, Fetch}
+use Rattle.stm_wire.specs.Call.{Call, Put, Get, Append, Fetch}
 use Rattle.stm_wire.specs.declared.fault.RigFault.{RigFault}
 use Rattle.stm_wire.specs.declared.fault.WireFault.{WireFault}
 use Rattle.stm_wire.specs.declared.fault.WireFault.TheVariants.{Line}
@@ -15,35 +14,35 @@ use Rattle.stm_wire.specs.Settling.{Talks, PutsAll, PutsPart, HasLineCause, Spea
 use Rattle.stm_wire.proofs.Holding.{count_kept}
 use Rattle.stm_wire.proofs.Turns.{GoesOn-append, GoesOn-weaker}
 
-pub puts_of-append : (xs ys : List RigCall) → puts_of (xs ++ ys) ≡ puts_of xs ++ puts_of ys
+pub puts_of-append : (xs ys : List Call) → puts_of (xs ++ ys) ≡ puts_of xs ++ puts_of ys
 puts_of-append [] ys = refl
 puts_of-append (Put byte ∷ xs) ys = ap (λ zs. byte ∷ zs) (puts_of-append xs ys)
 puts_of-append (Get answer ∷ xs) ys = puts_of-append xs ys
 puts_of-append (Append n ∷ xs) ys = puts_of-append xs ys
 puts_of-append (Fetch ∷ xs) ys = puts_of-append xs ys
 
-line-append : (xs ys : List RigCall) → AreLineCalls xs → AreLineCalls ys → AreLineCalls (xs ++ ys)
+line-append : (xs ys : List Call) → AreLineCalls xs → AreLineCalls ys → AreLineCalls (xs ++ ys)
 line-append [] ys a b = b
 line-append (Put byte ∷ xs) ys a b = line-append xs ys a b
 line-append (Get answer ∷ xs) ys a b = line-append xs ys a b
 line-append (Append n ∷ xs) ys a b = absurd a
 line-append (Fetch ∷ xs) ys a b = absurd a
 
-talks_then : (P Q R : List ℕ → Type 0) (m n : ℕ) (xs ys : List RigCall) → ((us vs : List ℕ) → P us → Q vs → R (us ++ vs)) → Talks P m xs → Talks Q n ys → Talks R (m + n) (xs ++ ys)
+talks_then : (P Q R : List ℕ → Type 0) (m n : ℕ) (xs ys : List Call) → ((us vs : List ℕ) → P us → Q vs → R (us ++ vs)) → Talks P m xs → Talks Q n ys → Talks R (m + n) (xs ++ ys)
 talks_then P Q R m n xs ys join p q = record {
   line = line-append xs ys p.line q.line;
   puts = subst R (sym (puts_of-append xs ys)) (join (puts_of xs) (puts_of ys) p.puts q.puts);
   few = omega (arith, length-append xs ys, p.few, q.few);
 }
 
-talks_more : (P R : List ℕ → Type 0) (m n : ℕ) (xs : List RigCall) → m ≤ n → ((us : List ℕ) → P us → R us) → Talks P m xs → Talks R n xs
+talks_more : (P R : List ℕ → Type 0) (m n : ℕ) (xs : List Call) → m ≤ n → ((us : List ℕ) → P us → R us) → Talks P m xs → Talks R n xs
 talks_more P R m n xs le f p = record { line = p.line; puts = f (puts_of xs) p.puts; few = omega (arith, p.few) }
 
-pub all_then : (xs ys : List ℕ) (m n : ℕ) (a b c : Option (List RigCall)) → GoesOn (PutsAll xs m) a b → GoesOn (PutsAll ys n) b c → GoesOn (PutsAll (xs ++ ys) (m + n)) a c
+pub all_then : (xs ys : List ℕ) (m n : ℕ) (a b c : Option (List Call)) → GoesOn (PutsAll xs m) a b → GoesOn (PutsAll ys n) b c → GoesOn (PutsAll (xs ++ ys) (m + n)) a c
 all_then xs ys m n a b c p q = GoesOn-append (PutsAll xs m) (PutsAll ys n) (PutsAll (xs ++ ys) (m + n)) a b c p q (λ us vs u v.
     talks_then (λ us. us ≡ xs) (λ vs. vs ≡ ys) (λ ws. ws ≡ xs ++ ys) m n us vs (λ s t e f. ap (λ z. z ++ t) e ∙ ap (λ z. xs ++ z) f) u v)
 
-pub part_then : (xs ys : List ℕ) (m n : ℕ) (a b c : Option (List RigCall)) → GoesOn (PutsAll xs m) a b → GoesOn (PutsPart ys n) b c → GoesOn (PutsPart (xs ++ ys) (m + n)) a c
+pub part_then : (xs ys : List ℕ) (m n : ℕ) (a b c : Option (List Call)) → GoesOn (PutsAll xs m) a b → GoesOn (PutsPart ys n) b c → GoesOn (PutsPart (xs ++ ys) (m + n)) a c
 part_then xs ys m n a b c p q = GoesOn-append (PutsAll xs m) (PutsPart ys n) (PutsPart (xs ++ ys) (m + n)) a b c p q (λ us vs u v.
     talks_then (λ us. us ≡ xs) (λ vs. (k : ℕ) × (vs ≡ take k ys)) (λ ws. (k : ℕ) × (ws ≡ take k (xs ++ ys))) m n us vs
     (λ s t e f. (length xs + f.0, ap (λ z. z ++ t) e ∙ ap (λ z. xs ++ z) f.1 ∙ sym (take-append-add xs ys f.0))) u v)
@@ -55,16 +54,16 @@ begins-longer k xs ys =
     let le : n ≤ length xs = omega arith in
     (n, sym (take-append-le n xs ys le ∙ take_min k xs))
 
-pub part_more : (xs ys : List ℕ) (m n : ℕ) (a b : Option (List RigCall)) → m ≤ n → GoesOn (PutsPart xs m) a b → GoesOn (PutsPart (xs ++ ys) n) a b
+pub part_more : (xs ys : List ℕ) (m n : ℕ) (a b : Option (List Call)) → m ≤ n → GoesOn (PutsPart xs m) a b → GoesOn (PutsPart (xs ++ ys) n) a b
 part_more xs ys m n a b le p = GoesOn-weaker (PutsPart xs m) (PutsPart (xs ++ ys) n) a b p (λ us u.
     talks_more (λ us. (k : ℕ) × (us ≡ take k xs)) (λ us. (k : ℕ) × (us ≡ take k (xs ++ ys))) m n us le
     (λ s e. let b = begins-longer e.0 xs ys in (b.0, e.1 ∙ b.1)) u)
 
-pub all_more : (xs : List ℕ) (m n : ℕ) (a b : Option (List RigCall)) → m ≤ n → GoesOn (PutsAll xs m) a b → GoesOn (PutsAll xs n) a b
+pub all_more : (xs : List ℕ) (m n : ℕ) (a b : Option (List Call)) → m ≤ n → GoesOn (PutsAll xs m) a b → GoesOn (PutsAll xs n) a b
 all_more xs m n a b le p = GoesOn-weaker (PutsAll xs m) (PutsAll xs n) a b p (λ us u. talks_more (λ us. us ≡ xs) (λ us. us ≡ xs) m n us le (λ s e. e) u)
 
 -- the whole is a beginning
-pub all_part : (xs : List ℕ) (m : ℕ) (a b : Option (List RigCall)) → GoesOn (PutsAll xs m) a b → GoesOn (PutsPart xs m) a b
+pub all_part : (xs : List ℕ) (m : ℕ) (a b : Option (List Call)) → GoesOn (PutsAll xs m) a b → GoesOn (PutsPart xs m) a b
 all_part xs m a b p = GoesOn-weaker (PutsAll xs m) (PutsPart xs m) a b p (λ us u.
     talks_more (λ us. us ≡ xs) (λ us. (k : ℕ) × (us ≡ take k xs)) m m us (omega arith) (λ s e. (length xs, e ∙ sym (take_all (length xs) xs (omega arith)))) u)
 
@@ -90,7 +89,7 @@ pub record Failed (bytes : List ℕ) (most : ℕ) (a b : RigState) : Type 0 wher
   pub stays : a.is_honest → StaysHonest a b
   pub part : GoesOn (PutsPart bytes most) a.calls b.calls
 
-pub goes_nowhere : (P : List RigCall → Type 0) (o : Option (List RigCall)) → P [] → GoesOn P o o
+pub goes_nowhere : (P : List Call → Type 0) (o : Option (List Call)) → P [] → GoesOn P o o
 goes_nowhere P None p = refl
 goes_nowhere P (Some past) p = ([], ap (λ zs. Some zs) (sym (append-nil past)), p)
 
@@ -98,11 +97,11 @@ pub went_nowhere : (a : RigState) → Went [] 0 a a
 went_nowhere a = record { line = refl; journal = refl; stays = λ h. record { honest = h; journal = refl }; all = goes_nowhere (PutsAll [] 0) a.calls (record { line = tt; puts = refl; few = omega arith }) }
 
 -- the call of an Ok stands in the record
-pub recorded_ok : {T : Type 0} (call : RigCall) (u : T) (x y : Option (List RigCall)) → Records call (Ok u) x y → GoesOn (λ calls. calls ≡ call ∷ []) x y
+pub recorded_ok : {T : Type 0} (call : Call) (u : T) (x y : Option (List Call)) → Records call (Ok u) x y → GoesOn (λ calls. calls ≡ call ∷ []) x y
 recorded_ok call u None y r = r
 recorded_ok call u (Some past) y r = (call ∷ [], r, refl)
 
-recorded_err : (T : Type 0) (call : RigCall) (e : RigFault) (P : List RigCall → Type 0) (x y : Option (List RigCall)) → P [] → P (call ∷ []) → Records {T = T} call (Err e) x y → GoesOn P x y
+recorded_err : (T : Type 0) (call : Call) (e : RigFault) (P : List Call → Type 0) (x y : Option (List Call)) → P [] → P (call ∷ []) → Records {T = T} call (Err e) x y → GoesOn P x y
 recorded_err T call e P None y none one r = r
 recorded_err T call e P (Some past) y none one r = ⊎_elim (λ in_it. (call ∷ [], in_it, one)) (λ not_in_it. ([], not_in_it ∙ ap (λ zs. Some zs) (sym (append-nil past)), none)) r
 
@@ -280,7 +279,7 @@ cause_then xs m (Err fault) a b c p q = record {
   journal_count = q.journal_count ∙ p.journal;
 }
 
-pub part_up : (xs : List ℕ) (m n : ℕ) (a b : Option (List RigCall)) → m ≤ n → GoesOn (PutsPart xs m) a b → GoesOn (PutsPart xs n) a b
+pub part_up : (xs : List ℕ) (m n : ℕ) (a b : Option (List Call)) → m ≤ n → GoesOn (PutsPart xs m) a b → GoesOn (PutsPart xs n) a b
 part_up xs m n a b le p = GoesOn-weaker (PutsPart xs m) (PutsPart xs n) a b p (λ us u. talks_more (λ us. (k : ℕ) × (us ≡ take k xs)) (λ us. (k : ℕ) × (us ≡ take k xs)) m n us le (λ s e. e) u)
 
 pub replicate-add : (m n x : ℕ) → replicate (m + n) x ≡ replicate m x ++ replicate n x
@@ -290,7 +289,7 @@ replicate-add (suc m) n x =
     ap (λ k. replicate k x) e ∙ ap (λ xs. x ∷ xs) (replicate-add m n x)
 
 -- some of the copies are a beginning of settling
-pub part_run : (byte limit sent m n : ℕ) (a b : Option (List RigCall)) → sent ≤ limit → m ≤ n → GoesOn (PutsPart (replicate sent byte) m) a b → GoesOn (PutsPart (settling_run byte limit) n) a b
+pub part_run : (byte limit sent m n : ℕ) (a b : Option (List Call)) → sent ≤ limit → m ≤ n → GoesOn (PutsPart (replicate sent byte) m) a b → GoesOn (PutsPart (settling_run byte limit) n) a b
 part_run byte limit sent m n a b le le' p =
     let rest = 0x7F ∷ byte ∷ byte ∷ [] in
     let e : sent + (limit - sent) ≡ limit = omega arith in
@@ -334,7 +333,7 @@ replicate-fits sent limit x le =
     sym (replicate-add sent (limit - sent) x) ∙ ap (λ k. replicate k x) e
 
 -- copies are a beginning of more copies
-pub part_fits : (byte sent limit m n : ℕ) (a b : Option (List RigCall)) → sent ≤ limit → m ≤ n → GoesOn (PutsPart (replicate sent byte) m) a b → GoesOn (PutsPart (replicate limit byte) n) a b
+pub part_fits : (byte sent limit m n : ℕ) (a b : Option (List Call)) → sent ≤ limit → m ≤ n → GoesOn (PutsPart (replicate sent byte) m) a b → GoesOn (PutsPart (replicate limit byte) n) a b
 part_fits byte sent limit m n a b le le' p =
     subst (λ xs. GoesOn (PutsPart xs n) a b) (replicate-fits sent limit byte le) (part_more (replicate sent byte) (replicate (limit - sent) byte) m n a b le' p)
 
@@ -399,7 +398,7 @@ pub batches_went : (byte limit left : ℕ) (a b : RigState) → SpeaksBatches by
 batches_went byte limit left a b p = record { line = p.cause.done; journal = p.cause.journal_count; stays = p.cause.stays; all = p.whole }
 
 -- the bytes of batches and those after them
-pub run_after : (byte limit left m n : ℕ) (a b c : Option (List RigCall)) → left ≤ limit → GoesOn (PutsAll (replicate (limit - left) byte) m) a b → GoesOn (PutsPart (settling_run byte left) n) b c → GoesOn (PutsPart (settling_run byte limit) (m + n)) a c
+pub run_after : (byte limit left m n : ℕ) (a b c : Option (List Call)) → left ≤ limit → GoesOn (PutsAll (replicate (limit - left) byte) m) a b → GoesOn (PutsPart (settling_run byte left) n) b c → GoesOn (PutsPart (settling_run byte limit) (m + n)) a c
 run_after byte limit left m n a b c le p q =
     let rest = 0x7F ∷ byte ∷ byte ∷ [] in
     let e : (limit - left) + left ≡ limit = omega arith in

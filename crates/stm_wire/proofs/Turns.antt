@@ -2,7 +2,7 @@
 use Rattle.std.proofs.Common.{◌≡◌, ⊎_elim, ℕ, ◌+◌, ◌≤◌, min, List, [], ◌∷◌, ◌++◌, length, take, Option, Some, None, refl, sym, ◌∙◌, ap, subst, inl, inr, arith, append_assoc, take_all}
 use Rattle.std.proofs.Math.Seq.{take-append-add}
 use Rattle.std.proofs.lemmas.List.{take_min, take-append-le}
-use Rattle.stm_wire.specs.declared.rig.RigCall.{RigCall}
+use Rattle.stm_wire.specs.Call.{Call}
 use Rattle.stm_wire.specs.declared.fault.WireFault.{WireFault}
 use Rattle.stm_wire.specs.Device.{Device}
 use Rattle.stm_wire.specs.Moments.{FedAndTaken, PartlyFed}
@@ -53,38 +53,38 @@ learns-append [] ys = refl
 learns-append (x ∷ xs) ys = ap (λ zs. Learns x ∷ zs) (learns-append xs ys)
 
 -- broken off in the first part
-pub broken-first : (fault : WireFault) (xs ys : List Turn) (calls : List RigCall) → IsBrokenOff fault xs calls → IsBrokenOff fault (xs ++ ys) calls
+pub broken-first : (fault : WireFault) (xs ys : List Turn) (calls : List Call) → IsBrokenOff fault xs calls → IsBrokenOff fault (xs ++ ys) calls
 broken-first fault [] ys calls b = absurd b
 broken-first fault (x ∷ xs) ys [] b = b
 broken-first fault (x ∷ xs) ys (call ∷ calls) b = ⊎_elim (λ last. inl last) (λ on. inr (on.0, broken-first fault xs ys calls on.1)) b
 
 -- broken off in the second
-pub broken-second : (fault : WireFault) (xs ys : List Turn) (calls : List RigCall) → IsBrokenOff fault ys calls → IsBrokenOff fault (xs ++ ys) (calls_of xs ++ calls)
+pub broken-second : (fault : WireFault) (xs ys : List Turn) (calls : List Call) → IsBrokenOff fault ys calls → IsBrokenOff fault (xs ++ ys) (calls_of xs ++ calls)
 broken-second fault [] ys calls b = b
 broken-second fault (x ∷ xs) ys calls b = inr (refl, broken-second fault xs ys calls b)
 
-pub Adds-append : (xs ys : List RigCall) (a b c : Option (List RigCall)) → Adds xs a b → Adds ys b c → Adds (xs ++ ys) a c
+pub Adds-append : (xs ys : List Call) (a b c : Option (List Call)) → Adds xs a b → Adds ys b c → Adds (xs ++ ys) a c
 Adds-append xs ys None b c p q =
-    let G : Option (List RigCall) → Type 0 = λ o. Adds ys o c in
+    let G : Option (List Call) → Type 0 = λ o. Adds ys o c in
     subst G p q
 Adds-append xs ys (Some past) b c p q =
-    let G : Option (List RigCall) → Type 0 = λ o. Adds ys o c in
+    let G : Option (List Call) → Type 0 = λ o. Adds ys o c in
     subst G p q ∙ ap (λ zs. Some zs) (append_assoc past xs ys)
 
 -- one call after others
-pub GoesOn-append : (P Q R : List RigCall → Type 0) (a b c : Option (List RigCall)) → GoesOn P a b → GoesOn Q b c → ((xs ys : List RigCall) → P xs → Q ys → R (xs ++ ys)) → GoesOn R a c
+pub GoesOn-append : (P Q R : List Call → Type 0) (a b c : Option (List Call)) → GoesOn P a b → GoesOn Q b c → ((xs ys : List Call) → P xs → Q ys → R (xs ++ ys)) → GoesOn R a c
 GoesOn-append P Q R None b c p q r =
-    let G : Option (List RigCall) → Type 0 = λ o. GoesOn Q o c in
+    let G : Option (List Call) → Type 0 = λ o. GoesOn Q o c in
     subst G p q
 GoesOn-append P Q R (Some past) b c p q r =
-    let G : Option (List RigCall) → Type 0 = λ o. GoesOn Q o c in
+    let G : Option (List Call) → Type 0 = λ o. GoesOn Q o c in
     let q' = subst G p.1 q in
     (p.0 ++ q'.0, q'.1 ∙ ap (λ zs. Some zs) (append_assoc past p.0 q'.0), r p.0 q'.0 p.2 q'.2)
 
-pub GoesOn-weaker : (P R : List RigCall → Type 0) (a b : Option (List RigCall)) → GoesOn P a b → ((xs : List RigCall) → P xs → R xs) → GoesOn R a b
+pub GoesOn-weaker : (P R : List Call → Type 0) (a b : Option (List Call)) → GoesOn P a b → ((xs : List Call) → P xs → R xs) → GoesOn R a b
 GoesOn-weaker P R None b p r = p
 GoesOn-weaker P R (Some past) b p r = (p.0, p.1, r p.0 p.2)
 
-pub Adds-GoesOn : (P : List RigCall → Type 0) (calls : List RigCall) (a b : Option (List RigCall)) → Adds calls a b → P calls → GoesOn P a b
+pub Adds-GoesOn : (P : List Call → Type 0) (calls : List Call) (a b : Option (List Call)) → Adds calls a b → P calls → GoesOn P a b
 Adds-GoesOn P calls None b p r = p
 Adds-GoesOn P calls (Some past) b p r = (calls, p, r)

@@ -6,15 +6,17 @@ use Rattle.stm_wire.specs.declared.fault.RigFault.{RigFault}
 use Rattle.stm_wire.specs.declared.fault.RigFault.TheVariants.{Line, File, Stopped}
 use Rattle.stm_wire.specs.declared.rig.RigCall.{RigCall}
 use Rattle.stm_wire.specs.declared.rig.RigCall.TheVariants.{Put, Get, Append, Fetch}
+use Rattle.stm_wire.specs.Call.{Call}
 use Rattle.stm_wire.specs.Device.{Device}
 use Rattle.stm_wire.specs.Exchange.{complement}
 use Rattle.stm_wire.specs.Memory.{MemoryData, PutsInMemory, GetsInMemory}
 use Rattle.stm_wire.specs.Memory.{AppendsInMemory, FetchesInMemory, count_more}
+use Rattle.stm_wire.specs.Recorded.{calls_told}
 use Rattle.stm_wire.specs.Rig.{RigState}
 use Rattle.stm_wire.specs.Unmodelled.{no_device}
 
 -- a line that follows no model and keeps a record
-abbrev pub bad_line : Device → List ℕ → ℕ → ℕ → List RigCall → RigState
+abbrev pub bad_line : Device → List ℕ → ℕ → ℕ → List Call → RigState
 bad_line device journal line_failures journal_failures calls =
     record {
       is_honest = ⊥;
@@ -37,18 +39,22 @@ pub record ListData : Type 0 where
   pub line_failures : ℕ
   pub journal_failures : ℕ
   pub calls : List RigCall
+  -- the bytes of all appends
+  pub written : List ℕ
 
-abbrev pub list_data : List (Option ℕ) → ℕ → ℕ → List RigCall → ListData
-list_data replies line_failures journal_failures calls =
+abbrev pub list_data : List (Option ℕ) → ℕ → ℕ → List RigCall → List ℕ → ListData
+list_data replies line_failures journal_failures calls written =
     record {
       replies = replies;
       line_failures = line_failures;
       journal_failures = journal_failures;
       calls = calls;
+      written = written;
     }
 
 abbrev pub list_state : ListData → RigState
-list_state d = bad_line no_device [] d.line_failures d.journal_failures d.calls
+list_state d =
+    bad_line no_device [] d.line_failures d.journal_failures (calls_told d.written d.calls)
 
 -- the next answer of a list, quiet past its end
 abbrev pub next_reply : List (Option ℕ) → Option ℕ
@@ -72,6 +78,11 @@ ListsLineCall call (Err fault) old new = (fault ≡ Line) × GoesUnlisted fault 
 abbrev pub ListsJournalCall : RigCall → Result (Unit {0}) RigFault → ListData → ListData → Type 0
 ListsJournalCall call (Ok done) old new = new ≡ with_entry call old
 ListsJournalCall call (Err fault) old new = (fault ≡ File) × GoesUnlisted fault old new
+
+abbrev pub ListsAppend : List ℕ → Result (Unit {0}) RigFault → ListData → ListData → Type 0
+ListsAppend bytes (Ok done) old new =
+    new ≡ record (with_entry (Append (length bytes)) old) { written = old.written ++ bytes }
+ListsAppend bytes (Err fault) old new = (fault ≡ File) × GoesUnlisted fault old new
 
 abbrev pub GetsFromList : Result (Option ℕ) RigFault → ListData → ListData → Type 0
 GetsFromList (Ok answer) old new =
@@ -106,7 +117,9 @@ flip_data inner flips line_failures journal_failures calls =
     }
 
 abbrev pub flip_state : FlipData → RigState
-flip_state d = bad_line d.inner.device d.inner.journal d.line_failures d.journal_failures d.calls
+flip_state d =
+    bad_line d.inner.device d.inner.journal d.line_failures d.journal_failures
+    (calls_told d.inner.journal d.calls)
 
 -- what is given in the place of an answer, and which byte is then to be complemented
 abbrev pub given_for : ℕ → Option ℕ → Option ℕ
@@ -150,7 +163,9 @@ AppendsOn bytes (Ok done) old new =
     × (new ≡ handed_on (Append (length bytes)) new.inner old)
 AppendsOn bytes (Err fault) old new =
     (AppendsInMemory bytes (Err fault) old.inner new.inner
-    × (new ≡ counts_journal_of (handed_on (Append (length bytes)) new.inner old)))
+    × (new
+    ≡ counts_journal_of
+    (handed_on (Append (length new.inner.journal - length old.inner.journal)) new.inner old)))
     ⊎ ((fault ≡ File) × (new ≡ counts_journal_of old))
 
 abbrev pub FetchesOn : ℕ → List ℕ → List ℕ → Result ℕ RigFault → FlipData → FlipData → Type 0

@@ -47,21 +47,21 @@ record Adds (bytes : List ℕ) (m n : MemoryData) : Type 0 where
   begins : (t k : ℕ) (d : Device) → t ≤ length m.calls → length m.journal ≤ k → LosesOwed m.device d
       → (rig_state n).left_since t d (take k n.journal)
 
-adds : (bytes added : List ℕ) (handed_in lines journals : ℕ) (plan : Plan) (m : MemoryData)
+adds : (bytes added : List ℕ) (lines journals : ℕ) (plan : Plan) (m : MemoryData)
     → ((j : ℕ) → (k : ℕ) × (take j added ≡ take k bytes)) → IsMemory m
     → length (m.journal ++ added) ≤ 2 ^ 63 - 1
     → Adds bytes m
-    (with_append handed_in added
+    (with_append added
     (record m { line_failures = lines; journal_failures = journals; plan = plan }))
-adds bytes added handed_in lines journals plan m part is limit =
+adds bytes added lines journals plan m part is limit =
     let k : MemoryData =
     record m { line_failures = lines; journal_failures = journals; plan = plan } in
-    let n = with_append handed_in added k in
+    let n = with_append added k in
     let is_n : IsMemory n =
-    keeps-call (Append handed_in)
+    keeps-call (Append (length added))
     (Added (length added)) added m n.device n.journal n.calls n.first n.past refl refl refl refl
     refl is is.is_device (omega arith) limit in
-    let goes : Goes (Append handed_in) (Added (length added)) added m n =
+    let goes : Goes (Append (length added)) (Added (length added)) added m n =
     record {
       device = refl;
       journal = refl;
@@ -74,14 +74,14 @@ adds bytes added handed_in lines journals plan m part is limit =
     record {
       honest = is_n;
       time =
-          elapses (Append handed_in) (Added (length added)) added m n is is_n goes
+          elapses (Append (length added)) (Added (length added)) added m n is is_n goes
           (LeftByAppend bytes (rig_state m))
           (λ d size lost above below.
           let some = part (size - length m.journal) in (
             (some.0, beginning size m.journal added above ∙ ap (λ xs. m.journal ++ xs) some.1),
             ⊎_elim (λ l. l) (λ l. l) lost,
           ));
-      begins = beginnings (Append handed_in) (Added (length added)) added m n is is_n goes;
+      begins = beginnings (Append (length added)) (Added (length added)) added m n is is_n goes;
     }
 
 append-idles : (bytes : List ℕ) (fault : RigFault) (m n : MemoryData)
@@ -110,7 +110,7 @@ append-honest bytes (Ok u) m n limit is p =
     let L : MemoryData → Type 0 = λ y. length y.journal ≤ 2 ^ 63 - 1 in
     let k : MemoryData = takes_steps (length bytes) (counts_append m) in
     let a =
-    adds bytes bytes (length bytes) m.line_failures m.journal_failures k.plan m (λ j. (j, refl)) is
+    adds bytes bytes m.line_failures m.journal_failures k.plan m (λ j. (j, refl)) is
     (subst L p.2 limit) in
     subst P (sym p.2)
     (record {
@@ -132,7 +132,7 @@ append-honest bytes (Err Stopped) m n limit is p =
     (λ e.
     let k : MemoryData = counts_journal (stopped m) in
     let a =
-    adds bytes (take some bytes) (length bytes) k.line_failures k.journal_failures k.plan m
+    adds bytes (take some bytes) k.line_failures k.journal_failures k.plan m
     (λ j. take-of-take j some bytes) is (subst L e (limit refl)) in
     subst P (sym e)
     (record {
@@ -144,11 +144,11 @@ append-honest bytes (Err Stopped) m n limit is p =
     }))
     (λ e.
     append-idles bytes Stopped m n
-    (idles (LeftByAppend bytes (rig_state m)) (Append (length bytes)) _ _ _ m n nothing is e))
+    (idles (LeftByAppend bytes (rig_state m)) (Append 0) _ _ _ m n nothing is e))
     p.1
 append-honest bytes (Err File) m n limit is p =
     append-idles bytes File m n
-    (idles (LeftByAppend bytes (rig_state m)) (Append (length bytes)) _ _ _ m n
+    (idles (LeftByAppend bytes (rig_state m)) (Append 0) _ _ _ m n
     (λ d lost. ((0, sym (append-nil m.journal)), lost)) is p.1)
 append-honest bytes (Err Line) m n limit is p = absurd p
 

@@ -15,6 +15,7 @@ pub mod PartLaws
 pub mod Stopped
 pub mod Settling
 pub mod SettlingCalls
+pub mod Call
 pub mod Rig
 pub mod Dialogue
 pub mod DialogueLaws
@@ -25,7 +26,9 @@ pub mod Command
 pub mod Protection
 pub mod Rest
 pub mod Simulator
+pub mod Recorded
 pub mod Memory
+pub mod Recording
 pub mod PowerLoss
 pub mod SimulatedChange
 pub mod Simulated
@@ -37,3 +40,4 @@ pub mod Honest
 pub mod Examples
 pub mod Unmodelled
 pub mod BadLines
+pub mod BadLineRecords

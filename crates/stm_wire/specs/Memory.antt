@@ -13,6 +13,7 @@ use Rattle.stm_wire.specs.declared.plan.Plan.{Plan}
 use Rattle.stm_wire.specs.declared.plan.Stop.{Stop}
 use Rattle.stm_wire.specs.declared.plan.Stop.TheVariants.{Never, After, Fallen}
 use Rattle.stm_wire.specs.Device.{Device, Fresh, IsDevice, LosesOwed}
+use Rattle.stm_wire.specs.Recorded.{calls_told}
 use Rattle.stm_wire.specs.Rig.{RigState}
 use Rattle.stm_wire.specs.Simulator.{simulated_device, device_of}
 use Rattle.stm_wire.specs.declared.simulator.Stage.TheVariants.{Fresh as StageFresh}
@@ -90,7 +91,7 @@ rig_state m =
       journal_failures = m.journal_failures;
       moment = length m.calls;
       left_since = LeftSince m.journal m.first m.begun m.start m.past;
-      calls = Some m.calls;
+      calls = Some (calls_told m.journal m.calls);
       has_room = 0 < m.room;
       long_gets = None;
       told = None;
@@ -202,12 +203,12 @@ with_call call s device m =
       past = m.past ++ s ∷ [];
     }
 
--- the same with one append more, of which these bytes were added
-abbrev pub with_append : ℕ → List ℕ → MemoryData → MemoryData
-with_append handed_in bytes m =
+-- the same with one append more, which added these bytes
+abbrev pub with_append : List ℕ → MemoryData → MemoryData
+with_append bytes m =
     record m {
       journal = m.journal ++ bytes;
-      calls = m.calls ++ Append handed_in ∷ [];
+      calls = m.calls ++ Append (length bytes) ∷ [];
       room = m.room - 1;
       past = m.past ++ Added (length bytes) ∷ [];
     }
@@ -260,20 +261,19 @@ GetsInMemory (Err Line) old new =
 GetsInMemory (Err File) old new = ⊥
 
 -- An append is a step a byte. One that runs into the stop adds the bytes before it, where there is
--- memory for these and for its entry, or else nothing.
+-- memory for these and for its entry, or else nothing. Its entry tells how many it added.
 abbrev pub AppendsInMemory : List ℕ → Result (Unit {0}) RigFault → MemoryData → MemoryData → Type 0
 AppendsInMemory bytes (Ok done) old new =
     (runs_into_stop (length bytes) old.plan.stop ≡ false) × (old.plan.append_fails ≡ 1 → ⊥)
-    × (new ≡ with_append (length bytes) bytes (takes_steps (length bytes) (counts_append old)))
+    × (new ≡ with_append bytes (takes_steps (length bytes) (counts_append old)))
 AppendsInMemory bytes (Err Stopped) old new =
     (runs_into_stop (length bytes) old.plan.stop ≡ true)
     × ((new
-    ≡ with_append (length bytes) (take (steps_left old.plan.stop) bytes)
-    (counts_journal (stopped old)))
-    ⊎ Fails (Append (length bytes)) (counts_journal (stopped old)) new)
+    ≡ with_append (take (steps_left old.plan.stop) bytes) (counts_journal (stopped old)))
+    ⊎ Fails (Append 0) (counts_journal (stopped old)) new)
 AppendsInMemory bytes (Err File) old new =
     (runs_into_stop (length bytes) old.plan.stop ≡ false)
-    × Fails (Append (length bytes)) (counts_journal (counts_append old)) new
+    × Fails (Append 0) (counts_journal (counts_append old)) new
 AppendsInMemory bytes (Err Line) old new = ⊥
 
 -- a fetch is no step

@@ -4,7 +4,7 @@ use Rattle.std.proofs.Common.{◌++◌, length, Option, None, refl, sym, ◌∙�
 use Rattle.std.proofs.Common.{arith, append_assoc, append-nil, length-append}
 use Rattle.std.specs.List.{AllByRecursion, concat}
 use Rattle.std.proofs.lemmas.List.Folds.{concat-append}
-use Rattle.stm_wire.specs.declared.rig.RigCall.{RigCall}
+use Rattle.stm_wire.specs.Call.{Call}
 use Rattle.stm_wire.specs.Chip.{ChipData}
 use Rattle.stm_wire.specs.Dialogue.{GoesOn, puts_of, gets_of}
 use Rattle.stm_wire.specs.DialogueLaws.{GoesOn-append, GoesOn-nothing, GoesOn-weaker}
@@ -13,7 +13,7 @@ use Rattle.stm_wire.specs.Parts.{AreFew, IsPart, IsSession}
 use Rattle.stm_wire.specs.SentList.{IsFrame, get, get_id, read, write, erase, IsSettlingRun}
 use Rattle.stm_wire.specs.Settling.{Talks}
 
-few-join : (m n : ℕ) (xs ys : List RigCall) → AreFew m xs → AreFew n ys → AreFew (m + n) (xs ++ ys)
+few-join : (m n : ℕ) (xs ys : List Call) → AreFew m xs → AreFew n ys → AreFew (m + n) (xs ++ ys)
 few-join m n xs ys p q =
     omega (
       arith,
@@ -31,7 +31,7 @@ all-join chip (x ∷ xs) ys (first, rest) q = (first, all-join chip xs ys rest q
 
 -- what is put by a whole list and then by a part
 sent-join : (front : List ℕ) (frames more : List (List ℕ)) (unsent left : List ℕ)
-    (xs ys : List RigCall) → left ≡ [] → puts_of xs ++ left ≡ front ++ concat frames
+    (xs ys : List Call) → left ≡ [] → puts_of xs ++ left ≡ front ++ concat frames
     → puts_of ys ++ unsent ≡ concat more
     → puts_of (xs ++ ys) ++ unsent ≡ front ++ concat (frames ++ more)
 sent-join front frames more unsent left xs ys none p q =
@@ -43,7 +43,7 @@ sent-join front frames more unsent left xs ys none p q =
     ∙ ap (λ zs. front ++ zs) (sym (concat-append frames more))
 
 -- two parts, one after the other
-pub parts_join : (chip : Option ChipData) (whole : Bool) (m n : ℕ) (a b c : Option (List RigCall))
+pub parts_join : (chip : Option ChipData) (whole : Bool) (m n : ℕ) (a b c : Option (List Call))
     → GoesOn (IsPart chip true m) a b → GoesOn (IsPart chip whole n) b c
     → GoesOn (IsPart chip whole (m + n)) a c
 parts_join chip whole m n a b c p q =
@@ -60,7 +60,7 @@ parts_join chip whole m n a b c p q =
 
 -- a session and a part
 pub session_joins : (chip : Option ChipData) (byte limit : ℕ) (whole : Bool) (m n : ℕ)
-    (a b c : Option (List RigCall)) → GoesOn (IsSession chip byte limit true m) a b
+    (a b c : Option (List Call)) → GoesOn (IsSession chip byte limit true m) a b
     → GoesOn (IsPart chip whole n) b c
     → GoesOn (IsSession chip byte limit whole (m + n)) a c
 session_joins chip byte limit whole m n a b c p q =
@@ -82,7 +82,7 @@ session_joins chip byte limit whole m n a b c p q =
 
 -- a settling run is a session so far
 pub settling_is_session : (chip : Option ChipData) (byte limit : ℕ) (whole : Bool) (most : ℕ)
-    (a b : Option (List RigCall)) → GoesOn (Talks (IsSettlingRun byte limit) most) a b
+    (a b : Option (List Call)) → GoesOn (Talks (IsSettlingRun byte limit) most) a b
     → GoesOn (IsSession chip byte limit whole most) a b
 settling_is_session chip byte limit whole most a b p =
     GoesOn-weaker (Talks (IsSettlingRun byte limit) most)
@@ -100,9 +100,9 @@ settling_is_session chip byte limit whole most a b p =
     })
 
 -- calls that put and get nothing are a part, and a session
-pub silent_is_part : (chip : Option ChipData) (whole : Bool) (most : ℕ) (P : List RigCall → Type 0)
-    (a b : Option (List RigCall)) → ((xs : List RigCall) → P xs → puts_of xs ≡ [])
-    → ((xs : List RigCall) → P xs → gets_of xs ≡ 0)
+pub silent_is_part : (chip : Option ChipData) (whole : Bool) (most : ℕ) (P : List Call → Type 0)
+    (a b : Option (List Call)) → ((xs : List Call) → P xs → puts_of xs ≡ [])
+    → ((xs : List Call) → P xs → gets_of xs ≡ 0)
     → GoesOn P a b → GoesOn (IsPart chip whole most) a b
 silent_is_part chip whole most P a b puts gets p =
     GoesOn-weaker P (IsPart chip whole most) a b p
@@ -117,9 +117,9 @@ silent_is_part chip whole most P a b puts gets p =
     })
 
 pub silent_is_session : (chip : Option ChipData) (byte limit : ℕ) (whole : Bool) (most : ℕ)
-    (P : List RigCall → Type 0) (a b : Option (List RigCall))
-    → ((xs : List RigCall) → P xs → puts_of xs ≡ [])
-    → ((xs : List RigCall) → P xs → gets_of xs ≡ 0) → GoesOn P a b
+    (P : List Call → Type 0) (a b : Option (List Call))
+    → ((xs : List Call) → P xs → puts_of xs ≡ [])
+    → ((xs : List Call) → P xs → gets_of xs ≡ 0) → GoesOn P a b
     → GoesOn (IsSession chip byte limit whole most) a b
 silent_is_session chip byte limit whole most P a b puts gets p =
     GoesOn-weaker P (IsSession chip byte limit whole most) a b p
@@ -137,9 +137,9 @@ silent_is_session chip byte limit whole most P a b puts gets p =
 
 -- and before a session they change nothing
 pub silent_then_session : (chip : Option ChipData) (byte limit : ℕ) (whole : Bool) (most : ℕ)
-    (P : List RigCall → Type 0) (a b c : Option (List RigCall))
-    → ((xs : List RigCall) → P xs → puts_of xs ≡ [])
-    → ((xs : List RigCall) → P xs → gets_of xs ≡ 0) → GoesOn P a b
+    (P : List Call → Type 0) (a b c : Option (List Call))
+    → ((xs : List Call) → P xs → puts_of xs ≡ [])
+    → ((xs : List Call) → P xs → gets_of xs ≡ 0) → GoesOn P a b
     → GoesOn (IsSession chip byte limit whole most) b c
     → GoesOn (IsSession chip byte limit whole most) a c
 silent_then_session chip byte limit whole most P a b c puts gets p q =
@@ -160,7 +160,7 @@ silent_then_session chip byte limit whole most P a b c puts gets p q =
     })
 
 -- no calls
-pub nothing_is_part : (chip : Option ChipData) (whole : Bool) (most : ℕ) (a : Option (List RigCall))
+pub nothing_is_part : (chip : Option ChipData) (whole : Bool) (most : ℕ) (a : Option (List Call))
     → GoesOn (IsPart chip whole most) a a
 nothing_is_part chip whole most a =
     GoesOn-nothing (IsPart chip whole most) a
@@ -174,7 +174,7 @@ nothing_is_part chip whole most a =
     })
 
 -- whole frames are such of which the last may be cut short, and few are fewer than more
-pub part_weaker : (chip : Option ChipData) (whole : Bool) (m n : ℕ) (a b : Option (List RigCall))
+pub part_weaker : (chip : Option ChipData) (whole : Bool) (m n : ℕ) (a b : Option (List Call))
     → m ≤ n → GoesOn (IsPart chip true m) a b → GoesOn (IsPart chip whole n) a b
 part_weaker chip whole m n a b le p =
     GoesOn-weaker (IsPart chip true m) (IsPart chip whole n) a b p
@@ -188,7 +188,7 @@ part_weaker chip whole m n a b le p =
       few = omega (arith, le, x.few);
     })
 
-pub part_longer : (chip : Option ChipData) (whole : Bool) (m n : ℕ) (a b : Option (List RigCall))
+pub part_longer : (chip : Option ChipData) (whole : Bool) (m n : ℕ) (a b : Option (List Call))
     → m ≤ n → GoesOn (IsPart chip whole m) a b → GoesOn (IsPart chip whole n) a b
 part_longer chip whole m n a b le p =
     GoesOn-weaker (IsPart chip whole m) (IsPart chip whole n) a b p
@@ -203,7 +203,7 @@ part_longer chip whole m n a b le p =
     })
 
 pub session_weaker : (chip : Option ChipData) (byte limit : ℕ) (whole : Bool) (m n : ℕ)
-    (a b : Option (List RigCall)) → m ≤ n → GoesOn (IsSession chip byte limit true m) a b
+    (a b : Option (List Call)) → m ≤ n → GoesOn (IsSession chip byte limit true m) a b
     → GoesOn (IsSession chip byte limit whole n) a b
 session_weaker chip byte limit whole m n a b le p =
     GoesOn-weaker (IsSession chip byte limit true m) (IsSession chip byte limit whole n) a b p
@@ -220,7 +220,7 @@ session_weaker chip byte limit whole m n a b le p =
     })
 
 pub session_longer : (chip : Option ChipData) (byte limit : ℕ) (whole : Bool) (m n : ℕ)
-    (a b : Option (List RigCall)) → m ≤ n → GoesOn (IsSession chip byte limit whole m) a b
+    (a b : Option (List Call)) → m ≤ n → GoesOn (IsSession chip byte limit whole m) a b
     → GoesOn (IsSession chip byte limit whole n) a b
 session_longer chip byte limit whole m n a b le p =
     GoesOn-weaker (IsSession chip byte limit whole m) (IsSession chip byte limit whole n) a b p
@@ -252,7 +252,7 @@ frames_of_any chip (frame ∷ frames) (first, rest) =
     (frame_of_any chip frame first, frames_of_any chip frames rest)
 
 pub session_of_any : (chip : Option ChipData) (byte limit : ℕ) (whole : Bool) (most : ℕ)
-    (a b : Option (List RigCall)) → GoesOn (IsSession None byte limit whole most) a b
+    (a b : Option (List Call)) → GoesOn (IsSession None byte limit whole most) a b
     → GoesOn (IsSession chip byte limit whole most) a b
 session_of_any chip byte limit whole most a b p =
     GoesOn-weaker (IsSession None byte limit whole most)

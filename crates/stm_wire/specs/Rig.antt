@@ -4,8 +4,7 @@ use Rattle.std.specs.Prelude.{[], ◌∷◌, ◌++◌, length, take, drop, Optio
 use Rattle.std.specs.Prelude.{None, Result, Ok, Err, OnOk, OnErr, IfOk}
 use Rattle.stm_wire.specs.declared.rig.Patience.{Patience}
 use Rattle.stm_wire.specs.declared.rig.Patience.TheVariants.{Brief, Long}
-use Rattle.stm_wire.specs.declared.rig.RigCall.{RigCall}
-use Rattle.stm_wire.specs.declared.rig.RigCall.TheVariants.{Get}
+use Rattle.stm_wire.specs.Call.{Call, Get, Append}
 use Rattle.stm_wire.specs.declared.fault.RigFault.{RigFault}
 use Rattle.stm_wire.specs.Device.{Device, IsDevice, Feeds, LosesOwed}
 
@@ -22,7 +21,7 @@ pub record RigState : Type 1 where
   -- what a stop at some moment from that one on may have left
   pub left_since : ℕ → Device → List ℕ → Type 0
   -- all calls so far, where it keeps a record
-  pub calls : Option (List RigCall)
+  pub calls : Option (List Call)
   -- the record has room for one entry more: the next call stands in it, whatever it answers
   pub has_room : Type 0
   -- how many gets waited long, and the bytes that fetches brought, where it keeps these
@@ -42,15 +41,28 @@ pub record HasCause {T : Type 0} (before now : ℕ) (result : Result T RigFault)
 -- The call stands in the record; one that fails for want of memory may not. Such a call has done
 -- nothing on an honest Rig, since its moment is the old one, and of that moment the Rig tells the
 -- old state alone.
-abbrev pub Records : {T : Type 0} → RigCall → Result T RigFault → Option (List RigCall)
-    → Option (List RigCall) → Type 0
+abbrev pub Records : {T : Type 0} → Call → Result T RigFault → Option (List Call)
+    → Option (List Call) → Type 0
 Records call result None new = new ≡ None
 Records call (Ok x) (Some past) new = new ≡ Some (past ++ call ∷ [])
 Records call (Err e) (Some past) new = (new ≡ Some (past ++ call ∷ [])) ⊎ (new ≡ Some past)
 
+-- An append stands in the record with the bytes that were handed in; one that failed, if it does,
+-- with a beginning of them.
+abbrev pub RecordsAppend : {T : Type 0} → List ℕ → Result T RigFault → Option (List Call)
+    → Option (List Call) → Type 0
+RecordsAppend bytes result None new = new ≡ None
+RecordsAppend bytes (Ok x) (Some past) new = new ≡ Some (past ++ Append bytes ∷ [])
+RecordsAppend bytes (Err e) (Some past) new =
+    ((n : ℕ) × (new ≡ Some (past ++ Append (take n bytes) ∷ []))) ⊎ (new ≡ Some past)
+
 -- where the record has room, the call stands in it, also one that fails
-abbrev pub Enters : RigCall → RigState → RigState → Type 0
+abbrev pub Enters : Call → RigState → RigState → Type 0
 Enters call old new = old.has_room → Records {T = Unit {0}} call (Ok tt) old.calls new.calls
+
+abbrev pub EntersAppend : List ℕ → RigState → RigState → Type 0
+EntersAppend bytes old new =
+    old.has_room → (n : ℕ) × Records {T = Unit {0}} (Append (take n bytes)) (Ok tt) old.calls new.calls
 
 -- a get counts where it waits long; the count stays at 2^64 - 1
 abbrev pub waited : Patience → Option ℕ → Option ℕ
@@ -81,7 +93,7 @@ pub record FetchesAside (after : List ℕ) (result : Result ℕ RigFault)
   pub told : Tells after result old.told new.told
 
 -- the entry of a get
-abbrev pub entry_of_get : Result (Option ℕ) RigFault → RigCall
+abbrev pub entry_of_get : Result (Option ℕ) RigFault → Call
 entry_of_get (Ok answer) = Get answer
 entry_of_get (Err e) = Get None
 
@@ -172,6 +184,6 @@ pub record IsModel (rig : RigState) : Type 0 where
       → (journal ≡ rig.journal) × LosesOwed rig.device d
 
 -- where there is a record, a moment is a place in it
-abbrev pub IsPlace : ℕ → Option (List RigCall) → Type 0
+abbrev pub IsPlace : ℕ → Option (List Call) → Type 0
 IsPlace moment None = Unit {0}
 IsPlace moment (Some calls) = moment ≡ length calls

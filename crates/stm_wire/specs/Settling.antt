@@ -5,7 +5,7 @@ use Rattle.std.specs.Prelude.{IfErr, MatchBool}
 use Rattle.stm_wire.specs.declared.fault.WireFault.{WireFault}
 use Rattle.stm_wire.specs.declared.fault.WireFault.TheVariants.{Line}
 use Rattle.stm_wire.specs.declared.rig.Patience.TheVariants.{Long}
-use Rattle.stm_wire.specs.declared.rig.RigCall.{RigCall}
+use Rattle.stm_wire.specs.Call.{Call}
 use Rattle.stm_wire.specs.declared.chip.EraseKind.{EraseKind}
 use Rattle.stm_wire.specs.declared.chip.EraseKind.TheVariants.{Page, Extended}
 use Rattle.stm_wire.specs.Exchange.{complement, is_listed}
@@ -21,21 +21,21 @@ use Rattle.stm_wire.specs.Sending.{KeepsCount}
 -- On any line:
 
 -- puts and gets alone, at most so many; what they put has P
-pub record Talks (P : List ℕ → Type 0) (most : ℕ) (calls : List RigCall) : Type 0 where
+pub record Talks (P : List ℕ → Type 0) (most : ℕ) (calls : List Call) : Type 0 where
   pub line : AreLineCalls calls
   pub puts : P (puts_of calls)
   pub few : length calls ≤ most
 
 -- these bytes are put
-abbrev pub PutsAll : List ℕ → ℕ → List RigCall → Type 0
+abbrev pub PutsAll : List ℕ → ℕ → List Call → Type 0
 PutsAll bytes most calls = Talks (λ puts. puts ≡ bytes) most calls
 
 -- or a beginning of them
-abbrev pub PutsPart : List ℕ → ℕ → List RigCall → Type 0
+abbrev pub PutsPart : List ℕ → ℕ → List Call → Type 0
 PutsPart bytes most calls = Talks (λ puts. (n : ℕ) × (puts ≡ take n bytes)) most calls
 
 -- what settling puts, and how many calls it makes
-abbrev pub SettlesWithin : ℕ → ℕ → List RigCall → Type 0
+abbrev pub SettlesWithin : ℕ → ℕ → List Call → Type 0
 SettlesWithin byte limit calls = Talks (IsSettlingRun byte limit) (4100 * (limit + 4)) calls
 
 -- A fault of the line is answered only where its count rose, and at Ok and at every other fault the

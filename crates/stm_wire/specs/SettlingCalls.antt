@@ -4,15 +4,14 @@ use Rattle.std.specs.Prelude.{◌≡◌, ◌≢◌, ◌⊎◌, ℕ, ◌-◌, ◌
 use Rattle.std.specs.Prelude.{◌++◌, length, replicate, Bool, true, false, Option, Some, None}
 use Rattle.stm_wire.specs.declared.fault.WireFault.{WireFault}
 use Rattle.stm_wire.specs.declared.fault.WireFault.TheVariants.{Nack, Quiet, Garbled}
-use Rattle.stm_wire.specs.declared.rig.RigCall.{RigCall}
-use Rattle.stm_wire.specs.declared.rig.RigCall.TheVariants.{Put, Get, Append, Fetch}
+use Rattle.stm_wire.specs.Call.{Call, Put, Get, Append, Fetch}
 use Rattle.stm_wire.specs.Reply.{ack, nack}
 use Rattle.stm_wire.specs.Dialogue.{GoesOn, puts_of}
 
 -- Draining:
 
 -- these bytes came, one at each get
-abbrev pub taken : List ℕ → List RigCall
+abbrev pub taken : List ℕ → List Call
 taken [] = []
 taken (byte ∷ bytes) = Get (Some byte) ∷ taken bytes
 
@@ -22,14 +21,14 @@ has_nack [] = false
 has_nack (byte ∷ bytes) = (byte == nack) || has_nack bytes
 
 -- bytes were taken until it was quiet, and this says whether one of them was NACK
-pub record IsDrained (seen : Bool) (calls : List RigCall) : Type 0 where
+pub record IsDrained (seen : Bool) (calls : List Call) : Type 0 where
   pub bytes : List ℕ
   pub is : calls ≡ taken bytes ++ Get None ∷ []
   pub has : has_nack bytes ≡ seen
 
 -- the calls end with more bytes than a draining takes
-pub record Floods (calls : List RigCall) : Type 0 where
-  pub before : List RigCall
+pub record Floods (calls : List Call) : Type 0 where
+  pub before : List Call
   pub bytes : List ℕ
   pub is : calls ≡ before ++ taken bytes
   pub many : length bytes ≡ 4097
@@ -37,23 +36,23 @@ pub record Floods (calls : List RigCall) : Type 0 where
 -- Batches:
 
 -- the byte so often with no get between, and then what is owed is taken
-pub record IsBatch (byte count : ℕ) (seen : Bool) (calls : List RigCall) : Type 0 where
-  pub drained : List RigCall
+pub record IsBatch (byte count : ℕ) (seen : Bool) (calls : List Call) : Type 0 where
+  pub drained : List Call
   pub is : calls ≡ replicate count (Put byte) ++ drained
   pub is_drained : IsDrained seen drained
 
 -- Batches of 256 bytes, or of as many as the limit leaves above two. All but the last brought no
 -- NACK, and this says whether the last did. So many bytes of the limit are left.
-pub data AreBatches (byte limit : ℕ) : ℕ → Bool → List RigCall → Type 0 where
+pub data AreBatches (byte limit : ℕ) : ℕ → Bool → List Call → Type 0 where
   none : AreBatches byte limit limit false []
-  more : (left count : ℕ) (seen : Bool) (calls batch : List RigCall)
+  more : (left count : ℕ) (seen : Bool) (calls batch : List Call)
       → AreBatches byte limit left false calls
       → 2 < left → count ≡ min (left - 2) 256 → IsBatch byte count seen batch
       → AreBatches byte limit (left - count) seen (calls ++ batch)
 
 -- all batches that are sent: none of 7F, and of another byte until one brought a NACK or two bytes
 -- are left
-pub data IsBatched (byte limit left : ℕ) (calls : List RigCall) : Type 0 where
+pub data IsBatched (byte limit left : ℕ) (calls : List Call) : Type 0 where
   singly : byte ≡ 0x7F → left ≡ limit → calls ≡ [] → IsBatched byte limit left calls
   answered : byte ≢ 0x7F → AreBatches byte limit left true calls → IsBatched byte limit left calls
   used_up : byte ≢ 0x7F → left ≤ 2 → AreBatches byte limit left false calls
@@ -62,7 +61,7 @@ pub data IsBatched (byte limit left : ℕ) (calls : List RigCall) : Type 0 where
 -- Single bytes:
 
 -- first comes a get, and it brings no NACK
-abbrev pub HearsNoNack : List RigCall → Type 0
+abbrev pub HearsNoNack : List Call → Type 0
 HearsNoNack [] = ⊥
 HearsNoNack (Put byte ∷ calls) = ⊥
 HearsNoNack (Get answer ∷ calls) = answer ≢ Some nack
@@ -70,7 +69,7 @@ HearsNoNack (Append n ∷ calls) = ⊥
 HearsNoNack (Fetch ∷ calls) = ⊥
 
 -- no byte put was refused: after each came a get next, which brought no NACK
-abbrev pub IsUnrefused : List RigCall → Type 0
+abbrev pub IsUnrefused : List Call → Type 0
 IsUnrefused [] = Unit {0}
 IsUnrefused (Put byte ∷ calls) = HearsNoNack calls × IsUnrefused calls
 IsUnrefused (Get answer ∷ calls) = IsUnrefused calls
@@ -78,69 +77,69 @@ IsUnrefused (Append n ∷ calls) = IsUnrefused calls
 IsUnrefused (Fetch ∷ calls) = IsUnrefused calls
 
 -- the byte was put so often, and none of these was refused
-pub record AreUnrefused (byte count : ℕ) (calls : List RigCall) : Type 0 where
+pub record AreUnrefused (byte count : ℕ) (calls : List Call) : Type 0 where
   pub each : IsUnrefused calls
   pub puts : puts_of calls ≡ replicate count byte
 
 -- the byte was refused, and what came after NACK was taken
-pub record IsRefused (byte : ℕ) (calls : List RigCall) : Type 0 where
+pub record IsRefused (byte : ℕ) (calls : List Call) : Type 0 where
   pub seen : Bool
-  pub drained : List RigCall
+  pub drained : List Call
   pub is : calls ≡ Put byte ∷ Get (Some nack) ∷ drained
   pub is_drained : IsDrained seen drained
 
 -- a fresh device is connected, and what the byte then begins is ended
-abbrev pub reconnecting : ℕ → List RigCall
+abbrev pub reconnecting : ℕ → List Call
 reconnecting byte =
     Put 0x7F ∷ Get (Some ack) ∷ Put byte ∷ Get None ∷ Put byte ∷ Get (Some nack) ∷ Get None ∷ []
 
 -- a byte came
-abbrev pub IsAnswer : List RigCall → Type 0
+abbrev pub IsAnswer : List Call → Type 0
 IsAnswer calls = (x : ℕ) × (calls ≡ Get (Some x) ∷ [])
 
 -- a byte came for this one
-abbrev pub IsAnswerTo : ℕ → List RigCall → Type 0
+abbrev pub IsAnswerTo : ℕ → List Call → Type 0
 IsAnswerTo byte calls = (x : ℕ) × (calls ≡ Put byte ∷ Get (Some x) ∷ [])
 
 -- 7F stayed without an answer
-abbrev pub IsUnanswered : List RigCall → Type 0
+abbrev pub IsUnanswered : List Call → Type 0
 IsUnanswered calls = calls ≡ Put 0x7F ∷ Get None ∷ []
 
 -- 7F was answered, but not by ACK
-abbrev pub IsNoAck : List RigCall → Type 0
+abbrev pub IsNoAck : List Call → Type 0
 IsNoAck calls = (x : ℕ) × (x ≢ ack) × (calls ≡ Put 0x7F ∷ Get (Some x) ∷ [])
 
 -- the byte was not refused as it should be: by NACK, and then nothing
-pub data IsUnconfirmed (byte : ℕ) (calls : List RigCall) : Type 0 where
+pub data IsUnconfirmed (byte : ℕ) (calls : List Call) : Type 0 where
   unrefused : (answer : Option ℕ) → answer ≢ Some nack → calls ≡ Put byte ∷ Get answer ∷ []
       → IsUnconfirmed byte calls
   answered_on : (x : ℕ) → calls ≡ Put byte ∷ Get (Some nack) ∷ Get (Some x) ∷ []
       → IsUnconfirmed byte calls
 
 -- another byte came in it than is due
-pub data IsGarbled (byte : ℕ) (calls : List RigCall) : Type 0 where
+pub data IsGarbled (byte : ℕ) (calls : List Call) : Type 0 where
   unacknowledged : IsNoAck calls → IsGarbled byte calls
-  answered_once : (last : List RigCall) → IsAnswerTo byte last
+  answered_once : (last : List Call) → IsAnswerTo byte last
       → calls ≡ Put 0x7F ∷ Get (Some ack) ∷ last
       → IsGarbled byte calls
-  unconfirmed : (last : List RigCall) → IsUnconfirmed byte last
+  unconfirmed : (last : List Call) → IsUnconfirmed byte last
       → calls ≡ Put 0x7F ∷ Get (Some ack) ∷ Put byte ∷ Get None ∷ last → IsGarbled byte calls
 
 -- single bytes at Ok: one of them was refused, or none, and the device was fresh
-pub data EndsSingly (byte limit : ℕ) (calls : List RigCall) : Type 0 where
-  refused : (sent : ℕ) (before last : List RigCall) → sent < limit → AreUnrefused byte sent before
+pub data EndsSingly (byte limit : ℕ) (calls : List Call) : Type 0 where
+  refused : (sent : ℕ) (before last : List Call) → sent < limit → AreUnrefused byte sent before
       → IsRefused byte last → calls ≡ before ++ last → EndsSingly byte limit calls
-  reconnected : (before : List RigCall) → AreUnrefused byte limit before
+  reconnected : (before : List Call) → AreUnrefused byte limit before
       → calls ≡ before ++ reconnecting byte
       → EndsSingly byte limit calls
 
 -- settling at Ok: what was owed is taken, batches are sent, then single bytes
-pub record EndsSettled (byte limit : ℕ) (calls : List RigCall) : Type 0 where
+pub record EndsSettled (byte limit : ℕ) (calls : List Call) : Type 0 where
   pub seen : Bool
   pub left : ℕ
-  pub drained : List RigCall
-  pub batches : List RigCall
-  pub singles : List RigCall
+  pub drained : List Call
+  pub batches : List Call
+  pub singles : List Call
   pub is : calls ≡ drained ++ batches ++ singles
   pub is_drained : IsDrained seen drained
   pub are_batched : IsBatched byte limit left batches
@@ -149,25 +148,25 @@ pub record EndsSettled (byte limit : ℕ) (calls : List RigCall) : Type 0 where
 -- Faults:
 
 -- the whole limit was put, and then came calls that have P
-pub record IsPast (byte limit : ℕ) (P : List RigCall → Type 0) (calls : List RigCall) : Type 0 where
-  pub before : List RigCall
-  pub last : List RigCall
+pub record IsPast (byte limit : ℕ) (P : List Call → Type 0) (calls : List Call) : Type 0 where
+  pub before : List Call
+  pub last : List Call
   pub is : calls ≡ before ++ last
   pub puts : puts_of before ≡ replicate limit byte
   pub has : P last
 
-abbrev pub EndsQuiet : ℕ → ℕ → List RigCall → Type 0
+abbrev pub EndsQuiet : ℕ → ℕ → List Call → Type 0
 EndsQuiet byte limit calls = IsPast byte limit IsUnanswered calls
 
-abbrev pub EndsGarbled : ℕ → ℕ → List RigCall → Type 0
+abbrev pub EndsGarbled : ℕ → ℕ → List Call → Type 0
 EndsGarbled byte limit calls = Floods calls ⊎ IsPast byte limit (IsGarbled byte) calls
 
 -- no calls end so
-abbrev pub Never : List RigCall → Type 0
+abbrev pub Never : List Call → Type 0
 Never calls = ⊥
 
 -- A fault is never Nack, and where it is Quiet or Garbled the calls end as these say.
-pub record FailsAs (quiet garbled : List RigCall → Type 0) (old new : Option (List RigCall))
+pub record FailsAs (quiet garbled : List Call → Type 0) (old new : Option (List Call))
     (fault : WireFault)
     : Type 0 where
   pub named : fault ≢ Nack

@@ -1,9 +1,11 @@
 // A bad line for tests: a Rig in memory of whose bytes one comes complemented.
-ghost use Rattle.std.specs.Prelude.{◌≡◌, ◌≤◌, ◌-◌, ◌==◌, ◌++◌, ◌∷◌, [], if◌then◌else◌, length};
+ghost use Rattle.std.specs.Prelude.{◌≡◌, ◌≤◌, ◌-◌, ◌==◌, ◌++◌, ◌∷◌, [], if◌then◌else◌};
 ghost use Rattle.std.proofs.Common.{refl};
+ghost use Rattle.stm_wire.specs.Call.{Put, Fetch};
 ghost use Rattle.stm_wire.specs.Exchange.{complement};
 ghost use Rattle.stm_wire.specs.Rig.{PutsAside, GetsAside, FetchesAside};
-ghost use Rattle.stm_wire.specs.Rig.{HasCause, Rises, Records, Enters, entry_of_get, PutsHonestly};
+ghost use Rattle.stm_wire.specs.Rig.{HasCause, Rises, Records, RecordsAppend};
+ghost use Rattle.stm_wire.specs.Rig.{Enters, EntersAppend, entry_of_get, PutsHonestly};
 ghost use Rattle.stm_wire.specs.Rig.{GetsHonestly, AppendsHonestly, FetchesHonestly, FetchesWithin};
 ghost use Rattle.stm_wire.specs.BadLines.{FlipData, flip_data, flip_state, given_for};
 ghost use Rattle.stm_wire.specs.BadLines.{flips_after, counts_line_of, counts_journal_of};
@@ -82,26 +84,11 @@ impl FlipRig {
     {
         self.journal_failures = self.journal_failures.saturating_add(1);
     }
-}
 
-impl Rig for FlipRig {
-    ghost view = { flip_state };
-
-    ghost model = { λ rig honest. absurd honest };
-
-    ghost places = { λ rig. refl };
-
-    fn put(&mut self, byte: u8) -> Result<(), RigFault>
-        ensures cause { let old = flip_state self.old in let new = flip_state self.new in
-            HasCause old.line_failures new.line_failures result }
-        ensures journal_count { let old = flip_state self.old in let new = flip_state self.new in
-            new.journal_failures ≡ old.journal_failures }
-        ensures recorded { let old = flip_state self.old in let new = flip_state self.new in
-            Records (RigCall.Put byte) result old.calls new.calls }
-        ensures entered { Enters (RigCall.Put byte) (flip_state self.old) (flip_state self.new) }
-        ensures aside { PutsAside (flip_state self.old) (flip_state self.new) }
-        ensures honest { let old = flip_state self.old in let new = flip_state self.new in
-            old.is_honest → PutsHonestly byte result old new }
+    /// Puts a byte on the inner Rig.
+    fn hand_put_on(&mut self, byte: u8) -> Result<(), RigFault>
+        ensures cause { HasCause self.old.line_failures self.new.line_failures result }
+        ensures journal_count { self.new.journal_failures ≡ self.old.journal_failures }
         ensures handed_on { PutsOn byte result self.old self.new }
     {
         if self.calls.reserve(1).is_err() {
@@ -116,17 +103,10 @@ impl Rig for FlipRig {
         answer
     }
 
-    fn get(&mut self, patience: Patience) -> Result<Option<u8>, RigFault>
-        ensures cause { let old = flip_state self.old in let new = flip_state self.new in
-            HasCause old.line_failures new.line_failures result }
-        ensures journal_count { let old = flip_state self.old in let new = flip_state self.new in
-            new.journal_failures ≡ old.journal_failures }
-        ensures recorded { let old = flip_state self.old in let new = flip_state self.new in
-            Records (entry_of_get result) result old.calls new.calls }
-        ensures entered { Enters (entry_of_get result) (flip_state self.old) (flip_state self.new) }
-        ensures aside { GetsAside patience (flip_state self.old) (flip_state self.new) }
-        ensures honest { let old = flip_state self.old in let new = flip_state self.new in
-            old.is_honest → GetsHonestly result old new }
+    /// Gives a byte of the inner Rig.
+    fn hand_get_on(&mut self, patience: Patience) -> Result<Option<u8>, RigFault>
+        ensures cause { HasCause self.old.line_failures self.new.line_failures result }
+        ensures journal_count { self.new.journal_failures ≡ self.old.journal_failures }
         ensures handed_on { GetsOn result self.old self.new }
     {
         if self.calls.reserve(1).is_err() {
@@ -147,45 +127,31 @@ impl Rig for FlipRig {
         }
     }
 
-    fn append(&mut self, bytes: &[u8]) -> Result<(), RigFault>
-        ensures cause { let old = flip_state self.old in let new = flip_state self.new in
-            HasCause old.journal_failures new.journal_failures result }
-        ensures line_count { let old = flip_state self.old in let new = flip_state self.new in
-            new.line_failures ≡ old.line_failures }
-        ensures recorded { let old = flip_state self.old in let new = flip_state self.new in
-            Records (RigCall.Append (length bytes.now)) result old.calls new.calls }
-        ensures entered { Enters (RigCall.Append (length bytes.now)) (flip_state self.old)
-            (flip_state self.new) }
-        ensures aside { PutsAside (flip_state self.old) (flip_state self.new) }
-        ensures honest { let old = flip_state self.old in let new = flip_state self.new in
-            old.is_honest → AppendsHonestly bytes.now result old new }
+    /// Appends to the journal of the inner Rig.
+    fn hand_append_on(&mut self, bytes: &[u8]) -> Result<(), RigFault>
+        ensures cause { HasCause self.old.journal_failures self.new.journal_failures result }
+        ensures line_count { self.new.line_failures ≡ self.old.line_failures }
         ensures handed_on { AppendsOn bytes.now result self.old self.new }
     {
         if self.calls.reserve(1).is_err() {
             self.count_journal();
             return Err(RigFault::File);
         }
+        let before = self.inner.journal().len();
         let answer = self.inner.append(bytes);
-        self.calls
-            .push_reserved(RigCall::Append(bytes.len() as u64));
+        let added = self.inner.journal().len().saturating_sub(before);
+        self.calls.push_reserved(RigCall::Append(added as u64));
         if answer.is_err() {
             self.count_journal();
         }
         answer
     }
 
-    fn fetch(&mut self, at: u64, buf: &mut [u8]) -> Result<usize, RigFault>
+    /// Fetches from the journal of the inner Rig.
+    fn hand_fetch_on(&mut self, at: u64, buf: &mut [u8]) -> Result<usize, RigFault>
         ensures within { FetchesWithin at buf.old buf.new result }
-        ensures cause { let old = flip_state self.old in let new = flip_state self.new in
-            HasCause old.journal_failures new.journal_failures result }
-        ensures line_count { let old = flip_state self.old in let new = flip_state self.new in
-            new.line_failures ≡ old.line_failures }
-        ensures recorded { let old = flip_state self.old in let new = flip_state self.new in
-            Records RigCall.Fetch result old.calls new.calls }
-        ensures entered { Enters RigCall.Fetch (flip_state self.old) (flip_state self.new) }
-        ensures aside { FetchesAside buf.new result (flip_state self.old) (flip_state self.new) }
-        ensures honest { let old = flip_state self.old in let new = flip_state self.new in
-            old.is_honest → FetchesHonestly at buf.old buf.new result old new }
+        ensures cause { HasCause self.old.journal_failures self.new.journal_failures result }
+        ensures line_count { self.new.line_failures ≡ self.old.line_failures }
         ensures handed_on { FetchesOn at buf.old buf.new result self.old self.new }
     {
         if self.calls.reserve(1).is_err() {
@@ -198,5 +164,78 @@ impl Rig for FlipRig {
             self.count_journal();
         }
         answer
+    }
+}
+
+impl Rig for FlipRig {
+    ghost view = { flip_state };
+
+    ghost model = { λ rig honest. absurd honest };
+
+    ghost places = { λ rig. refl };
+
+    fn put(&mut self, byte: u8) -> Result<(), RigFault>
+        ensures cause { let old = flip_state self.old in let new = flip_state self.new in
+            HasCause old.line_failures new.line_failures result }
+        ensures journal_count { let old = flip_state self.old in let new = flip_state self.new in
+            new.journal_failures ≡ old.journal_failures }
+        ensures recorded { let old = flip_state self.old in let new = flip_state self.new in
+            Records (Put byte) result old.calls new.calls }
+        ensures entered { Enters (Put byte) (flip_state self.old) (flip_state self.new) }
+        ensures aside { PutsAside (flip_state self.old) (flip_state self.new) }
+        ensures honest { let old = flip_state self.old in let new = flip_state self.new in
+            old.is_honest → PutsHonestly byte result old new }
+        ensures handed_on { PutsOn byte result self.old self.new }
+    {
+        self.hand_put_on(byte)
+    }
+
+    fn get(&mut self, patience: Patience) -> Result<Option<u8>, RigFault>
+        ensures cause { let old = flip_state self.old in let new = flip_state self.new in
+            HasCause old.line_failures new.line_failures result }
+        ensures journal_count { let old = flip_state self.old in let new = flip_state self.new in
+            new.journal_failures ≡ old.journal_failures }
+        ensures recorded { let old = flip_state self.old in let new = flip_state self.new in
+            Records (entry_of_get result) result old.calls new.calls }
+        ensures entered { Enters (entry_of_get result) (flip_state self.old) (flip_state self.new) }
+        ensures aside { GetsAside patience (flip_state self.old) (flip_state self.new) }
+        ensures honest { let old = flip_state self.old in let new = flip_state self.new in
+            old.is_honest → GetsHonestly result old new }
+        ensures handed_on { GetsOn result self.old self.new }
+    {
+        self.hand_get_on(patience)
+    }
+
+    fn append(&mut self, bytes: &[u8]) -> Result<(), RigFault>
+        ensures cause { let old = flip_state self.old in let new = flip_state self.new in
+            HasCause old.journal_failures new.journal_failures result }
+        ensures line_count { let old = flip_state self.old in let new = flip_state self.new in
+            new.line_failures ≡ old.line_failures }
+        ensures recorded { let old = flip_state self.old in let new = flip_state self.new in
+            RecordsAppend bytes.now result old.calls new.calls }
+        ensures entered { EntersAppend bytes.now (flip_state self.old) (flip_state self.new) }
+        ensures aside { PutsAside (flip_state self.old) (flip_state self.new) }
+        ensures honest { let old = flip_state self.old in let new = flip_state self.new in
+            old.is_honest → AppendsHonestly bytes.now result old new }
+        ensures handed_on { AppendsOn bytes.now result self.old self.new }
+    {
+        self.hand_append_on(bytes)
+    }
+
+    fn fetch(&mut self, at: u64, buf: &mut [u8]) -> Result<usize, RigFault>
+        ensures within { FetchesWithin at buf.old buf.new result }
+        ensures cause { let old = flip_state self.old in let new = flip_state self.new in
+            HasCause old.journal_failures new.journal_failures result }
+        ensures line_count { let old = flip_state self.old in let new = flip_state self.new in
+            new.line_failures ≡ old.line_failures }
+        ensures recorded { let old = flip_state self.old in let new = flip_state self.new in
+            Records Fetch result old.calls new.calls }
+        ensures entered { Enters Fetch (flip_state self.old) (flip_state self.new) }
+        ensures aside { FetchesAside buf.new result (flip_state self.old) (flip_state self.new) }
+        ensures honest { let old = flip_state self.old in let new = flip_state self.new in
+            old.is_honest → FetchesHonestly at buf.old buf.new result old new }
+        ensures handed_on { FetchesOn at buf.old buf.new result self.old self.new }
+    {
+        self.hand_fetch_on(at, buf)
     }
 }

@@ -1,6 +1,8 @@
 // A device on a line, and the journal beside it.
-ghost use Rattle.std.specs.Prelude.{◌≡◌, ◌≤◌, ℕ, length};
-ghost use Rattle.stm_wire.specs.Rig.{RigState, HasCause, Records, Enters, entry_of_get};
+ghost use Rattle.std.specs.Prelude.{◌≡◌, ◌≤◌, ℕ};
+ghost use Rattle.stm_wire.specs.Call.{Put, Fetch};
+ghost use Rattle.stm_wire.specs.Rig.{RigState, HasCause, Records, RecordsAppend};
+ghost use Rattle.stm_wire.specs.Rig.{Enters, EntersAppend, entry_of_get};
 ghost use Rattle.stm_wire.specs.Rig.{PutsAside, GetsAside, FetchesAside};
 ghost use Rattle.stm_wire.specs.Rig.{PutsHonestly, GetsHonestly, AppendsHonestly};
 ghost use Rattle.stm_wire.specs.Rig.{FetchesHonestly, FetchesWithin, IsModel, IsPlace};
@@ -23,7 +25,7 @@ pub enum RigCall {
     Put(u8),
     /// This byte came; None: quiet, or failed.
     Get(Option<u8>),
-    /// So many bytes were handed in for the journal.
+    /// So many bytes were added to the journal.
     Append(u64),
     /// Journal bytes were asked for.
     Fetch,
@@ -48,9 +50,9 @@ pub trait Rig {
             (view self.old).line_failures (view self.new).line_failures result }
         ensures journal_count { (view self.new).journal_failures
             ≡ (view self.old).journal_failures }
-        ensures recorded { Records (RigCall.Put byte) result
+        ensures recorded { Records (Put byte) result
             (view self.old).calls (view self.new).calls }
-        ensures entered { Enters (RigCall.Put byte) (view self.old) (view self.new) }
+        ensures entered { Enters (Put byte) (view self.old) (view self.new) }
         ensures aside { PutsAside (view self.old) (view self.new) }
         ensures honest { (view self.old).is_honest
             → PutsHonestly byte result (view self.old) (view self.new) };
@@ -73,10 +75,9 @@ pub trait Rig {
         ensures cause { HasCause
             (view self.old).journal_failures (view self.new).journal_failures result }
         ensures line_count { (view self.new).line_failures ≡ (view self.old).line_failures }
-        ensures recorded { Records (RigCall.Append (length bytes.now)) result
+        ensures recorded { RecordsAppend bytes.now result
             (view self.old).calls (view self.new).calls }
-        ensures entered { Enters (RigCall.Append (length bytes.now))
-            (view self.old) (view self.new) }
+        ensures entered { EntersAppend bytes.now (view self.old) (view self.new) }
         ensures aside { PutsAside (view self.old) (view self.new) }
         ensures honest { (view self.old).is_honest
             → AppendsHonestly bytes.now result (view self.old) (view self.new) };
@@ -88,9 +89,9 @@ pub trait Rig {
         ensures cause { HasCause
             (view self.old).journal_failures (view self.new).journal_failures result }
         ensures line_count { (view self.new).line_failures ≡ (view self.old).line_failures }
-        ensures recorded { Records RigCall.Fetch result
+        ensures recorded { Records Fetch result
             (view self.old).calls (view self.new).calls }
-        ensures entered { Enters RigCall.Fetch (view self.old) (view self.new) }
+        ensures entered { Enters Fetch (view self.old) (view self.new) }
         ensures aside { FetchesAside buf.new result (view self.old) (view self.new) }
         ensures honest { (view self.old).is_honest
             → FetchesHonestly at buf.old buf.new result (view self.old) (view self.new) };

@@ -2,7 +2,7 @@
 ghost use Rattle.std.specs.Prelude.{◌≡◌, ◌≤◌, ◌+◌, ◌*◌, ℕ, suc, List, length, OnOk};
 ghost use Rattle.std.specs.Prelude.{IfOk, IfErr, MatchBool, Some, None, [], ◌∷◌};
 ghost use Rattle.stm_wire.specs.Command.{with_rest};
-ghost use Rattle.stm_wire.specs.declared.rig.RigCall.TheVariants.{Put, Get};
+ghost use Rattle.stm_wire.specs.Call.{Put, Get};
 ghost use Rattle.stm_wire.specs.Device.{Device, Fresh, Connected};
 ghost use Rattle.stm_wire.specs.Dialogue.{Adds, GoesOn};
 ghost use Rattle.stm_wire.specs.Harmless.{Harmless};

@@ -10,8 +10,8 @@ use Rattle.stmflash.specs.JournalFile.{JournalBytes}
 use Rattle.stmflash.specs.SimulatorRig.{SimulatorState, AppendsToBoth, AppendsToFile}
 
 -- a call that did nothing left the journal
-nothing-grown : (bytes : List ℕ) (old new : MemoryData) → Fails (Append (length bytes)) old new → (added : List ℕ) × (new.journal ≡ old.journal ++ added)
-nothing-grown bytes old new fails =
+nothing-grown : (old new : MemoryData) → Fails (Append 0) old new → (added : List ℕ) × (new.journal ≡ old.journal ++ added)
+nothing-grown old new fails =
     ⊎_elim
     (λ entry. ([], ap (λ m. m.journal) entry ∙ sym (append-nil old.journal)))
     (λ none. ([], ap (λ m. m.journal) none.0 ∙ sym (append-nil old.journal)))
@@ -24,9 +24,9 @@ grown-by bytes (Ok done) old new does = (bytes, ap (λ m. m.journal) does.2)
 grown-by bytes (Err Stopped) old new does =
     ⊎_elim
     (λ some. (_, ap (λ m. m.journal) some))
-    (nothing-grown bytes (counts_journal (stopped old)) new)
+    (nothing-grown (counts_journal (stopped old)) new)
     does.1
-grown-by bytes (Err File) old new does = nothing-grown bytes (counts_journal (counts_append old)) new does.1
+grown-by bytes (Err File) old new does = nothing-grown (counts_journal (counts_append old)) new does.1
 grown-by bytes (Err Line) old new does = absurd does
 
 -- by what stands there from the old end on

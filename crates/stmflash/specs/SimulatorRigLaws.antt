@@ -1,11 +1,14 @@
 -- A simulated device with a journal in a file follows the model, as the Rig in memory beneath it
 -- does: but for the count of journal failures it tells what that tells.
-use Rattle.std.proofs.Common.{◌≡◌, ◌⊎◌, inl, inr, ℕ, List, ◌++◌, length, Option, Result, Ok, Err}
-use Rattle.std.proofs.Common.{refl, sym, ◌∙◌, ap, subst, arith, append-nil, take_all}
+use Rattle.std.proofs.Common.{◌≡◌, ◌⊎◌, inl, inr, ℕ, List, [], ◌∷◌, ◌++◌, length, take}
+use Rattle.std.proofs.Common.{Option, Some, None, Result, Ok, Err, refl, sym, ◌∙◌, ap, subst, arith}
+use Rattle.std.proofs.Common.{append-nil, take_all}
+use Rattle.stm_wire.specs.Call.{Call, Append}
 use Rattle.stm_wire.specs.declared.fault.RigFault.{RigFault}
 use Rattle.stm_wire.specs.Device.{Device}
 use Rattle.stm_wire.specs.Rig.{RigState, IsModel, Elapses, LeftByPut, LeftByGet, LeftByAppend}
 use Rattle.stm_wire.specs.Rig.{PutsHonestly, GetsHonestly, AppendsHonestly, FetchesHonestly}
+use Rattle.stm_wire.specs.Rig.{RecordsAppend}
 use Rattle.stm_wire.specs.Memory.{MemoryData, IsMemory, rig_state}
 use Rattle.stm_wire.specs.Past.{model}
 use Rattle.stmflash.specs.SimulatorRig.{SimulatorState, simulator_rig_state}
@@ -198,6 +201,33 @@ appended bytes answer result fault old new memory same is a =
           (appends bytes answer before after (rig_state old.memory) (rig_state memory) a)
       | inr e ↦ subst R (sym e)
           (refused bytes answer fault before after (rig_state old.memory) (rig_state memory) a)
+    ])
+
+-- An append stands in the record as the memory's does. Where the memory took it, and the file
+-- refused it, all its bytes are a beginning of them.
+record-refused : (bytes : List ℕ) (answer : Result (Unit {0}) RigFault) (fault : RigFault)
+    (past now : Option (List Call))
+    → RecordsAppend bytes answer past now → RecordsAppend {T = Unit {0}} bytes (Err fault) past now
+record-refused bytes answer fault None now is = is
+record-refused bytes (Ok done) fault (Some past) now is =
+    let whole : take (length bytes) bytes ≡ bytes = take_all (length bytes) bytes (omega arith) in
+    inl (length bytes, is ∙ ap (λ (xs : List ℕ). Some (past ++ Append xs ∷ [])) (sym whole))
+record-refused bytes (Err e) fault (Some past) now is = is
+
+pub append_recorded : (bytes : List ℕ) (answer result : Result (Unit {0}) RigFault)
+    (fault : RigFault) (old new : SimulatorState) (memory : MemoryData)
+    → new.memory ≡ memory → (result ≡ answer) ⊎ (result ≡ Err fault)
+    → RecordsAppend bytes answer (rig_state old.memory).calls (rig_state memory).calls
+    → RecordsAppend bytes result (simulator_rig_state old).calls (simulator_rig_state new).calls
+append_recorded bytes answer result fault old new memory same is r =
+    let past = (rig_state old.memory).calls in
+    let R : Result (Unit {0}) RigFault → Type 0 =
+    λ x. RecordsAppend bytes x past (rig_state memory).calls in
+    let M : MemoryData → Type 0 = λ m. RecordsAppend bytes result past (rig_state m).calls in
+    subst M (sym same)
+    (elim is [
+      | inl e ↦ subst R (sym e) r
+      | inr e ↦ subst R (sym e) (record-refused bytes answer fault past (rig_state memory).calls r)
     ])
 
 -- the same, of a fetch that goes to memory

@@ -4,8 +4,10 @@ ghost use Rattle.std.specs.Io.KnownBytes.{Appends};
 ghost use Rattle.std.proofs.Common.{refl};
 ghost use Rattle.stm_wire.specs.Memory.{PutsInMemory, GetsInMemory, rig_state};
 ghost use Rattle.stm_wire.specs.Rig.{AppendsHonestly, FetchesHonestly, FetchesWithin, GetsHonestly};
-ghost use Rattle.stm_wire.specs.Rig.{HasCause, PutsHonestly, Records, entry_of_get};
-ghost use Rattle.stm_wire.specs.Rig.{Enters, FetchesAside, GetsAside, PutsAside};
+ghost use Rattle.stm_wire.specs.Call.{Put, Fetch};
+ghost use Rattle.stm_wire.specs.Recorded.{length_told};
+ghost use Rattle.stm_wire.specs.Rig.{HasCause, PutsHonestly, Records, RecordsAppend, entry_of_get};
+ghost use Rattle.stm_wire.specs.Rig.{Enters, EntersAppend, FetchesAside, GetsAside, PutsAside};
 ghost use Rattle.stmflash.specs.SimulatorRig.{SimulatorState, simulator_rig_state, AppendsToFile};
 ghost use Rattle.stmflash.specs.SimulatorRig.{FetchesUnlessFailed};
 ghost use Rattle.stmflash.specs.SimulatorRigLaws.{follows};
@@ -17,7 +19,7 @@ use std::fs::Files;
 use std::io;
 use std::io::ErrorKind;
 use std::marker::Model;
-use stm_wire::{MemoryRig, Patience, Rig, RigCall, RigFault};
+use stm_wire::{MemoryRig, Patience, Rig, RigFault};
 
 /// A simulated device, and a journal kept in a file. The device, the steps to a stop and the record
 /// are those of a Rig in memory, which also holds the journal's bytes: each append goes to it
@@ -130,7 +132,7 @@ impl<'a, 'f, R: Locks + AllocGlobal> Rig for SimulatorRig<'a, 'f, R> {
 
     ghost model = { λ rig honest. follows rig honest };
 
-    ghost places = { λ rig. refl };
+    ghost places = { λ rig. sym (length_told rig.memory.journal rig.memory.calls) };
 
     fn put(&mut self, byte: u8) -> Result<(), RigFault>
         ensures cause { HasCause
@@ -138,9 +140,9 @@ impl<'a, 'f, R: Locks + AllocGlobal> Rig for SimulatorRig<'a, 'f, R> {
             (simulator_rig_state self.new).line_failures result }
         ensures journal_count { (simulator_rig_state self.new).journal_failures
             ≡ (simulator_rig_state self.old).journal_failures }
-        ensures recorded { Records (RigCall.Put byte) result
+        ensures recorded { Records (Put byte) result
             (simulator_rig_state self.old).calls (simulator_rig_state self.new).calls }
-        ensures entered { Enters (RigCall.Put byte) (simulator_rig_state self.old)
+        ensures entered { Enters (Put byte) (simulator_rig_state self.old)
             (simulator_rig_state self.new) }
         ensures aside { PutsAside (simulator_rig_state self.old) (simulator_rig_state self.new) }
         ensures honest { (simulator_rig_state self.old).is_honest
@@ -179,9 +181,10 @@ impl<'a, 'f, R: Locks + AllocGlobal> Rig for SimulatorRig<'a, 'f, R> {
             (simulator_rig_state self.new).journal_failures result }
         ensures line_count { (simulator_rig_state self.new).line_failures
             ≡ (simulator_rig_state self.old).line_failures }
-        ensures recorded { Records (RigCall.Append (length bytes.now)) result
+        ensures recorded { RecordsAppend bytes.now result
             (simulator_rig_state self.old).calls (simulator_rig_state self.new).calls }
-        ensures entered { Enters (RigCall.Append (length bytes.now)) (simulator_rig_state self.old)
+        ensures entered { EntersAppend bytes.now
+            (simulator_rig_state self.old)
             (simulator_rig_state self.new) }
         ensures aside { PutsAside (simulator_rig_state self.old) (simulator_rig_state self.new) }
         ensures honest { (simulator_rig_state self.old).is_honest
@@ -208,9 +211,9 @@ impl<'a, 'f, R: Locks + AllocGlobal> Rig for SimulatorRig<'a, 'f, R> {
             (simulator_rig_state self.new).journal_failures result }
         ensures line_count { (simulator_rig_state self.new).line_failures
             ≡ (simulator_rig_state self.old).line_failures }
-        ensures recorded { Records RigCall.Fetch result
+        ensures recorded { Records Fetch result
             (simulator_rig_state self.old).calls (simulator_rig_state self.new).calls }
-        ensures entered { Enters RigCall.Fetch (simulator_rig_state self.old)
+        ensures entered { Enters Fetch (simulator_rig_state self.old)
             (simulator_rig_state self.new) }
         ensures aside { FetchesAside buf.new result (simulator_rig_state self.old)
             (simulator_rig_state self.new) }

@@ -4,9 +4,11 @@ ghost use Rattle.std.specs.Io.KnownBytes.{IsAtEnd};
 ghost use Rattle.stmflash.specs.JournalFile.{AppendsIfTaken};
 ghost use Rattle.stmflash.specs.SocketRig.{SocketState, socket_rig_state};
 ghost use Rattle.stmflash.specs.SocketLine.{PutsOnLine, ReadsNothing, SendsAll, TakesFromLine};
-ghost use Rattle.stm_wire.specs.Rig.{AppendsHonestly, Enters, FetchesAside, FetchesHonestly};
+ghost use Rattle.stm_wire.specs.Call.{Put, Fetch};
+ghost use Rattle.stm_wire.specs.Rig.{AppendsHonestly, Enters, EntersAppend, FetchesAside};
+ghost use Rattle.stm_wire.specs.Rig.{FetchesHonestly};
 ghost use Rattle.stm_wire.specs.Rig.{FetchesWithin, GetsAside, GetsHonestly, HasCause};
-ghost use Rattle.stm_wire.specs.Rig.{PutsAside, PutsHonestly, Records, entry_of_get};
+ghost use Rattle.stm_wire.specs.Rig.{PutsAside, PutsHonestly, Records, RecordsAppend, entry_of_get};
 
 use crate::journal_file::JournalFile;
 use crate::locks::Locks;
@@ -15,7 +17,7 @@ use std::fs::Files;
 use std::io;
 use std::marker::Model;
 use std::time::Clock;
-use stm_wire::{Patience, Rig, RigCall, RigFault};
+use stm_wire::{Patience, Rig, RigFault};
 
 /// A device behind a socket, and a journal kept in a file.
 #[derive(Drop)]
@@ -100,9 +102,9 @@ impl<'a, S: Timed + Drop, R: Locks + Clock + AllocGlobal> Rig for SocketRig<'a, 
     fn put(&mut self, byte: u8) -> Result<(), RigFault>
         ensures cause { HasCause self.old.failures.line self.new.failures.line result }
         ensures journal_count { self.new.failures.journal ≡ self.old.failures.journal }
-        ensures recorded { Records (RigCall.Put byte) result
+        ensures recorded { Records (Put byte) result
             (socket_rig_state self.old.failures).calls (socket_rig_state self.new.failures).calls }
-        ensures entered { Enters (RigCall.Put byte)
+        ensures entered { Enters (Put byte)
             (socket_rig_state self.old.failures) (socket_rig_state self.new.failures) }
         ensures aside { PutsAside
             (socket_rig_state self.old.failures) (socket_rig_state self.new.failures) }
@@ -140,9 +142,9 @@ impl<'a, S: Timed + Drop, R: Locks + Clock + AllocGlobal> Rig for SocketRig<'a, 
         ensures cause { HasCause
             self.old.failures.journal self.new.failures.journal result }
         ensures line_count { self.new.failures.line ≡ self.old.failures.line }
-        ensures recorded { Records (RigCall.Append (length bytes.now)) result
+        ensures recorded { RecordsAppend bytes.now result
             (socket_rig_state self.old.failures).calls (socket_rig_state self.new.failures).calls }
-        ensures entered { Enters (RigCall.Append (length bytes.now))
+        ensures entered { EntersAppend bytes.now
             (socket_rig_state self.old.failures) (socket_rig_state self.new.failures) }
         ensures aside { PutsAside
             (socket_rig_state self.old.failures) (socket_rig_state self.new.failures) }
@@ -166,9 +168,9 @@ impl<'a, S: Timed + Drop, R: Locks + Clock + AllocGlobal> Rig for SocketRig<'a, 
         ensures cause { HasCause
             self.old.failures.journal self.new.failures.journal result }
         ensures line_count { self.new.failures.line ≡ self.old.failures.line }
-        ensures recorded { Records RigCall.Fetch result
+        ensures recorded { Records Fetch result
             (socket_rig_state self.old.failures).calls (socket_rig_state self.new.failures).calls }
-        ensures entered { Enters RigCall.Fetch
+        ensures entered { Enters Fetch
             (socket_rig_state self.old.failures) (socket_rig_state self.new.failures) }
         ensures aside { FetchesAside buf.new result
             (socket_rig_state self.old.failures) (socket_rig_state self.new.failures) }

@@ -124,7 +124,7 @@ impl Journal {
         ensures cause { HasJournalCause (R.view rig.old) (R.view rig.new) result }
         ensures calls { let old = R.view rig.old in let new = R.view rig.new in
             let added = added_bytes self.old.is_torn (filled entry held.now ∷ []) in
-            GoesOn (AppendsOnce (length added) result) old.calls new.calls }
+            GoesOn (AppendsOnce added result) old.calls new.calls }
         ensures honest { let old = R.view rig.old in let new = R.view rig.new in
             old.is_honest → IsLoaded self.old old.journal → IsPrintable (filled entry held.now)
             → Appends (filled entry held.now ∷ []) self.old self.new old new result }
@@ -145,7 +145,7 @@ impl Journal {
         ensures cause { HasJournalCause (R.view rig.old) (R.view rig.new) result }
         ensures calls { let old = R.view rig.old in let new = R.view rig.new in
             let added = added_bytes self.old.is_torn (Entry.Names 2 id ∷ Entry.Opens 1 ∷ []) in
-            GoesOn (AppendsOnce (length added) result) old.calls new.calls }
+            GoesOn (AppendsOnce added result) old.calls new.calls }
         ensures honest { let old = R.view rig.old in let new = R.view rig.new in
             old.is_honest → IsLoaded self.old old.journal
             → Appends (Entry.Names 2 id ∷ Entry.Opens 1 ∷ []) self.old self.new old new result }

@@ -30,7 +30,7 @@ impl Journal {
         ensures cause { HasJournalCause (R.view rig.old) (R.view rig.new) result }
         ensures calls { let old = R.view rig.old in let new = R.view rig.new in
             let added = added_bytes self.old.is_torn (Entry.Keeps n bytes.now ∷ []) in
-            GoesOn (AppendsOnce (length added) result) old.calls new.calls }
+            GoesOn (AppendsOnce added result) old.calls new.calls }
         ensures honest { let old = R.view rig.old in let new = R.view rig.new in
             old.is_honest → IsLoaded self.old old.journal
             → Appends (Entry.Keeps n bytes.now ∷ []) self.old self.new old new result }
@@ -53,7 +53,7 @@ impl Journal {
         ensures cause { HasJournalCause (R.view rig.old) (R.view rig.new) result }
         ensures calls { let old = R.view rig.old in let new = R.view rig.new in
             let added = added_bytes self.old.is_torn (Entry.Erases n ∷ []) in
-            GoesOn (AppendsOnce (length added) result) old.calls new.calls }
+            GoesOn (AppendsOnce added result) old.calls new.calls }
         ensures honest { let old = R.view rig.old in let new = R.view rig.new in
             old.is_honest → IsLoaded self.old old.journal
             → Appends (Entry.Erases n ∷ []) self.old self.new old new result }
@@ -75,7 +75,7 @@ impl Journal {
         ensures cause { HasJournalCause (R.view rig.old) (R.view rig.new) result }
         ensures calls { let old = R.view rig.old in let new = R.view rig.new in
             let added = added_bytes self.old.is_torn (Entry.Programs n ∷ []) in
-            GoesOn (AppendsOnce (length added) result) old.calls new.calls }
+            GoesOn (AppendsOnce added result) old.calls new.calls }
         ensures honest { let old = R.view rig.old in let new = R.view rig.new in
             old.is_honest → IsLoaded self.old old.journal
             → Appends (Entry.Programs n ∷ []) self.old self.new old new result }

@@ -27,7 +27,7 @@ impl Journal {
         ensures cause { HasJournalCause (R.view rig.old) (R.view rig.new) result }
         ensures calls { let old = R.view rig.old in let new = R.view rig.new in
             let added = added_bytes self.old.is_torn (begin_entries id self.old.state) in
-            GoesOn (AppendsOnce (length added) result) old.calls new.calls }
+            GoesOn (AppendsOnce added result) old.calls new.calls }
         ensures honest { let old = R.view rig.old in let new = R.view rig.new in
             old.is_honest → IsLoaded self.old old.journal
             → Appends (begin_entries id self.old.state) self.old self.new old new result }
@@ -61,7 +61,7 @@ impl Journal {
         ensures calls { let old = R.view rig.old in let new = R.view rig.new in
             let line = Entry.Ends (length self.old.state.stack) in
             let added = added_bytes self.old.is_torn (line ∷ []) in
-            GoesOn (AppendsOnce (length added) result) old.calls new.calls }
+            GoesOn (AppendsOnce added result) old.calls new.calls }
         ensures honest { let old = R.view rig.old in let new = R.view rig.new in
             let line = Entry.Ends (length self.old.state.stack) in
             old.is_honest → IsLoaded self.old old.journal
@@ -84,7 +84,7 @@ impl Journal {
         ensures calls { let old = R.view rig.old in let new = R.view rig.new in
             let line = Entry.Undoes (length self.old.state.stack) in
             let added = added_bytes self.old.is_torn (line ∷ []) in
-            GoesOn (AppendsOnce (length added) result) old.calls new.calls }
+            GoesOn (AppendsOnce added result) old.calls new.calls }
         ensures honest { let old = R.view rig.old in let new = R.view rig.new in
             let line = Entry.Undoes (length self.old.state.stack) in
             old.is_honest → IsLoaded self.old old.journal

@@ -64,16 +64,16 @@ impl MemoryRig {
             let done = part(bytes, 0, self.left() as usize);
             self.stop();
             self.count_journal();
-            if self.try_append(done, size).is_err() {
-                self.add_failed(RigCall::Append(size));
+            if self.try_append(done).is_err() {
+                self.add_failed(RigCall::Append(0));
             }
             return Err(RigFault::Stopped);
         }
-        if !self.count_append() && self.try_append(bytes, size).is_ok() {
+        if !self.count_append() && self.try_append(bytes).is_ok() {
             self.take_steps(size);
             return Ok(());
         }
-        self.fail_journal(RigCall::Append(size));
+        self.fail_journal(RigCall::Append(0));
         Err(RigFault::File)
     }
 

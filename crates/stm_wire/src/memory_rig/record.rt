@@ -101,16 +101,17 @@ impl MemoryRig {
         }
     }
 
-    /// Adds bytes to the journal, of so many that were handed in, or changes nothing.
-    pub(super) fn try_append(&mut self, bytes: &[u8], handed_in: u64) -> Result<(), AllocError>
-        ensures ok { OnOk result (self.new ≡ with_append handed_in bytes.now self.old) }
+    /// Adds bytes to the journal, or changes nothing.
+    pub(super) fn try_append(&mut self, bytes: &[u8]) -> Result<(), AllocError>
+        ensures ok { OnOk result (self.new ≡ with_append bytes.now self.old) }
         ensures err { OnErr result (self.new ≡ self.old) }
         ensures limit { length self.new.journal ≤ 2 ^ 63 - 1 }
     {
         reserve_entry(&mut self.calls, &mut self.past)?;
         self.journal.extend_from_slice(bytes)?;
-        self.calls.push_reserved(RigCall::Append(handed_in));
-        self.past.push_reserved(PastStep::Added(bytes.len() as u64));
+        let size = bytes.len() as u64;
+        self.calls.push_reserved(RigCall::Append(size));
+        self.past.push_reserved(PastStep::Added(size));
         self.room = self.room.saturating_sub(1);
         Ok(())
     }

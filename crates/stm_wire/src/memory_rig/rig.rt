@@ -1,9 +1,12 @@
 // A Rig in memory as a Rig. Beside the clauses of every Rig, each call says what it leaves of the
 // whole value.
-ghost use Rattle.std.specs.Prelude.{◌≡◌, length};
-ghost use Rattle.std.proofs.Common.{refl};
+ghost use Rattle.std.specs.Prelude.{◌≡◌};
+ghost use Rattle.std.proofs.Common.{sym};
+ghost use Rattle.stm_wire.specs.Call.{Put, Fetch};
+ghost use Rattle.stm_wire.specs.Recorded.{length_told};
 ghost use Rattle.stm_wire.specs.Rig.{PutsAside, GetsAside, FetchesAside};
-ghost use Rattle.stm_wire.specs.Rig.{HasCause, Records, Enters, entry_of_get, PutsHonestly};
+ghost use Rattle.stm_wire.specs.Rig.{HasCause, Records, RecordsAppend, Enters};
+ghost use Rattle.stm_wire.specs.Rig.{EntersAppend, entry_of_get, PutsHonestly};
 ghost use Rattle.stm_wire.specs.Rig.{GetsHonestly};
 ghost use Rattle.stm_wire.specs.Rig.{AppendsHonestly, FetchesHonestly, FetchesWithin};
 ghost use Rattle.stm_wire.specs.Memory.{rig_state, PutsInMemory, GetsInMemory};
@@ -11,23 +14,23 @@ ghost use Rattle.stm_wire.specs.Memory.{AppendsInMemory, FetchesInMemory};
 ghost use Rattle.stm_wire.specs.Past.{model};
 
 use crate::memory_rig::MemoryRig;
-use crate::{Patience, Rig, RigCall, RigFault};
+use crate::{Patience, Rig, RigFault};
 
 impl Rig for MemoryRig {
     ghost view = { rig_state };
 
     ghost model = { λ rig honest. model rig honest };
 
-    ghost places = { λ rig. refl };
+    ghost places = { λ rig. sym (length_told rig.journal rig.calls) };
 
     fn put(&mut self, byte: u8) -> Result<(), RigFault>
         ensures cause { HasCause
             (rig_state self.old).line_failures (rig_state self.new).line_failures result }
         ensures journal_count { (rig_state self.new).journal_failures
             ≡ (rig_state self.old).journal_failures }
-        ensures recorded { Records (RigCall.Put byte) result
+        ensures recorded { Records (Put byte) result
             (rig_state self.old).calls (rig_state self.new).calls }
-        ensures entered { Enters (RigCall.Put byte) (rig_state self.old) (rig_state self.new) }
+        ensures entered { Enters (Put byte) (rig_state self.old) (rig_state self.new) }
         ensures aside { PutsAside (rig_state self.old) (rig_state self.new) }
         ensures honest { (rig_state self.old).is_honest
             → PutsHonestly byte result (rig_state self.old) (rig_state self.new) }
@@ -57,10 +60,9 @@ impl Rig for MemoryRig {
             (rig_state self.old).journal_failures (rig_state self.new).journal_failures result }
         ensures line_count { (rig_state self.new).line_failures
             ≡ (rig_state self.old).line_failures }
-        ensures recorded { Records (RigCall.Append (length bytes.now)) result
+        ensures recorded { RecordsAppend bytes.now result
             (rig_state self.old).calls (rig_state self.new).calls }
-        ensures entered { Enters (RigCall.Append (length bytes.now)) (rig_state self.old)
-            (rig_state self.new) }
+        ensures entered { EntersAppend bytes.now (rig_state self.old) (rig_state self.new) }
         ensures aside { PutsAside (rig_state self.old) (rig_state self.new) }
         ensures honest { (rig_state self.old).is_honest
             → AppendsHonestly bytes.now result (rig_state self.old) (rig_state self.new) }
@@ -75,9 +77,9 @@ impl Rig for MemoryRig {
             (rig_state self.old).journal_failures (rig_state self.new).journal_failures result }
         ensures line_count { (rig_state self.new).line_failures
             ≡ (rig_state self.old).line_failures }
-        ensures recorded { Records RigCall.Fetch result
+        ensures recorded { Records Fetch result
             (rig_state self.old).calls (rig_state self.new).calls }
-        ensures entered { Enters RigCall.Fetch (rig_state self.old) (rig_state self.new) }
+        ensures entered { Enters Fetch (rig_state self.old) (rig_state self.new) }
         ensures aside { FetchesAside buf.new result (rig_state self.old) (rig_state self.new) }
         ensures honest { (rig_state self.old).is_honest
             → FetchesHonestly at buf.old buf.new result

@@ -1,6 +1,6 @@
 use Rattle.std.proofs.Common.{rules, [], ◌≡◌, ◌∙◌, ◌+◌, ◌-◌, arith, refl, replicate}
 use Rattle.std.proofs.lemmas.Result.{on_ok_weaker, IfOk-weaker}
-use Rattle.stm_wire.specs.declared.rig.RigCall.TheVariants.{Put}
+use Rattle.stm_wire.specs.Call.{Put}
 use Rattle.stm_wire.specs.Settling.{PutsAll}
 use Rattle.stm_wire.specs.SettlingCalls.{Floods, Never, IsDrained, IsBatch}
 use Rattle.stm_wire.specs.Dialogue.{GoesOn}

@@ -1,5 +1,5 @@
 use Rattle.std.proofs.Common.{◌≡◌, ◌≢◌, ◌≤◌, ◌+◌, ◌-◌, ℕ, List, replicate}
-use Rattle.stm_wire.specs.declared.rig.RigCall.TheVariants.{Put}
+use Rattle.stm_wire.specs.Call.{Put}
 use Rattle.stm_wire.specs.Device.{Device}
 use Rattle.stm_wire.specs.Dialogue.{GoesOn}
 use Rattle.stm_wire.specs.Settling.{IsGoing, KeepsSettling}

@@ -1,7 +1,7 @@
 use Rattle.std.proofs.Common.{[], ◌∷◌, refl, sym, ap, Some}
 use Rattle.stm_wire.specs.declared.fault.WireFault.{WireFault}
 use Rattle.stm_wire.specs.declared.fault.WireFault.TheVariants.{Garbled}
-use Rattle.stm_wire.specs.declared.rig.RigCall.TheVariants.{Get}
+use Rattle.stm_wire.specs.Call.{Get}
 use Rattle.stm_wire.specs.Dialogue.{Expects, Learns}
 use Rattle.stm_wire.specs.Sending.{BreaksOff}
 use Rattle.stm_wire.proofs.Holding.{Holds-none, on_fault}

@@ -8,7 +8,7 @@ use Rattle.stm_wire.proofs.Going.{settling_connects}
 use Rattle.stm_wire.specs.declared.fault.WireFault.TheVariants.{Garbled, Quiet}
 use Rattle.stm_wire.proofs.Talking.{went_put, failed_put, failed_then, failed_get, speaks_ok, speaks_line, speaks_other, went_both}
 use Rattle.stm_wire.specs.SettlingCalls.{IsUnanswered, IsNoAck}
-use Rattle.stm_wire.specs.declared.rig.RigCall.TheVariants.{Put, Get}
+use Rattle.stm_wire.specs.Call.{Put, Get}
 use Rattle.stm_wire.proofs.SettlingCalls.{adds_both}
 use Rattle.stm_wire.proofs.SettlingFaults.{fails_quiet, fails_garbled}
 use Rattle.stm_wire.proofs.Turns.{Adds-GoesOn}

@@ -5,7 +5,7 @@ use Rattle.stm_wire.specs.Command.{with_rest}
 use Rattle.stm_wire.proofs.Keeping.{keeps_then, keeps_known, here, probed}
 use Rattle.stm_wire.proofs.Talking.{went_put, failed_put, speaks_line, speaks_then}
 use Rattle.stm_wire.specs.SettlingCalls.{Never, IsAnswer, IsAnswerTo}
-use Rattle.stm_wire.specs.declared.rig.RigCall.TheVariants.{Put, Get}
+use Rattle.stm_wire.specs.Call.{Put, Get}
 use Rattle.stm_wire.proofs.SettlingCalls.{adds_one}
 use Rattle.stm_wire.proofs.SettlingFaults.{fails_all_weaker, adds_before}
 use Rattle.stm_wire.proofs.Turns.{Adds-append}

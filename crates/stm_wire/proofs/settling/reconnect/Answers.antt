@@ -1,6 +1,6 @@
 use Rattle.std.proofs.Common.{rules, Result, Err, Some, None, [], ◌∷◌, ◌∙◌, ap, lit≤}
 use Rattle.stm_wire.specs.declared.fault.WireFault.{WireFault}
-use Rattle.stm_wire.specs.declared.rig.RigCall.TheVariants.{Put, Get}
+use Rattle.stm_wire.specs.Call.{Put, Get}
 use Rattle.stm_wire.specs.Reply.{ack, nack}
 use Rattle.stm_wire.specs.SettlingCalls.{Never, IsAnswerTo, IsUnanswered, IsNoAck, IsUnconfirmed, IsGarbled}
 use Rattle.stm_wire.proofs.SettlingFaults.{fails_on, fails_all_weaker, adds_before, garbled_first, garbled_second, garbled_third}

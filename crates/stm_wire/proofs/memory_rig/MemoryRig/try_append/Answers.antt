@@ -16,8 +16,8 @@ invariant_of-self-2 c =
     let journal = c.extend_from_slice.new.self in
     let limit : length journal.items ≤ 2 ^ 63 - 1 = omega (arith, journal.ok.0, journal.ok.1, journal.small) in
     let keeps =
-    keeps-call (Append c.args.handed_in) (Added (length bytes)) bytes m _ _ _ _ _ refl c.in_ok-extend_from_slice.ensures.items
-    (c.push_reserved.ensures.items ∙ ap (λ (xs : List RigCall). xs ++ Append c.args.handed_in ∷ []) c.reserve_entry.ensures.calls) refl
+    keeps-call (Append (length bytes)) (Added (length bytes)) bytes m _ _ _ _ _ refl c.in_ok-extend_from_slice.ensures.items
+    (c.push_reserved.ensures.items ∙ ap (λ (xs : List RigCall). xs ++ Append (length bytes) ∷ []) c.reserve_entry.ensures.calls) refl
     (c.push_reserved-2.ensures.items ∙ ap (λ (xs : List PastStep). xs ++ Added (length bytes) ∷ []) c.reserve_entry.ensures.past)
     c.self.invariant.0 c.self.invariant.0.is_device (omega arith) limit in
     (keeps, omega arith, omega arith)

@@ -1,9 +1,9 @@
 use Rattle.std.proofs.Common.{◌≡◌, ◌⊎◌, inl, inr, ◌∙◌, Err, subst, rules}
 use Rattle.stm_wire.specs.declared.fault.RigFault.TheVariants.{File}
 use Rattle.stm_wire.specs.Memory.{IsMemory}
-use Rattle.stm_wire.specs.Rig.{AppendsHonestly}
+use Rattle.stm_wire.specs.Rig.{AppendsHonestly, RecordsAppend}
 use Rattle.stmflash.specs.SimulatorRig.{SimulatorState, AppendsToBoth, AppendsToFile, simulator_rig_state}
-use Rattle.stmflash.specs.SimulatorRigLaws.{appended, refused_at_once}
+use Rattle.stmflash.specs.SimulatorRigLaws.{appended, append_recorded, refused_at_once}
 use Rattle.stmflash.proofs.Growing.{taken, failed, to_file}
 use Rattle.stmflash.proofs.simulator_rig.SimulatorRigRig.append.Goals as goal
 use Rattle.stmflash.proofs.simulator_rig.SimulatorRigRig.append.Goals.{in-Ok, in-Err}
@@ -30,6 +30,23 @@ returns-clause-honest g c =
     → AppendsHonestly bytes done.result (simulator_rig_state s) (simulator_rig_state done.new.self) in
     subst Goal c.self.view_is
     (λ honest. appended bytes answer done.result File old done.new.self c.append-answer.new.self memory_is is (c.append-answer.ensures.honest honest))
+
+pub returns-clause-recorded : goal.returns-clause-recorded
+returns-clause-recorded g c =
+    let bytes = c.args.bytes.now in
+    let answer = c.append-answer.result in
+    let done = c.count_journal-2 in
+    let old : SimulatorState =
+    record { memory = c.self.inside.memory; file = c.self.inside.file; journal_failures = c.self.inside.journal_failures } in
+    let memory_is = ◌∙◌ {a = done.new.self.memory} done.ensures.memory c.append_to_file.ensures.memory in
+    let is : (done.result ≡ answer) ⊎ (done.result ≡ Err File) =
+    elim c.match-append_to_file.branch [
+      | in-Ok w ↦ inl (done.ensures.answer ∙ w.answer-is)
+      | in-Err w ↦ inr (done.ensures.answer ∙ w.answer-is)
+    ] in
+    let Goal : SimulatorState → Type 0 = λ s. RecordsAppend bytes done.result (simulator_rig_state s).calls (simulator_rig_state done.new.self).calls in
+    subst Goal c.self.view_is
+    (append_recorded bytes answer done.result File old done.new.self c.append-answer.new.self memory_is is c.append-answer.ensures.recorded)
 
 pub returns-clause-in_file : goal.returns-clause-in_file
 returns-clause-in_file g c =
