@@ -1,5 +1,5 @@
 -- What a run does keeps each page before it changes it.
-use Rattle.std.proofs.Common.{◌≡◌, inl, inr, ℕ, zero, ◌+◌, ◌/◌, ◌<◌, ◌≤◌, ◌==◌, ◌&&◌, Bool, true, false, not, if◌then◌else◌, List, [], ◌∷◌, ◌++◌, length, Option, Some, None, refl, sym, ◌∙◌, subst, arith}
+use Rattle.std.proofs.Common.{◌≡◌, Contains, inl, inr, ℕ, zero, ◌+◌, ◌/◌, ◌<◌, ◌≤◌, ◌==◌, ◌&&◌, Bool, true, false, not, if◌then◌else◌, List, [], ◌∷◌, ◌++◌, length, Option, Some, None, refl, sym, ◌∙◌, subst, arith}
 use Rattle.std.specs.Prelude.{⊤, bytes_eq, is_none}
 use Rattle.std.specs.List.{AllByRecursion, list_any}
 use Rattle.std.proofs.lemmas.Bool.{and_parts, false≢true}
@@ -9,28 +9,38 @@ use Rattle.stm_image.specs.Pairs.{Pairs}
 use Rattle.stm_wire.specs.Chip.{ChipData, erased_byte, erased_page, page_count, page_offset, page_size}
 use Rattle.stm_wire.specs.DialogueLaws.{GoesOn-weaker}
 use Rattle.stm_wire.specs.Rig.{RigState}
-use Rattle.stm_wire.specs.Call.{Call}
+use Rattle.stm_wire.specs.Dialogue.{GoesOn}
 use Rattle.stm_chip.specs.Plan.{frames_of}
 use Rattle.stm_journal.specs.declared.entry.Entry.TheVariants.{Names, Opens, Keeps}
-use Rattle.stm_journal.specs.Journals.{begin_entries}
-use Rattle.stm_journal.specs.States.{StateData}
+use Rattle.stm_journal.specs.Journals.{Loaded, begin_entries}
+use Rattle.stm_journal.specs.States.{IsSound, StateData}
 use Rattle.stm_session.specs.declared.change.Change.{Change}
 use Rattle.stm_session.specs.declared.change.Change.TheVariants as change
 use Rattle.stm_session.specs.declared.fault.Fault.{Fault}
 use Rattle.stm_session.specs.Fault.{Cause, cause_of}
 use Rattle.stm_session.specs.ChangeOrder.{AreTurned, none, more, IsChangedUnless, IsOneSegment, IsSaved, IsSavedWith, IsSegmentBegun, begins, turns, ends, IsTurnOf}
 use Rattle.stm_session.specs.Contents.{content}
-use Rattle.stm_session.specs.Fresh.{Settles}
+use Rattle.stm_session.specs.Fresh.{Settles, Way}
 use Rattle.stm_session.specs.Meaning.{CommandData, is_change}
-use Rattle.stm_session.specs.Order.{Step, Adds, AreCutShort, IsAfter, SettlesThen, asking_steps, page_reads, page_address, step_in}
+use Rattle.stm_session.specs.Order.{Step, Adds, AreCutShort, IsAfter, ReachesAndDoes, ReachesAndStops, Session, SettlesThen, asking_steps, page_reads, page_address}
 use Rattle.stm_session.specs.RunOrder.{AreBegun, AreDone, none as nothing_done, more as more_done, IsBegunIf, IsDoneIf, IsReading, RunsInOrder, RunStops}
-use Rattle.stm_session.specs.Kept.{IsAmong, KeepsFirst, RunKeeps, RunStopsKept, reads}
+use Rattle.stm_session.specs.Kept.{KeepsFirst, RunKeeps, RunStopsKept, reads}
 use Rattle.stm_session.specs.Undoable.{has_companion}
-use Rattle.stm_session.proofs.KeptSteps.{Leads, keeps_front, keeps_then, leads_nothing, leads_reads, leads_rewrite, leads_then}
+use Rattle.stm_session.proofs.KeptSteps.{Leads, here, later as further, keeps_front, keeps_then, leads_nothing, leads_reads, leads_rewrite, leads_then}
 
--- all of these are allowed too
-pub cut_as : (P Q : List Step → Type 0) (cause : Cause) (torn : Bool) (acts : List Call) → ((xs : List Step) → P xs → Q xs) → AreCutShort P cause torn acts → AreCutShort Q cause torn acts
-cut_as P Q cause torn acts weaker cut = record { done = cut.done; failed = cut.failed; allowed = weaker (cut.done ++ step_in cut.failed) cut.allowed; last = cut.last; fails = cut.fails; is = cut.is }
+-- a session that does such steps does others, where these are such of its journal and chip
+pub as_session : (table : List ChipData) (old : RigState) (P Q : ChipData → Loaded → Type 0) → ((chip : ChipData) (l : Loaded) → IsSound l.state → P chip l → Q chip l) → Session table old P → Session table old Q
+as_session table old P Q weaker x = record { journal = x.journal; loaded = x.loaded; sound = x.sound; chip = x.chip; listed = x.listed; does = weaker x.chip x.journal x.sound x.does }
+
+pub does_as : (way : Way) (id : ℕ) (torn : Bool) (P Q : List Step → Type 0) (old new : RigState) → ((xs : List Step) → P xs → Q xs) → ReachesAndDoes way id torn P old new → ReachesAndDoes way id torn Q old new
+does_as way id torn P Q old new weaker (version, codes, steps, allowed, calls) = (version, codes, steps, weaker steps allowed, calls)
+
+pub stops_as : (way : Way) (id : ℕ) (torn : Bool) (P Q : List Step → Type 0) (cause : Cause) (old new : RigState) → ((xs : List Step) → P xs → Q xs) → ReachesAndStops way id torn P cause old new → ReachesAndStops way id torn Q cause old new
+stops_as way id torn P Q cause old new weaker (version, codes, calls) =
+    let Cut : (List Step → Type 0) → List Step → Type 0 = λ R asked. GoesOn (SettlesThen way (AreCutShort (IsAfter asked R) cause torn)) old.calls new.calls in
+    let at : Cut Q (asking_steps version codes id) = GoesOn-weaker _ _ old.calls new.calls calls
+    (λ all x. let cut = x.5 in (x.0, x.1, x.2, x.3, x.4, record { done = cut.done; failed = cut.failed; allowed = (cut.allowed.0, cut.allowed.1, weaker cut.allowed.0 cut.allowed.2); last = cut.last; fails = cut.fails; is = cut.is })) in
+    (version, codes, at)
 
 -- the first lines of a segment
 begun_lines : (chip : ChipData) (s : StateData) → Leads chip None (Adds (begin_entries chip.id s) ∷ []) (Some [])
@@ -51,7 +61,7 @@ readings_lead chip kept (step ∷ steps) (is, are) =
 record Leaves (chip : ChipData) (pages : List ℕ) (steps : List Step) (P : List ℕ → Type 0) : Type 0 where
   later : List ℕ
   leads : Leads chip (Some pages) steps (Some later)
-  still : (m : ℕ) → IsAmong m pages → IsAmong m later
+  still : (m : ℕ) → Contains pages m → Contains later m
   holds : P later
 
 leaves_nothing : (chip : ChipData) (pages : List ℕ) (P : List ℕ → Type 0) → P pages → Leaves chip pages [] P
@@ -61,7 +71,7 @@ leaves_as : (chip : ChipData) (pages : List ℕ) (xs ys : List Step) (P : List �
 leaves_as chip pages xs ys P is p = let Q : List Step → Type 0 = λ zs. Leaves chip pages zs P in subst Q (sym is) p
 
 leaves_one : (chip : ChipData) (pages : List ℕ) (n : ℕ) (held : List ℕ) (P : List ℕ → Type 0) → P (n ∷ pages) → Leaves chip pages (Adds (Keeps n held ∷ []) ∷ []) P
-leaves_one chip pages n held P p = record { later = n ∷ pages; leads = record { keeps = ((tt, tt), tt); behind = refl }; still = λ m is. inr is; holds = p }
+leaves_one chip pages n held P p = record { later = n ∷ pages; leads = record { keeps = ((tt, tt), tt); behind = refl }; still = λ m is. further m n pages is; holds = p }
 
 leaves_then : (chip : ChipData) (pages : List ℕ) (xs ys : List Step) (P Q : List ℕ → Type 0) → Leaves chip pages xs P → ((later : List ℕ) → P later → Leaves chip later ys Q) → Leaves chip pages (xs ++ ys) Q
 leaves_then chip pages xs ys P Q p next =
@@ -78,20 +88,20 @@ leaves_reads chip pages n held P p = record { later = pages; leads = leads_reads
 
 -- page n is kept, and page 257 where page 1 is
 abbrev Has : ChipData → ℕ → List ℕ → Type 0
-Has chip n pages = IsAmong n pages × (n ≡ 1 → has_companion chip ≡ true → IsAmong 257 pages)
+Has chip n pages = Contains pages n × (n ≡ 1 → has_companion chip ≡ true → Contains pages 257)
 
 saved_with : (both : Bool) (chip : ChipData) (n : ℕ) (held : List ℕ) (pages : List ℕ) (steps : List Step) → (n == 1 && has_companion chip) ≡ both → IsSavedWith both chip n held steps → Leaves chip pages steps (Has chip n)
 saved_with true chip n held pages steps both saved =
     let first = saved.is_first in
-    let Q : List ℕ → Type 0 = λ later. IsAmong 257 later in
+    let Q : List ℕ → Type 0 = λ later. Contains later 257 in
     leaves_as chip pages (saved.first ++ Adds (Keeps n held ∷ []) ∷ []) steps (Has chip n) saved.is
     (leaves_then chip pages saved.first (Adds (Keeps n held ∷ []) ∷ []) Q (Has chip n)
     (leaves_as chip pages (page_reads chip 257 first.other ++ Adds (Keeps 257 first.other ∷ []) ∷ []) saved.first Q first.is
     (leaves_then chip pages (page_reads chip 257 first.other) (Adds (Keeps 257 first.other ∷ []) ∷ []) (λ _. ⊤) Q (leaves_reads chip pages 257 first.other (λ _. ⊤) tt)
-    (λ later _. leaves_one chip later 257 first.other Q (inl refl))))
-    (λ later is. leaves_one chip later n held (Has chip n) (inl refl, λ one has. inr is)))
+    (λ later _. leaves_one chip later 257 first.other Q (here 257 later))))
+    (λ later is. leaves_one chip later n held (Has chip n) (here n later, λ one has. further 257 n later is)))
 saved_with false chip n held pages steps both saved =
-    leaves_as chip pages (Adds (Keeps n held ∷ []) ∷ []) steps (Has chip n) saved (leaves_one chip pages n held (Has chip n) (inl refl, λ one has. absurd (alone one has both)))
+    leaves_as chip pages (Adds (Keeps n held ∷ []) ∷ []) steps (Has chip n) saved (leaves_one chip pages n held (Has chip n) (here n pages, λ one has. absurd (alone one has both)))
   where
     alone : n ≡ 1 → has_companion chip ≡ true → (n == 1 && has_companion chip) ≡ false → ⊥
     alone one has is =
@@ -104,7 +114,7 @@ saved_unless false chip n held pages steps already saved = saved_with (n == 1 &&
 
 -- behind a turn, page 257 is kept where page 1 was changed
 abbrev Behind : ChipData → ℕ → Bool → List ℕ → Type 0
-Behind chip n changed pages = n ≡ 1 → changed ≡ true → has_companion chip ≡ true → IsAmong 257 pages
+Behind chip n changed pages = n ≡ 1 → changed ≡ true → has_companion chip ≡ true → Contains pages 257
 
 changed_unless : (same kept : Bool) (chip : ChipData) (n : ℕ) (held page pages : List ℕ) (changed : Bool) (steps : List Step) → changed ≡ not same → length page ≡ page_size chip n → (kept ≡ true → Has chip n pages)
     → IsChangedUnless same kept chip n held page steps → Leaves chip pages steps (Behind chip n changed)
@@ -135,7 +145,7 @@ module _ (lengths : (set : Pairs) (address : ℕ) (bytes : List ℕ) → length 
       (λ later has. changed_unless (bytes_eq turn.held (content chip c n turn.held)) kept chip n turn.held (content chip c n turn.held) later changed turn.later turn.counts (length-content chip c n turn.held turn.size) has turn.is_changed))
 
   -- what was kept before page 257
-  before_turn : (chip : ChipData) (n : ℕ) (was : Bool) (pages : List ℕ) → n < page_count chip → (was ≡ true → has_companion chip ≡ true → IsAmong 257 pages) → (n == 257 && was) ≡ true → Has chip n pages
+  before_turn : (chip : ChipData) (n : ℕ) (was : Bool) (pages : List ℕ) → n < page_count chip → (was ≡ true → has_companion chip ≡ true → Contains pages 257) → (n == 257 && was) ≡ true → Has chip n pages
   before_turn chip n was pages here kept is =
       let parts = and_parts (n == 257) was is in
       let number : n ≡ 257 = grind (arith, parts.0) in
@@ -145,7 +155,7 @@ module _ (lengths : (set : Pairs) (address : ℕ) (bytes : List ℕ) → length 
       subst P (sym number) (kept parts.1 has, λ one companion. kept parts.1 has)
 
   abbrev Turned : ChipData → Bool → List ℕ → Type 0
-  Turned chip first pages = first ≡ true → has_companion chip ≡ true → IsAmong 257 pages
+  Turned chip first pages = first ≡ true → has_companion chip ≡ true → Contains pages 257
 
   turned_leave : (chip : ChipData) (c : Change) (n : ℕ) (first : Bool) (steps : List Step) → n ≤ page_count chip → AreTurned chip c n first steps → Leaves chip [] steps (Turned chip first)
   turned_leave chip c zero false [] le none = leaves_nothing chip [] (Turned chip false) (λ yes has. absurd (false≢true yes))
@@ -218,35 +228,9 @@ module _ (lengths : (set : Pairs) (address : ℕ) (bytes : List ℕ) → length 
 
   -- runs
   pub run_keeps : (table : List ChipData) (commands : List CommandData) (old new : RigState) → RunsInOrder table commands old new → RunKeeps table old new
-  run_keeps table commands old new runs =
-      let leads = done_leads runs.chip commands runs.journal.state runs.last runs.steps runs.are_steps in
-      record {
-        journal = runs.journal;
-        loaded = runs.loaded;
-        chip = runs.chip;
-        listed = runs.listed;
-        version = runs.version;
-        codes = runs.codes;
-        steps = runs.steps;
-        keeps = leads.keeps;
-        ended = leads.behind;
-        calls = runs.calls;
-      }
+  run_keeps table commands old new =
+      as_session table old _ _ (λ chip l sound. does_as (Settles 0x7F 131072) chip.id l.is_torn _ _ old new (λ steps are. let leads = done_leads chip commands l.state are.0 steps are.1 in (leads.keeps, leads.behind)))
 
   pub run_stops_kept : (table : List ChipData) (commands : List CommandData) (old new : RigState) (fault : Fault) → RunStops table commands old new fault → RunStopsKept table old new fault
   run_stops_kept table commands old new fault (inl unreached) = inl unreached
-  run_stops_kept table commands old new fault (inr cut) =
-      let asked = asking_steps cut.version cut.codes cut.chip.id in
-      let Begun : List Step → Type 0 = IsAfter asked (AreBegun cut.chip commands cut.journal.state) in
-      let Kept : List Step → Type 0 = IsAfter asked (KeepsFirst cut.chip None) in
-      let cause = cause_of fault in
-      inr (record {
-        journal = cut.journal;
-        loaded = cut.loaded;
-        chip = cut.chip;
-        listed = cut.listed;
-        version = cut.version;
-        codes = cut.codes;
-        calls = GoesOn-weaker (SettlesThen (Settles 0x7F 131072) (AreCutShort Begun cause cut.journal.is_torn)) (SettlesThen (Settles 0x7F 131072) (AreCutShort Kept cause cut.journal.is_torn)) old.calls new.calls cut.calls
-            (λ calls x. (x.0, x.1, x.2, x.3, x.4, cut_as Begun Kept cause cut.journal.is_torn x.1 (λ steps begun. (begun.0, begun.1, begun_keep cut.chip commands cut.journal.state begun.0 begun.2)) x.5));
-      })
+  run_stops_kept table commands old new fault (inr cut) = inr (as_session table old _ _ (λ chip l sound. stops_as (Settles 0x7F 131072) chip.id l.is_torn _ _ (cause_of fault) old new (λ steps are. begun_keep chip commands l.state steps are)) cut)

@@ -1,5 +1,5 @@
 -- The steps of a run keep each page before they change it.
-use Rattle.std.proofs.Common.{◌≡◌, ℕ, zero, suc, ◌+◌, ◌-◌, ◌*◌, ◌/◌, ◌≤◌, ◌==◌, Bool, true, false, List, [], ◌∷◌, ◌++◌, length, take, drop, Option, Some, refl, sym, ◌∙◌, ap, subst, arith, length-take}
+use Rattle.std.proofs.Common.{◌≡◌, Contains, ℕ, zero, suc, ◌+◌, ◌-◌, ◌*◌, ◌/◌, ◌≤◌, ◌==◌, Bool, true, false, List, [], ◌∷◌, ◌++◌, length, take, drop, Option, Some, refl, sym, ◌∙◌, ap, subst, arith, length-take}
 use Rattle.std.specs.List.{AllByRecursion}
 use Rattle.std.proofs.lemmas.List.{length-drop}
 use Rattle.stm_wire.specs.Chip.{ChipData, erased_byte, page_size}
@@ -7,7 +7,14 @@ use Rattle.stm_wire.specs.Frames.{read_turns}
 use Rattle.stm_chip.specs.declared.plan.Frame.{Frame}
 use Rattle.stm_chip.specs.Plan.{block_of, cut_length, frame_of, frames_of, used_length}
 use Rattle.stm_session.specs.Order.{Step, Adds, Sends, read_steps, rewrite_steps, write_steps}
-use Rattle.stm_session.specs.Kept.{IsAmong, IsKept, KeepsFirst, kept_behind_lines, kept_behind_steps, reads, erases, writes}
+use Rattle.stm_session.specs.Kept.{IsKept, KeepsFirst, kept_behind_lines, kept_behind_steps, reads, erases, writes}
+
+-- the first of a list is in it, and so is each other one
+pub here : (n : ℕ) (pages : List ℕ) → Contains (n ∷ pages) n
+here n pages = (zero, omega arith, refl)
+
+pub later : (n m : ℕ) (pages : List ℕ) → Contains pages n → Contains (m ∷ pages) n
+later n m pages is = (suc is.0, omega (arith, is.1), is.2)
 
 -- such steps, and what is kept behind them
 pub record Leads (chip : ChipData) (kept : Option (List ℕ)) (steps : List Step) (later : Option (List ℕ)) : Type 0 where
@@ -92,7 +99,7 @@ leads_writes chip n kept page (f ∷ frames) is size (first, inside) =
     }
 
 -- a page that is kept is erased and written
-pub leads_rewrite : (chip : ChipData) (n : ℕ) (pages page : List ℕ) → IsAmong n pages → length page ≡ page_size chip n
+pub leads_rewrite : (chip : ChipData) (n : ℕ) (pages page : List ℕ) → Contains pages n → length page ≡ page_size chip n
     → Leads chip (Some pages) (rewrite_steps chip n page (frames_of (erased_byte chip) page (length page / 256))) (Some pages)
 leads_rewrite chip n pages page is size = with_frames (frames_of (erased_byte chip) page (length page / 256)) (frames_inside (length page) (erased_byte chip) page (length page / 256) (omega arith))
   where

@@ -1,37 +1,26 @@
 -- What the journal kept of a page before it was changed is still kept, on any line: which frames
 -- may come behind which lines.
-use Rattle.std.specs.Prelude.{◌≡◌, ◌⊎◌, ℕ, ◌+◌, ◌≤◌, Bool, List, [], ◌∷◌, ◌++◌, length, map, Option}
-use Rattle.std.specs.Prelude.{Some, None}
-use Rattle.stm_wire.specs.declared.intent.Intent.{Intent}
+use Rattle.std.specs.Prelude.{◌≡◌, ℕ, ◌+◌, ◌≤◌, Bool, List, [], ◌∷◌, length, map, Contains}
+use Rattle.std.specs.Prelude.{Option, Some, None}
 use Rattle.stm_wire.specs.Chip.{ChipData, page_size}
-use Rattle.stm_wire.specs.Dialogue.{Turn, GoesOn}
+use Rattle.stm_wire.specs.Dialogue.{Turn}
 use Rattle.stm_wire.specs.Frames.{erase_turns, read_turns, write_turns}
 use Rattle.stm_wire.specs.Rig.{RigState}
-use Rattle.stm_chip.specs.Document.{IsChipWith}
 use Rattle.stm_journal.specs.declared.entry.Entry.{Entry}
 use Rattle.stm_journal.specs.declared.entry.Entry.TheVariants.{Names, Opens, Keeps, Erases}
 use Rattle.stm_journal.specs.declared.entry.Entry.TheVariants.{Programs, Ends, Undoes}
 use Rattle.stm_journal.specs.declared.kept.Kept.{Kept}
-use Rattle.stm_journal.specs.Calls.{AreFetches}
-use Rattle.stm_journal.specs.Journals.{Loaded, IsLoaded}
 use Rattle.stm_journal.specs.Newest.{pages_of_segments}
-use Rattle.stm_journal.specs.States.{StateData, intent_of, intent_page}
 use Rattle.stm_session.specs.declared.fault.Fault.{Fault}
-use Rattle.stm_session.specs.Fault.{Cause, cause_of}
-use Rattle.stm_session.specs.Fresh.{Settles, undo_way}
-use Rattle.stm_session.specs.Order.{Step, Adds, Sends, AreCutShort, IsAfter, ReachesInPart}
-use Rattle.stm_session.specs.Order.{SettlesFirst, SettlesThen, asking_steps, page_address}
-
--- a page is one of these
-abbrev pub IsAmong : ℕ → List ℕ → Type 0
-IsAmong n [] = ⊥
-IsAmong n (m ∷ pages) = (n ≡ m) ⊎ IsAmong n pages
+use Rattle.stm_session.specs.Order.{Step, Adds, Sends, StepsOf, UndoDoes, UndoDoesInPart}
+use Rattle.stm_session.specs.Order.{page_address}
+use Rattle.stm_session.specs.RunOrder.{RunDoes, RunDoesInPart}
 
 -- Of a run. While a segment is begun and not ended, there are the pages that its lines keep:
 
 abbrev pub IsKept : ℕ → Option (List ℕ) → Type 0
 IsKept n None = ⊥
-IsKept n (Some pages) = IsAmong n pages
+IsKept n (Some pages) = Contains pages n
 
 -- those behind a line
 abbrev pub kept_behind : Option (List ℕ) → Entry → Option (List ℕ)
@@ -57,8 +46,8 @@ abbrev pub MayAdd : Option (List ℕ) → Entry → Type 0
 MayAdd None (Names version id) = Unit {0}
 MayAdd None (Opens number) = Unit {0}
 MayAdd (Some pages) (Keeps n bytes) = Unit {0}
-MayAdd (Some pages) (Erases n) = IsAmong n pages
-MayAdd (Some pages) (Programs n) = IsAmong n pages
+MayAdd (Some pages) (Erases n) = Contains pages n
+MayAdd (Some pages) (Programs n) = Contains pages n
 MayAdd (Some pages) (Ends number) = Unit {0}
 MayAdd _ _ = ⊥
 
@@ -85,111 +74,52 @@ KeepsFirst chip kept (Sends turns ∷ steps) =
     MaySend chip (λ n. IsKept n kept) turns × KeepsFirst chip kept steps
 
 -- a run, at Ok: its steps are such, and none of its segments is left unfinished
-pub record RunKeeps (table : List ChipData) (old new : RigState) : Type 0 where
-  pub journal : Loaded
-  pub loaded : old.is_honest → IsLoaded journal old.journal
-  pub chip : ChipData
-  pub listed : IsChipWith table chip.id chip
-  pub version : ℕ
-  pub codes : List ℕ
-  pub steps : List Step
-  pub keeps : KeepsFirst chip None steps
-  pub ended : kept_behind_steps None steps ≡ None
-  pub calls : GoesOn (SettlesFirst (Settles 0x7F 131072) journal.is_torn
-      (asking_steps version codes chip.id ++ steps)) old.calls new.calls
+abbrev pub RunKeeps : List ChipData → RigState → RigState → Type 0
+RunKeeps table old new = RunDoes (λ chip s steps. KeepsFirst chip None steps
+    × (kept_behind_steps None steps ≡ None)) table old new
 
 -- a run, at a fault: nothing was sent but to settle and ask the device; or such steps were done,
 -- each whole but the last, which failed
-pub record RunKeepsInPart (table : List ChipData) (cause : Cause)
-    (old new : RigState) : Type 0 where
-  pub journal : Loaded
-  pub loaded : old.is_honest → IsLoaded journal old.journal
-  pub chip : ChipData
-  pub listed : IsChipWith table chip.id chip
-  pub version : ℕ
-  pub codes : List ℕ
-  pub calls : GoesOn (SettlesThen (Settles 0x7F 131072) (AreCutShort
-      (IsAfter (asking_steps version codes chip.id) (KeepsFirst chip None)) cause journal.is_torn))
-      old.calls new.calls
-
 abbrev pub RunStopsKept : List ChipData → RigState → RigState → Fault → Type 0
 RunStopsKept table old new fault =
-    ((torn : Bool)
-    → GoesOn (ReachesInPart (Settles 0x7F 131072) (cause_of fault) torn) old.calls new.calls)
-    ⊎ RunKeepsInPart table (cause_of fault) old new
+    RunDoesInPart (λ chip s. KeepsFirst chip None) table old new fault
 
 -- Of an undo. There are the pages of the segments that aren't taken off yet, the newest first:
 
--- those of a segment
-abbrev pub page_numbers : List Kept → List ℕ
-page_numbers pages = map (λ kept. kept.page) pages
-
--- and at first of the newest too that of the journal's intent, which is one of these in each
--- journal without a bad line
-abbrev pub pages_at_first : Option Intent → List (List Kept) → List (List ℕ)
-pages_at_first (Some intent) (pages ∷ below) =
-    (intent_page intent ∷ page_numbers pages) ∷ map page_numbers below
-pages_at_first _ segments = map page_numbers segments
-
-abbrev pub IsOfNewest : ℕ → List (List ℕ) → Type 0
+-- a page is one of the newest
+abbrev pub IsOfNewest : ℕ → List (List Kept) → Type 0
 IsOfNewest n [] = ⊥
-IsOfNewest n (pages ∷ below) = IsAmong n pages
+IsOfNewest n (pages ∷ below) = Contains (map (λ kept. kept.page) pages) n
 
 -- Lines that may come next, and the segments behind them: the newest is said to be changed in a
 -- page of its own, or it is taken off.
-pub data MayTake : List (List ℕ) → List Entry → List (List ℕ) → Type 0 where
-  erasing : (n : ℕ) (segments : List (List ℕ)) → IsOfNewest n segments
+pub data MayTake : List (List Kept) → List Entry → List (List Kept) → Type 0 where
+  erasing : (n : ℕ) (segments : List (List Kept)) → IsOfNewest n segments
       → MayTake segments (Erases n ∷ []) segments
-  programming : (n : ℕ) (segments : List (List ℕ)) → IsOfNewest n segments
+  programming : (n : ℕ) (segments : List (List Kept)) → IsOfNewest n segments
       → MayTake segments (Programs n ∷ []) segments
-  undoing : (pages : List ℕ) (below : List (List ℕ))
+  undoing : (pages : List Kept) (below : List (List Kept))
       → MayTake (pages ∷ below) (Undoes (length below + 1) ∷ []) below
 
 -- Each step may come behind those before it: what is erased or written, and each intent's line, is
 -- of a page of the newest segment that isn't taken off yet.
-abbrev pub PutsBack : ChipData → List (List ℕ) → List Step → Type 0
+abbrev pub PutsBack : ChipData → List (List Kept) → List Step → Type 0
 PutsBack chip segments [] = Unit {0}
-PutsBack chip segments (Adds entries ∷ steps) = (later : List (List ℕ))
+PutsBack chip segments (Adds entries ∷ steps) = (later : List (List Kept))
     × MayTake segments entries later × PutsBack chip later steps
 PutsBack chip segments (Sends turns ∷ steps) =
     MaySend chip (λ n. IsOfNewest n segments) turns × PutsBack chip segments steps
 
 -- these, of a journal's segments
-abbrev pub PutsBackFrom : ChipData → StateData → List Step → Type 0
-PutsBackFrom chip s steps =
-    PutsBack chip (pages_at_first (intent_of s) (pages_of_segments s.stack)) steps
+abbrev pub PutsBackFrom : StepsOf
+PutsBackFrom chip s steps = PutsBack chip (pages_of_segments s.stack) steps
 
 -- an undo, at Ok: its steps are such
-pub record UndoPutsBack (is_fresh : Bool) (table : List ChipData)
-    (old new : RigState) : Type 0 where
-  pub journal : Loaded
-  pub loaded : old.is_honest → IsLoaded journal old.journal
-  pub chip : ChipData
-  pub listed : IsChipWith table chip.id chip
-  pub version : ℕ
-  pub codes : List ℕ
-  pub steps : List Step
-  pub puts : PutsBackFrom chip journal.state steps
-  pub calls : GoesOn (SettlesFirst (undo_way is_fresh chip.kind (intent_of journal.state))
-      journal.is_torn (asking_steps version codes chip.id ++ steps)) old.calls new.calls
+abbrev pub UndoPutsBack : Bool → List ChipData → RigState → RigState → Type 0
+UndoPutsBack is_fresh table old new = UndoDoes is_fresh PutsBackFrom table old new
 
 -- an undo, at a fault: nothing was sent but to settle and ask the device; or such steps were done,
 -- each whole but the last, which failed
-pub record UndoPutsBackInPart (is_fresh : Bool) (table : List ChipData) (cause : Cause)
-    (old new : RigState) : Type 0 where
-  pub journal : Loaded
-  pub loaded : old.is_honest → IsLoaded journal old.journal
-  pub chip : ChipData
-  pub listed : IsChipWith table chip.id chip
-  pub version : ℕ
-  pub codes : List ℕ
-  pub calls : GoesOn (λ calls. ReachesInPart (undo_way is_fresh chip.kind (intent_of journal.state))
-      cause journal.is_torn calls
-      ⊎ SettlesThen (undo_way is_fresh chip.kind (intent_of journal.state))
-      (AreCutShort (IsAfter (asking_steps version codes chip.id) (PutsBackFrom chip journal.state))
-      cause journal.is_torn) calls) old.calls new.calls
-
 abbrev pub UndoStopsBack : Bool → List ChipData → RigState → RigState → Fault → Type 0
 UndoStopsBack is_fresh table old new fault =
-    GoesOn AreFetches old.calls new.calls
-    ⊎ UndoPutsBackInPart is_fresh table (cause_of fault) old new
+    UndoDoesInPart is_fresh PutsBackFrom table old new fault

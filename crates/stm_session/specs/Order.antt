@@ -22,7 +22,7 @@ use Rattle.stm_journal.specs.declared.kept.Kept.{Kept}
 use Rattle.stm_journal.specs.Calls.{AppendsInPart, AreFetches}
 use Rattle.stm_journal.specs.Journals.{Loaded, IsLoaded, added_bytes}
 use Rattle.stm_journal.specs.Newest.{pages_of_segments}
-use Rattle.stm_journal.specs.States.{intent_of, intent_page}
+use Rattle.stm_journal.specs.States.{StateData, IsSound, intent_of, intent_page}
 use Rattle.stm_session.specs.declared.fault.Fault.{Fault}
 use Rattle.stm_session.specs.Fault.{Cause, IsHeard, of_file, of_line, of_memory, of_protocol}
 use Rattle.stm_session.specs.Fault.{of_refusal, of_session, cause_of}
@@ -292,52 +292,69 @@ abbrev pub StopsShort : {T : Type 0} → Way → Bool → RigState → RigState 
 StopsShort way torn old new result =
     IfErr result (λ fault. GoesOn (ReachesInPart way (cause_of fault) torn) old.calls new.calls)
 
--- An undo of so many segments: settling by the intent of the journal that was loaded, or
--- connecting, Get, Get ID, by which the device is the journal's chip, the page of that
--- intent, and then the segments.
-pub record UndoesInOrderFrom (is_fresh : Bool) (table : List ChipData) (taken : ℕ)
-    (old new : RigState) : Type 0 where
+-- Which steps a session may do goes by its chip and by the journal's state.
+abbrev pub StepsOf : Type 1
+StepsOf = ChipData → StateData → List Step → Type 0
+
+-- A device was settled so, and answered this number; and such steps were done,
+abbrev pub ReachesAndDoes : Way → ℕ → Bool → (List Step → Type 0) → RigState → RigState → Type 0
+ReachesAndDoes way id torn P old new = (version : ℕ) × (codes : List ℕ) × (steps : List Step)
+    × P steps × GoesOn (SettlesFirst way torn (asking_steps version codes id ++ steps))
+    old.calls new.calls
+
+-- or such were broken off
+abbrev pub ReachesAndStops : Way → ℕ → Bool → (List Step → Type 0) → Cause → RigState → RigState
+    → Type 0
+ReachesAndStops way id torn P cause old new = (version : ℕ) × (codes : List ℕ)
+    × GoesOn (SettlesThen way (AreCutShort (IsAfter (asking_steps version codes id) P) cause torn))
+    old.calls new.calls
+
+-- A session loaded a journal, which has no bad line, and took it for one of this chip of the
+-- table; and this is so of both.
+pub record Session (table : List ChipData) (old : RigState)
+    (Does : ChipData → Loaded → Type 0) : Type 0 where
   pub journal : Loaded
   pub loaded : old.is_honest → IsLoaded journal old.journal
+  pub sound : IsSound journal.state
   pub chip : ChipData
   pub listed : IsChipWith table chip.id chip
-  pub version : ℕ
-  pub codes : List ℕ
-  pub steps : List Step
-  pub are_steps : AreAllTakenBack chip (intent_of journal.state) taken
-      (pages_of_segments journal.state.stack) steps
-  pub calls : GoesOn (SettlesFirst (undo_way is_fresh chip.kind (intent_of journal.state))
-      journal.is_torn (asking_steps version codes chip.id ++ steps)) old.calls new.calls
+  pub does : Does chip journal
+
+-- An undo that does such steps: settling by the intent of the journal that was loaded, or
+-- connecting, Get, Get ID, by which the device is the journal's chip, and then these.
+abbrev pub UndoDoes : Bool → StepsOf → List ChipData → RigState → RigState → Type 0
+UndoDoes is_fresh P table old new = Session table old (λ chip l.
+    ReachesAndDoes (undo_way is_fresh chip.kind (intent_of l.state)) chip.id l.is_torn
+    (P chip l.state) old new)
+
+-- One that is broken off: nothing was done but reading the journal; or settling or connecting, Get
+-- and Get ID, or a part of these; or all of these, and then such steps were cut short.
+abbrev pub UndoDoesInPart : Bool → StepsOf → List ChipData → RigState → RigState → Fault → Type 0
+UndoDoesInPart is_fresh P table old new fault = GoesOn AreFetches old.calls new.calls
+    ⊎ Session table old (λ chip l. let way = undo_way is_fresh chip.kind (intent_of l.state) in
+    GoesOn (ReachesInPart way (cause_of fault) l.is_torn) old.calls new.calls
+    ⊎ ReachesAndStops way chip.id l.is_torn (P chip l.state) (cause_of fault) old new)
+
+-- so many of the journal's segments are taken back, the page of its intent first
+abbrev pub AreTaken : ℕ → StepsOf
+AreTaken taken chip s steps =
+    AreAllTakenBack chip (intent_of s) taken (pages_of_segments s.stack) steps
+
+-- a beginning of taking some back, no more than there are, nor than are asked for where that is a
+-- number
+abbrev pub BeginTaking : ℕ → StepsOf
+BeginTaking count chip s steps = (taken : ℕ) × (taken ≤ length s.stack)
+    × (0 < count → taken ≤ count) × Begin (AreTaken taken chip s) steps
+
+abbrev pub UndoesInOrderFrom : Bool → List ChipData → ℕ → RigState → RigState → Type 0
+UndoesInOrderFrom is_fresh table taken old new = UndoDoes is_fresh (AreTaken taken) table old new
 
 abbrev pub UndoesInOrder : List ChipData → ℕ → RigState → RigState → Type 0
 UndoesInOrder table taken old new = UndoesInOrderFrom false table taken old new
 
--- At a fault: settling or connecting, Get and Get ID, or a part of these; or all of these, by which
--- the device is the journal's chip, and then a beginning of taking so many segments back, no more
--- than the journal has, nor than are asked for where that is a number.
-pub record UndoIsCutShort (is_fresh : Bool) (table : List ChipData) (count : ℕ) (cause : Cause)
-    (old new : RigState) : Type 0 where
-  pub journal : Loaded
-  pub loaded : old.is_honest → IsLoaded journal old.journal
-  pub chip : ChipData
-  pub listed : IsChipWith table chip.id chip
-  pub taken : ℕ
-  pub within : taken ≤ length journal.state.stack
-  pub asked : 0 < count → taken ≤ count
-  pub version : ℕ
-  pub codes : List ℕ
-  pub calls : GoesOn (λ calls. ReachesInPart (undo_way is_fresh chip.kind (intent_of journal.state))
-      cause journal.is_torn calls
-      ⊎ SettlesThen (undo_way is_fresh chip.kind (intent_of journal.state))
-      (AreCutShort (IsAfter (asking_steps version codes chip.id) (Begin (AreAllTakenBack chip
-      (intent_of journal.state) taken (pages_of_segments journal.state.stack)))) cause
-      journal.is_torn) calls) old.calls new.calls
-
--- An undo that is broken off: nothing was done but reading the journal; or so.
 abbrev pub UndoStopsFrom : Bool → List ChipData → ℕ → RigState → RigState → Fault → Type 0
 UndoStopsFrom is_fresh table count old new fault =
-    GoesOn AreFetches old.calls new.calls
-    ⊎ UndoIsCutShort is_fresh table count (cause_of fault) old new
+    UndoDoesInPart is_fresh (BeginTaking count) table old new fault
 
 abbrev pub UndoStops : List ChipData → ℕ → RigState → RigState → Fault → Type 0
 UndoStops table count old new fault = UndoStopsFrom false table count old new fault

@@ -7,18 +7,16 @@ use Rattle.stm_wire.specs.Dialogue.{GoesOn}
 use Rattle.stm_wire.specs.Frames.{read_turns}
 use Rattle.stm_wire.specs.Intents.{InPage}
 use Rattle.stm_wire.specs.Rig.{RigState}
-use Rattle.stm_chip.specs.Document.{IsChipWith}
-use Rattle.stm_journal.specs.Journals.{Loaded, IsLoaded}
 use Rattle.stm_journal.specs.States.{StateData}
 use Rattle.stm_session.specs.declared.change.Change.{Change}
 use Rattle.stm_session.specs.declared.fault.Fault.{Fault}
-use Rattle.stm_session.specs.Fault.{Cause, cause_of}
+use Rattle.stm_session.specs.Fault.{cause_of}
 use Rattle.stm_session.specs.Answers.{segments_of}
 use Rattle.stm_session.specs.ChangeOrder.{IsOneSegment, IsSegmentBegun}
 use Rattle.stm_session.specs.Contents.{command_of}
 use Rattle.stm_session.specs.Meaning.{CommandData, is_change}
-use Rattle.stm_session.specs.Order.{Step, Sends, AreCutShort, IsAfter, IsInOrder, ReachesInPart}
-use Rattle.stm_session.specs.Order.{SettlesFirst, SettlesThen, asking_steps}
+use Rattle.stm_session.specs.Order.{Step, Sends, StepsOf, IsInOrder, ReachesAndDoes}
+use Rattle.stm_session.specs.Order.{ReachesAndStops, ReachesInPart, Session}
 
 -- bytes of one page are read
 pub record IsReading (chip : ChipData) (step : Step) : Type 0 where
@@ -54,20 +52,16 @@ pub data AreDone (chip : ChipData) : List CommandData → StateData → StateDat
       → length last.stack ≡ length mid.stack + segments_of c
       → AreDone chip (commands ++ c ∷ []) s last (before ++ own)
 
--- A run: settling by 7F, Get, Get ID, by which the device is the chip, and then its commands.
-pub record RunsInOrder (table : List ChipData) (commands : List CommandData)
-    (old new : RigState) : Type 0 where
-  pub journal : Loaded
-  pub loaded : old.is_honest → IsLoaded journal old.journal
-  pub chip : ChipData
-  pub listed : IsChipWith table chip.id chip
-  pub version : ℕ
-  pub codes : List ℕ
-  pub last : StateData
-  pub steps : List Step
-  pub are_steps : AreDone chip commands journal.state last steps
-  pub calls : GoesOn (SettlesFirst (Settles 0x7F 131072) journal.is_torn
-      (asking_steps version codes chip.id ++ steps)) old.calls new.calls
+-- A run that does such steps: settling by 7F, Get, Get ID, by which the device is the chip, and
+-- then these.
+abbrev pub RunDoes : StepsOf → List ChipData → RigState → RigState → Type 0
+RunDoes P table old new = Session table old (λ chip l.
+    ReachesAndDoes (Settles 0x7F 131072) chip.id l.is_torn (P chip l.state) old new)
+
+-- its commands
+abbrev pub RunsInOrder : List ChipData → List CommandData → RigState → RigState → Type 0
+RunsInOrder table commands old new = RunDoes
+    (λ chip s steps. (last : StateData) × AreDone chip commands s last steps) table old new
 
 -- At a fault:
 
@@ -98,24 +92,16 @@ pub record AreBegunAt (chip : ChipData) (commands : List CommandData) (s : State
 abbrev pub AreBegun : ChipData → List CommandData → StateData → List Step → Type 0
 AreBegun chip commands s steps = (steps ≡ []) ⊎ AreBegunAt chip commands s steps
 
--- A run that is broken off once its device is known: settling by 7F, Get, Get ID, by which the
--- device is the chip, and then a beginning of its commands.
-pub record RunIsCutShort (table : List ChipData) (commands : List CommandData) (cause : Cause)
-    (old new : RigState) : Type 0 where
-  pub journal : Loaded
-  pub loaded : old.is_honest → IsLoaded journal old.journal
-  pub chip : ChipData
-  pub listed : IsChipWith table chip.id chip
-  pub version : ℕ
-  pub codes : List ℕ
-  pub calls : GoesOn (SettlesThen (Settles 0x7F 131072) (AreCutShort
-      (IsAfter (asking_steps version codes chip.id) (AreBegun chip commands journal.state)) cause
-      journal.is_torn)) old.calls new.calls
-
--- A run that is broken off: its device isn't reached, or isn't one for it; or
--- its commands are cut short.
-abbrev pub RunStops : List ChipData → List CommandData → RigState → RigState → Fault → Type 0
-RunStops table commands old new fault =
+-- A run that is broken off: its device isn't reached, or isn't one for it; or it is, and then such
+-- steps were cut short.
+abbrev pub RunDoesInPart : StepsOf → List ChipData → RigState → RigState → Fault → Type 0
+RunDoesInPart P table old new fault =
     ((torn : Bool)
     → GoesOn (ReachesInPart (Settles 0x7F 131072) (cause_of fault) torn) old.calls new.calls)
-    ⊎ RunIsCutShort table commands (cause_of fault) old new
+    ⊎ Session table old (λ chip l. ReachesAndStops (Settles 0x7F 131072) chip.id l.is_torn
+    (P chip l.state) (cause_of fault) old new)
+
+-- a beginning of its commands
+abbrev pub RunStops : List ChipData → List CommandData → RigState → RigState → Fault → Type 0
+RunStops table commands old new fault =
+    RunDoesInPart (λ chip s. AreBegun chip commands s) table old new fault

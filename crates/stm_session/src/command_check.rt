@@ -4,6 +4,7 @@ ghost use Rattle.std.specs.Prelude.{None, Some, IfErr, MatchResult, OnOk};
 ghost use Rattle.std.specs.List.{list_all, list_any};
 ghost use Rattle.stm_wire.specs.Device.{Device};
 ghost use Rattle.stm_wire.specs.Exchange.{all_exist};
+ghost use Rattle.stm_journal.specs.States.{IsSound};
 ghost use Rattle.stm_session.specs.Fault.{IsLaterRefusal};
 ghost use Rattle.stm_session.specs.Meaning.{changes_of, command_data, is_change};
 ghost use Rattle.stm_session.specs.Opening.{AreCommandsOf};
@@ -57,8 +58,9 @@ fn count_changes(commands: &[Command]) -> usize
 
 /// Whether the journal has room for the segments that these commands begin.
 fn has_room(journal: &Journal, commands: &[Command]) -> bool
-    ensures { let changes = changes_of (map command_data commands.now) in
+    ensures value { let changes = changes_of (map command_data commands.now) in
         result ≡ nat_le (length journal.now.state.stack + length changes) 65535 }
+    ensures sound { IsSound journal.now.state }
 {
     let room = MOST_SEGMENTS - journal.depth();
     count_changes(commands) <= room as usize
@@ -109,6 +111,7 @@ pub fn check_commands(
         MatchResult result (λ _. first_refusal refusals ≡ None)
         (λ fault. first_refusal refusals ≡ Some fault) }
     ensures named { IfErr result IsLaterRefusal }
+    ensures sound { OnOk result (IsSound journal.now.state) }
 {
     if !can_change(chip, told, commands) {
         return Err(Fault::NoErase);

@@ -158,11 +158,10 @@ pub fn a_run_keeps_pages_before_it_changes_them<R: Rig>()
     laying_by_parts();
 }
 
-/// On any line, whatever it answers, an undo erases and writes only pages of the newest segment
-/// that it hasn't taken off yet, or at first the page of the journal's intent, and appends
-/// intents only for these; and it sends no other frames but those that read. It takes a segment
-/// off behind the last of these, each of which was acknowledged. That holds of all that was
-/// done, and of what failed.
+/// On any line, whatever it answers, an undo erases and writes only pages that the newest segment
+/// which it hasn't taken off yet keeps, and appends intents only for these; and it sends no other
+/// frames but those that read. It takes a segment off behind the last of these, each of which was
+/// acknowledged. That holds of all that was done, and of what failed.
 pub fn an_undo_changes_only_pages_that_it_takes_back<R: Rig>()
     ensures done { (is_fresh : Bool) (table : List ChipData) (taken : ℕ) (old new : R)
         → UndoesInOrderFrom is_fresh table taken (R.view old) (R.view new)

@@ -16,7 +16,7 @@ pub returns-then-not-has_room-clause-refusal : goal.returns-then-not-has_room-cl
 returns-then-not-has_room-clause-refusal c d told =
     let able : (not (list_any is_change (map command_data c.args.commands.now)) || can_erase c.args.chip.now d) ≡ true = search (rules, c.can_change.ensures d told, c.if-not-can_change.false) in
     let inside : list_all (is_in_flash c.args.chip.now) c.args.commands.now ≡ true = search (rules, c.are_in_flash.ensures, c.if-not-are_in_flash.false) in
-    let is : nat_le (length c.args.journal.now.state.stack + length (changes_of (map command_data c.args.commands.now))) 65535 ≡ false = search (rules, c.has_room.ensures, c.if-not-has_room.true) in
+    let is : nat_le (length c.args.journal.now.state.stack + length (changes_of (map command_data c.args.commands.now))) 65535 ≡ false = search (rules, c.has_room.ensures.value, c.if-not-has_room.true) in
     full c.args.journal.now.state d c.args.chip.now c.args.commands.now able inside is
 
 pub returns-clause-in_flash : goal.returns-clause-in_flash
@@ -28,5 +28,5 @@ pub returns-clause-refusal : goal.returns-clause-refusal
 returns-clause-refusal c d told =
     let able : (not (list_any is_change (map command_data c.args.commands.now)) || can_erase c.args.chip.now d) ≡ true = search (rules, c.can_change.ensures d told, c.if-not-can_change.false) in
     let inside : list_all (is_in_flash c.args.chip.now) c.args.commands.now ≡ true = search (rules, c.are_in_flash.ensures, c.if-not-are_in_flash.false) in
-    let is : nat_le (length c.args.journal.now.state.stack + length (changes_of (map command_data c.args.commands.now))) 65535 ≡ true = search (rules, c.has_room.ensures, c.if-not-has_room.false) in
+    let is : nat_le (length c.args.journal.now.state.stack + length (changes_of (map command_data c.args.commands.now))) 65535 ≡ true = search (rules, c.has_room.ensures.value, c.if-not-has_room.false) in
     nothing c.args.journal.now.state d c.args.chip.now c.args.commands.now able inside is

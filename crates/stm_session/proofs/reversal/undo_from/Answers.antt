@@ -11,11 +11,10 @@ use Rattle.stm_session.proofs.Unread.{contract_unread, none_some}
 use Rattle.stm_session.proofs.UndoStarts.{contract_none, contract_unfound, flashes_depth, loaded_then, undoable_then}
 use Rattle.stm_session.proofs.Undone.{contract_when, contract_after, refuses_elsewhere, undoes_unmet, undoes_stopped, undoes_all, elsewhere_back, harmless_then, owed_then, own_chip, within_then, err_as}
 use Rattle.std.proofs.Common.{◌++◌}
-use Rattle.std.proofs.Common.{inl, inr, []}
-use Rattle.stm_wire.specs.DialogueLaws.{GoesOn-weaker}
-use Rattle.stm_journal.specs.Newest.{pages_of_segments}
+use Rattle.std.proofs.Common.{inl, inr}
 use Rattle.stm_session.specs.Fault.{cause_of}
-use Rattle.stm_session.specs.Order.{AreAllTakenBack, AreCutShort, Begin, IsAfter, SettlesThen, UndoStopsFrom, asking_steps}
+use Rattle.stm_session.specs.Order.{AreCutShort, AreTaken, Begin, BeginTaking, IsAfter, UndoStopsFrom, asking_steps}
+use Rattle.stm_session.proofs.KeptRuns.{stops_as}
 use Rattle.stm_session.proofs.Orders.{fetched_and, fetched_then, settled_then}
 use Rattle.stm_session.proofs.Reaching.{at_fault, fetched_stops, reached_stops}
 use Rattle.stm_session.proofs.SentUndo.{own-id}
@@ -183,13 +182,10 @@ returns-clause-order g c some =
     record {
       journal = l;
       loaded = λ h. (c.in_ok-journal.ensures.honest h).loaded;
+      sound = c.depth-depth.ensures.sound;
       chip = c.in_ok-chip.chip.now;
       listed = own-id c.args.table.now c.in-Some.id c.in_ok-chip.chip.now c.in_ok-chip.ensures.chip;
-      version = met.0;
-      codes = met.1;
-      steps = back.0;
-      are_steps = back.1;
-      calls = fetched_then way l.is_torn (asking ++ back.0) a b e c.in_ok-journal.ensures.calls (settled_then way l.is_torn asking back.0 b d e refl met.2 back.2.acts);
+      does = (met.0, met.1, back.0, back.1, fetched_then way l.is_torn (asking ++ back.0) a b e c.in_ok-journal.ensures.calls (settled_then way l.is_torn asking back.0 b d e refl met.2 back.2.acts));
     }
 
 pub returns-in_err-journal-clause-stops : goal.returns-in_err-journal-clause-stops
@@ -213,19 +209,14 @@ returns-in_err-meet-clause-stops g c =
     let b = V c.load.new.rig in
     let d = V c.meet.new.rig in
     let P : Fault → Type 0 = λ e. UndoStopsFrom c.args.is_fresh c.args.table.now c.args.count a d e in
-    let part = fetched_stops way _ l.is_torn a.calls b.calls d.calls c.in_ok-journal.ensures.calls (c.in_err-meet.ensures.stops l.is_torn) in
     at_fault P _ c.from_residual-in_err-meet.result c.from_residual-in_err-meet.ensures.1
     (inr (record {
       journal = l;
       loaded = λ h. (c.in_ok-journal.ensures.honest h).loaded;
+      sound = c.depth-depth.ensures.sound;
       chip = c.in_ok-chip.chip.now;
       listed = own-id c.args.table.now c.in-Some.id c.in_ok-chip.chip.now c.in_ok-chip.ensures.chip;
-      taken = 0;
-      within = omega arith;
-      asked = λ some. omega arith;
-      version = 0;
-      codes = [];
-      calls = GoesOn-weaker _ _ a.calls d.calls part (λ xs x. inl x);
+      does = inl (fetched_stops way _ l.is_torn a.calls b.calls d.calls c.in_ok-journal.ensures.calls (c.in_err-meet.ensures.stops l.is_torn));
     }))
 
 pub returns-in_err-go_back-clause-stops : goal.returns-in_err-go_back-clause-stops
@@ -239,22 +230,20 @@ returns-in_err-go_back-clause-stops g c =
     let d = V c.meet.new.rig in
     let e = V c.go_back.new.rig in
     let taken = c.taken_count-taken in
+    let within : taken.result ≤ length l.state.stack = omega (arith, taken.ensures.most, c.depth-depth.ensures.value) in
     let met = c.in_ok-meet.ensures.order l.is_torn in
     let cause = cause_of c.in_err-go_back.field-0.0 in
-    let Back = Begin (AreAllTakenBack chip (intent_of l.state) taken.result (pages_of_segments l.state.stack)) in
-    let Cut = AreCutShort (IsAfter (asking_steps met.0 met.1 chip.id) Back) cause l.is_torn in
+    let Own = Begin (AreTaken taken.result chip l.state) in
+    let Back = BeginTaking c.args.count chip l.state in
+    let Cut = AreCutShort (IsAfter (asking_steps met.0 met.1 chip.id) Own) cause l.is_torn in
     let P : Fault → Type 0 = λ x. UndoStopsFrom c.args.is_fresh c.args.table.now c.args.count a e x in
-    let back = fetched_and way Cut a.calls b.calls e.calls c.in_ok-journal.ensures.calls (reached_stops way chip.id met.0 met.1 Back cause l.is_torn b d e met.2 c.in_err-go_back.ensures.stops) in
+    let back = fetched_and way Cut a.calls b.calls e.calls c.in_ok-journal.ensures.calls (reached_stops way chip.id met.0 met.1 Own cause l.is_torn b d e met.2 c.in_err-go_back.ensures.stops) in
     at_fault P _ c.from_residual-in_err-go_back.result c.from_residual-in_err-go_back.ensures.1
     (inr (record {
       journal = l;
       loaded = λ h. (c.in_ok-journal.ensures.honest h).loaded;
+      sound = c.depth-depth.ensures.sound;
       chip = chip;
       listed = own-id c.args.table.now c.in-Some.id chip c.in_ok-chip.ensures.chip;
-      taken = taken.result;
-      within = omega (arith, taken.ensures.most, c.depth-depth.ensures.value);
-      asked = taken.ensures.asked;
-      version = met.0;
-      codes = met.1;
-      calls = GoesOn-weaker (SettlesThen way Cut) _ a.calls e.calls back (λ xs x. inr x);
+      does = inr (stops_as way chip.id l.is_torn Own Back cause a e (λ steps own. (taken.result, within, taken.ensures.asked, own)) (met.0, met.1, back));
     }))

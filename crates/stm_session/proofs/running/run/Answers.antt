@@ -106,14 +106,10 @@ returns-clause-order g c =
     record {
       journal = l;
       loaded = c.in_ok-opened.ensures.loaded;
+      sound = c.in_ok-check_commands.ensures.sound;
       chip = c.in_ok-opened.opened.chip.now;
       listed = c.in_ok-opened.ensures.coherent.chip;
-      version = reached.0;
-      codes = reached.1;
-      last = c.run_commands.new.journal.state;
-      steps = done.0;
-      are_steps = done.1;
-      calls = settled_then (Settles 0x7F 131072) l.is_torn (asking_steps reached.0 reached.1 _) done.0 a b d refl reached.2 done.2.acts;
+      does = (reached.0, reached.1, done.0, (c.run_commands.new.journal.state, done.1), settled_then (Settles 0x7F 131072) l.is_torn (asking_steps reached.0 reached.1 _) done.0 a b d refl reached.2 done.2.acts);
     }
 
 pub returns-in_err-opened-clause-stops : goal.returns-in_err-opened-clause-stops
@@ -148,11 +144,10 @@ returns-in_err-outcomes-clause-stops g c =
     (inr (record {
       journal = l;
       loaded = c.in_ok-opened.ensures.loaded;
+      sound = c.in_ok-check_commands.ensures.sound;
       chip = chip;
       listed = c.in_ok-opened.ensures.coherent.chip;
-      version = reached.0;
-      codes = reached.1;
-      calls = reached_stops (Settles 0x7F 131072) chip.id reached.0 reached.1 (AreBegun chip cs l.state) _ l.is_torn a b d reached.2 c.in_err-outcomes.ensures.stops;
+      does = (reached.0, reached.1, reached_stops (Settles 0x7F 131072) chip.id reached.0 reached.1 (AreBegun chip cs l.state) _ l.is_torn a b d reached.2 c.in_err-outcomes.ensures.stops);
     }))
 
 pub returns-in_err-opened-clause-puts : goal.returns-in_err-opened-clause-puts
