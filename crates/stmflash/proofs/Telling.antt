@@ -58,6 +58,7 @@ module _ {T U : Type 0} (table : List ChipData) (commands : List CommandData) (o
     puts = r.puts;
     silent = tt;
     order = r.order;
+    stops = tt;
   }
 
   pub told_err : (e : Fault) (result : Result U Fault) → IsErrAnd result (λ x. x ≡ e) → RunsJust table commands old new (Err e) one → RunsJust table commands old new result two
@@ -80,6 +81,7 @@ module _ {T U : Type 0} (table : List ChipData) (commands : List CommandData) (o
         puts = r.puts;
         silent = r.silent;
         order = tt;
+        stops = r.stops;
       })
 
 none_of : (rest : List Outcome) (said : Outcome) → AreKindsOf [] (rest ++ said ∷ []) → ⊥

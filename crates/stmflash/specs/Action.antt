@@ -1,10 +1,10 @@
 -- Which action a task asks for, and what each does with a device.
-use Rattle.std.specs.Prelude.{◌≡◌, ℕ, Bool, true, false, List, [], ◌∷◌, Some, None, Result, Ok, Err}
-use Rattle.std.specs.Prelude.{IfErr, IsTrue, OnOk, MatchResult}
+use Rattle.std.specs.Prelude.{◌≡◌, ◌≢◌, ℕ, ◌≤◌, Bool, true, false, List, [], ◌∷◌, Some, None}
+use Rattle.std.specs.Prelude.{Result, Ok, Err, IfErr, IfOk, IsTrue, OnOk, MatchResult}
 use Rattle.stm_image.specs.Pairs.{Pairs}
 use Rattle.stm_wire.specs.declared.protection.Protection.{Protection}
 use Rattle.stm_wire.specs.Chip.{ChipData, is_inside}
-use Rattle.stm_wire.specs.Device.{Device}
+use Rattle.stm_wire.specs.Device.{Device, Gone}
 use Rattle.stm_wire.specs.Dialogue.{Turn, GoesOn}
 use Rattle.stm_wire.specs.Frames.{command, go_frame, go_turns, protect_turns}
 use Rattle.stm_wire.specs.Protection.{protection_code}
@@ -12,14 +12,16 @@ use Rattle.stm_wire.specs.Rig.{RigState}
 use Rattle.stm_journal.specs.Calls.{AreFetches, IsUntouched}
 use Rattle.stm_journal.specs.Journals.{journal_of}
 use Rattle.stm_session.specs.declared.fault.Fault.{Fault}
+use Rattle.stm_session.specs.declared.fault.Fault.TheVariants.{Memory}
 use Rattle.stm_session.specs.Fault.{HasSessionCause, IsOutsideFault}
 use Rattle.stm_session.specs.Fresh.{IsReset}
 use Rattle.stm_session.specs.Leaving.{CanLeave, IsSettledThen, Leaves}
 use Rattle.stm_session.specs.Meaning.{erases, verifies, writes}
 use Rattle.stm_session.specs.Moments.{IsSafe}
+use Rattle.stm_session.specs.Order.{UndoStops, UndoStopsFrom, UndoesInOrder, UndoesInOrderFrom}
 use Rattle.stm_session.specs.Promises.{UndoContract}
 use Rattle.stm_session.specs.Refusal.{RefusesUnsent, open_refusal}
-use Rattle.stm_session.specs.Sending.{IsLeaving, SendsAsUndo}
+use Rattle.stm_session.specs.Sending.{IsLeaving, SendsAsUndo, is_whole_at}
 use Rattle.stm_words.specs.declared.image_file.ImageFile.{ImageFile}
 use Rattle.stm_words.specs.declared.task.Task.{Task}
 use Rattle.stm_words.specs.declared.task.Task.TheVariants as task
@@ -91,6 +93,9 @@ pub record TakesBack (table : List ChipData) (count : ℕ) (old new : RigState)
   pub promised : UndoContract table count old new taken
   pub cause : HasSessionCause old new taken
   pub puts : SendsAsUndo table count old new taken
+  pub silent : taken ≡ Ok 0 → GoesOn AreFetches old.calls new.calls
+  pub order : IfOk taken (λ n. 1 ≤ n → UndoesInOrder table n old new)
+  pub stops : IfErr taken (UndoStops table count old new)
 
 -- And `undo_fresh`: the same of a device that is fresh from reset.
 pub record TakesBackFresh (table : List ChipData) (count : ℕ) (old new : RigState)
@@ -98,6 +103,9 @@ pub record TakesBackFresh (table : List ChipData) (count : ℕ) (old new : RigSt
   pub promised : IsReset old.device → UndoContract table count old new taken
   pub cause : HasSessionCause old new taken
   pub puts : SendsAsUndo table count old new taken
+  pub silent : taken ≡ Ok 0 → GoesOn AreFetches old.calls new.calls
+  pub order : IfOk taken (λ n. 1 ≤ n → UndoesInOrderFrom true table n old new)
+  pub stops : IfErr taken (UndoStopsFrom true table count old new)
 
 -- What `go` and `protect` promise of their frame, on a device that allows it.
 pub record Parts (turns : List Turn) (frame : List ℕ) (Allows : Device → Type 0)
@@ -105,6 +113,9 @@ pub record Parts (turns : List Turn) (frame : List ℕ) (Allows : Device → Typ
   pub cause : HasSessionCause old new parted
   pub puts : GoesOn (IsLeaving turns) old.calls new.calls
   pub sent : OnOk parted (GoesOn (IsSettledThen turns) old.calls new.calls)
+  pub silent :
+      IfErr parted (λ fault. is_whole_at fault ≡ true → GoesOn AreFetches old.calls new.calls)
+  pub kept : old.is_honest → new.journal ≡ old.journal
   pub refused : old.is_honest → (fault : Fault) → open_refusal (journal_of old.journal) ≡ Some fault
       → RefusesUnsent (IsUntouched old) fault old new parted
   pub unsent_calls : old.is_honest → (fault : Fault)
@@ -113,6 +124,18 @@ pub record Parts (turns : List Turn) (frame : List ℕ) (Allows : Device → Typ
       → Leaves frame old new parted
   pub goes : old.is_honest → open_refusal (journal_of old.journal) ≡ None → Allows old.device
       → IfErr parted IsOutsideFault
+  pub spared : old.is_honest → old.journal ≡ [] → IfErr parted (λ fault. fault ≢ Memory)
+
+-- a device that lets `go` to this address
+abbrev pub CanGo : ℕ → Device → Type 0
+CanGo address d = CanLeave 0x21 d × IsTrue (is_inside d.chip address)
+
+-- What `go` promises: the same, and that such a device has left its bootloader then.
+pub record GoesTo (address : ℕ) (old new : RigState)
+    (gone : Result (Unit {0}) Fault) : Type 0 where
+  pub parts : Parts (go_turns address) (go_frame address) (CanGo address) old new gone
+  pub left : old.is_honest → open_refusal (journal_of old.journal) ≡ None → CanGo address old.device
+      → OnOk gone (new.device.phase ≡ Gone)
 
 -- Each action is the calls of its own, and hands on what they answer.
 abbrev pub Does : {R : Type 0} → (R → RigState) → List ChipData → Action → R → R
@@ -141,8 +164,7 @@ Does view table (action.UndoFresh count) old new result =
     Calls answer.Undone (λ a b said. TakesBackFresh table count (view a) (view b) said)
     old new result
 Does view table (action.Go address) old new result =
-    Calls (λ done. answer.Nothing) (λ a b said. Parts (go_turns address) (go_frame address)
-    (λ d. CanLeave 0x21 d × IsTrue (is_inside d.chip address)) (view a) (view b) said)
+    Calls (λ done. answer.Nothing) (λ a b said. GoesTo address (view a) (view b) said)
     old new result
 Does view table (action.Protect kind) old new result =
     Calls (λ done. answer.Nothing) (λ a b said. Parts (protect_turns (protection_code kind))

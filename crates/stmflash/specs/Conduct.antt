@@ -1,6 +1,6 @@
 -- What a step of the program does with a device: a run of just some commands, or an asking first.
-use Rattle.std.specs.Prelude.{◌≡◌, ◌⊎◌, List, [], ◌∷◌, length, None, Result, Err, IfErr, IfOk, OnOk}
-use Rattle.std.specs.Prelude.{MatchResult}
+use Rattle.std.specs.Prelude.{◌≡◌, ◌⊎◌, Bool, List, [], ◌∷◌, length, None, Result, Err, IfErr, IfOk}
+use Rattle.std.specs.Prelude.{MatchResult, OnOk}
 use Rattle.std.specs.List.{range_with_len}
 use Rattle.stm_wire.specs.Chip.{ChipData}
 use Rattle.stm_wire.specs.Dialogue.{GoesOn}
@@ -14,14 +14,16 @@ use Rattle.stm_session.specs.declared.fault.Fault.TheVariants.{Memory, Unfinishe
 use Rattle.stm_session.specs.declared.information.Info.{Info}
 use Rattle.stm_session.specs.Answers.{OutcomeData}
 use Rattle.stm_session.specs.Fault.{HasSessionCause}
+use Rattle.stm_session.specs.Fresh.{Settles}
 use Rattle.stm_session.specs.Information.{Describes}
 use Rattle.stm_session.specs.Moments.{IsSafe}
 use Rattle.stm_session.specs.Opening.{Tells}
 use Rattle.stm_session.specs.Refusal.{unsent_refusal}
 use Rattle.stm_session.specs.Unwritten.{AppendsNothing}
 use Rattle.stm_session.specs.Meaning.{CommandData, erases}
+use Rattle.stm_session.specs.Order.{ReachesInOrder, StopsShort}
 use Rattle.stm_session.specs.Promises.{InfoContract, RunContract}
-use Rattle.stm_session.specs.RunOrder.{RunsInOrder}
+use Rattle.stm_session.specs.RunOrder.{RunStops, RunsInOrder}
 use Rattle.stm_session.specs.Sending.{SendsAsRun, is_whole, most_calls}
 use Rattle.stmflash.specs.declared.answer.Answer.{Answer}
 use Rattle.stmflash.specs.Answer.{outcomes_told}
@@ -35,6 +37,7 @@ pub record RunsJust {T : Type 0} (table : List ChipData) (commands : List Comman
   pub puts : SendsAsRun table (is_whole result) (length commands) old new
   pub silent : IfErr result (λ fault. fault ≡ Unfinished → GoesOn AreFetches old.calls new.calls)
   pub order : OnOk result (RunsInOrder table commands old new)
+  pub stops : IfErr result (RunStops table commands old new)
 
 -- There was no memory for the commands, and nothing was called.
 abbrev pub LacksMemory : {R : Type 0} → R → R → Result Answer Fault → Type 0
@@ -55,13 +58,19 @@ pub record Asks (table : List ChipData) (old new : RigState)
     (told : Result Info Fault) : Type 0 where
   pub promised : InfoContract table old new told
   pub describes : IfOk told (Describes table)
+  pub unwritten : GoesOn AppendsNothing old.calls new.calls
+  pub kept : old.is_honest → new.journal ≡ old.journal
   pub cause : HasSessionCause old new told
   pub puts : GoesOn (IsSession None 0x7F 131072 (is_whole told) (most_calls 0)) old.calls new.calls
   pub silent : IfErr told (λ fault. fault ≡ Unfinished → GoesOn AreFetches old.calls new.calls)
+  pub order : (torn : Bool)
+      → IfOk told (λ info. ReachesInOrder (Settles 0x7F 131072) info.id torn old new)
+  pub stops : (torn : Bool) → StopsShort (Settles 0x7F 131072) torn old new told
 
 -- What `identify` promises.
 pub record Identifies (old new : RigState) (said : Result Told Fault) : Type 0 where
   pub unwritten : GoesOn AppendsNothing old.calls new.calls
+  pub kept : old.is_honest → new.journal ≡ old.journal
   pub cause : HasSessionCause old new said
   pub puts : GoesOn (IsSession None 0x7F 131072 (is_whole said) (most_calls 0)) old.calls new.calls
   pub silent : IfErr said (λ fault. fault ≡ Unfinished → GoesOn AreFetches old.calls new.calls)
