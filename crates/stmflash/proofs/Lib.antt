@@ -1,3 +1,4 @@
+pub mod Escaping
 pub mod Growing
 pub mod LoggedPages
 pub mod Telling

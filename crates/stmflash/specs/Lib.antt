@@ -2,6 +2,7 @@ pub mod Action
 pub mod Answer
 pub mod Conduct
 pub mod Content
+pub mod Escaped
 pub mod FalseErase
 pub mod JournalFile
 pub mod Logging
