@@ -5,10 +5,11 @@
 #   make tests  the tests of the program alone (tests/), on the one that `make demo` leaves (needs python3)
 #   make test   the whole gate: every proof from nothing, the tests of the libraries, the programs, and the wrong bodies; then each
 #               allocation of small sessions and of the program refused in turn, journals of 1 GB (1.2 GB free in TMPDIR),
-#               images of 2 MiB, a Debian package that is packed, installed, used and removed (left out where there is no
-#               dpkg), the demo, the tests of the program (whole on the proved one, without those that wait on the demo's and
-#               on the one that Rattle's own compiler made), the program and the simulator over a real socket, 60 kills of the
-#               program there, and random sessions: 300, and 2,000 of the proved one (python3)
+#               images of 2 MiB, an erase on a stored simulator without power, a Debian package that is packed, installed,
+#               used and removed (left out where there is no dpkg), the demo, the tests of the program (whole on the proved one,
+#               without those that wait on the demo's and on the one that Rattle's own compiler made), the program and the
+#               simulator over a real socket, 60 kills of the program there, and random sessions: 300, and 2,000 of the proved
+#               one (python3)
 #   make wrong-bodies
 #               has the prover refuse the wrong bodies of the large crates that the gate leaves out (tools/wrong-bodies)
 #   make install PREFIX=/usr/local DESTDIR=
@@ -60,6 +61,7 @@ test:
 	python3 tools/refused-program crates/stmflash/out/stmflash
 	python3 tools/large-journals crates/stmflash/out/stmflash
 	python3 tools/large-images crates/hex_bench/out/hex_bench
+	python3 tools/take-back-stored
 	sh packaging/try-deb crates/stmflash/out/stmflash
 	sh tools/demo.sh
 	python3 tests/run crates/stmflash/out/stmflash --brief crates/stmflash/out/stmflash.by-rattle bin/stmflash-unproved
