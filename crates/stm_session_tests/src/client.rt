@@ -5,8 +5,8 @@ use crate::stories::{Ask, commands_of};
 use std::test::Fail;
 use stm_chip::{Table, read_table};
 use stm_client::{
-    lose_power, read, read_again, read_flash, read_new, read_twice, take_back_stopped,
-    take_back_unpowered, tell, write_whole,
+    change_kept, lose_power, read, read_again, read_flash, read_new, read_twice, take_back_kept,
+    take_back_stopped, take_back_unpowered, tell, write_whole,
 };
 use stm_session::{Command, Outcome, Report, run};
 use stm_wire::MemoryRig;
@@ -157,6 +157,24 @@ fn write_two(rt: &HostRuntime) -> Result<(Option<(u32, u32)>, bool), Fail> {
 #[test]
 fn a_write_leaves_every_other_byte(rt: HostRuntime) -> Result<(), Fail> {
     assert_eq!(rt; write_two(&rt)?, (Some((1, 2)), true));
+    Ok(())
+}
+
+/// Whether a write of two bytes leaves these, and how many segments an undo then takes back, and
+/// whether the flash is back.
+fn kept(rt: &HostRuntime) -> Result<(bool, u32, bool), Fail> {
+    let table = table(rt)?;
+    let mut rig = fresh_device(rt, &table)?;
+    let commands = commands_of(rt, &[Ask::Write(0x0800_03FF, &[0xA5, 0x5A])])?;
+    let _report = change_kept(rt.alloc(), &mut rig, &table, &commands)?;
+    let is_written = rig.flash() == written(rt)?.as_slice();
+    let taken = take_back_kept(rt.alloc(), &mut rig, &table, 0)?;
+    Ok((is_written, taken, is_counting(rig.flash())))
+}
+
+#[test]
+fn a_kept_change_is_taken_back(rt: HostRuntime) -> Result<(), Fail> {
+    assert_eq!(rt; kept(&rt)?, (true, 1, true));
     Ok(())
 }
 
