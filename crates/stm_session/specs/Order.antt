@@ -309,8 +309,8 @@ ReachesAndStops way id torn P cause old new = (version : ℕ) × (codes : List �
     × GoesOn (SettlesThen way (AreCutShort (IsAfter (asking_steps version codes id) P) cause torn))
     old.calls new.calls
 
--- A session loaded a journal, which has no bad line, and took it for one of this chip of the
--- table; and this is so of both.
+-- A session loaded a journal, whose state is sound as that of each journal without a bad line, and
+-- took it for one of this chip of the table; and this is so of both.
 pub record Session (table : List ChipData) (old : RigState)
     (Does : ChipData → Loaded → Type 0) : Type 0 where
   pub journal : Loaded
