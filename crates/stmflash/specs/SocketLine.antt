@@ -1,5 +1,5 @@
 -- A line to a device behind a socket, as contracts see it, and what its calls do.
-use Rattle.std.specs.Prelude.{◌≡◌, ◌⊎◌, ℕ, List, [], ◌∷◌, ◌++◌, Option, Some, None}
+use Rattle.std.specs.Prelude.{◌≡◌, ◌⊎◌, ◌<◌, ℕ, List, [], ◌∷◌, ◌++◌, Option, Some, None, length}
 use Rattle.std.specs.Io.KnownBytes.{Appends, Consumes, Keeps}
 use Rattle.stmflash.specs.Outgoing.{SendsInTurn}
 
@@ -51,6 +51,10 @@ pub record StaysQuiet (old new : LineState) : Type 0 where
 abbrev pub Comes : Option ℕ → LineState → LineState → Type 0
 Comes (Some byte) old new = IsNextByte byte old new
 Comes None old new = StaysQuiet old new
+
+-- Bytes wait to be sent, or none is held.
+abbrev pub HasToWait : LineState → Type 0
+HasToWait line = (0 < length line.waiting) ⊎ (line.held ≡ [])
 
 -- What was put is sent first.
 pub record TakesFromLine (answer : Option ℕ) (old new : LineState) : Type 0 where

@@ -38,6 +38,7 @@ impl Incoming {
     }
 
     /// Takes the first byte, where there is one.
+    #[inline(always)]
     pub fn pop(&mut self) -> Option<u8>
         ensures { MatchOption result
             ((self.old ≡ []) × (self.new ≡ []))

@@ -1,6 +1,6 @@
 // Bytes that are put on a line one by one, and sent together.
 ghost use Rattle.std.specs.Prelude.{◌≡◌, ◌≤◌, ◌++◌, ◌∷◌, [], List, ℕ, OnOk, length, take};
-ghost use Rattle.std.specs.Prelude.{MatchBool};
+ghost use Rattle.std.specs.Prelude.{◌==◌, MatchBool};
 ghost use Rattle.std.specs.Io.KnownBytes.{Appends, Keeps};
 ghost use Rattle.stmflash.specs.Outgoing.{SendsInTurn};
 
@@ -36,7 +36,16 @@ impl Outgoing {
         }
     }
 
+    /// Whether nothing waits.
+    #[inline(always)]
+    pub fn is_empty(&self) -> bool
+        ensures { result ≡ (length self.now == 0) }
+    {
+        self.count == 0
+    }
+
     /// Adds a byte; false where there is no room for it.
+    #[inline(always)]
     fn push(&mut self, byte: u8) -> bool
         ensures { MatchBool result
             (self.new ≡ self.old ++ byte ∷ [])
@@ -52,6 +61,7 @@ impl Outgoing {
 
     /// Sends what waits, in one call where the stream takes it so. Nothing waits
     /// then, also where this failed.
+    #[inline(never)]
     pub fn send<S: Write>(&mut self, stream: &mut S) -> io::Result<()>
         ensures sent { OnOk result
             (Appends (S.contents stream.old) (S.contents stream.new) self.old) }
@@ -66,6 +76,7 @@ impl Outgoing {
     }
 
     /// Puts a byte behind those that wait, which are sent first where there is no room for it.
+    #[inline(always)]
     pub fn put<S: Write>(&mut self, stream: &mut S, byte: u8) -> io::Result<()>
         ensures in_turn { OnOk result (SendsInTurn
             (S.contents stream.old) (S.contents stream.new) (self.old ++ byte ∷ []) self.new) }

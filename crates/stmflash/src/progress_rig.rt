@@ -69,7 +69,17 @@ impl<'a, L: Rig + Drop, W: Write + Drop, C: Clock> ProgressRig<'a, L, W, C> {
         }
     }
 
+    /// Shows what the bytes put told, before a get.
+    #[inline(never)]
+    fn show_put(&mut self)
+        ensures { self.new.inner ≡ self.old.inner }
+    {
+        let seen = self.watch.get();
+        self.show(seen);
+    }
+
     /// Shows what a get answered.
+    #[inline(never)]
     fn show_get(&mut self, answer: Option<u8>)
         ensures { self.new.inner ≡ self.old.inner }
     {
@@ -101,14 +111,16 @@ impl<'a, L: Rig + Drop, W: Write + Drop, C: Clock> Rig for ProgressRig<'a, L, W,
         self.inner.put(byte)
     }
 
+    #[inline(always)]
     fn get(&mut self, patience: Patience) -> Result<Option<u8>, RigFault> {
-        if !self.screen.is_shown() {
-            return self.inner.get(patience);
+        let is_shown = self.screen.is_shown();
+        if is_shown {
+            self.show_put();
         }
-        let seen = self.watch.get();
-        self.show(seen);
         let answer = self.inner.get(patience)?;
-        self.show_get(answer);
+        if is_shown {
+            self.show_get(answer);
+        }
         Ok(answer)
     }
 

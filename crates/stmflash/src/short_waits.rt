@@ -51,6 +51,7 @@ impl ShortWaits {
     }
 
     /// A byte is put.
+    #[inline(always)]
     pub fn put(&mut self)
         ensures { self.new ≡ with_put self.old }
     {
@@ -58,6 +59,7 @@ impl ShortWaits {
     }
 
     /// A get begins; where it has to wait, at this time.
+    #[inline(always)]
     pub fn get(&mut self, patience: Patience, at: Option<Instant>)
         ensures { self.new ≡ with_get patience (option_map instant_nanos at) self.old }
     {

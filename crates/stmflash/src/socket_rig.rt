@@ -118,6 +118,7 @@ impl<'a, S: Timed + Drop, R: Locks + Clock + AllocGlobal> Rig for SocketRig<'a, 
         self.count_line(answer)
     }
 
+    #[inline(always)]
     fn get(&mut self, patience: Patience) -> Result<Option<u8>, RigFault>
         ensures cause { HasCause self.old.failures.line self.new.failures.line result }
         ensures journal_count { self.new.failures.journal ≡ self.old.failures.journal }
@@ -134,6 +135,9 @@ impl<'a, S: Timed + Drop, R: Locks + Clock + AllocGlobal> Rig for SocketRig<'a, 
             self.old.line self.new.line) }
         ensures file { self.new.file ≡ self.old.file }
     {
+        if let Some(byte) = self.line.pop(patience) {
+            return Ok(Some(byte));
+        }
         let answer = as_line_fault(self.line.take(patience));
         self.count_line(answer)
     }
