@@ -4,7 +4,7 @@ import os
 import pty
 import subprocess
 
-from place import PATIENCE, Place, program
+from place import PATIENCE, Place, program, with_page
 
 TABLE = b'[[chip]]\nid = 0x410\nbase = 0x08000000\npages = [[128, 1024]]\nerase = "page"\n'
 SIZE = 64 * 1024
@@ -179,18 +179,70 @@ class Progress(Place):
             (("read", "--progress", "out"), b"page 0 read, 1 of 128", b"page 127 read, 128 of 128", 128),
             (("verify", "--progress", "-f", "-S", "0x08000000", "image"), b"page 0 read, 1 of 64", b"page 63 read, 64 of 64", 64),
             (("erase", "--progress", "5", "7"), b"page 5 erased, 1 of 2", b"page 7 erased, 2 of 2", 2),
-            (("undo", "--progress"), b"page 5 written, 1 so far", b"page 0 ", None),
+            (("undo", "--progress"), b"page 5 written, 1 of 66", b"page 63 erased, 66 of 66", 66),
             (("info", "--progress"), None, None, 0),
         ):
             with self.subTest(words=words):
                 came, shown = self.in_file(lambda err: self.run_shown(err, *words))
                 self.assertEqual(came[0], 0)
                 lines = shown.split(b"\n")[:-1]
-                if count is not None:
-                    self.assertEqual(len(lines), count)
+                self.assertEqual(len(lines), count)
                 if first:
                     self.assertTrue(lines[0].startswith(first), lines[0])
                     self.assertTrue(any(line.startswith(last) for line in lines), last)
+
+    def shown_of_undo(self, journal, *words):
+        """What `--progress` shows of an undo on a flash of FF, up to the word `pages`. All else is as without it."""
+        ends, shown = [], b""
+        for word in ("--quiet", "--progress"):
+            self.remove(*(name for name in ("flash", "flash.line") if self.is_there(name)))
+            self.store("journal", journal)
+            came, shown = self.in_file(lambda err: self.run_shown(err, "undo", word, *words))
+            ends.append((came, self.held("flash"), self.held("flash.line"), self.held("journal")))
+        self.assertEqual(ends[0], ends[1])
+        self.assertEqual(ends[0][0][0], 0)
+        return [line.split(b" pages")[0].decode() for line in shown.split(b"\n")[:-1]]
+
+    def test_an_undo_tells_of_how_many_pages(self):
+        """Those that the segments keep which are taken back, also where one has the number of the one before."""
+        first = with_page(b"stmjournal 2 0410\nopen 1\npage 5 ", b"F", b"\nerase 5\nprogram 5\nend 1\n")
+        second = with_page(b"open 2\npage 4 ", b"0", with_page(b"\npage 5 ", b"0", b"\nerase 4\nerase 5\nend 2\n"))
+        third = b"open 3\nend 3\n"
+        newest = ["page 4 written, 1 of {}", "page 5 written, 2 of {}"]
+        for words, count, more in (((), 3, ["page 5 erased, 3 of 3"]), (("1",), 0, []), (("2",), 2, []),
+                                   (("3",), 3, ["page 5 erased, 3 of 3"]), (("70000",), 3, ["page 5 erased, 3 of 3"])):
+            with self.subTest(words=words):
+                told = [line.format(count) for line in newest] if count else []
+                self.assertEqual(self.shown_of_undo(first + second + third, *words), told + more)
+
+    def test_an_undo_counts_what_the_journal_keeps(self):
+        """No void line and no torn one, and no segment that was taken off; a page at work, which is written first, once more."""
+        gone = with_page(b"stmjournal 2 0410\nopen 1\npage 9 ", b"A", b"\nerase 9\nend 1\nerase 9\nundone 1\n")
+        first = with_page(b"open 1\npage 3 ", b"0", b"\npage 6 FF!\nopen 7!\n!\nerase 3\nend 1\n")
+        self.assertEqual(self.shown_of_undo(gone + first + b"ope"), ["page 3 written, 1 of 1"])
+        second = with_page(b"open 2\npage 4 ", b"0", b"\nerase 4\nprogram 4\n")
+        torn = with_page(b"", b"0", b"")
+        self.assertEqual(self.shown_of_undo(gone + first + second + b"page 5 " + torn),
+                         ["page 4 written, 1 of 3", "page 4 read, 2 of 3", "page 3 written, 3 of 3"])
+        self.assertEqual(self.shown_of_undo(gone + first + second + b"undone 2\n"), ["page 3 written, 1 of 1"])
+
+    def test_a_terminal_tells_an_undo_from_its_first_page_to_its_last(self):
+        plain = self.plain()
+        held = plain[1], plain[2], plain[3]
+
+        def undo(err):
+            for name, text in zip(("flash", "flash.line", "journal"), held):
+                self.store(name, text)
+            return self.run_shown(err, "undo"), self.held("flash"), self.held("journal")
+
+        came, shown = self.on_terminal(undo)
+        self.assertEqual((came, b""), self.in_file(undo))
+        self.assertEqual(came[0], (0, b"undone 1\n"))
+        lines = shown.split(b"\x1b[K\r")
+        for page in range(64):
+            for doing in (b"reading", b"erasing"):
+                text = b"%s page %d, %d of 64 pages" % (doing, page, page + 1)
+                self.assertTrue(any(text in line for line in lines), text)
 
     def test_a_closed_standard_error_is_left_alone(self):
         """A file that is opened later has its number."""

@@ -186,7 +186,7 @@ fn use_simulator<'a, R: Locks + Clock + AllocGlobal, W: Write + Drop>(
     output: Output<'a, R>,
     screen: Screen<'_, W, R>,
 ) -> Result<Answer, Failure<'a>> {
-    let mut rig = ProgressRig::new(rig, Course::new(table, work.goal()), screen);
+    let mut rig = ProgressRig::new(rig, Course::new(rt.alloc(), table, work.goal()), screen);
     let done = work.run(rt.alloc(), &mut rig, table);
     let rig = rig.finish(done.is_ok());
     let is_unstored = rig.is_unstored();
@@ -231,7 +231,7 @@ fn on_socket<'a, R: Locks + Net + Clock + AllocGlobal, W: Write + Drop>(
         Err(e) => return Err(Failure::of_file(&e, Failure::CannotConnect(path))),
     };
     let rig = SocketRig::new(line, journal);
-    let mut rig = ProgressRig::new(rig, Course::new(table, work.goal()), screen);
+    let mut rig = ProgressRig::new(rig, Course::new(rt.alloc(), table, work.goal()), screen);
     let done = work.run(rt.alloc(), &mut rig, table);
     let rig = rig.finish(done.is_ok());
     let has_given_up = rig.has_given_up();

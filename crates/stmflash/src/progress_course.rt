@@ -2,7 +2,8 @@
 
 use crate::action::Action;
 use crate::content::Content;
-use crate::progress_watch::{Doing, Seen};
+use crate::progress_watch::{Doing, KeptPages, Seen};
+use std::alloc::Global;
 use stm_chip::Table;
 use stm_image::Image;
 use stm_wire::Chip;
@@ -22,6 +23,8 @@ pub enum Goal {
     From(u32),
     /// Those of the flash's first bytes, so many.
     First(u32),
+    /// Those that so many of the newest segments keep; 0: all of them. The journal says which.
+    Back(u32),
 }
 
 impl Goal {
@@ -43,6 +46,7 @@ impl Goal {
                 Ok(count) => Goal::Count(count),
                 Err(_) => Goal::Unknown,
             },
+            Action::Undo(count) | Action::UndoFresh(count) => Goal::Back(*count),
             _ => Goal::Unknown,
         }
     }
@@ -87,6 +91,7 @@ pub struct Place {
 pub struct Course<'a> {
     table: &'a Table,
     goal: Goal,
+    kept: KeptPages,
     chip: Option<&'a Chip>,
     /// The first page that is gone through, where they follow one another.
     first: Option<u16>,
@@ -94,14 +99,14 @@ pub struct Course<'a> {
     place: Option<Place>,
 }
 
-/// The page at an address.
-fn page_at(chip: &Chip, address: u32) -> Option<u16> {
+/// The page at an address, and whether it begins there.
+fn page_at(chip: &Chip, address: u32) -> Option<(u16, bool)> {
     let address = u64::from(address);
     let mut start = u64::from(chip.base());
     for number in 0..chip.pages() {
         let end = start.saturating_add(u64::from(chip.page_size(number)));
         if start <= address && address < end {
-            return Some(number);
+            return Some((number, address == start));
         }
         start = end;
     }
@@ -114,10 +119,11 @@ fn pages_between(first: u16, last: u16) -> u32 {
 }
 
 impl<'a> Course<'a> {
-    pub fn new(table: &'a Table, goal: Goal) -> Course<'a> {
+    pub fn new(alloc: Global, table: &'a Table, goal: Goal) -> Course<'a> {
         Course {
             table,
             goal,
+            kept: KeptPages::new(alloc),
             chip: None,
             first: None,
             count: None,
@@ -140,14 +146,30 @@ impl<'a> Course<'a> {
                 false
             }
             Seen::Block(doing, address) => match self.page_of(address) {
-                Some(page) => self.turn_to(doing, page),
+                Some((page, is_start)) => {
+                    let is_next = is_start && doing == Doing::Reading && self.is_back();
+                    self.turn_to(doing, page, is_next)
+                }
                 None => false,
             },
-            Seen::Page(doing, page) => self.turn_to(doing, page),
+            Seen::Page(doing, page) => self.turn_to(doing, page, false),
         }
     }
 
-    fn page_of(&self, address: u32) -> Option<u16> {
+    /// Takes up what was fetched of the journal from a place on.
+    pub fn fetch(&mut self, at: u64, bytes: &[u8]) {
+        if self.is_back() {
+            self.kept.fetch(at, bytes);
+        }
+    }
+
+    /// Whether pages are given back. Each is read from its first byte on then, also where it is the
+    /// one before: the newest segment may keep it, and the one below.
+    fn is_back(&self) -> bool {
+        matches!(self.goal, Goal::Back(_))
+    }
+
+    fn page_of(&self, address: u32) -> Option<(u16, bool)> {
         page_at(self.chip?, address)
     }
 
@@ -160,6 +182,10 @@ impl<'a> Course<'a> {
             Goal::Unknown => None,
             Goal::Count(count) => {
                 self.count = Some(count);
+                None
+            }
+            Goal::Back(segments) => {
+                self.count = self.kept.given_back(segments);
                 None
             }
             Goal::All => Some((chip.base(), chip.end())),
@@ -176,14 +202,15 @@ impl<'a> Course<'a> {
         let Ok(last) = u32::try_from(end.saturating_sub(1)) else {
             return;
         };
-        if let (Some(first), Some(last)) = (page_at(chip, from), page_at(chip, last)) {
+        if let (Some((first, _)), Some((last, _))) = (page_at(chip, from), page_at(chip, last)) {
             self.first = Some(first);
             self.count = Some(pages_between(first, last));
         }
     }
 
-    /// Goes on to a page, where it is one of those that are gone through.
-    fn turn_to(&mut self, doing: Doing, page: u16) -> bool {
+    /// Goes on to a page, where it is one of those that are gone through. It may be said that it is
+    /// the next one, though it has the number of the one before.
+    fn turn_to(&mut self, doing: Doing, page: u16, is_next: bool) -> bool {
         let turn = match (self.first, self.place) {
             (Some(first), _) => {
                 if page < first {
@@ -191,7 +218,7 @@ impl<'a> Course<'a> {
                 }
                 pages_between(first, page)
             }
-            (None, Some(place)) if place.page == page => place.turn,
+            (None, Some(place)) if place.page == page && !is_next => place.turn,
             (None, Some(place)) => place.turn.saturating_add(1),
             (None, None) => 1,
         };
@@ -201,7 +228,7 @@ impl<'a> Course<'a> {
             }
         }
         if let Some(place) = self.place {
-            if place.page == page && place.doing == doing {
+            if place.page == page && place.doing == doing && place.turn == turn {
                 return false;
             }
         }

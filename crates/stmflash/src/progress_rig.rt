@@ -133,6 +133,10 @@ impl<'a, L: Rig + Drop, W: Write + Drop, C: Clock> Rig for ProgressRig<'a, L, W,
     }
 
     fn fetch(&mut self, at: u64, buf: &mut [u8]) -> Result<usize, RigFault> {
-        self.inner.fetch(at, buf)
+        let count = self.inner.fetch(at, buf)?;
+        if self.screen.is_shown() {
+            self.progress.fetch(at, &buf[..count]);
+        }
+        Ok(count)
     }
 }

@@ -170,7 +170,7 @@ impl<'a, W: Write + Drop, C: Clock> Screen<'a, W, C> {
         ensures style { self.new.style ≡ self.old.style }
     {
         let is_begun = match before {
-            Some(before) => before.page != place.page,
+            Some(before) => before.turn != place.turn,
             None => true,
         };
         if is_begun && self.style == Style::Lines {

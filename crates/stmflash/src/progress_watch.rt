@@ -1,4 +1,7 @@
 // What the calls of a session tell of what is done.
+ghost use Rattle.std.specs.Prelude.{◌≡◌, ◌==◌, position};
+
+use std::alloc::Global;
 
 /// What is done with a page.
 #[derive(Clone, Copy, Debug, PartialEq, Eq)]
@@ -125,4 +128,155 @@ pub fn page_named(bytes: &[u8]) -> Option<Seen> {
     }
     let digits = line.strip_prefix(b"program ")?;
     Some(Seen::Page(Doing::Writing, number(digits)?))
+}
+
+/// How far the journal was read.
+#[derive(Clone, Copy, PartialEq, Eq)]
+enum Reading {
+    /// Up to this place.
+    UpTo(u64),
+    /// To its end.
+    Whole,
+    /// There was no memory for what it says.
+    Lost,
+}
+
+/// Counts the pages that the segments of a journal keep, as a session's own loading reads it from
+/// its first byte on to its end. A bad journal is counted somehow: the session refuses it.
+#[derive(Drop)]
+pub struct KeptPages {
+    reading: Reading,
+    /// The first two bytes of the line so far, how many of them are there, and its last one.
+    head: [u8; 2],
+    length: usize,
+    last: u8,
+    /// How many pages each segment keeps, the oldest first.
+    counts: Vec<u32>,
+    /// The newest segment has a page at work.
+    has_intent: bool,
+}
+
+/// Where the first LF stands.
+fn first_lf(bytes: &[u8]) -> Option<usize>
+    ensures { result ≡ position (λ b. b == 10) bytes.now }
+{
+    bytes.iter().position(|b| *b == b'\n')
+}
+
+impl KeptPages {
+    pub fn new(alloc: Global) -> KeptPages {
+        KeptPages {
+            reading: Reading::UpTo(0),
+            head: [0; 2],
+            length: 0,
+            last: 0,
+            counts: Vec::new(alloc),
+            has_intent: false,
+        }
+    }
+
+    /// These bytes were fetched from a place of the journal on; none at its end.
+    pub fn fetch(&mut self, at: u64, bytes: &[u8]) {
+        if self.reading != Reading::UpTo(at) {
+            return;
+        }
+        if bytes.is_empty() {
+            self.reading = Reading::Whole;
+            return;
+        }
+        self.reading = Reading::UpTo(at.saturating_add(bytes.len() as u64));
+        let mut rest = bytes;
+        for _ in 0..bytes.len() {
+            let Some(behind) = self.fetch_line(rest) else {
+                break;
+            };
+            rest = behind;
+        }
+        self.extend(rest);
+    }
+
+    /// The rest of a line was fetched, and the bytes behind it that are answered; None where no
+    /// line ends.
+    fn fetch_line<'b>(&mut self, bytes: &'b [u8]) -> Option<&'b [u8]> {
+        let lf = first_lf(bytes)?;
+        self.extend(&bytes[..lf]);
+        self.end_line();
+        Some(&bytes[lf + 1..])
+    }
+
+    /// Bytes more of a line.
+    fn extend(&mut self, bytes: &[u8]) {
+        let Some(last) = bytes.last() else {
+            return;
+        };
+        self.last = *last;
+        for byte in bytes {
+            if self.length >= self.head.len() {
+                return;
+            }
+            self.head[self.length] = *byte;
+            self.length += 1;
+        }
+    }
+
+    /// The line is whole. One that ends in `!` is void.
+    fn end_line(&mut self) {
+        let head = self.head;
+        let is_void = self.last == b'!';
+        self.head = [0; 2];
+        self.length = 0;
+        self.last = 0;
+        if !is_void {
+            self.take_line(head);
+        }
+    }
+
+    /// Takes up a line that begins with these two bytes, by which the lines of a journal differ.
+    fn take_line(&mut self, head: [u8; 2]) {
+        match &head {
+            b"op" => self.open(),
+            b"pa" => self.keep(),
+            b"er" | b"pr" => self.has_intent = true,
+            b"en" => self.has_intent = false,
+            b"un" => {
+                let _ = self.counts.pop();
+                self.has_intent = false;
+            }
+            _ => {}
+        }
+    }
+
+    /// A segment begins.
+    fn open(&mut self) {
+        self.has_intent = false;
+        if self.counts.push(0).is_err() {
+            self.reading = Reading::Lost;
+        }
+    }
+
+    /// The newest segment keeps a page more.
+    fn keep(&mut self) {
+        if let Some(count) = self.counts.last_mut() {
+            *count = count.saturating_add(1);
+        }
+    }
+
+    /// How many pages an undo of so many segments goes through, or, at 0, of all: those that the
+    /// segments keep and, before them, the page at work, where one is. None where the journal
+    /// wasn't read to its end.
+    pub fn given_back(&self, segments: u32) -> Option<u32> {
+        if self.reading != Reading::Whole {
+            return None;
+        }
+        let depth = self.counts.len();
+        let first = match usize::try_from(segments) {
+            Ok(0) | Err(_) => 0,
+            Ok(taken) => depth.saturating_sub(taken),
+        };
+        let mut pages = u32::from(self.has_intent);
+        for count in &self.counts[first..] {
+            pages = pages.saturating_add(*count);
+        }
+        Some(pages)
+    }
 }
