@@ -79,5 +79,4 @@ fn hex_digit(value: u32) -> char
 /// A text that is escaped has no control character, and so it stands in one line.
 pub fn an_escaped_text_is_one_line()
     ensures { EscapedIsOneLine }
-{
-}
+{}

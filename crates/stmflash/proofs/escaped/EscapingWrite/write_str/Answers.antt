@@ -17,24 +17,31 @@ loop-c-init g c =
 pub loop-c-preserved : goal.loop-c-preserved
 loop-c-preserved g c =
     let now = c.loop-c.invariant in
-    let splits = c.in-Some.ensures.steps.0 in
-    (now.0, IsUtf8-past_char _ _ _ now.1 splits, λ plain.
-    let done = now.2 plain in
-    let own = encode_utf8_all (shown c.in-Some.c) in (
-      done.0 ++ own,
-      has_written_append _ _ _ _ _ _ done.1 (c.in_ok-write_shown.ensures done.1.plain refl),
-      append_assoc done.0 own _ ∙ ap (λ (rest : List ℕ). done.0 ++ rest) (sym (escaped-step _ _ _ now.1 splits)) ∙ done.2,
-    ))
+    let splits = c.in-Some.ensures.steps.0 in (
+      now.0,
+      IsUtf8-past_char _ _ _ now.1 splits,
+      λ plain.
+          let done = now.2 plain in
+          let own = encode_utf8_all (shown c.in-Some.c) in (
+            done.0 ++ own,
+            has_written_append _ _ _ _ _ _ done.1 (c.in_ok-write_shown.ensures done.1.plain refl),
+            append_assoc done.0 own _ ∙ ap (λ (rest : List ℕ). done.0 ++ rest) (sym (escaped-step _ _ _ now.1 splits)) ∙ done.2,
+          ),
+    )
 
 pub returns : goal.returns
 returns g c =
     let now = c.loop-c.invariant in
     let took = g.W.Write.write_str_gives in
     record {
-      ok = λ ok. (now.0, c.utf8.text, λ plain.
-          let done = now.2 plain in
-          let Wrote : List ℕ → Type 0 = λ bytes. HasWritten took c.args.self.now.to.now bytes c.loop-c.self.to.now in
-          let none = escaped-none _ c.in-None.ensures.steps.0.0 in
-          let whole : done.0 ≡ escaped c.args.text.now = sym (append-nil done.0) ∙ ap (λ (rest : List ℕ). done.0 ++ rest) (sym none) ∙ done.2 in
-          subst Wrote whole done.1);
+      ok = λ ok. (
+        now.0,
+        c.utf8.text,
+        λ plain.
+            let done = now.2 plain in
+            let Wrote : List ℕ → Type 0 = λ bytes. HasWritten took c.args.self.now.to.now bytes c.loop-c.self.to.now in
+            let none = escaped-none _ c.in-None.ensures.steps.0.0 in
+            let whole : done.0 ≡ escaped c.args.text.now = sym (append-nil done.0) ∙ ap (λ (rest : List ℕ). done.0 ++ rest) (sym none) ∙ done.2 in
+            subst Wrote whole done.1,
+      );
     }
