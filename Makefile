@@ -32,8 +32,6 @@ STMFLASH_BINARY ?= bin/stmflash
 # what is installed and packed
 BINARY ?= $(STMFLASH_BINARY)
 JOBS ?= $(shell nproc)
-# the crates of which the gate tries every wrong body
-SMALL = stm_image stm_chip stm_journal stm_client stm_words
 SOAKED = $(if $(wildcard bin/stmflash),bin/stmflash,bin/stmflash-unproved)
 
 .PHONY: all demo tests test wrong-bodies soak install deb pictures bench beside clean
@@ -59,7 +57,6 @@ tests:
 # stmflash.by-rattle by Rattle's own.
 test:
 	rt ci
-	python3 tools/wrong-bodies $(SMALL)
 	python3 tools/allocations crates/refused_memory/out/refused_memory
 	python3 tools/refused-program crates/stmflash/out/stmflash
 	python3 tools/large-journals crates/stmflash/out/stmflash
