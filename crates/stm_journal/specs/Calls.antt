@@ -35,8 +35,8 @@ pub record HasJournalCause {T : Type 0} (old new : RigState)
 abbrev pub AppendsInPart : List ℕ → List Call → Type 0
 AppendsInPart bytes calls = (calls ≡ []) ⊎ ((n : ℕ) × (calls ≡ Append (take n bytes) ∷ []))
 
--- one append of these bytes; one that failed added a beginning of them, or is missing in the record,
--- and a call that failed for another cause made none
+-- one append of these bytes; one that failed added a beginning of them, or is missing in the
+-- record, and a call that failed for another cause made none
 abbrev pub AppendsOnce : {T : Type 0} → List ℕ → Result T JournalFault → List Call → Type 0
 AppendsOnce bytes (Ok x) calls = calls ≡ Append bytes ∷ []
 AppendsOnce bytes (Err File) calls = AppendsInPart bytes calls

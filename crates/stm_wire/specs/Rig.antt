@@ -62,7 +62,8 @@ Enters call old new = old.has_room → Records {T = Unit {0}} call (Ok tt) old.c
 
 abbrev pub EntersAppend : List ℕ → RigState → RigState → Type 0
 EntersAppend bytes old new =
-    old.has_room → (n : ℕ) × Records {T = Unit {0}} (Append (take n bytes)) (Ok tt) old.calls new.calls
+    old.has_room
+    → (n : ℕ) × Records {T = Unit {0}} (Append (take n bytes)) (Ok tt) old.calls new.calls
 
 -- a get counts where it waits long; the count stays at 2^64 - 1
 abbrev pub waited : Patience → Option ℕ → Option ℕ

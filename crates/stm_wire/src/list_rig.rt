@@ -28,8 +28,8 @@ fn reply_at(replies: &[Option<u8>], place: usize) -> Option<u8>
 
 /// A line that follows no model: its gets are answered from a list, in order, and are quiet past
 /// its end. What is sent to it changes nothing, and its journal has no bytes to read, whatever was
-/// added. It keeps a record of all calls, with the bytes of appends; a call for whose entry there is
-/// no memory fails and does nothing.
+/// added. It keeps a record of all calls, with the bytes of appends; a call for whose entry there
+/// is no memory fails and does nothing.
 #[derive(Drop)]
 pub struct ListRig {
     replies: Vec<Option<u8>>,
