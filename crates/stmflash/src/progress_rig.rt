@@ -113,14 +113,13 @@ impl<'a, L: Rig + Drop, W: Write + Drop, C: Clock> Rig for ProgressRig<'a, L, W,
 
     #[inline(always)]
     fn get(&mut self, patience: Patience) -> Result<Option<u8>, RigFault> {
-        let is_shown = self.screen.is_shown();
-        if is_shown {
-            self.show_put();
+        // A byte's way where nothing is shown is as short as the inner Rig's.
+        if !self.screen.is_shown() {
+            return self.inner.get(patience);
         }
+        self.show_put();
         let answer = self.inner.get(patience)?;
-        if is_shown {
-            self.show_get(answer);
-        }
+        self.show_get(answer);
         Ok(answer)
     }
 

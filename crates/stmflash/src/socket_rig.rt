@@ -77,6 +77,20 @@ impl<'a, S: Timed + Drop, R: Locks + Clock + AllocGlobal> SocketRig<'a, S, R> {
         answer
     }
 
+    /// The next byte that came, where others have to be sent before it or none is held. A failure
+    /// is counted.
+    #[inline(never)]
+    fn take(&mut self, patience: Patience) -> Result<Option<u8>, RigFault>
+        ensures cause { HasCause self.old.failures.line self.new.failures.line result }
+        ensures journal { self.new.failures.journal ≡ self.old.failures.journal }
+        ensures file { self.new.file ≡ self.old.file }
+        ensures from_line { IfOk result (λ answer. TakesFromLine answer
+            self.old.line self.new.line) }
+    {
+        let answer = as_line_fault(self.line.take(patience));
+        self.count_line(answer)
+    }
+
     /// Counts a failure of the journal, where the answer is one.
     fn count_journal<T: Drop>(&mut self, answer: Result<T, RigFault>) -> Result<T, RigFault>
         ensures answer { result ≡ answer }
@@ -138,8 +152,7 @@ impl<'a, S: Timed + Drop, R: Locks + Clock + AllocGlobal> Rig for SocketRig<'a, 
         if let Some(byte) = self.line.pop(patience) {
             return Ok(Some(byte));
         }
-        let answer = as_line_fault(self.line.take(patience));
-        self.count_line(answer)
+        self.take(patience)
     }
 
     fn append(&mut self, bytes: &[u8]) -> Result<(), RigFault>
