@@ -24,6 +24,7 @@ pub mod Texts
 pub mod Keeping
 pub mod Standing
 pub mod Going
+pub mod Exits
 pub mod Erasings
 pub mod Frames
 pub mod Programmings
