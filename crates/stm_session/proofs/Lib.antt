@@ -32,6 +32,7 @@ pub mod SentParts
 pub mod Orders
 pub mod Causes
 pub mod CutShort
+pub mod AskingStops
 pub mod Reaching
 pub mod UndoOrders
 pub mod PageSums
