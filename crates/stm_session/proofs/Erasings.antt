@@ -4,7 +4,7 @@ use Rattle.stm_wire.specs.declared.chip.EraseKind.{EraseKind}
 use Rattle.stm_wire.specs.declared.fault.WireFault.{WireFault}
 use Rattle.stm_wire.specs.declared.fault.WireFault.TheVariants.{Line}
 use Rattle.stm_wire.specs.declared.intent.Intent.{Intent}
-use Rattle.stm_wire.specs.declared.intent.Intent.TheVariants.{Erase, Program}
+use Rattle.stm_wire.specs.declared.intent.Intent.TheVariants.{Erase}
 use Rattle.stm_wire.specs.Chip.{ChipData, erased_page, page_count, with_page}
 use Rattle.stm_wire.specs.Command.{CanErase, with_pages_erased}
 use Rattle.stm_wire.specs.Device.{Device, IsSettled}
@@ -71,42 +71,27 @@ module _ (laws : StepLaws) (flashes : List (List ℕ)) (l : Loaded) (n : ℕ) (o
     unfinished = λ s has. has.unfinished;
   }
 
-  -- and is said by a call that appends it
-  module _ {T : Type 0} (l2 : Loaded) (new : RigState) (x : T) (model : IsModel old)
-      (model_then : new.is_honest → IsModel new) where
-    is_said : (e : Entry) (i : Intent) → IsStep e flashes (state_at old.journal) old.device
-        → ((s2 : StateData) → HasIntended n i (state_at old.journal) s2
-        → HasAdded e (state_at old.journal) s2) → Appends (e ∷ []) l l2 old new (Ok x)
-        → l2 ≡ loaded_after (e ∷ []) l → InText (HasIntended n i) old.journal new.journal
-        → IsSaid e n i flashes l2 old new
-    is_said e i step as_added appends after text =
-        let s2 = state_at new.journal in
-        let good = good_at l old.journal steady.loaded in
-        let has = text (state_at old.journal) s2 good (good_at l2 new.journal appends.loaded) in
-        let line = line_goes laws e flashes l l2 old new model steady step x (tt {0}) appends after
-        (as_added s2 has) in
-        let under = is_under n i (state_at old.journal) s2 has in
-        record { line = line; model = model_then line.steady.honest; under = under }
-
-    pub erases_said :
-        (old.is_honest → IsLoaded l old.journal → Appends (Erases n ∷ []) l l2 old new (Ok x))
-        → l2 ≡ loaded_after (Erases n ∷ []) l
-        → (old.is_honest → IsLoaded l old.journal
-        → InText (HasIntended n (Erase n)) old.journal new.journal)
-        → IsSaid (Erases n) n (Erase n) flashes l2 old new
-    erases_said honest after text =
-        is_said (Erases n) (Erase n) erases_step (λ s2 has. has)
-        (honest steady.honest steady.loaded) after (text steady.honest steady.loaded)
-
-    pub programs_said :
-        (old.is_honest → IsLoaded l old.journal → Appends (Programs n ∷ []) l l2 old new (Ok x))
-        → l2 ≡ loaded_after (Programs n ∷ []) l
-        → (old.is_honest → IsLoaded l old.journal
-        → InText (HasIntended n (Program n)) old.journal new.journal)
-        → IsSaid (Programs n) n (Program n) flashes l2 old new
-    programs_said honest after text =
-        is_said (Programs n) (Program n) programs_step (λ s2 has. has)
-        (honest steady.honest steady.loaded) after (text steady.honest steady.loaded)
+-- and is said by a call that appends it
+pub said_by_call : {T : Type 0} (laws : StepLaws) (e : Entry) (n : ℕ) (i : Intent)
+    (flashes : List (List ℕ)) (l l2 : Loaded) (old new : RigState) (x : T) → IsModel old
+    → (new.is_honest → IsModel new) → (steady : IsSteady flashes l old)
+    → IsStep e flashes (state_at old.journal) old.device
+    → ((s2 : StateData) → HasIntended n i (state_at old.journal) s2
+    → HasAdded e (state_at old.journal) s2)
+    → (old.is_honest → IsLoaded l old.journal → Appends (e ∷ []) l l2 old new (Ok x))
+    → l2 ≡ loaded_after (e ∷ []) l
+    → (old.is_honest → IsLoaded l old.journal → InText (HasIntended n i) old.journal new.journal)
+    → IsSaid e n i flashes l2 old new
+said_by_call laws e n i flashes l l2 old new x model later steady step as_added call after text =
+    let s = state_at old.journal in
+    let s2 = state_at new.journal in
+    let appends = call steady.honest steady.loaded in
+    let has = text steady.honest steady.loaded s s2 (good_at l old.journal steady.loaded)
+    (good_at l2 new.journal appends.loaded) in
+    let added = as_added s2 has in
+    let line = line_goes laws e flashes l l2 old new model steady step x (tt {0}) appends after
+    added in
+    record { line = line; model = later line.steady.honest; under = is_under n i s s2 has }
 
 module _ (laws : StepLaws) (flashes : List (List ℕ)) (l : Loaded) (n : ℕ) (chip : ChipData) (kind : EraseKind) (old new : RigState)
     (model : IsModel old) (steady : IsSteady flashes l old) (under : IsUnder n (Erase n) (state_at old.journal)) (chip_is : old.device.chip ≡ chip) (kind_is : kind ≡ chip.kind) (exists : n < page_count chip) where

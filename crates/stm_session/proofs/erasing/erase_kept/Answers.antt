@@ -2,7 +2,7 @@ use Rattle.std.proofs.Common.{ℕ, ◌∷◌, [], ap, arith}
 use Rattle.stm_wire.specs.declared.intent.Intent.TheVariants.{Erase}
 use Rattle.stm_journal.specs.declared.entry.Entry.TheVariants.{Erases}
 use Rattle.stm_session.specs.Steps.{IsSteady}
-use Rattle.stm_session.proofs.Erasings.{IsSaid, erases_said, erases_step, said_erased}
+use Rattle.stm_session.proofs.Erasings.{IsSaid, erases_step, said_by_call, said_erased}
 use Rattle.stm_session.proofs.Erasings.{said_unerased}
 use Rattle.stm_session.proofs.Going.{line_fails}
 use Rattle.std.proofs.Common.{Some, true}
@@ -37,10 +37,13 @@ said : (g : Over) (c : After-erase_page g) (flashes : List (List ℕ))
 said g c flashes steady =
     let V = g.R.Rig.view in
     let call = c.in_ok-intend_erase.ensures in
-    erases_said c.step_laws.ensures flashes c.args.journal.now c.args.n (V c.args.rig.now) steady
-    (omega (arith, c.ranges.n.fits)) c.requires.kept c.intend_erase.new.self
-    (V c.intend_erase.new.rig) _ (g.met.R.Rig.model c.args.rig.now steady.honest)
-    (λ h. g.met.R.Rig.model c.intend_erase.new.rig h) call.honest call.after call.text
+    let step = erases_step c.step_laws.ensures flashes c.args.journal.now c.args.n
+    (V c.args.rig.now) steady (omega (arith, c.ranges.n.fits)) c.requires.kept in
+    said_by_call c.step_laws.ensures (Erases c.args.n) c.args.n (Erase c.args.n) flashes
+    c.args.journal.now c.intend_erase.new.self (V c.args.rig.now) (V c.intend_erase.new.rig) _
+    (g.met.R.Rig.model c.args.rig.now steady.honest)
+    (λ h. g.met.R.Rig.model c.intend_erase.new.rig h) steady step (λ s2 has. has) call.honest
+    call.after call.text
 
 pub returns-in_err-erase_page-clause-honest : goal.returns-in_err-erase_page-clause-honest
 returns-in_err-erase_page-clause-honest g c flashes steady chip =

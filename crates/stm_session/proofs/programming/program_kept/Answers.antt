@@ -5,7 +5,7 @@ use Rattle.stm_journal.specs.declared.entry.Entry.TheVariants.{Programs}
 use Rattle.stm_chip.specs.Plan.{written}
 use Rattle.stm_wire.specs.Chip.{erased_page, flash_size, with_page}
 use Rattle.stm_session.specs.Steps.{Goes, IsSteady}
-use Rattle.stm_session.proofs.Erasings.{programs_said, programs_step, said_then}
+use Rattle.stm_session.proofs.Erasings.{programs_step, said_by_call, said_then}
 use Rattle.stm_session.proofs.Exits.{goes_out, goes_past}
 use Rattle.stm_session.proofs.Going.{line_fails}
 use Rattle.std.proofs.Common.{◌*◌, length, true, Some, arith}
@@ -45,11 +45,13 @@ sent g c flashes base steady chip whole erased =
     let V = g.R.Rig.view in
     let l2 = c.intend_program.new.self in
     let call = c.in_ok-intend_program.ensures in
-    let said = programs_said c.step_laws.ensures flashes c.args.journal.now c.args.n
-    (V c.args.rig.now)
-    steady (omega (arith, c.ranges.n.fits)) c.requires.kept l2 (V c.intend_program.new.rig) _
+    let step = programs_step c.step_laws.ensures flashes c.args.journal.now c.args.n
+    (V c.args.rig.now) steady (omega (arith, c.ranges.n.fits)) c.requires.kept in
+    let said = said_by_call c.step_laws.ensures (Programs c.args.n) c.args.n (Program c.args.n)
+    flashes c.args.journal.now l2 (V c.args.rig.now) (V c.intend_program.new.rig) _
     (g.met.R.Rig.model c.args.rig.now steady.honest)
-    (λ h. g.met.R.Rig.model c.intend_program.new.rig h) call.honest call.after call.text in
+    (λ h. g.met.R.Rig.model c.intend_program.new.rig h) steady step (λ s2 has. has) call.honest
+    call.after call.text in
     let Done : Unit {0} → Type 0 =
     λ _. (V c.program_frames.new.rig).device.flash
     ≡ with_page c.args.chip.now c.args.n
