@@ -24,6 +24,7 @@ pub mod Texts
 pub mod Keeping
 pub mod Standing
 pub mod Going
+pub mod Exits
 pub mod Erasings
 pub mod Frames
 pub mod Programmings
@@ -31,6 +32,7 @@ pub mod SentParts
 pub mod Orders
 pub mod Causes
 pub mod CutShort
+pub mod AskingStops
 pub mod Reaching
 pub mod UndoOrders
 pub mod PageSums

@@ -5,12 +5,20 @@ use Rattle.std.proofs.lemmas.List.Sums.{sum_by_more}
 use Rattle.stm_wire.specs.Call.{Call}
 use Rattle.stm_wire.specs.Chip.{ChipData, flash_size, page_count, page_offset, page_size, IsChip}
 use Rattle.stm_wire.specs.Dialogue.{GoesOn}
+use Rattle.stm_wire.specs.Intents.{InPage}
 use Rattle.stm_wire.specs.PageLaws.{offset_within, page_within}
 use Rattle.stm_wire.specs.Parts.{IsPart}
 use Rattle.stm_wire.specs.PartLaws.{part_longer}
+use Rattle.stm_session.specs.Order.{page_address}
 use Rattle.stm_session.specs.Sending.{most_below, most_of_command, most_of_companion, most_of_page}
 use Rattle.stm_session.proofs.Savings.{is_first}
 use Rattle.stm_session.proofs.SentParts.{part_after}
+
+-- a range of a page's size from its start is in the page
+pub whole_page : (chip : ChipData) (n start size : ℕ) → n < page_count chip
+    → start ≡ page_address chip n → size ≡ page_size chip n → InPage chip n start size
+whole_page chip n start size exists at is =
+    record { exists = exists; begins = omega (arith, at); ends = omega (arith, at, is) }
 
 -- a page that is read is no more than the flash
 pub page_read_few : (chip : ChipData) (n size : ℕ) → size ≡ page_size chip n → 256 ≤ size → 12 + 2 * size ≤ 3 * flash_size chip

@@ -7,11 +7,10 @@ use Rattle.stm_wire.specs.PartLaws.{part_longer, parts_join}
 use Rattle.stm_session.proofs.Asking.{asks_failed, asks_ok, asks_then, settled_still}
 use Rattle.stm_session.proofs.Sending.{same_fault}
 use Rattle.std.proofs.Common.{◌∷◌, []}
-use Rattle.std.proofs.Common.{List, refl}
+use Rattle.std.proofs.Common.{List}
 use Rattle.stm_wire.specs.Frames.{get_turns}
-use Rattle.stm_session.specs.Fault.{Cause}
-use Rattle.stm_session.specs.Order.{Step, Begin, IsAsking, IsGet, IsGetId, Sends, StopsBy, id_turns}
-use Rattle.stm_session.proofs.CutShort.{begin_after, begin_on, by_fault, order_stops, part_stops}
+use Rattle.stm_session.specs.Order.{Step, Sends, id_turns}
+use Rattle.stm_session.proofs.AskingStops.{get_id_stops, get_stops}
 use Rattle.stm_session.proofs.Orders.{order_then}
 use Rattle.stm_session.proofs.contact.ask.Goals as goal
 
@@ -68,22 +67,16 @@ returns-clause-order g c torn =
 pub returns-in_err-commands-clause-stops : goal.returns-in_err-commands-clause-stops
 returns-in_err-commands-clause-stops g c torn =
     let V = g.R.Rig.view in
-    let more : List Step = Sends (id_turns 0) ∷ [] in
-    let later : IsGetId more = record { high = _; low = _; is = refl } in
-    part_stops (Begin IsGet) (Begin IsAsking) torn (V c.args.rig.now) (V c.ask_commands.new.rig) _ c.from_residual.result c.from_residual.ensures.1
-    (begin_on IsGet IsAsking (λ xs get. (more, record { first = xs; is_get = get; second = more; is_get_id = later; is = refl }))) (c.in_err-commands.ensures.stops torn)
+    get_stops torn (V c.args.rig.now) (V c.ask_commands.new.rig) _ c.from_residual.result
+    c.from_residual.ensures.1 (c.in_err-commands.ensures.stops torn)
 
 pub returns-in_err-id-clause-stops : goal.returns-in_err-id-clause-stops
 returns-in_err-id-clause-stops g c torn =
     let V = g.R.Rig.view in
-    let a = V c.args.rig.now in
-    let d = V c.ask_id.new.rig in
     let got = c.in_ok-commands.ensures.order torn in
-    let before : List Step = Sends (get_turns got.0 got.1) ∷ [] in
-    let get : IsGet before = record { version = got.0; codes = got.1; is = refl } in
-    by_fault (λ (k : Cause). StopsBy (Begin IsAsking) k torn a d) _ c.from_residual-in_err-id.result c.from_residual-in_err-id.ensures.1
-    (order_stops (Begin IsGetId) (Begin IsAsking) _ torn before (begin_after IsGetId IsAsking before (λ ys get_id. record { first = before; is_get = get; second = ys; is_get_id = get_id; is = refl }))
-    a (V c.ask_commands.new.rig) d got.2 (c.in_err-id.ensures.stops torn))
+    get_id_stops torn got.0 got.1 (V c.args.rig.now) (V c.ask_commands.new.rig) (V c.ask_id.new.rig)
+    _ c.from_residual-in_err-id.result c.from_residual-in_err-id.ensures.1 got.2
+    (c.in_err-id.ensures.stops torn)
 
 pub returns-in_err-id-clause-unwritten : goal.returns-in_err-id-clause-unwritten
 returns-in_err-id-clause-unwritten g c =

@@ -1,12 +1,10 @@
-use Rattle.std.proofs.Common.{◌∷◌, [], ◌∙◌, ap, arith}
+use Rattle.std.proofs.Common.{ℕ, ◌∷◌, [], ap, arith}
 use Rattle.stm_wire.specs.declared.intent.Intent.TheVariants.{Erase}
-use Rattle.stm_wire.specs.Chip.{erased_page, with_page}
-use Rattle.stm_wire.specs.Device.{Device}
 use Rattle.stm_journal.specs.declared.entry.Entry.TheVariants.{Erases}
-use Rattle.stm_session.specs.Undoable.{state_at}
-use Rattle.stm_session.proofs.Erasings.{is_under, may_erase, erase_goes, erase_fails, erases_step}
-use Rattle.stm_session.proofs.Going.{goes_then, line_goes, line_fails}
-use Rattle.stm_session.proofs.Keeping.{good_at}
+use Rattle.stm_session.specs.Steps.{IsSteady}
+use Rattle.stm_session.proofs.Erasings.{IsSaid, erases_step, said_by_call, said_erased}
+use Rattle.stm_session.proofs.Erasings.{said_unerased}
+use Rattle.stm_session.proofs.Going.{line_fails}
 use Rattle.std.proofs.Common.{Some, true}
 use Rattle.stm_session.specs.Sending.{is_whole}
 use Rattle.stm_session.proofs.SentParts.{command_fails, erase_cut, erase_sent, line_part, part_after}
@@ -19,6 +17,8 @@ use Rattle.stm_session.specs.Fault.{Cause}
 use Rattle.stm_session.specs.Order.{Step, Adds, Are, Begin, Sends, StopsBy, erase_steps}
 use Rattle.stm_session.proofs.CutShort.{append_stops, begin_all, by_fault, sent_stops, stop_after}
 use Rattle.stm_session.proofs.Orders.{does_add, does_erase, does_then}
+use Rattle.stm_session.proofs.erasing.erase_kept.Given.{Over}
+use Rattle.stm_session.proofs.erasing.erase_kept.Goals.{After-erase_page}
 use Rattle.stm_session.proofs.erasing.erase_kept.Goals as goal
 
 pub returns-in_err-intend_erase-clause-honest : goal.returns-in_err-intend_erase-clause-honest
@@ -29,51 +29,42 @@ returns-in_err-intend_erase-clause-honest g c flashes steady chip =
     (erases_step c.step_laws.ensures flashes c.args.journal.now c.args.n (V c.args.rig.now) steady (omega (arith, c.ranges.n.fits)) c.requires.kept)
     [] _ _ c.from_residual.result (c.in_err-intend_erase.ensures.honest steady.honest steady.loaded) c.in_err-intend_erase.ensures.left c.from_residual.ensures.1
 
+-- the line of the intent stands
+said : (g : Over) (c : After-erase_page g) (flashes : List (List ℕ))
+    → IsSteady flashes c.args.journal.now (g.R.Rig.view c.args.rig.now)
+    → IsSaid (Erases c.args.n) c.args.n (Erase c.args.n) flashes c.intend_erase.new.self
+    (g.R.Rig.view c.args.rig.now) (g.R.Rig.view c.intend_erase.new.rig)
+said g c flashes steady =
+    let V = g.R.Rig.view in
+    let call = c.in_ok-intend_erase.ensures in
+    let step = erases_step c.step_laws.ensures flashes c.args.journal.now c.args.n
+    (V c.args.rig.now) steady (omega (arith, c.ranges.n.fits)) c.requires.kept in
+    said_by_call c.step_laws.ensures (Erases c.args.n) c.args.n (Erase c.args.n) flashes
+    c.args.journal.now c.intend_erase.new.self (V c.args.rig.now) (V c.intend_erase.new.rig) _
+    (g.met.R.Rig.model c.args.rig.now steady.honest)
+    (λ h. g.met.R.Rig.model c.intend_erase.new.rig h) steady step (λ s2 has. has) call.honest
+    call.after call.text
+
 pub returns-in_err-erase_page-clause-honest : goal.returns-in_err-erase_page-clause-honest
 returns-in_err-erase_page-clause-honest g c flashes steady chip =
     let V = g.R.Rig.view in
-    let J = state_at (V c.args.rig.now).journal in
-    let K = state_at (V c.intend_erase.new.rig).journal in
-    let call = c.in_ok-intend_erase.ensures in
-    let appends = call.honest steady.honest steady.loaded in
-    let has = call.text steady.honest steady.loaded J K (good_at c.args.journal.now (V c.args.rig.now).journal steady.loaded) (good_at c.intend_erase.new.self (V c.intend_erase.new.rig).journal appends.loaded) in
-    let first = line_goes c.step_laws.ensures (Erases c.args.n) flashes c.args.journal.now c.intend_erase.new.self
-    (V c.args.rig.now) (V c.intend_erase.new.rig) (g.met.R.Rig.model c.args.rig.now steady.honest) steady
-    (erases_step c.step_laws.ensures flashes c.args.journal.now c.args.n (V c.args.rig.now) steady (omega (arith, c.ranges.n.fits)) c.requires.kept)
-    _ (tt {0}) appends call.after has in
-    let mid = g.met.R.Rig.model c.intend_erase.new.rig first.steady.honest in
-    let under = is_under c.args.n (Erase c.args.n) J K has in
-    let chip_is = ap (λ (d : Device). d.chip) first.done ∙ chip in
-    let may = may_erase c.step_laws.ensures flashes c.intend_erase.new.self c.args.n c.args.chip.now c.kind.result
-    (V c.intend_erase.new.rig) (V c.erase_page.new.rig) mid first.steady under chip_is c.kind.ensures c.requires.exists in
-    goes_then flashes (Erases c.args.n ∷ []) [] c.intend_erase.new.self _ (V c.args.rig.now) (V c.intend_erase.new.rig) (V c.erase_page.new.rig) (tt {0}) c.from_residual-in_err-erase_page.result mid first
-    (erase_fails c.step_laws.ensures flashes c.intend_erase.new.self c.args.n c.args.chip.now c.kind.result
-    (V c.intend_erase.new.rig) (V c.erase_page.new.rig) mid first.steady under chip_is c.kind.ensures c.requires.exists
-    [] _ c.from_residual-in_err-erase_page.result c.in_err-erase_page.ensures.broken (c.in_err-erase_page.ensures.honest first.steady.honest may).fails c.from_residual-in_err-erase_page.ensures.1)
-    (λ y done. done)
+    let at = (goal.at.returns-in_err-erase_page-clause-honest g c).After-erase_page in
+    let call = c.in_err-erase_page.ensures in
+    said_unerased c.step_laws.ensures flashes c.intend_erase.new.self c.args.n c.args.chip.now
+    c.kind.result (V c.args.rig.now) (V c.intend_erase.new.rig) (V c.erase_page.new.rig)
+    (said g at flashes steady) chip c.kind.ensures c.requires.exists _
+    c.from_residual-in_err-erase_page.result call.broken (λ h may. (call.honest h may).fails)
+    c.from_residual-in_err-erase_page.ensures.1
 
 pub returns-clause-honest : goal.returns-clause-honest
 returns-clause-honest g c flashes steady chip =
     let V = g.R.Rig.view in
-    let J = state_at (V c.args.rig.now).journal in
-    let K = state_at (V c.intend_erase.new.rig).journal in
-    let call = c.in_ok-intend_erase.ensures in
-    let appends = call.honest steady.honest steady.loaded in
-    let has = call.text steady.honest steady.loaded J K (good_at c.args.journal.now (V c.args.rig.now).journal steady.loaded) (good_at c.intend_erase.new.self (V c.intend_erase.new.rig).journal appends.loaded) in
-    let first = line_goes c.step_laws.ensures (Erases c.args.n) flashes c.args.journal.now c.intend_erase.new.self
-    (V c.args.rig.now) (V c.intend_erase.new.rig) (g.met.R.Rig.model c.args.rig.now steady.honest) steady
-    (erases_step c.step_laws.ensures flashes c.args.journal.now c.args.n (V c.args.rig.now) steady (omega (arith, c.ranges.n.fits)) c.requires.kept)
-    _ (tt {0}) appends call.after has in
-    let mid = g.met.R.Rig.model c.intend_erase.new.rig first.steady.honest in
-    let under = is_under c.args.n (Erase c.args.n) J K has in
-    let chip_is = ap (λ (d : Device). d.chip) first.done ∙ chip in
-    let may = may_erase c.step_laws.ensures flashes c.intend_erase.new.self c.args.n c.args.chip.now c.kind.result
-    (V c.intend_erase.new.rig) (V c.erase_page.new.rig) mid first.steady under chip_is c.kind.ensures c.requires.exists in
-    goes_then flashes (Erases c.args.n ∷ []) [] c.intend_erase.new.self c.intend_erase.new.self (V c.args.rig.now) (V c.intend_erase.new.rig) (V c.erase_page.new.rig) (tt {0}) _ mid first
-    (erase_goes c.step_laws.ensures flashes c.intend_erase.new.self c.args.n c.args.chip.now c.kind.result
-    (V c.intend_erase.new.rig) (V c.erase_page.new.rig) mid first.steady under chip_is c.kind.ensures c.requires.exists
-    (tt {0}) c.in_ok-erase_page.ensures.held (λ h. g.met.R.Rig.model c.erase_page.new.rig h) (c.in_ok-erase_page.ensures.honest first.steady.honest may).done)
-    (λ y done. done ∙ ap (λ (d : Device). with_page c.args.chip.now c.args.n (erased_page c.args.chip.now c.args.n) d.flash) first.done)
+    let at = (goal.at.returns-clause-honest g c).After-erase_page in
+    let call = c.in_ok-erase_page.ensures in
+    said_erased c.step_laws.ensures flashes c.intend_erase.new.self c.args.n c.args.chip.now
+    c.kind.result (V c.args.rig.now) (V c.intend_erase.new.rig) (V c.erase_page.new.rig)
+    (said g at flashes steady) chip c.kind.ensures c.requires.exists (tt {0}) call.held
+    (λ h. g.met.R.Rig.model c.erase_page.new.rig h) (λ h may. (call.honest h may).done)
 
 pub returns-in_err-intend_erase-clause-puts : goal.returns-in_err-intend_erase-clause-puts
 returns-in_err-intend_erase-clause-puts g c =

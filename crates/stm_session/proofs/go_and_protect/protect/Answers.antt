@@ -55,17 +55,14 @@ returns-in_err-protect-clause-protects g c h none can =
 
 pub returns-in_err-settle_safe-clause-unsent_calls : goal.returns-in_err-settle_safe-clause-unsent_calls
 returns-in_err-settle_safe-clause-unsent_calls g c h fault said =
-    let V = g.R.Rig.view in
     refused_nothing _ fault (c.in_ok-check_closed.ensures.honest h).accepted said
 
 pub returns-in_err-protect-clause-unsent_calls : goal.returns-in_err-protect-clause-unsent_calls
 returns-in_err-protect-clause-unsent_calls g c h fault said =
-    let V = g.R.Rig.view in
     refused_nothing _ fault (c.in_ok-check_closed.ensures.honest h).accepted said
 
 pub returns-clause-unsent_calls : goal.returns-clause-unsent_calls
 returns-clause-unsent_calls g c h fault said =
-    let V = g.R.Rig.view in
     refused_nothing _ fault (c.in_ok-check_closed.ensures.honest h).accepted said
 
 pub returns-clause-sent : goal.returns-clause-sent

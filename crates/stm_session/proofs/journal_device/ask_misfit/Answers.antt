@@ -4,9 +4,11 @@ use Rattle.stm_session.proofs.SentParts.{part_after, part_fails, part_fails_afte
 use Rattle.std.proofs.Common.{◌∷◌, [], refl}
 use Rattle.std.proofs.Common.{◌≡◌, ◌++◌, ℕ, List, subst, rules}
 use Rattle.stm_wire.specs.Frames.{get_turns}
-use Rattle.stm_session.specs.Fault.{Cause, of_refusal}
-use Rattle.stm_session.specs.Order.{Step, AsksInOrder, Begin, IsAsking, IsGet, IsGetId, Sends, StopsBy, id_turns}
-use Rattle.stm_session.proofs.CutShort.{begin_after, begin_all, begin_on, by_fault, halts, order_stops, part_stops}
+use Rattle.stm_session.specs.Fault.{of_refusal}
+use Rattle.stm_session.specs.Order.{Step, AsksInOrder, Begin, IsAsking, IsGet, IsGetId, Sends}
+use Rattle.stm_session.specs.Order.{id_turns}
+use Rattle.stm_session.proofs.AskingStops.{get_begins, get_id_stops, get_stops}
+use Rattle.stm_session.proofs.CutShort.{begin_all, halts}
 use Rattle.stm_session.proofs.Orders.{order_then}
 use Rattle.stm_session.proofs.Unread.{none_some}
 use Rattle.stm_session.proofs.journal_device.ask_misfit.Goals as goal
@@ -57,33 +59,25 @@ returns-clause-order g c torn none =
 pub returns-in_err-can_erase-clause-stops : goal.returns-in_err-can_erase-clause-stops
 returns-in_err-can_erase-clause-stops g c torn =
     let V = g.R.Rig.view in
-    let more : List Step = Sends (id_turns 0) ∷ [] in
-    let later : IsGetId more = record { high = _; low = _; is = refl } in
-    part_stops (Begin IsGet) (Begin IsAsking) torn (V c.args.rig.now) (V c.ask_erase.new.rig) _ c.from_residual.result c.from_residual.ensures.1
-    (begin_on IsGet IsAsking (λ xs get. (more, record { first = xs; is_get = get; second = more; is_get_id = later; is = refl }))) (c.in_err-can_erase.ensures.stops torn)
+    get_stops torn (V c.args.rig.now) (V c.ask_erase.new.rig) _ c.from_residual.result
+    c.from_residual.ensures.1 (c.in_err-can_erase.ensures.stops torn)
 
 pub returns-in_err-id-clause-stops : goal.returns-in_err-id-clause-stops
 returns-in_err-id-clause-stops g c torn =
     let V = g.R.Rig.view in
-    let a = V c.args.rig.now in
-    let d = V c.ask_id.new.rig in
     let got = c.in_ok-can_erase.ensures.order torn in
-    let before : List Step = Sends (get_turns got.0 got.1) ∷ [] in
-    let get : IsGet before = record { version = got.0; codes = got.1; is = refl } in
-    by_fault (λ (k : Cause). StopsBy (Begin IsAsking) k torn a d) _ c.from_residual-in_err-id.result c.from_residual-in_err-id.ensures.1
-    (order_stops (Begin IsGetId) (Begin IsAsking) _ torn before (begin_after IsGetId IsAsking before (λ ys get_id. record { first = before; is_get = get; second = ys; is_get_id = get_id; is = refl }))
-    a (V c.ask_erase.new.rig) d got.2 (c.in_err-id.ensures.stops torn))
+    get_id_stops torn got.0 got.1 (V c.args.rig.now) (V c.ask_erase.new.rig) (V c.ask_id.new.rig) _
+    c.from_residual-in_err-id.result c.from_residual-in_err-id.ensures.1 got.2
+    (c.in_err-id.ensures.stops torn)
 
 pub returns-then-not-can_erase-clause-refuses : goal.returns-then-not-can_erase-clause-refuses
 returns-then-not-can_erase-clause-refuses g c torn =
     let V = g.R.Rig.view in
     let got = c.in_ok-can_erase.ensures.order torn in
     let before : List Step = Sends (get_turns got.0 got.1) ∷ [] in
-    let more : List Step = Sends (id_turns 0) ∷ [] in
     let get : IsGet before = record { version = got.0; codes = got.1; is = refl } in
-    let later : IsGetId more = record { high = _; low = _; is = refl } in
-    let begun : Begin IsAsking before = (more, record { first = before; is_get = get; second = more; is_get_id = later; is = refl }) in
-    halts (Begin IsAsking) of_refusal torn before (V c.args.rig.now) (V c.ask_erase.new.rig) begun refl got.2
+    halts (Begin IsAsking) of_refusal torn before (V c.args.rig.now) (V c.ask_erase.new.rig)
+    (get_begins before get) refl got.2
 
 pub returns-then-id-clause-refuses : goal.returns-then-id-clause-refuses
 returns-then-id-clause-refuses g c torn =

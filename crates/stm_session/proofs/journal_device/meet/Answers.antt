@@ -1,4 +1,8 @@
-use Rattle.std.proofs.Common.{◌≡◌, ◌∙◌, [], None, inr, sym}
+use Rattle.std.proofs.Common.{◌≡◌, ◌≤◌, ◌∙◌, [], None, inr, length, sym}
+use Rattle.stm_wire.specs.Harmless.{Harmless}
+use Rattle.stm_wire.specs.Moments.{LeavesOnly}
+use Rattle.stm_journal.specs.Journals.{IsLoaded}
+use Rattle.stm_session.specs.Undoes.{IsElsewhere, IsWithinLimit, byte_at_journal, risked_at}
 use Rattle.stm_session.specs.Refusals.{undo_misfit}
 use Rattle.stm_session.proofs.Going.{at_exit, asks_go, asks_fail, goes_failed, goes_then}
 use Rattle.stm_session.proofs.Misfitting.{own_misfit}
@@ -6,8 +10,8 @@ use Rattle.stm_session.proofs.Unread.{none_some}
 use Rattle.stm_session.proofs.Straying.{strays_failed, strays_asked, strays_unasked, misfit_was}
 use Rattle.std.proofs.Common.{◌+◌, ◌*◌, Bool, true, arith}
 use Rattle.stm_wire.specs.Dialogue.{GoesOn}
-use Rattle.stm_session.specs.Fresh.{byte_of, limit_of, undo_way}
-use Rattle.stm_wire.specs.Parts.{IsSession}
+use Rattle.stm_session.specs.Fresh.{IsAsSaid, byte_of, limit_of, undo_way}
+use Rattle.stm_wire.specs.Parts.{IsPart, IsSession}
 use Rattle.stm_wire.specs.PartLaws.{session_joins, session_longer, session_weaker, settling_is_session}
 use Rattle.stm_journal.specs.States.{intent_of}
 use Rattle.stm_session.specs.Sending.{is_whole, most_of_reaching}
@@ -20,6 +24,8 @@ use Rattle.stm_session.specs.Order.{Begin, IsAsking, ReachesInPart, StopsBy, ask
 use Rattle.stm_session.proofs.CutShort.{by_fault}
 use Rattle.stm_session.proofs.Reaching.{asks_stop, settle_stops}
 use Rattle.stm_session.proofs.Orders.{settles_then}
+use Rattle.stm_session.proofs.journal_device.meet.Given.{Over}
+use Rattle.stm_session.proofs.journal_device.meet.Goals.{After-ask_misfit, In_ok-misfit}
 use Rattle.stm_session.proofs.journal_device.meet.Goals as goal
 
 pub returns-in_err-settle_intended-clause-honest : goal.returns-in_err-settle_intended-clause-honest
@@ -71,25 +77,44 @@ returns-in_err-misfit-clause-elsewhere g c h said loaded harmless owed within =
     let asks = c.in_err-misfit.ensures.honest first.honest first.settled in
     strays_unasked c.step_laws.ensures c.args.chip.now (V c.args.rig.now) (V c.settle_intended.new.rig) (V c.ask_misfit.new.rig) _ first (g.met.R.Rig.model c.ask_misfit.new.rig asks.honest) _ c.from_residual-in_err-misfit.result asks c.from_residual-in_err-misfit.ensures.1
 
-pub returns-in-Some-clause-elsewhere : goal.returns-in-Some-clause-elsewhere
-returns-in-Some-clause-elsewhere g c h said loaded harmless owed within =
+-- a device that may be another was asked, and answered what it is
+answered : (g : Over) (c : In_ok-misfit g) → (g.R.Rig.view c.args.rig.now).is_honest
+    → let a = g.R.Rig.view c.args.rig.now in IsAsSaid c.args.is_fresh a.device
+    → IsLoaded c.args.journal.now a.journal
+    → Harmless a.device (byte_at_journal a.journal) (risked_at a.journal)
+    → length a.device.owed ≤ 4096
+    → IsWithinLimit c.args.chip.now a
+    → (g.R.Rig.view c.ask_misfit.new.rig).is_honest
+    × (undo_misfit c.args.chip.now c.args.chip.now.id a.device ≡ c.in_ok-misfit.misfit)
+    × LeavesOnly (IsElsewhere a) a (g.R.Rig.view c.ask_misfit.new.rig)
+    × IsElsewhere a (g.R.Rig.view c.ask_misfit.new.rig).device
+    (g.R.Rig.view c.ask_misfit.new.rig).journal
+answered g c h said loaded harmless owed within =
     let V = g.R.Rig.view in
+    let a = V c.args.rig.now in
+    let b = V c.settle_intended.new.rig in
     let first = c.in_ok-settle_intended.ensures.strays h said loaded harmless owed within in
     let asks = c.in_ok-misfit.ensures.honest first.honest first.settled in
-    let said = asks.done ∙ misfit_was c.args.chip.now (V c.args.rig.now) (V c.settle_intended.new.rig) first.left in
+    let model = g.met.R.Rig.model c.ask_misfit.new.rig asks.honest in
+    let kept = strays_asked c.step_laws.ensures c.args.chip.now a b (V c.ask_misfit.new.rig) _ first
+    model _ asks in
+    (asks.honest, sym (asks.done ∙ misfit_was c.args.chip.now a b first.left), kept.0, kept.1)
+
+pub returns-in-Some-clause-elsewhere : goal.returns-in-Some-clause-elsewhere
+returns-in-Some-clause-elsewhere g c h said loaded harmless owed within =
+    let at = (goal.at.returns-in-Some-clause-elsewhere g c).In_ok-misfit in
+    let told = answered g at h said loaded harmless owed within in
     let is = c.in-Some.is in
-    let kept = strays_asked c.step_laws.ensures c.args.chip.now (V c.args.rig.now) (V c.settle_intended.new.rig) (V c.ask_misfit.new.rig) _ first (g.met.R.Rig.model c.ask_misfit.new.rig asks.honest) _ asks in
-    record { moments = kept.0; honest = asks.honest; left = kept.1; accepted = tt; refused = inr (sym said ∙ is) }
+    let why = told.1 ∙ is in
+    record { moments = told.2; honest = told.0; left = told.3; accepted = tt; refused = inr why }
 
 pub returns-in-None-clause-elsewhere : goal.returns-in-None-clause-elsewhere
 returns-in-None-clause-elsewhere g c h said loaded harmless owed within =
-    let V = g.R.Rig.view in
-    let first = c.in_ok-settle_intended.ensures.strays h said loaded harmless owed within in
-    let asks = c.in_ok-misfit.ensures.honest first.honest first.settled in
-    let said = asks.done ∙ misfit_was c.args.chip.now (V c.args.rig.now) (V c.settle_intended.new.rig) first.left in
+    let at = (goal.at.returns-in-None-clause-elsewhere g c).In_ok-misfit in
+    let told = answered g at h said loaded harmless owed within in
     let is = c.in-None.is in
-    let kept = strays_asked c.step_laws.ensures c.args.chip.now (V c.args.rig.now) (V c.settle_intended.new.rig) (V c.ask_misfit.new.rig) _ first (g.met.R.Rig.model c.ask_misfit.new.rig asks.honest) _ asks in
-    record { moments = kept.0; honest = asks.honest; left = kept.1; accepted = sym said ∙ is; refused = tt }
+    let none = told.1 ∙ is in
+    record { moments = told.2; honest = told.0; left = told.3; accepted = none; refused = tt }
 
 pub returns-in_err-settle_intended-clause-puts : goal.returns-in_err-settle_intended-clause-puts
 returns-in_err-settle_intended-clause-puts g c =
@@ -102,41 +127,51 @@ returns-in_err-settle_intended-clause-puts g c =
     let whole = is_whole c.from_residual.result in
     session_longer None byte limit whole (4100 * (limit + 4)) (most_of_reaching limit) a b (omega arith) (settling_is_session None byte limit whole (4100 * (limit + 4)) a b c.settle_intended.ensures.calls)
 
+-- what was put after the device was settled
+put_then : (g : Over) (c : After-ask_misfit g) (whole : Bool)
+    → GoesOn (IsPart None whole 268) (g.R.Rig.view c.settle_intended.new.rig).calls
+    (g.R.Rig.view c.ask_misfit.new.rig).calls
+    → let way = undo_way c.args.is_fresh c.args.chip.now.kind
+    (intent_of c.args.journal.now.state) in
+    GoesOn (IsSession None (byte_of way) (limit_of way) whole (most_of_reaching (limit_of way)))
+    (g.R.Rig.view c.args.rig.now).calls (g.R.Rig.view c.ask_misfit.new.rig).calls
+put_then g c whole part =
+    let V = g.R.Rig.view in
+    let way = undo_way c.args.is_fresh c.args.chip.now.kind (intent_of c.args.journal.now.state) in
+    let most = 4100 * (limit_of way + 4) in
+    let a = (V c.args.rig.now).calls in
+    let b = (V c.settle_intended.new.rig).calls in
+    let settles = settling_is_session None (byte_of way) (limit_of way) true most a b
+    c.settle_intended.ensures.calls in
+    session_joins None (byte_of way) (limit_of way) whole most 268 a b
+    (V c.ask_misfit.new.rig).calls settles part
+
 pub returns-in_err-misfit-clause-puts : goal.returns-in_err-misfit-clause-puts
 returns-in_err-misfit-clause-puts g c =
     let V = g.R.Rig.view in
     let way = undo_way c.args.is_fresh c.args.chip.now.kind (intent_of c.args.journal.now.state) in
-    let byte = byte_of way in
-    let limit = limit_of way in
     let a = (V c.args.rig.now).calls in
-    let b = (V c.settle_intended.new.rig).calls in
     let d = (V c.ask_misfit.new.rig).calls in
-    let P : Bool → Type 0 = λ w. GoesOn (IsSession None byte limit w (most_of_reaching limit)) a d in
+    let P : Bool → Type 0 =
+    λ w. GoesOn (IsSession None (byte_of way) (limit_of way) w (most_of_reaching (limit_of way)))
+    a d in
+    let at = (goal.at.returns-in_err-misfit-clause-puts g c).After-ask_misfit in
     same_fault P _ c.from_residual-in_err-misfit.result c.from_residual-in_err-misfit.ensures.1
-    (session_joins None byte limit _ (4100 * (limit + 4)) 268 a b d (settling_is_session None byte limit true (4100 * (limit + 4)) a b c.settle_intended.ensures.calls) c.in_err-misfit.ensures.puts)
+    (put_then g at _ c.in_err-misfit.ensures.puts)
 
 pub returns-in-Some-clause-puts : goal.returns-in-Some-clause-puts
 returns-in-Some-clause-puts g c =
     let V = g.R.Rig.view in
     let way = undo_way c.args.is_fresh c.args.chip.now.kind (intent_of c.args.journal.now.state) in
-    let byte = byte_of way in
-    let limit = limit_of way in
-    let a = (V c.args.rig.now).calls in
-    let b = (V c.settle_intended.new.rig).calls in
-    let d = (V c.ask_misfit.new.rig).calls in
-    session_weaker None byte limit _ (most_of_reaching limit) (most_of_reaching limit) a d (omega arith)
-    (session_joins None byte limit true (4100 * (limit + 4)) 268 a b d (settling_is_session None byte limit true (4100 * (limit + 4)) a b c.settle_intended.ensures.calls) c.in_ok-misfit.ensures.puts)
+    let most = most_of_reaching (limit_of way) in
+    let at = (goal.at.returns-in-Some-clause-puts g c).After-ask_misfit in
+    session_weaker None (byte_of way) (limit_of way) _ most most (V c.args.rig.now).calls
+    (V c.ask_misfit.new.rig).calls (omega arith) (put_then g at true c.in_ok-misfit.ensures.puts)
 
 pub returns-in-None-clause-puts : goal.returns-in-None-clause-puts
 returns-in-None-clause-puts g c =
-    let V = g.R.Rig.view in
-    let way = undo_way c.args.is_fresh c.args.chip.now.kind (intent_of c.args.journal.now.state) in
-    let byte = byte_of way in
-    let limit = limit_of way in
-    let a = (V c.args.rig.now).calls in
-    let b = (V c.settle_intended.new.rig).calls in
-    let d = (V c.ask_misfit.new.rig).calls in
-    session_joins None byte limit true (4100 * (limit + 4)) 268 a b d (settling_is_session None byte limit true (4100 * (limit + 4)) a b c.settle_intended.ensures.calls) c.in_ok-misfit.ensures.puts
+    put_then g (goal.at.returns-in-None-clause-puts g c).After-ask_misfit true
+    c.in_ok-misfit.ensures.puts
 
 pub returns-in-None-clause-order : goal.returns-in-None-clause-order
 returns-in-None-clause-order g c torn =

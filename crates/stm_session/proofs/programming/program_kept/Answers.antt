@@ -1,11 +1,13 @@
-use Rattle.std.proofs.Common.{◌∷◌, [], ◌∙◌, ap, arith}
+use Rattle.std.proofs.Common.{◌≡◌, ℕ, ◌∷◌, [], ◌∙◌, ap, arith}
 use Rattle.stm_wire.specs.declared.intent.Intent.TheVariants.{Program}
 use Rattle.stm_wire.specs.Device.{Device}
 use Rattle.stm_journal.specs.declared.entry.Entry.TheVariants.{Programs}
-use Rattle.stm_session.specs.Undoable.{state_at}
-use Rattle.stm_session.proofs.Erasings.{is_under, programs_step}
-use Rattle.stm_session.proofs.Going.{goes_then, goes_failed, goes_ok, line_goes, line_fails}
-use Rattle.stm_session.proofs.Keeping.{good_at}
+use Rattle.stm_chip.specs.Plan.{written}
+use Rattle.stm_wire.specs.Chip.{erased_page, flash_size, with_page}
+use Rattle.stm_session.specs.Steps.{Goes, IsSteady}
+use Rattle.stm_session.proofs.Erasings.{programs_step, said_by_call, said_then}
+use Rattle.stm_session.proofs.Exits.{goes_out, goes_past}
+use Rattle.stm_session.proofs.Going.{line_fails}
 use Rattle.std.proofs.Common.{◌*◌, length, true, Some, arith}
 use Rattle.stm_session.specs.Sending.{is_whole}
 use Rattle.stm_session.proofs.SentParts.{line_part, part_after, part_fails_after}
@@ -15,6 +17,8 @@ use Rattle.stm_session.proofs.Orders.{does_add, does_then, does_writes}
 use Rattle.std.proofs.Common.{◌++◌, List, refl}
 use Rattle.stm_session.specs.Order.{Step, Are, Begin}
 use Rattle.stm_session.proofs.CutShort.{append_stops, begin_after, then_stops}
+use Rattle.stm_session.proofs.programming.program_kept.Given.{Over}
+use Rattle.stm_session.proofs.programming.program_kept.Goals.{After-program_frames}
 use Rattle.stm_session.proofs.programming.program_kept.Goals as goal
 
 pub returns-in_err-intend_program-clause-honest : goal.returns-in_err-intend_program-clause-honest
@@ -25,47 +29,52 @@ returns-in_err-intend_program-clause-honest g c flashes base steady chip whole e
     (programs_step c.step_laws.ensures flashes c.args.journal.now c.args.n (V c.args.rig.now) steady (omega (arith, c.ranges.n.fits)) c.requires.kept)
     [] _ _ c.from_residual.result (c.in_err-intend_program.ensures.honest steady.honest steady.loaded) c.in_err-intend_program.ensures.left c.from_residual.ensures.1
 
+-- the line of the intent stands, and the frames were sent under it
+sent : (g : Over) (c : After-program_frames g) (flashes : List (List ℕ)) (base : List ℕ)
+    → IsSteady flashes c.args.journal.now (g.R.Rig.view c.args.rig.now)
+    → (g.R.Rig.view c.args.rig.now).device.chip ≡ c.args.chip.now
+    → length base ≡ flash_size c.args.chip.now
+    → (g.R.Rig.view c.args.rig.now).device.flash
+    ≡ with_page c.args.chip.now c.args.n (erased_page c.args.chip.now c.args.n) base
+    → Goes flashes (Programs c.args.n ∷ []) c.intend_program.new.self (g.R.Rig.view c.args.rig.now)
+    (g.R.Rig.view c.program_frames.new.rig) c.program_frames.result
+    (λ _. (g.R.Rig.view c.program_frames.new.rig).device.flash
+    ≡ with_page c.args.chip.now c.args.n
+    (written c.args.page.now c.args.frames.now (erased_page c.args.chip.now c.args.n)) base)
+sent g c flashes base steady chip whole erased =
+    let V = g.R.Rig.view in
+    let l2 = c.intend_program.new.self in
+    let call = c.in_ok-intend_program.ensures in
+    let step = programs_step c.step_laws.ensures flashes c.args.journal.now c.args.n
+    (V c.args.rig.now) steady (omega (arith, c.ranges.n.fits)) c.requires.kept in
+    let said = said_by_call c.step_laws.ensures (Programs c.args.n) c.args.n (Program c.args.n)
+    flashes c.args.journal.now l2 (V c.args.rig.now) (V c.intend_program.new.rig) _
+    (g.met.R.Rig.model c.args.rig.now steady.honest)
+    (λ h. g.met.R.Rig.model c.intend_program.new.rig h) steady step (λ s2 has. has) call.honest
+    call.after call.text in
+    let Done : Unit {0} → Type 0 =
+    λ _. (V c.program_frames.new.rig).device.flash
+    ≡ with_page c.args.chip.now c.args.n
+    (written c.args.page.now c.args.frames.now (erased_page c.args.chip.now c.args.n)) base in
+    said_then {Done2 = Done} {Done = Done} (Programs c.args.n) c.args.n (Program c.args.n) flashes
+    l2 l2 (V c.args.rig.now) (V c.intend_program.new.rig) (V c.program_frames.new.rig)
+    c.program_frames.result said
+    (c.program_frames.ensures.honest flashes l2 base said.line.steady
+    (ap (λ (d : Device). d.chip) said.line.done ∙ chip) said.under whole
+    (ap (λ (d : Device). d.flash) said.line.done ∙ erased)) (λ y p. p)
+
 pub returns-in_err-program_frames-clause-honest : goal.returns-in_err-program_frames-clause-honest
 returns-in_err-program_frames-clause-honest g c flashes base steady chip whole erased =
-    let V = g.R.Rig.view in
-    let J = state_at (V c.args.rig.now).journal in
-    let K = state_at (V c.intend_program.new.rig).journal in
-    let call = c.in_ok-intend_program.ensures in
-    let appends = call.honest steady.honest steady.loaded in
-    let has = call.text steady.honest steady.loaded J K (good_at c.args.journal.now (V c.args.rig.now).journal steady.loaded) (good_at c.intend_program.new.self (V c.intend_program.new.rig).journal appends.loaded) in
-    let first = line_goes c.step_laws.ensures (Programs c.args.n) flashes c.args.journal.now c.intend_program.new.self
-    (V c.args.rig.now) (V c.intend_program.new.rig) (g.met.R.Rig.model c.args.rig.now steady.honest) steady
-    (programs_step c.step_laws.ensures flashes c.args.journal.now c.args.n (V c.args.rig.now) steady (omega (arith, c.ranges.n.fits)) c.requires.kept)
-    _ (tt {0}) appends call.after has in
-    let under = is_under c.args.n (Program c.args.n) J K has in
-    let chip_is = ap (λ (d : Device). d.chip) first.done ∙ chip in
-    let bare = ap (λ (d : Device). d.flash) first.done ∙ erased in
-    goes_then flashes (Programs c.args.n ∷ []) [] c.intend_program.new.self c.intend_program.new.self (V c.args.rig.now) (V c.intend_program.new.rig) (V c.program_frames.new.rig) (tt {0}) c.from_residual-in_err-program_frames.result
-    (g.met.R.Rig.model c.intend_program.new.rig first.steady.honest) first
-    (goes_failed flashes [] [] c.intend_program.new.self c.intend_program.new.self (V c.intend_program.new.rig) (V c.program_frames.new.rig) _ c.from_residual-in_err-program_frames.result
-    (c.in_err-program_frames.ensures.honest flashes c.intend_program.new.self base first.steady chip_is under whole bare)
-    c.from_residual-in_err-program_frames.ensures.1) (λ y p. p)
+    let at = (goal.at.returns-in_err-program_frames-clause-honest g c).After-program_frames in
+    goes_out _ c.from_residual-in_err-program_frames.result c.in_err-program_frames.was
+    (sent g at flashes base steady chip whole erased)
+    c.from_residual-in_err-program_frames.ensures.1
 
 pub returns-clause-honest : goal.returns-clause-honest
 returns-clause-honest g c flashes base steady chip whole erased =
-    let V = g.R.Rig.view in
-    let J = state_at (V c.args.rig.now).journal in
-    let K = state_at (V c.intend_program.new.rig).journal in
-    let call = c.in_ok-intend_program.ensures in
-    let appends = call.honest steady.honest steady.loaded in
-    let has = call.text steady.honest steady.loaded J K (good_at c.args.journal.now (V c.args.rig.now).journal steady.loaded) (good_at c.intend_program.new.self (V c.intend_program.new.rig).journal appends.loaded) in
-    let first = line_goes c.step_laws.ensures (Programs c.args.n) flashes c.args.journal.now c.intend_program.new.self
-    (V c.args.rig.now) (V c.intend_program.new.rig) (g.met.R.Rig.model c.args.rig.now steady.honest) steady
-    (programs_step c.step_laws.ensures flashes c.args.journal.now c.args.n (V c.args.rig.now) steady (omega (arith, c.ranges.n.fits)) c.requires.kept)
-    _ (tt {0}) appends call.after has in
-    let under = is_under c.args.n (Program c.args.n) J K has in
-    let chip_is = ap (λ (d : Device). d.chip) first.done ∙ chip in
-    let bare = ap (λ (d : Device). d.flash) first.done ∙ erased in
-    goes_then flashes (Programs c.args.n ∷ []) [] c.intend_program.new.self c.intend_program.new.self (V c.args.rig.now) (V c.intend_program.new.rig) (V c.program_frames.new.rig) (tt {0}) _
-    (g.met.R.Rig.model c.intend_program.new.rig first.steady.honest) first
-    (goes_ok flashes [] c.intend_program.new.self (V c.intend_program.new.rig) (V c.program_frames.new.rig) _ (tt {0})
-    (c.in_ok-program_frames.ensures.honest flashes c.intend_program.new.self base first.steady chip_is under whole bare)
-    (λ p. p)) (λ y p. p)
+    let at = (goal.at.returns-clause-honest g c).After-program_frames in
+    goes_past (tt {0}) c.in_ok-program_frames.was (sent g at flashes base steady chip whole erased)
+    (λ p. p)
 
 pub returns-in_err-intend_program-clause-puts : goal.returns-in_err-intend_program-clause-puts
 returns-in_err-intend_program-clause-puts g c =

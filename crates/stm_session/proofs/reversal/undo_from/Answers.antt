@@ -1,10 +1,20 @@
-use Rattle.std.proofs.Common.{◌≡◌, ◌∙◌, ◌≤◌, ℕ, Some, Ok, Err, Result, option_map, length, refl, sym, ap, subst, arith}
+use Rattle.std.proofs.Common.{◌≡◌, ◌∙◌, ◌≤◌, ℕ, List, [], Some, Ok, Err, Result, option_map, length}
+use Rattle.std.proofs.Common.{refl, sym, ap, subst, arith}
 use Rattle.stm_session.specs.declared.fault.Fault.{Fault}
 use Rattle.stm_session.specs.Promises.{UndoContract}
-use Rattle.stm_session.specs.Undoes.{Undoes, taken_count}
+use Rattle.stm_chip.specs.Document.{IsChipWith}
+use Rattle.stm_wire.specs.Device.{Device}
+use Rattle.stm_wire.specs.Harmless.{Harmless}
+use Rattle.stm_wire.specs.Rig.{IsModel}
+use Rattle.stm_session.specs.JournalDevice.{Meets}
+use Rattle.stm_session.specs.SegmentsBack.{GoesBackBy, undo_lines}
+use Rattle.stm_session.specs.Steps.{Goes}
+use Rattle.stm_session.specs.Undoable.{Undoable}
+use Rattle.stm_session.specs.Undoes.{IsFlashSettled, IsWithinLimit, Undoes, byte_at_journal}
+use Rattle.stm_session.specs.Undoes.{risked_at, taken_count}
 use Rattle.stm_session.proofs.Freshness.{own_within}
 use Rattle.stm_session.proofs.Going.{at_exit}
-use Rattle.stm_session.specs.Fresh.{IsReset, undo_way}
+use Rattle.stm_session.specs.Fresh.{IsAsSaid, IsReset, undo_way}
 use Rattle.stm_journal.specs.States.{intent_of}
 use Rattle.stm_session.proofs.SentUndo.{sends_back, sends_failed, sends_met, sends_nothing}
 use Rattle.stm_session.proofs.Unread.{contract_unread, none_some}
@@ -18,6 +28,8 @@ use Rattle.stm_session.proofs.KeptRuns.{stops_as}
 use Rattle.stm_session.proofs.Orders.{fetched_and, fetched_then, settled_then}
 use Rattle.stm_session.proofs.Reaching.{at_fault, fetched_stops, reached_stops}
 use Rattle.stm_session.proofs.SentUndo.{own-id}
+use Rattle.stm_session.proofs.reversal.undo_from.Given.{Over}
+use Rattle.stm_session.proofs.reversal.undo_from.Goals.{After-go_back, After-meet}
 use Rattle.stm_session.proofs.reversal.undo_from.Goals as goal
 
 pub returns-in_err-journal-clause-promised : goal.returns-in_err-journal-clause-promised
@@ -42,73 +54,203 @@ returns-in_err-chip-clause-promised g c said =
     let loads = c.in_ok-journal.ensures.honest h in
     contract_unfound c.args.table.now c.in_ok-journal.journal (V c.args.rig.now) (V c.load.new.rig) loads some c.in-Some.id named c.args.count _ c.from_residual-in_err-chip.result c.in_ok-journal.ensures.calls c.in_err-chip.ensures.refused c.from_residual-in_err-chip.ensures.1)
 
+-- the device is met as one that may be another
+told : (g : Over) (c : After-meet g) (made : Result (Unit {0}) Fault) → c.meet.result ≡ made
+    → (g.R.Rig.view c.args.rig.now).is_honest
+    → let a = g.R.Rig.view c.args.rig.now in IsAsSaid c.args.is_fresh a.device
+    → Harmless a.device (byte_at_journal a.journal) (risked_at a.journal)
+    → length a.device.owed ≤ 4096
+    → IsWithinLimit c.in_ok-chip.chip.now a
+    → Meets c.in_ok-chip.chip.now (g.R.Rig.view c.load.new.rig) (g.R.Rig.view c.meet.new.rig) made
+told g c made was h said harmless owed within =
+    let V = g.R.Rig.view in
+    let table = c.args.table.now in
+    let l = c.in_ok-journal.journal in
+    let a = V c.args.rig.now in
+    let b = V c.load.new.rig in
+    let loads = c.in_ok-journal.ensures.honest h in
+    let some : 1 ≤ length l.state.stack =
+    omega (arith, c.if-depth-eq0.false, c.depth-depth.ensures.value) in
+    let id = c.in-Some.id in
+    let named : option_map (λ header. header.id) l.state.header ≡ Some id = sym c.in-Some.ensures in
+    let laws = c.step_laws.ensures in
+    let chip = c.in_ok-chip.chip.now in
+    let is = c.in_ok-chip.ensures in
+    let M : Result (Unit {0}) Fault → Type 0 = λ r. Meets chip b (V c.meet.new.rig) r in
+    subst M was
+    (c.meet.ensures.elsewhere loads.honest (λ t. subst IsReset (sym loads.same_device) (said t))
+    (loaded_then table l a b loads)
+    (harmless_then table l a b loads some id named laws chip is.chip is.accepted harmless)
+    (owed_then table l a b loads some id named laws chip is.chip is.accepted owed)
+    (within_then table l a b loads some id named laws chip is.chip is.accepted within))
+
+-- and as the journal's own
+met : (g : Over) (c : After-meet g) (made : Result (Unit {0}) Fault) → c.meet.result ≡ made
+    → (g.R.Rig.view c.args.rig.now).is_honest
+    → let a = g.R.Rig.view c.args.rig.now in IsAsSaid c.args.is_fresh a.device
+    → (flashes : List (List ℕ)) → Undoable flashes a.device a.journal
+    → IsChipWith c.args.table.now a.device.chip.id a.device.chip
+    → Goes flashes [] c.in_ok-journal.journal (g.R.Rig.view c.load.new.rig)
+    (g.R.Rig.view c.meet.new.rig) made (λ _. Unit {0})
+met g c made was h said flashes u listed =
+    let V = g.R.Rig.view in
+    let table = c.args.table.now in
+    let l = c.in_ok-journal.journal in
+    let a = V c.args.rig.now in
+    let b = V c.load.new.rig in
+    let loads = c.in_ok-journal.ensures.honest h in
+    let some : 1 ≤ length l.state.stack =
+    omega (arith, c.if-depth-eq0.false, c.depth-depth.ensures.value) in
+    let is = c.in_ok-chip.ensures in
+    let G : Result (Unit {0}) Fault → Type 0 =
+    λ r. Goes flashes [] l b (V c.meet.new.rig) r (λ _. Unit {0}) in
+    subst G was
+    (c.meet.ensures.honest loads.honest (λ t. subst IsReset (sym loads.same_device) (said t))
+    flashes
+    (loaded_then table l a b loads) (undoable_then table l a b loads flashes u)
+    (own_chip table l a b loads some c.in-Some.id (sym c.in-Some.ensures) c.step_laws.ensures
+    c.in_ok-chip.chip.now is.chip is.accepted flashes u listed))
+
 pub returns-in_err-meet-clause-promised : goal.returns-in_err-meet-clause-promised
 returns-in_err-meet-clause-promised g c said =
     let V = g.R.Rig.view in
-    let some : 1 ≤ length c.in_ok-journal.journal.state.stack = omega (arith, c.if-depth-eq0.false, c.depth-depth.ensures.value) in
-    let named : option_map (λ h. h.id) c.in_ok-journal.journal.state.header ≡ Some c.in-Some.id = sym c.in-Some.ensures in
-    contract_when c.args.table.now c.args.count (V c.args.rig.now) (V c.meet.new.rig) c.from_residual-in_err-meet.result (λ h.
+    let table = c.args.table.now in
+    let l = c.in_ok-journal.journal in
+    let a = V c.args.rig.now in
+    let b = V c.load.new.rig in
+    let d = V c.meet.new.rig in
+    let some : 1 ≤ length l.state.stack =
+    omega (arith, c.if-depth-eq0.false, c.depth-depth.ensures.value) in
+    let named : option_map (λ h. h.id) l.state.header ≡ Some c.in-Some.id = sym c.in-Some.ensures in
+    let laws = c.step_laws.ensures in
+    let chip = c.in_ok-chip.chip.now in
+    let found = c.in_ok-chip.ensures in
+    let made = c.from_residual-in_err-meet in
+    let at = (goal.at.returns-in_err-meet-clause-promised g c).After-meet in
+    let was = c.in_err-meet.was in
+    let P : Result ℕ Fault → Type 0 = λ r. UndoContract table c.args.count a d r in
+    contract_when table c.args.count a d made.result
+    (λ h. err_as P made.result _ made.ensures.1 (λ x is.
     let loads = c.in_ok-journal.ensures.honest h in
-    let P : Result ℕ Fault → Type 0 = λ r. UndoContract c.args.table.now c.args.count (V c.args.rig.now) (V c.meet.new.rig) r in
-    err_as P c.from_residual-in_err-meet.result _ c.from_residual-in_err-meet.ensures.1 (λ x is.
-    contract_after c.args.table.now c.in_ok-journal.journal (V c.args.rig.now) (V c.load.new.rig) loads some c.in-Some.id named c.step_laws.ensures c.in_ok-chip.chip.now c.in_ok-chip.ensures.chip c.in_ok-chip.ensures.accepted c.args.count (V c.meet.new.rig) (Err x)
+    contract_after table l a b loads some c.in-Some.id named laws chip found.chip found.accepted
+    c.args.count d (Err x)
     (λ refusal harmless owed within misfit.
-    refuses_elsewhere c.args.table.now c.in_ok-journal.journal (V c.args.rig.now) (V c.load.new.rig) loads some c.in-Some.id named c.step_laws.ensures c.in_ok-chip.chip.now c.in_ok-chip.ensures.chip c.in_ok-chip.ensures.accepted c.args.count (V c.meet.new.rig) refusal _ x is harmless owed misfit
-    (c.in_err-meet.ensures.elsewhere loads.honest (λ t. subst IsReset (sym loads.same_device) (said t)) (loaded_then c.args.table.now c.in_ok-journal.journal (V c.args.rig.now) (V c.load.new.rig) loads) (harmless_then c.args.table.now c.in_ok-journal.journal (V c.args.rig.now) (V c.load.new.rig) loads some c.in-Some.id named c.step_laws.ensures c.in_ok-chip.chip.now c.in_ok-chip.ensures.chip c.in_ok-chip.ensures.accepted harmless) (owed_then c.args.table.now c.in_ok-journal.journal (V c.args.rig.now) (V c.load.new.rig) loads some c.in-Some.id named c.step_laws.ensures c.in_ok-chip.chip.now c.in_ok-chip.ensures.chip c.in_ok-chip.ensures.accepted owed) (within_then c.args.table.now c.in_ok-journal.journal (V c.args.rig.now) (V c.load.new.rig) loads some c.in-Some.id named c.step_laws.ensures c.in_ok-chip.chip.now c.in_ok-chip.ensures.chip c.in_ok-chip.ensures.accepted within)))
+    refuses_elsewhere table l a b loads some c.in-Some.id named laws chip found.chip found.accepted
+    c.args.count d refusal _ x is harmless owed misfit
+    (told g at _ was h said harmless owed within))
     (λ flashes u listed.
-    let goes = c.in_err-meet.ensures.honest loads.honest (λ t. subst IsReset (sym loads.same_device) (said t)) flashes (loaded_then c.args.table.now c.in_ok-journal.journal (V c.args.rig.now) (V c.load.new.rig) loads) (undoable_then c.args.table.now c.in_ok-journal.journal (V c.args.rig.now) (V c.load.new.rig) loads flashes u) (own_chip c.args.table.now c.in_ok-journal.journal (V c.args.rig.now) (V c.load.new.rig) loads some c.in-Some.id named c.step_laws.ensures c.in_ok-chip.chip.now c.in_ok-chip.ensures.chip c.in_ok-chip.ensures.accepted flashes u listed) in
-    undoes_unmet c.args.table.now c.in_ok-journal.journal (V c.args.rig.now) (V c.load.new.rig) loads some c.in-Some.id named c.step_laws.ensures c.in_ok-chip.chip.now c.in_ok-chip.ensures.chip c.in_ok-chip.ensures.accepted (taken_count c.args.count (length flashes)) flashes u (V c.meet.new.rig) c.in_ok-journal.journal _ x (g.met.R.Rig.model c.meet.new.rig goes.honest) goes is)))
+    let goes = met g at _ was h said flashes u listed in
+    undoes_unmet table l a b loads some c.in-Some.id named laws chip found.chip found.accepted
+    (taken_count c.args.count (length flashes)) flashes u d l _ x
+    (g.met.R.Rig.model c.meet.new.rig goes.honest) goes is)))
+
+-- the segments are gone back over, of a device that was met
+gone : (g : Over) (c : After-go_back g) (made : Result (Unit {0}) Fault) → c.go_back.result ≡ made
+    → (g.R.Rig.view c.args.rig.now).is_honest → (result : Result ℕ Fault)
+    → let a = g.R.Rig.view c.args.rig.now in let b = g.R.Rig.view c.load.new.rig in
+    let d = g.R.Rig.view c.meet.new.rig in let e = g.R.Rig.view c.go_back.new.rig in
+    let l = c.in_ok-journal.journal in let taken = c.taken_count-taken.result in
+    (Harmless a.device (byte_at_journal a.journal) (risked_at a.journal)
+    → length a.device.owed ≤ 4096
+    → IsWithinLimit c.in_ok-chip.chip.now a
+    → Meets {T = Unit {0}} c.in_ok-chip.chip.now b d (Ok (tt {0})))
+    → ((flashes : List (List ℕ)) → Undoable flashes a.device a.journal
+    → IsChipWith c.args.table.now a.device.chip.id a.device.chip
+    → Goes {T = Unit {0}} flashes [] l b d (Ok (tt {0})) (λ _. Unit {0}))
+    → ((flashes : List (List ℕ)) → Undoable flashes a.device a.journal → IsModel d
+    → Goes {T = Unit {0}} flashes [] l b d (Ok (tt {0})) (λ _. Unit {0})
+    → IsFlashSettled a d.device.flash
+    → GoesBackBy (undo_lines taken d) taken flashes c.go_back.new.journal d e made
+    → Undoes taken flashes a e result)
+    → UndoContract c.args.table.now c.args.count a e result
+gone g c made was h result meets goes undoes =
+    let V = g.R.Rig.view in
+    let table = c.args.table.now in
+    let l = c.in_ok-journal.journal in
+    let a = V c.args.rig.now in
+    let b = V c.load.new.rig in
+    let d = V c.meet.new.rig in
+    let e = V c.go_back.new.rig in
+    let loads = c.in_ok-journal.ensures.honest h in
+    let some : 1 ≤ length l.state.stack =
+    omega (arith, c.if-depth-eq0.false, c.depth-depth.ensures.value) in
+    let named : option_map (λ x. x.id) l.state.header ≡ Some c.in-Some.id = sym c.in-Some.ensures in
+    let laws = c.step_laws.ensures in
+    let chip = c.in_ok-chip.chip.now in
+    let found = c.in_ok-chip.ensures in
+    let taken = c.taken_count-taken.result in
+    contract_after table l a b loads some c.in-Some.id named laws chip found.chip found.accepted
+    c.args.count e result
+    (λ refusal harmless owed within misfit.
+    none_some _ refusal (meets harmless owed within).accepted misfit)
+    (λ flashes u listed.
+    let own = own_chip table l a b loads some c.in-Some.id named laws chip found.chip found.accepted
+    flashes u listed in
+    let before = sym (ap (λ (x : Device). x.chip) loads.same_device) ∙ own in
+    let within = own_within laws chip a (g.met.R.Rig.model c.args.rig.now h).device before in
+    let left = (meets u.harmless u.owed within).left in
+    let settled = (elsewhere_back table l a b loads some c.in-Some.id named laws chip found.chip
+    found.accepted d.device d.journal left).flash in
+    let went = goes flashes u listed in
+    let model = g.met.R.Rig.model c.meet.new.rig went.honest in
+    let still = (at_exit _ b d model went.moments).make.chip ∙ own in
+    let depth = flashes_depth table l a b loads flashes u in
+    let count_is : taken ≡ taken_count c.args.count (length flashes) =
+    c.taken_count-taken.ensures.value
+    ∙ ap (λ (n : ℕ). taken_count c.args.count n) (c.depth-depth.ensures.value ∙ sym depth) in
+    let G : Result (Unit {0}) Fault → Type 0 =
+    λ r. GoesBackBy (undo_lines taken d) taken flashes c.go_back.new.journal d e r in
+    let U : ℕ → Type 0 = λ n. Undoes n flashes a e result in
+    subst U count_is
+    (undoes flashes u model went settled
+    (subst G was (c.go_back.ensures.honest flashes went.steady still))))
 
 pub returns-in_err-go_back-clause-promised : goal.returns-in_err-go_back-clause-promised
 returns-in_err-go_back-clause-promised g c said =
     let V = g.R.Rig.view in
-    let some : 1 ≤ length c.in_ok-journal.journal.state.stack = omega (arith, c.if-depth-eq0.false, c.depth-depth.ensures.value) in
-    let named : option_map (λ h. h.id) c.in_ok-journal.journal.state.header ≡ Some c.in-Some.id = sym c.in-Some.ensures in
-    contract_when c.args.table.now c.args.count (V c.args.rig.now) (V c.go_back.new.rig) c.from_residual-in_err-go_back.result (λ h.
-    let loads = c.in_ok-journal.ensures.honest h in
-    let P : Result ℕ Fault → Type 0 = λ r. UndoContract c.args.table.now c.args.count (V c.args.rig.now) (V c.go_back.new.rig) r in
-    err_as P c.from_residual-in_err-go_back.result _ c.from_residual-in_err-go_back.ensures.1 (λ x is.
-    contract_after c.args.table.now c.in_ok-journal.journal (V c.args.rig.now) (V c.load.new.rig) loads some c.in-Some.id named c.step_laws.ensures c.in_ok-chip.chip.now c.in_ok-chip.ensures.chip c.in_ok-chip.ensures.accepted c.args.count (V c.go_back.new.rig) (Err x)
-    (λ refusal harmless owed within misfit.
-    let meets = c.in_ok-meet.ensures.elsewhere loads.honest (λ t. subst IsReset (sym loads.same_device) (said t)) (loaded_then c.args.table.now c.in_ok-journal.journal (V c.args.rig.now) (V c.load.new.rig) loads) (harmless_then c.args.table.now c.in_ok-journal.journal (V c.args.rig.now) (V c.load.new.rig) loads some c.in-Some.id named c.step_laws.ensures c.in_ok-chip.chip.now c.in_ok-chip.ensures.chip c.in_ok-chip.ensures.accepted harmless) (owed_then c.args.table.now c.in_ok-journal.journal (V c.args.rig.now) (V c.load.new.rig) loads some c.in-Some.id named c.step_laws.ensures c.in_ok-chip.chip.now c.in_ok-chip.ensures.chip c.in_ok-chip.ensures.accepted owed) (within_then c.args.table.now c.in_ok-journal.journal (V c.args.rig.now) (V c.load.new.rig) loads some c.in-Some.id named c.step_laws.ensures c.in_ok-chip.chip.now c.in_ok-chip.ensures.chip c.in_ok-chip.ensures.accepted within) in
-    none_some _ refusal meets.accepted misfit)
-    (λ flashes u listed.
-    let goes = c.in_ok-meet.ensures.honest loads.honest (λ t. subst IsReset (sym loads.same_device) (said t)) flashes (loaded_then c.args.table.now c.in_ok-journal.journal (V c.args.rig.now) (V c.load.new.rig) loads) (undoable_then c.args.table.now c.in_ok-journal.journal (V c.args.rig.now) (V c.load.new.rig) loads flashes u) (own_chip c.args.table.now c.in_ok-journal.journal (V c.args.rig.now) (V c.load.new.rig) loads some c.in-Some.id named c.step_laws.ensures c.in_ok-chip.chip.now c.in_ok-chip.ensures.chip c.in_ok-chip.ensures.accepted flashes u listed) in
-    let met = c.in_ok-meet.ensures.elsewhere loads.honest (λ t. subst IsReset (sym loads.same_device) (said t)) (loaded_then c.args.table.now c.in_ok-journal.journal (V c.args.rig.now) (V c.load.new.rig) loads) (harmless_then c.args.table.now c.in_ok-journal.journal (V c.args.rig.now) (V c.load.new.rig) loads some c.in-Some.id named c.step_laws.ensures c.in_ok-chip.chip.now c.in_ok-chip.ensures.chip c.in_ok-chip.ensures.accepted u.harmless) (owed_then c.args.table.now c.in_ok-journal.journal (V c.args.rig.now) (V c.load.new.rig) loads some c.in-Some.id named c.step_laws.ensures c.in_ok-chip.chip.now c.in_ok-chip.ensures.chip c.in_ok-chip.ensures.accepted u.owed) (own_within c.step_laws.ensures c.in_ok-chip.chip.now (V c.load.new.rig) (g.met.R.Rig.model c.load.new.rig loads.honest).device (own_chip c.args.table.now c.in_ok-journal.journal (V c.args.rig.now) (V c.load.new.rig) loads some c.in-Some.id named c.step_laws.ensures c.in_ok-chip.chip.now c.in_ok-chip.ensures.chip c.in_ok-chip.ensures.accepted flashes u listed)) in
-    let settled = (elsewhere_back c.args.table.now c.in_ok-journal.journal (V c.args.rig.now) (V c.load.new.rig) loads some c.in-Some.id named c.step_laws.ensures c.in_ok-chip.chip.now c.in_ok-chip.ensures.chip c.in_ok-chip.ensures.accepted (V c.meet.new.rig).device (V c.meet.new.rig).journal met.left).flash in
-    let model_b = g.met.R.Rig.model c.meet.new.rig goes.honest in
-    let chip_b = (at_exit _ (V c.load.new.rig) (V c.meet.new.rig) model_b goes.moments).make.chip ∙ own_chip c.args.table.now c.in_ok-journal.journal (V c.args.rig.now) (V c.load.new.rig) loads some c.in-Some.id named c.step_laws.ensures c.in_ok-chip.chip.now c.in_ok-chip.ensures.chip c.in_ok-chip.ensures.accepted flashes u listed in
-    let depth = flashes_depth c.args.table.now c.in_ok-journal.journal (V c.args.rig.now) (V c.load.new.rig) loads flashes u in
-    let count_is : c.taken_count-taken.result ≡ taken_count c.args.count (length flashes) = c.taken_count-taken.ensures.value ∙ ap (λ (n : ℕ). taken_count c.args.count n) (c.depth-depth.ensures.value ∙ sym depth) in
-    let back = c.in_err-go_back.ensures.honest flashes goes.steady chip_b in
-    let U : ℕ → Type 0 = λ n. Undoes n flashes (V c.args.rig.now) (V c.go_back.new.rig) (Err x) in
-    subst U count_is
-    (undoes_stopped c.args.table.now c.in_ok-journal.journal (V c.args.rig.now) (V c.load.new.rig) loads some c.in-Some.id named c.step_laws.ensures c.in_ok-chip.chip.now c.in_ok-chip.ensures.chip c.in_ok-chip.ensures.accepted c.taken_count-taken.result flashes u (V c.meet.new.rig) model_b goes settled (V c.go_back.new.rig) c.go_back.new.journal _ x (g.met.R.Rig.model c.go_back.new.rig back.honest) back is))))
+    let table = c.args.table.now in
+    let l = c.in_ok-journal.journal in
+    let a = V c.args.rig.now in
+    let e = V c.go_back.new.rig in
+    let some : 1 ≤ length l.state.stack =
+    omega (arith, c.if-depth-eq0.false, c.depth-depth.ensures.value) in
+    let found = c.in_ok-chip.ensures in
+    let last = c.from_residual-in_err-go_back in
+    let at = goal.at.returns-in_err-go_back-clause-promised g c in
+    let P : Result ℕ Fault → Type 0 = λ r. UndoContract table c.args.count a e r in
+    contract_when table c.args.count a e last.result
+    (λ h. err_as P last.result _ last.ensures.1 (λ x is.
+    gone g at.After-go_back _ c.in_err-go_back.was h (Err x)
+    (told g at.After-meet _ c.in_ok-meet.was h said) (met g at.After-meet _ c.in_ok-meet.was h said)
+    (λ flashes u model went settled back.
+    undoes_stopped table l a (V c.load.new.rig) (c.in_ok-journal.ensures.honest h) some c.in-Some.id
+    (sym c.in-Some.ensures) c.step_laws.ensures c.in_ok-chip.chip.now found.chip found.accepted
+    c.taken_count-taken.result flashes u (V c.meet.new.rig) model went settled e
+    c.go_back.new.journal _ x (g.met.R.Rig.model c.go_back.new.rig back.honest) back is)))
 
 pub returns-clause-promised : goal.returns-clause-promised
 returns-clause-promised g c said =
     let V = g.R.Rig.view in
-    let some : 1 ≤ length c.in_ok-journal.journal.state.stack = omega (arith, c.if-depth-eq0.false, c.depth-depth.ensures.value) in
-    let named : option_map (λ h. h.id) c.in_ok-journal.journal.state.header ≡ Some c.in-Some.id = sym c.in-Some.ensures in
-    contract_when c.args.table.now c.args.count (V c.args.rig.now) (V c.go_back.new.rig) _ (λ h.
-    let loads = c.in_ok-journal.ensures.honest h in
-    contract_after c.args.table.now c.in_ok-journal.journal (V c.args.rig.now) (V c.load.new.rig) loads some c.in-Some.id named c.step_laws.ensures c.in_ok-chip.chip.now c.in_ok-chip.ensures.chip c.in_ok-chip.ensures.accepted c.args.count (V c.go_back.new.rig) _
-    (λ refusal harmless owed within misfit.
-    let meets = c.in_ok-meet.ensures.elsewhere loads.honest (λ t. subst IsReset (sym loads.same_device) (said t)) (loaded_then c.args.table.now c.in_ok-journal.journal (V c.args.rig.now) (V c.load.new.rig) loads) (harmless_then c.args.table.now c.in_ok-journal.journal (V c.args.rig.now) (V c.load.new.rig) loads some c.in-Some.id named c.step_laws.ensures c.in_ok-chip.chip.now c.in_ok-chip.ensures.chip c.in_ok-chip.ensures.accepted harmless) (owed_then c.args.table.now c.in_ok-journal.journal (V c.args.rig.now) (V c.load.new.rig) loads some c.in-Some.id named c.step_laws.ensures c.in_ok-chip.chip.now c.in_ok-chip.ensures.chip c.in_ok-chip.ensures.accepted owed) (within_then c.args.table.now c.in_ok-journal.journal (V c.args.rig.now) (V c.load.new.rig) loads some c.in-Some.id named c.step_laws.ensures c.in_ok-chip.chip.now c.in_ok-chip.ensures.chip c.in_ok-chip.ensures.accepted within) in
-    none_some _ refusal meets.accepted misfit)
-    (λ flashes u listed.
-    let goes = c.in_ok-meet.ensures.honest loads.honest (λ t. subst IsReset (sym loads.same_device) (said t)) flashes (loaded_then c.args.table.now c.in_ok-journal.journal (V c.args.rig.now) (V c.load.new.rig) loads) (undoable_then c.args.table.now c.in_ok-journal.journal (V c.args.rig.now) (V c.load.new.rig) loads flashes u) (own_chip c.args.table.now c.in_ok-journal.journal (V c.args.rig.now) (V c.load.new.rig) loads some c.in-Some.id named c.step_laws.ensures c.in_ok-chip.chip.now c.in_ok-chip.ensures.chip c.in_ok-chip.ensures.accepted flashes u listed) in
-    let met = c.in_ok-meet.ensures.elsewhere loads.honest (λ t. subst IsReset (sym loads.same_device) (said t)) (loaded_then c.args.table.now c.in_ok-journal.journal (V c.args.rig.now) (V c.load.new.rig) loads) (harmless_then c.args.table.now c.in_ok-journal.journal (V c.args.rig.now) (V c.load.new.rig) loads some c.in-Some.id named c.step_laws.ensures c.in_ok-chip.chip.now c.in_ok-chip.ensures.chip c.in_ok-chip.ensures.accepted u.harmless) (owed_then c.args.table.now c.in_ok-journal.journal (V c.args.rig.now) (V c.load.new.rig) loads some c.in-Some.id named c.step_laws.ensures c.in_ok-chip.chip.now c.in_ok-chip.ensures.chip c.in_ok-chip.ensures.accepted u.owed) (own_within c.step_laws.ensures c.in_ok-chip.chip.now (V c.load.new.rig) (g.met.R.Rig.model c.load.new.rig loads.honest).device (own_chip c.args.table.now c.in_ok-journal.journal (V c.args.rig.now) (V c.load.new.rig) loads some c.in-Some.id named c.step_laws.ensures c.in_ok-chip.chip.now c.in_ok-chip.ensures.chip c.in_ok-chip.ensures.accepted flashes u listed)) in
-    let settled = (elsewhere_back c.args.table.now c.in_ok-journal.journal (V c.args.rig.now) (V c.load.new.rig) loads some c.in-Some.id named c.step_laws.ensures c.in_ok-chip.chip.now c.in_ok-chip.ensures.chip c.in_ok-chip.ensures.accepted (V c.meet.new.rig).device (V c.meet.new.rig).journal met.left).flash in
-    let model_b = g.met.R.Rig.model c.meet.new.rig goes.honest in
-    let chip_b = (at_exit _ (V c.load.new.rig) (V c.meet.new.rig) model_b goes.moments).make.chip ∙ own_chip c.args.table.now c.in_ok-journal.journal (V c.args.rig.now) (V c.load.new.rig) loads some c.in-Some.id named c.step_laws.ensures c.in_ok-chip.chip.now c.in_ok-chip.ensures.chip c.in_ok-chip.ensures.accepted flashes u listed in
-    let depth = flashes_depth c.args.table.now c.in_ok-journal.journal (V c.args.rig.now) (V c.load.new.rig) loads flashes u in
-    let count_is : c.taken_count-taken.result ≡ taken_count c.args.count (length flashes) = c.taken_count-taken.ensures.value ∙ ap (λ (n : ℕ). taken_count c.args.count n) (c.depth-depth.ensures.value ∙ sym depth) in
-    let back = c.in_ok-go_back.ensures.honest flashes goes.steady chip_b in
-    let one : 1 ≤ c.taken_count-taken.result = c.taken_count-taken.ensures.some (omega (arith, some, c.depth-depth.ensures.value)) in
-    let U : ℕ → Type 0 = λ n. Undoes n flashes (V c.args.rig.now) (V c.go_back.new.rig) (Ok c.taken_count-taken.result) in
-    subst U count_is
-    (undoes_all c.args.table.now c.in_ok-journal.journal (V c.args.rig.now) (V c.load.new.rig) loads some c.in-Some.id named c.step_laws.ensures c.in_ok-chip.chip.now c.in_ok-chip.ensures.chip c.in_ok-chip.ensures.accepted c.taken_count-taken.result flashes u (V c.meet.new.rig) model_b goes settled (V c.go_back.new.rig) c.go_back.new.journal c.taken_count-taken.result refl one (g.met.R.Rig.model c.go_back.new.rig back.honest) back)))
+    let table = c.args.table.now in
+    let l = c.in_ok-journal.journal in
+    let a = V c.args.rig.now in
+    let e = V c.go_back.new.rig in
+    let some : 1 ≤ length l.state.stack =
+    omega (arith, c.if-depth-eq0.false, c.depth-depth.ensures.value) in
+    let found = c.in_ok-chip.ensures in
+    let taken = c.taken_count-taken in
+    let one : 1 ≤ taken.result = taken.ensures.some
+    (omega (arith, some, c.depth-depth.ensures.value)) in
+    let at = goal.at.returns-clause-promised g c in
+    contract_when table c.args.count a e _ (λ h.
+    gone g at.After-go_back _ c.in_ok-go_back.was h _
+    (told g at.After-meet _ c.in_ok-meet.was h said) (met g at.After-meet _ c.in_ok-meet.was h said)
+    (λ flashes u model went settled back.
+    undoes_all table l a (V c.load.new.rig) (c.in_ok-journal.ensures.honest h) some c.in-Some.id
+    (sym c.in-Some.ensures) c.step_laws.ensures c.in_ok-chip.chip.now found.chip found.accepted
+    taken.result flashes u (V c.meet.new.rig) model went settled e c.go_back.new.journal
+    taken.result
+    refl one (g.met.R.Rig.model c.go_back.new.rig back.honest) back))
 
 pub returns-in_err-journal-clause-puts : goal.returns-in_err-journal-clause-puts
 returns-in_err-journal-clause-puts g c =

@@ -1,20 +1,19 @@
-use Rattle.std.proofs.Common.{◌∙◌, ◌∷◌, [], ap, sym}
-use Rattle.stm_wire.specs.Chip.{page_of}
+use Rattle.std.proofs.Common.{◌≡◌, ◌*◌, ◌∙◌, ◌∷◌, [], ◌++◌, List, ℕ, Some, true, ap, refl, sym}
+use Rattle.std.proofs.Common.{arith}
+use Rattle.stm_wire.specs.Chip.{flash_size, page_of}
 use Rattle.stm_wire.specs.Device.{Device}
 use Rattle.stm_journal.specs.declared.entry.Entry.TheVariants.{Keeps}
-use Rattle.stm_session.proofs.Going.{goes_failed, goes_then}
-use Rattle.stm_session.proofs.Savings.{both_saved, may_still}
-use Rattle.std.proofs.Common.{◌*◌, Some, true, arith}
-use Rattle.stm_wire.specs.Chip.{flash_size}
-use Rattle.stm_session.proofs.SentParts.{part_after, part_fails, part_fails_after}
-use Rattle.std.proofs.Common.{◌++◌, List, refl}
-use Rattle.stm_session.specs.ChangeOrder.{AreBothSaved}
-use Rattle.stm_session.specs.Order.{Step, Adds}
-use Rattle.stm_session.proofs.Orders.{does_then}
-use Rattle.std.proofs.Common.{ap, refl}
-use Rattle.stm_session.specs.ChangeOrder.{IsCompanionSaved}
-use Rattle.stm_session.specs.Order.{Are, Begin}
+use Rattle.stm_session.specs.ChangeOrder.{AreBothSaved, IsCompanionSaved}
+use Rattle.stm_session.specs.Order.{Step, Adds, Are, Begin}
+use Rattle.stm_session.specs.Steps.{Goes, IsSteady}
 use Rattle.stm_session.proofs.CutShort.{begin_after, begin_on, part_stops, then_stops}
+use Rattle.stm_session.proofs.Exits.{goes_out, goes_past}
+use Rattle.stm_session.proofs.Going.{goes_failed, goes_then}
+use Rattle.stm_session.proofs.Orders.{does_then}
+use Rattle.stm_session.proofs.Savings.{both_saved, may_still}
+use Rattle.stm_session.proofs.SentParts.{part_after, part_fails, part_fails_after}
+use Rattle.stm_session.proofs.saving.save_both.Given.{Over}
+use Rattle.stm_session.proofs.saving.save_both.Goals.{After-save_page}
 use Rattle.stm_session.proofs.saving.save_both.Goals as goal
 
 pub save_page-requires-clause-may : goal.save_page-requires-clause-may
@@ -36,35 +35,39 @@ returns-in_err-save_companion-clause-honest g c flashes steady chip read =
     goes_failed flashes (Keeps 257 (page_of c.args.chip.now a.device.flash 257) ∷ []) (Keeps 1 c.args.held.now ∷ []) l2 l2 a b _ c.from_residual.result
     (c.in_err-save_companion.ensures.honest flashes steady chip) c.from_residual.ensures.1
 
-pub returns-in_err-save_page-clause-honest : goal.returns-in_err-save_page-clause-honest
-returns-in_err-save_page-clause-honest g c flashes steady chip read =
+-- page 1 is kept after page 257
+kept : (g : Over) (c : After-save_page g) (flashes : List (List ℕ))
+    → IsSteady flashes c.args.journal.now (g.R.Rig.view c.args.rig.now)
+    → (g.R.Rig.view c.args.rig.now).device.chip ≡ c.args.chip.now
+    → c.args.held.now ≡ page_of c.args.chip.now (g.R.Rig.view c.args.rig.now).device.flash 1
+    → Goes flashes
+    (Keeps 257 (page_of c.args.chip.now (g.R.Rig.view c.args.rig.now).device.flash 257)
+    ∷ Keeps 1 c.args.held.now ∷ [])
+    c.save_page.new.journal (g.R.Rig.view c.args.rig.now) (g.R.Rig.view c.save_page.new.rig)
+    c.save_page.result
+    (λ _. (g.R.Rig.view c.save_page.new.rig).device ≡ (g.R.Rig.view c.args.rig.now).device)
+kept g c flashes steady chip read =
     let V = g.R.Rig.view in
-    let l2 = c.save_companion.new.journal in
-    let l3 = c.save_page.new.journal in
     let a = V c.args.rig.now in
-    let b = V c.save_companion.new.rig in
-    let d = V c.save_page.new.rig in
     let first = c.in_ok-save_companion.ensures.honest flashes steady chip in
-    let model_b = g.met.R.Rig.model c.save_companion.new.rig first.steady.honest in
     let still = ap (λ (x : Device). x.chip) first.done ∙ chip in
     let same = read ∙ sym (ap (λ (x : Device). page_of c.args.chip.now x.flash 1) first.done) in
-    goes_then flashes (Keeps 257 (page_of c.args.chip.now a.device.flash 257) ∷ []) (Keeps 1 c.args.held.now ∷ []) l2 l3 a b d (tt {0}) c.from_residual-in_err-save_page.result model_b first
-    (goes_failed flashes (Keeps 1 c.args.held.now ∷ []) [] l3 l3 b d _ c.from_residual-in_err-save_page.result (c.in_err-save_page.ensures.honest flashes first.steady still same) c.from_residual-in_err-save_page.ensures.1) (λ y p. p)
+    goes_then flashes (Keeps 257 (page_of c.args.chip.now a.device.flash 257) ∷ [])
+    (Keeps 1 c.args.held.now ∷ []) c.save_companion.new.journal c.save_page.new.journal a
+    (V c.save_companion.new.rig) (V c.save_page.new.rig) (tt {0}) c.save_page.result
+    (g.met.R.Rig.model c.save_companion.new.rig first.steady.honest) first
+    (c.save_page.ensures.honest flashes first.steady still same) (λ y done. done ∙ first.done)
+
+pub returns-in_err-save_page-clause-honest : goal.returns-in_err-save_page-clause-honest
+returns-in_err-save_page-clause-honest g c flashes steady chip read =
+    let at = (goal.at.returns-in_err-save_page-clause-honest g c).After-save_page in
+    goes_out _ c.from_residual-in_err-save_page.result c.in_err-save_page.was
+    (kept g at flashes steady chip read) c.from_residual-in_err-save_page.ensures.1
 
 pub returns-clause-honest : goal.returns-clause-honest
 returns-clause-honest g c flashes steady chip read =
-    let V = g.R.Rig.view in
-    let l2 = c.save_companion.new.journal in
-    let l3 = c.save_page.new.journal in
-    let a = V c.args.rig.now in
-    let b = V c.save_companion.new.rig in
-    let d = V c.save_page.new.rig in
-    let first = c.in_ok-save_companion.ensures.honest flashes steady chip in
-    let model_b = g.met.R.Rig.model c.save_companion.new.rig first.steady.honest in
-    let still = ap (λ (x : Device). x.chip) first.done ∙ chip in
-    let same = read ∙ sym (ap (λ (x : Device). page_of c.args.chip.now x.flash 1) first.done) in
-    goes_then flashes (Keeps 257 (page_of c.args.chip.now a.device.flash 257) ∷ []) (Keeps 1 c.args.held.now ∷ []) l2 l3 a b d (tt {0}) _ model_b first
-    (c.in_ok-save_page.ensures.honest flashes first.steady still same) (λ y done. done ∙ first.done)
+    let at = (goal.at.returns-clause-honest g c).After-save_page in
+    goes_past (tt {0}) c.in_ok-save_page.was (kept g at flashes steady chip read) (λ done. done)
 
 pub returns-in_err-save_companion-clause-puts : goal.returns-in_err-save_companion-clause-puts
 returns-in_err-save_companion-clause-puts g c =

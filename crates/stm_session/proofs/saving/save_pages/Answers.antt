@@ -1,22 +1,23 @@
-use Rattle.std.proofs.Common.{◌≡◌, ◌∙◌, ◌==◌, ◌&&◌, ◌∷◌, [], ℕ, true, false, ap, refl, sym}
-use Rattle.stm_wire.specs.Chip.{page_of}
-use Rattle.stm_journal.specs.declared.entry.Entry.TheVariants.{Keeps}
-use Rattle.stm_session.specs.Undoable.{has_companion}
-use Rattle.stm_session.proofs.Going.{goes_as, goes_failed, goes_nowhere, goes_ok}
-use Rattle.stm_session.proofs.Savings.{both_lines, is_first, none_lines, one_lines}
-use Rattle.std.proofs.Common.{◌≡◌, ◌*◌, Some, arith}
-use Rattle.stm_wire.specs.Chip.{flash_size}
+use Rattle.std.proofs.Common.{◌≡◌, ◌*◌, ◌∙◌, ◌==◌, ◌&&◌, ◌∷◌, [], List, ℕ, Some, true, ap, refl}
+use Rattle.std.proofs.Common.{sym, arith}
+use Rattle.stm_wire.specs.Chip.{flash_size, page_of}
 use Rattle.stm_wire.specs.PartLaws.{nothing_is_part, part_longer}
+use Rattle.stm_journal.specs.declared.entry.Entry.TheVariants.{Keeps}
+use Rattle.stm_session.specs.ChangeOrder.{AreBothSaved, IsSaved}
+use Rattle.stm_session.specs.Changing.{save_entries}
+use Rattle.stm_session.specs.Order.{Step, Adds, Are, Begin}
 use Rattle.stm_session.specs.Sending.{most_of_companion}
+use Rattle.stm_session.specs.Undoable.{has_companion}
+use Rattle.stm_session.proofs.ChangeOrders.{saved_both, saved_none, saved_one}
+use Rattle.stm_session.proofs.CutShort.{begin_as, part_stops}
+use Rattle.stm_session.proofs.Exits.{goes_out, goes_past}
+use Rattle.stm_session.proofs.Going.{goes_as, goes_nowhere}
+use Rattle.stm_session.proofs.Orders.{does_nothing}
+use Rattle.stm_session.proofs.Savings.{both_lines, is_first, none_lines, one_lines}
 use Rattle.stm_session.proofs.SentChanges.{companion_is}
 use Rattle.stm_session.proofs.SentParts.{part_fails}
-use Rattle.std.proofs.Common.{List}
-use Rattle.stm_session.specs.Order.{Step, Adds}
-use Rattle.stm_session.proofs.ChangeOrders.{saved_both, saved_none, saved_one}
-use Rattle.stm_session.proofs.Orders.{does_nothing}
-use Rattle.stm_session.specs.ChangeOrder.{AreBothSaved, IsSaved}
-use Rattle.stm_session.specs.Order.{Are, Begin}
-use Rattle.stm_session.proofs.CutShort.{begin_as, part_stops}
+use Rattle.stm_session.proofs.saving.save_pages.Given.{Over}
+use Rattle.stm_session.proofs.saving.save_pages.Goals.{After-save_both, After-save_page}
 use Rattle.stm_session.proofs.saving.save_pages.Goals as goal
 
 pub returns-then-kept-clause-honest : goal.returns-then-kept-clause-honest
@@ -27,51 +28,67 @@ returns-then-kept-clause-honest g c flashes steady chip read =
     goes_as flashes [] _ l a a _ (none_lines c.args.kept c.args.chip.now a.device.flash c.args.n c.if-kept.true)
     (goes_nowhere c.step_laws.ensures flashes l a (tt {0}) _ (g.met.R.Rig.model c.args.rig.now steady.honest) steady refl)
 
+-- page 1, which was read, and the lines that keep it with page 257
+with_companion : (g : Over) (c : After-save_both g)
+    → c.args.held.now ≡ page_of c.args.chip.now (g.R.Rig.view c.args.rig.now).device.flash c.args.n
+    → let flash = (g.R.Rig.view c.args.rig.now).device.flash in
+    (c.args.held.now ≡ page_of c.args.chip.now flash 1)
+    × (Keeps 257 (page_of c.args.chip.now flash 257) ∷ Keeps 1 c.args.held.now ∷ []
+    ≡ save_entries c.args.kept c.args.chip.now flash c.args.n)
+with_companion g c read =
+    let flash = (g.R.Rig.view c.args.rig.now).device.flash in
+    let has = has_companion c.args.chip.now in
+    let both : (c.args.n == 1 && has) ≡ true = sym c.has_other.ensures ∙ c.if-has_other.true in
+    let page = λ (m : ℕ). page_of c.args.chip.now flash m in
+    let one = read ∙ ap page (is_first c.args.n has both) in
+    let new = c.if-kept.false in
+    (one, both_lines c.args.kept c.args.chip.now flash c.args.n c.args.held.now new both one)
+
 pub returns-in_err-save_both-clause-honest : goal.returns-in_err-save_both-clause-honest
 returns-in_err-save_both-clause-honest g c flashes steady chip read =
     let V = g.R.Rig.view in
-    let a = V c.args.rig.now in
-    let b = V c.save_both.new.rig in
     let l2 = c.save_both.new.journal in
-    let both : (c.args.n == 1 && has_companion c.args.chip.now) ≡ true = sym c.has_other.ensures ∙ c.if-has_other.true in
-    let one = read ∙ ap (λ (m : ℕ). page_of c.args.chip.now a.device.flash m) (is_first c.args.n (has_companion c.args.chip.now) both) in
-    let own = Keeps 257 (page_of c.args.chip.now a.device.flash 257) ∷ Keeps 1 c.args.held.now ∷ [] in
-    goes_as flashes own _ l2 a b _ (both_lines c.args.kept c.args.chip.now a.device.flash c.args.n c.args.held.now c.if-kept.false both one)
-    (goes_failed flashes own [] l2 l2 a b _ c.from_residual.result (c.in_err-save_both.ensures.honest flashes steady chip one) c.from_residual.ensures.1)
+    let at = (goal.at.returns-in_err-save_both-clause-honest g c).After-save_both in
+    let lines = with_companion g at read in
+    goes_as flashes _ _ l2 (V c.args.rig.now) (V c.save_both.new.rig) c.from_residual.result lines.1
+    (goes_out l2 c.from_residual.result refl
+    (c.in_err-save_both.ensures.honest flashes steady chip lines.0) c.from_residual.ensures.1)
 
 pub returns-then-has_other-clause-honest : goal.returns-then-has_other-clause-honest
 returns-then-has_other-clause-honest g c flashes steady chip read =
     let V = g.R.Rig.view in
-    let a = V c.args.rig.now in
-    let b = V c.save_both.new.rig in
-    let l2 = c.save_both.new.journal in
-    let both : (c.args.n == 1 && has_companion c.args.chip.now) ≡ true = sym c.has_other.ensures ∙ c.if-has_other.true in
-    let one = read ∙ ap (λ (m : ℕ). page_of c.args.chip.now a.device.flash m) (is_first c.args.n (has_companion c.args.chip.now) both) in
-    let own = Keeps 257 (page_of c.args.chip.now a.device.flash 257) ∷ Keeps 1 c.args.held.now ∷ [] in
-    goes_as flashes own _ l2 a b _ (both_lines c.args.kept c.args.chip.now a.device.flash c.args.n c.args.held.now c.if-kept.false both one)
-    (goes_ok flashes own l2 a b _ (tt {0}) (c.in_ok-save_both.ensures.honest flashes steady chip one) (λ p. p))
+    let at = (goal.at.returns-then-has_other-clause-honest g c).After-save_both in
+    let lines = with_companion g at read in
+    goes_as flashes _ _ c.save_both.new.journal (V c.args.rig.now) (V c.save_both.new.rig) _ lines.1
+    (goes_past (tt {0}) refl (c.in_ok-save_both.ensures.honest flashes steady chip lines.0)
+    (λ p. p))
+
+-- and the line that keeps another
+alone : (g : Over) (c : After-save_page g)
+    → c.args.held.now ≡ page_of c.args.chip.now (g.R.Rig.view c.args.rig.now).device.flash c.args.n
+    → Keeps c.args.n c.args.held.now ∷ []
+    ≡ save_entries c.args.kept c.args.chip.now (g.R.Rig.view c.args.rig.now).device.flash c.args.n
+alone g c read =
+    one_lines c.args.kept c.args.chip.now (g.R.Rig.view c.args.rig.now).device.flash c.args.n
+    c.args.held.now c.if-kept.false (sym c.has_other.ensures ∙ c.if-has_other.false) read
 
 pub returns-in_err-save_page-clause-honest : goal.returns-in_err-save_page-clause-honest
 returns-in_err-save_page-clause-honest g c flashes steady chip read =
     let V = g.R.Rig.view in
-    let a = V c.args.rig.now in
-    let b = V c.save_page.new.rig in
     let l2 = c.save_page.new.journal in
-    let alone : (c.args.n == 1 && has_companion c.args.chip.now) ≡ false = sym c.has_other.ensures ∙ c.if-has_other.false in
-    let own = Keeps c.args.n c.args.held.now ∷ [] in
-    goes_as flashes own _ l2 a b _ (one_lines c.args.kept c.args.chip.now a.device.flash c.args.n c.args.held.now c.if-kept.false alone read)
-    (goes_failed flashes own [] l2 l2 a b _ c.from_residual-in_err-save_page.result (c.in_err-save_page.ensures.honest flashes steady chip read) c.from_residual-in_err-save_page.ensures.1)
+    let result = c.from_residual-in_err-save_page.result in
+    let at = (goal.at.returns-in_err-save_page-clause-honest g c).After-save_page in
+    goes_as flashes _ _ l2 (V c.args.rig.now) (V c.save_page.new.rig) result (alone g at read)
+    (goes_out l2 result refl (c.in_err-save_page.ensures.honest flashes steady chip read)
+    c.from_residual-in_err-save_page.ensures.1)
 
 pub returns-clause-honest : goal.returns-clause-honest
 returns-clause-honest g c flashes steady chip read =
     let V = g.R.Rig.view in
-    let a = V c.args.rig.now in
-    let b = V c.save_page.new.rig in
-    let l2 = c.save_page.new.journal in
-    let alone : (c.args.n == 1 && has_companion c.args.chip.now) ≡ false = sym c.has_other.ensures ∙ c.if-has_other.false in
-    let own = Keeps c.args.n c.args.held.now ∷ [] in
-    goes_as flashes own _ l2 a b _ (one_lines c.args.kept c.args.chip.now a.device.flash c.args.n c.args.held.now c.if-kept.false alone read)
-    (goes_ok flashes own l2 a b _ (tt {0}) (c.in_ok-save_page.ensures.honest flashes steady chip read) (λ p. p))
+    let at = (goal.at.returns-clause-honest g c).After-save_page in
+    goes_as flashes _ _ c.save_page.new.journal (V c.args.rig.now) (V c.save_page.new.rig) _
+    (alone g at read)
+    (goes_past (tt {0}) refl (c.in_ok-save_page.ensures.honest flashes steady chip read) (λ p. p))
 
 pub returns-then-kept-clause-puts : goal.returns-then-kept-clause-puts
 returns-then-kept-clause-puts g c = nothing_is_part (Some c.args.chip.now) true (most_of_companion c.args.chip.now c.args.n) (g.R.Rig.view c.args.rig.now).calls

@@ -1,23 +1,26 @@
-use Rattle.std.proofs.Common.{ℕ, ◌≡◌, ◌<◌, ◌∙◌, ◌∷◌, ◌++◌, [], sym, ap, arith, length}
+use Rattle.std.proofs.Common.{◌≡◌, ◌<◌, ◌∙◌, ◌∷◌, [], ◌++◌, List, ℕ, Some, Result, true, length, ap}
+use Rattle.std.proofs.Common.{refl, subst, sym, arith}
 use Rattle.stm_wire.specs.Chip.{ChipData}
+use Rattle.stm_wire.specs.Rig.{IsModel}
 use Rattle.stm_journal.specs.declared.entry.Entry.TheVariants.{Undoes}
 use Rattle.stm_journal.specs.Flashes.{flashes_before_segments}
-use Rattle.stm_session.specs.SegmentBack.{newest_at, return_lines}
-use Rattle.stm_session.specs.Undoable.{state_at}
-use Rattle.stm_session.proofs.Keeping.{depth_text, good_at}
-use Rattle.stm_session.proofs.TakingBack.{back_failed, back_then, first_flash, intents_returns, takes_as, undone_fails, undone_goes}
-use Rattle.std.proofs.Common.{Some, true}
-use Rattle.stm_session.specs.Sending.{is_whole, most_of_command}
-use Rattle.stm_session.proofs.SentParts.{line_part, part_after, part_fails}
-use Rattle.std.proofs.Common.{refl, subst}
 use Rattle.stm_journal.specs.Journals.{Loaded}
-use Rattle.stm_session.specs.Order.{Adds, Follows, IsTakenBack}
-use Rattle.stm_session.specs.Undoable.{newest_kept}
-use Rattle.stm_session.proofs.Orders.{does_add, does_then}
-use Rattle.std.proofs.Common.{List, refl}
+use Rattle.stm_session.specs.declared.fault.Fault.{Fault}
 use Rattle.stm_session.specs.Fault.{Cause}
-use Rattle.stm_session.specs.Order.{Step, Are, AreReturned, Begin, Stops, StopsBy}
+use Rattle.stm_session.specs.Order.{Step, Adds, Are, AreReturned, Begin, Follows, IsTakenBack}
+use Rattle.stm_session.specs.Order.{Stops, StopsBy}
+use Rattle.stm_session.specs.SegmentBack.{TakesBack, newest_at, return_lines, taking_lines}
+use Rattle.stm_session.specs.Sending.{is_whole, most_of_command}
+use Rattle.stm_session.specs.Steps.{IsSteady}
+use Rattle.stm_session.specs.Undoable.{newest_kept, state_at}
 use Rattle.stm_session.proofs.CutShort.{begin_after, begin_on, by_fault, line_stops, part_stops, stop_after}
+use Rattle.stm_session.proofs.Keeping.{depth_text, good_at}
+use Rattle.stm_session.proofs.Orders.{does_add, does_then}
+use Rattle.stm_session.proofs.SentParts.{line_part, part_after, part_fails}
+use Rattle.stm_session.proofs.TakingBack.{back_failed, back_then, first_flash, intents_returns}
+use Rattle.stm_session.proofs.TakingBack.{takes_as, undone_fails, undone_goes}
+use Rattle.stm_session.proofs.segment_back.take_back.Given.{Over}
+use Rattle.stm_session.proofs.segment_back.take_back.Goals.{After-undone}
 use Rattle.stm_session.proofs.segment_back.take_back.Goals as goal
 
 pub returns-in_err-restore_lines-clause-honest : goal.returns-in_err-restore_lines-clause-honest
@@ -27,11 +30,28 @@ returns-in_err-restore_lines-clause-honest g c flash flashes steady chip =
     back_failed (return_lines c.args.chip.now a.device.flash (newest_at a.journal)) (Undoes (length (state_at a.journal).stack) ∷ []) flash flashes c.restore_lines.new.journal c.restore_lines.new.journal a (V c.restore_lines.new.rig) _
     c.from_residual.result (c.in_err-restore_lines.ensures.honest (flash ∷ flashes) steady chip) c.from_residual.ensures.1
 
-pub returns-in_err-undone-clause-honest : goal.returns-in_err-undone-clause-honest
-returns-in_err-undone-clause-honest g c flash flashes steady chip =
+-- the pages are restored, and then the segment's end is said
+taken : (g : Over) (c : After-undone g) (flash : List ℕ) (flashes : List (List ℕ))
+    (result : Result (Unit {0}) Fault)
+    → IsSteady (flash ∷ flashes) c.args.journal.now (g.R.Rig.view c.args.rig.now)
+    → (g.R.Rig.view c.args.rig.now).device.chip ≡ c.args.chip.now
+    → (IsModel (g.R.Rig.view c.restore_lines.new.rig)
+    → IsSteady (flash ∷ flashes) c.restore_lines.new.journal (g.R.Rig.view c.restore_lines.new.rig)
+    → length c.restore_lines.new.journal.state.stack
+    ≡ length (state_at (g.R.Rig.view c.restore_lines.new.rig).journal).stack
+    → 0 < length (state_at (g.R.Rig.view c.restore_lines.new.rig).journal).stack
+    → (g.R.Rig.view c.restore_lines.new.rig).device.flash ≡ flash
+    → TakesBack (Undoes (length c.restore_lines.new.journal.state.stack) ∷ []) flash flashes
+    c.undone.new.self (g.R.Rig.view c.restore_lines.new.rig) (g.R.Rig.view c.undone.new.rig) result)
+    → TakesBack
+    (taking_lines c.args.chip.now (g.R.Rig.view c.args.rig.now).device.flash
+    (g.R.Rig.view c.args.rig.now).journal)
+    flash flashes c.undone.new.self (g.R.Rig.view c.args.rig.now)
+    (g.R.Rig.view c.undone.new.rig) result
+taken g c flash flashes result steady chip ends =
     let V = g.R.Rig.view in
-    let l = c.args.journal.now in
     let l2 = c.restore_lines.new.journal in
+    let l3 = c.undone.new.self in
     let a = V c.args.rig.now in
     let b = V c.restore_lines.new.rig in
     let d = V c.undone.new.rig in
@@ -39,38 +59,50 @@ returns-in_err-undone-clause-honest g c flash flashes steady chip =
     let model = g.met.R.Rig.model c.restore_lines.new.rig first.steady.honest in
     let k : ℕ = length l2.state.stack in
     let k_is = depth_text l2 b.journal first.steady.loaded in
-    let number : k ≡ length (state_at a.journal).stack = c.in_ok-restore_lines.ensures.same.depth ∙ depth_text l a.journal steady.loaded in
-    let some : 0 < length (state_at b.journal).stack = omega (arith, c.requires.some, c.in_ok-restore_lines.ensures.same.depth, k_is) in
-    let before = ap (λ (p : ChipData). flashes_before_segments p (state_at a.journal).stack a.device.flash) (sym chip) ∙ steady.keeps.before in
-    let restored = first.done ∙ first_flash c.args.chip.now (state_at a.journal).stack a.device.flash flash flashes before in
+    let same = c.in_ok-restore_lines.ensures.same.depth in
+    let number : k ≡ length (state_at a.journal).stack =
+    same ∙ depth_text c.args.journal.now a.journal steady.loaded in
+    let some : 0 < length (state_at b.journal).stack = omega (arith, c.requires.some, same, k_is) in
+    let stack = (state_at a.journal).stack in
+    let before = ap (λ (p : ChipData). flashes_before_segments p stack a.device.flash) (sym chip)
+    ∙ steady.keeps.before in
+    let restored = first.done
+    ∙ first_flash c.args.chip.now stack a.device.flash flash flashes before in
     let front = return_lines c.args.chip.now a.device.flash (newest_at a.journal) in
-    takes_as (front ++ Undoes k ∷ []) (front ++ Undoes (length (state_at a.journal).stack) ∷ []) flash flashes c.undone.new.self a d c.from_residual-in_err-undone.result (ap (λ (m : ℕ). front ++ Undoes m ∷ []) number)
-    (back_then front (Undoes k ∷ []) flash flashes l2 c.undone.new.self a b d (tt {0}) c.from_residual-in_err-undone.result model (intents_returns c.args.chip.now a.device.flash (newest_at a.journal)) first
-    (undone_fails c.step_laws.ensures flash flashes l2 c.undone.new.self k b d model first.steady k_is some restored c.undone.new.self _ c.from_residual-in_err-undone.result
-    (c.in_err-undone.ensures.honest first.steady.honest first.steady.loaded) c.in_err-undone.ensures.left c.from_residual-in_err-undone.ensures.1))
+    takes_as (front ++ Undoes k ∷ []) (front ++ Undoes (length stack) ∷ []) flash flashes l3 a d
+    result (ap (λ (m : ℕ). front ++ Undoes m ∷ []) number)
+    (back_then front (Undoes k ∷ []) flash flashes l2 l3 a b d (tt {0}) result model
+    (intents_returns c.args.chip.now a.device.flash (newest_at a.journal)) first
+    (ends model first.steady k_is some restored))
+
+pub returns-in_err-undone-clause-honest : goal.returns-in_err-undone-clause-honest
+returns-in_err-undone-clause-honest g c flash flashes steady chip =
+    let V = g.R.Rig.view in
+    let l2 = c.restore_lines.new.journal in
+    let l3 = c.undone.new.self in
+    let result = c.from_residual-in_err-undone.result in
+    let call = c.in_err-undone.ensures in
+    let at = (goal.at.returns-in_err-undone-clause-honest g c).After-undone in
+    taken g at flash flashes result steady chip (λ model still k_is some restored.
+    undone_fails c.step_laws.ensures flash flashes l2 l3 (length l2.state.stack)
+    (V c.restore_lines.new.rig) (V c.undone.new.rig) model still k_is some restored l3 _ result
+    (call.honest still.honest still.loaded) call.left c.from_residual-in_err-undone.ensures.1)
 
 pub returns-clause-honest : goal.returns-clause-honest
 returns-clause-honest g c flash flashes steady chip =
     let V = g.R.Rig.view in
-    let l = c.args.journal.now in
     let l2 = c.restore_lines.new.journal in
-    let a = V c.args.rig.now in
+    let l3 = c.undone.new.self in
     let b = V c.restore_lines.new.rig in
     let d = V c.undone.new.rig in
-    let first = c.in_ok-restore_lines.ensures.honest (flash ∷ flashes) steady chip in
-    let model = g.met.R.Rig.model c.restore_lines.new.rig first.steady.honest in
-    let k : ℕ = length l2.state.stack in
-    let k_is = depth_text l2 b.journal first.steady.loaded in
-    let number : k ≡ length (state_at a.journal).stack = c.in_ok-restore_lines.ensures.same.depth ∙ depth_text l a.journal steady.loaded in
-    let some : 0 < length (state_at b.journal).stack = omega (arith, c.requires.some, c.in_ok-restore_lines.ensures.same.depth, k_is) in
-    let before = ap (λ (p : ChipData). flashes_before_segments p (state_at a.journal).stack a.device.flash) (sym chip) ∙ steady.keeps.before in
-    let restored = first.done ∙ first_flash c.args.chip.now (state_at a.journal).stack a.device.flash flash flashes before in
-    let front = return_lines c.args.chip.now a.device.flash (newest_at a.journal) in
-    let appends = c.in_ok-undone.ensures.honest first.steady.honest first.steady.loaded in
-    let has = c.in_ok-undone.ensures.text first.steady.honest first.steady.loaded (state_at b.journal) (state_at d.journal) (good_at l2 b.journal first.steady.loaded) (good_at c.undone.new.self d.journal appends.loaded) in
-    takes_as (front ++ Undoes k ∷ []) (front ++ Undoes (length (state_at a.journal).stack) ∷ []) flash flashes c.undone.new.self a d _ (ap (λ (m : ℕ). front ++ Undoes m ∷ []) number)
-    (back_then front (Undoes k ∷ []) flash flashes l2 c.undone.new.self a b d (tt {0}) _ model (intents_returns c.args.chip.now a.device.flash (newest_at a.journal)) first
-    (undone_goes c.step_laws.ensures flash flashes l2 c.undone.new.self k b d model first.steady k_is some restored _ (tt {0}) appends c.in_ok-undone.ensures.after has))
+    let call = c.in_ok-undone.ensures in
+    let at = (goal.at.returns-clause-honest g c).After-undone in
+    taken g at flash flashes _ steady chip (λ model still k_is some restored.
+    let appends = call.honest still.honest still.loaded in
+    let has = call.text still.honest still.loaded (state_at b.journal) (state_at d.journal)
+    (good_at l2 b.journal still.loaded) (good_at l3 d.journal appends.loaded) in
+    undone_goes c.step_laws.ensures flash flashes l2 l3 (length l2.state.stack) b d model still
+    k_is some restored _ (tt {0}) appends call.after has)
 
 pub returns-in_err-restore_lines-clause-puts : goal.returns-in_err-restore_lines-clause-puts
 returns-in_err-restore_lines-clause-puts g c =
