@@ -72,3 +72,4 @@ pub mod RunOrders
 pub mod KeptSteps
 pub mod KeptRuns
 pub mod KeptUndoes
+pub mod Exits
