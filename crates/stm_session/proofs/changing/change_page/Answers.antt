@@ -1,27 +1,105 @@
-use Rattle.std.proofs.Common.{◌≡◌, ◌∙◌, ◌/◌, ◌∷◌, [], ◌++◌, List, ℕ, length, ap, append-nil, false, true, sym, subst, refl, rules}
-use Rattle.stm_wire.specs.Chip.{with_page}
+use Rattle.std.proofs.Common.{◌≡◌, ◌≢◌, ◌∙◌, ◌+◌, ◌*◌, ◌/◌, ◌∷◌, ◌++◌, [], List, ℕ, Result, Some}
+use Rattle.std.proofs.Common.{length, ap, true, false, sym, subst, refl, arith, rules}
+use Rattle.stm_wire.specs.Chip.{erased_byte, page_of, with_page}
 use Rattle.stm_wire.specs.Device.{Device}
+use Rattle.stm_wire.specs.PartLaws.{nothing_is_part}
+use Rattle.stm_chip.specs.declared.plan.Frame.{Frame}
 use Rattle.stm_chip.specs.declared.plan.PagePlan.{PagePlan}
 use Rattle.stm_chip.specs.Plan.{IsPlan, frames_of}
 use Rattle.stm_journal.specs.declared.entry.Entry.{Entry}
 use Rattle.stm_journal.specs.declared.entry.Entry.TheVariants.{Erases}
-use Rattle.stm_session.specs.Changing.{change_entries, save_entries}
-use Rattle.stm_session.specs.Lines.{program_entries}
-use Rattle.stm_session.proofs.Changes.{change_lines, not_turned, same_lines_of, saved_turned, told_other, told_same}
-use Rattle.stm_session.proofs.Going.{goes_as, goes_nowhere, goes_failed, goes_ok, goes_refused, goes_then, page_held}
-use Rattle.std.proofs.Common.{◌+◌, ◌*◌, Some, arith}
-use Rattle.stm_wire.specs.PartLaws.{nothing_is_part}
-use Rattle.stm_session.specs.Sending.{most_of_companion}
-use Rattle.stm_session.proofs.SentParts.{part_after, part_fails, part_fails_after}
-use Rattle.stm_session.specs.Order.{rewrite_steps}
-use Rattle.stm_session.proofs.ChangeOrders.{changed_none, changed_some}
-use Rattle.stm_session.proofs.Orders.{does_nothing, does_then}
 use Rattle.stm_session.specs.ChangeOrder.{IsChanged, IsSaved}
+use Rattle.stm_session.specs.Changing.{change_entries, save_entries}
+use Rattle.stm_session.specs.declared.fault.Fault.{Fault}
 use Rattle.stm_session.specs.Fault.{of_memory}
-use Rattle.stm_session.specs.Order.{Step, Are, Begin}
-use Rattle.stm_session.proofs.ChangeOrders.{some_changed}
+use Rattle.stm_session.specs.Lines.{program_entries}
+use Rattle.stm_session.specs.Order.{Step, Are, Begin, rewrite_steps}
+use Rattle.stm_session.specs.Sending.{most_of_companion}
+use Rattle.stm_session.specs.Steps.{Goes, IsSteady}
+use Rattle.stm_session.proofs.ChangeOrders.{changed_none, changed_some, some_changed}
+use Rattle.stm_session.proofs.Changes.{change_lines, not_turned, same_lines_of, saved_turned}
+use Rattle.stm_session.proofs.Changes.{told_other, told_same}
 use Rattle.stm_session.proofs.CutShort.{begin_after, begin_on, halts_first, part_stops, then_stops}
+use Rattle.stm_session.proofs.Exits.{goes_fault}
+use Rattle.stm_session.proofs.Going.{goes_as, goes_nowhere, goes_failed, goes_ok, goes_refused}
+use Rattle.stm_session.proofs.Going.{goes_then, page_held}
+use Rattle.stm_session.proofs.Orders.{does_nothing, does_then}
+use Rattle.stm_session.proofs.SentParts.{part_after, part_fails, part_fails_after}
+use Rattle.stm_session.proofs.changing.change_page.Given as given
 use Rattle.stm_session.proofs.changing.change_page.Goals as goal
+use Rattle.stm_session.proofs.changing.change_page.Goals.{After-rewrite_kept, After-save_pages}
+
+-- What the exits behind save_pages share.
+
+-- the page held other bytes, and these are the frames of the new ones
+planned : (g : given.Over) (c : goal.After-save_pages g)
+    → (c.args.held.now ≢ c.args.page.now)
+    × (c.in-Erase.frames.items
+    ≡ frames_of (erased_byte c.args.chip.now) c.args.page.now (length c.args.page.now / 256))
+planned g c =
+    let page = c.args.page.now in
+    let P : PagePlan → Type 0 = λ p. IsPlan c.erased.result c.args.held.now page p in
+    let plan = subst P c.in-Erase.is c.in-Ok.ensures.plan in
+    (plan.0, plan.1 ∙ ap (λ (e : ℕ). frames_of e page (length page / 256)) c.erased.ensures.byte)
+
+-- the page is changed, by these steps behind those that keep it
+made : (g : given.Over) (c : goal.After-save_pages g) (frames : List Frame) (saved : List Step)
+    → frames ≡ c.in-Erase.frames.items
+    → IsSaved c.args.kept c.args.chip.now c.args.n c.args.held.now saved
+    → IsChanged c.args.kept c.args.chip.now c.args.n c.args.held.now c.args.page.now
+    (saved ++ rewrite_steps c.args.chip.now c.args.n c.args.page.now frames)
+made g c frames saved same is =
+    let plan = planned g c in
+    changed_some c.args.kept c.args.chip.now c.args.n c.args.held.now c.args.page.now frames saved
+    plan.0 (same ∙ plan.1) is
+
+-- What those behind rewrite_kept share.
+
+-- the lines are those of the change, whatever rewrite_kept answers
+rewritten : (g : given.Over) (c : goal.After-rewrite_kept g)
+    → (c.args.held.now ≢ c.args.page.now) → (c.in-Erase.frames.items
+    ≡ frames_of (erased_byte c.args.chip.now) c.args.page.now (length c.args.page.now / 256))
+    → (flashes : List (List ℕ))
+    → IsSteady flashes c.args.journal.now (g.R.Rig.view c.args.rig.now)
+    → (g.R.Rig.view c.args.rig.now).device.chip ≡ c.args.chip.now
+    → c.args.held.now
+    ≡ page_of c.args.chip.now (g.R.Rig.view c.args.rig.now).device.flash c.args.n
+    → (r : Result (Unit {0}) Fault)
+    → (IsSteady flashes c.save_pages.new.journal (g.R.Rig.view c.save_pages.new.rig)
+    → (g.R.Rig.view c.save_pages.new.rig).device.chip ≡ c.args.chip.now
+    → Goes flashes (Erases c.args.n ∷ program_entries c.args.n c.deref.result.now)
+    c.rewrite_kept.new.journal (g.R.Rig.view c.save_pages.new.rig)
+    (g.R.Rig.view c.rewrite_kept.new.rig) r
+    (λ y. (g.R.Rig.view c.rewrite_kept.new.rig).device.flash ≡ with_page c.args.chip.now c.args.n
+    c.args.page.now (g.R.Rig.view c.save_pages.new.rig).device.flash))
+    → Goes flashes (change_entries c.args.kept c.args.chip.now
+    (g.R.Rig.view c.args.rig.now).device.flash c.args.n c.args.page.now)
+    c.rewrite_kept.new.journal (g.R.Rig.view c.args.rig.now)
+    (g.R.Rig.view c.rewrite_kept.new.rig) r
+    (λ y. (g.R.Rig.view c.rewrite_kept.new.rig).device.flash ≡ with_page c.args.chip.now c.args.n
+    c.args.page.now (g.R.Rig.view c.args.rig.now).device.flash)
+rewritten g c other framed flashes steady chip read r gives =
+    let V = g.R.Rig.view in
+    let k = c.args.chip.now in
+    let n = c.args.n in
+    let page = c.args.page.now in
+    let l3 = c.rewrite_kept.new.journal in
+    let a = V c.args.rig.now in
+    let b = V c.save_pages.new.rig in
+    let d = V c.rewrite_kept.new.rig in
+    let lines = change_lines c.args.kept k a.device.flash n c.args.held.now page read
+    c.deref.result.now other (c.deref.ensures.value ∙ framed) in
+    let before = save_entries c.args.kept k a.device.flash n in
+    let own : List Entry = Erases n ∷ program_entries n c.deref.result.now in
+    let first = c.in_ok-save_pages-in-Erase.ensures.honest flashes steady chip read in
+    let model_b = g.met.R.Rig.model c.save_pages.new.rig first.steady.honest in
+    let still = ap (λ (x : Device). x.chip) first.done ∙ chip in
+    goes_as flashes (before ++ own) _ l3 a d r lines
+    (goes_then flashes before own c.save_pages.new.journal l3 a b d (tt {0}) r model_b first
+    (gives first.steady still)
+    (λ y done. done ∙ ap (λ (x : Device). with_page k n page x.flash) first.done))
+
+-- The exits.
 
 pub returns-in-Same-clause-changed : goal.returns-in-Same-clause-changed
 returns-in-Same-clause-changed g c = told_same c.args.held.now c.args.page.now (search rules)
@@ -31,8 +109,8 @@ returns-in-Same-clause-turned g c = not_turned c.args.kept false c.args.chip.now
 
 pub returns-in_ok-rewrite_kept-in-Erase-clause-changed : goal.returns-in_ok-rewrite_kept-in-Erase-clause-changed
 returns-in_ok-rewrite_kept-in-Erase-clause-changed g c =
-    let P : PagePlan → Type 0 = λ p. IsPlan c.erased.result c.args.held.now c.args.page.now p in
-    told_other c.args.held.now c.args.page.now (subst P c.in-Erase.is c.in-Ok.ensures.plan).0
+    let saved = (goal.at.returns-in_ok-rewrite_kept-in-Erase-clause-changed g c).After-save_pages in
+    told_other c.args.held.now c.args.page.now (planned g saved).0
 
 pub returns-in_ok-rewrite_kept-in-Erase-clause-turned : goal.returns-in_ok-rewrite_kept-in-Erase-clause-turned
 returns-in_ok-rewrite_kept-in-Erase-clause-turned g c =
@@ -61,62 +139,48 @@ returns-in-Same-clause-honest g c flashes steady chip read =
 pub returns-in_err-save_pages-in-Erase-clause-honest : goal.returns-in_err-save_pages-in-Erase-clause-honest
 returns-in_err-save_pages-in-Erase-clause-honest g c flashes steady chip read =
     let V = g.R.Rig.view in
+    let k = c.args.chip.now in
+    let n = c.args.n in
     let a = V c.args.rig.now in
     let b = V c.save_pages.new.rig in
     let l2 = c.save_pages.new.journal in
-    let P : PagePlan → Type 0 = λ p. IsPlan c.erased.result c.args.held.now c.args.page.now p in
-    let planned = subst P c.in-Erase.is c.in-Ok.ensures.plan in
-    let framed = planned.1 ∙ ap (λ (e : ℕ). frames_of e c.args.page.now (length c.args.page.now / 256)) c.erased.ensures.byte in
-    let lines = change_lines c.args.kept c.args.chip.now a.device.flash c.args.n c.args.held.now c.args.page.now read c.in-Erase.frames.items planned.0 framed in
-    let first = save_entries c.args.kept c.args.chip.now a.device.flash c.args.n in
-    let second : List Entry = Erases c.args.n ∷ program_entries c.args.n c.in-Erase.frames.items in
+    let frames = c.in-Erase.frames.items in
+    let is =
+    planned g (goal.at.returns-in_err-save_pages-in-Erase-clause-honest g c).After-save_pages in
+    let lines = change_lines c.args.kept k a.device.flash n c.args.held.now c.args.page.now read
+    frames is.0 is.1 in
+    let first = save_entries c.args.kept k a.device.flash n in
+    let second : List Entry = Erases n ∷ program_entries n frames in
     goes_as flashes (first ++ second) _ l2 a b _ lines
-    (goes_failed flashes first second l2 l2 a b _ c.from_residual.result (c.in_err-save_pages-in-Erase.ensures.honest flashes steady chip read) c.from_residual.ensures.1)
+    (goes_failed flashes first second l2 l2 a b _ c.from_residual.result
+    (c.in_err-save_pages-in-Erase.ensures.honest flashes steady chip read)
+    c.from_residual.ensures.1)
 
 pub returns-in_err-rewrite_kept-in-Erase-clause-honest : goal.returns-in_err-rewrite_kept-in-Erase-clause-honest
 returns-in_err-rewrite_kept-in-Erase-clause-honest g c flashes steady chip read =
     let V = g.R.Rig.view in
     let a = V c.args.rig.now in
-    let b = V c.save_pages.new.rig in
-    let d = V c.rewrite_kept.new.rig in
-    let l2 = c.save_pages.new.journal in
     let l3 = c.rewrite_kept.new.journal in
-    let P : PagePlan → Type 0 = λ p. IsPlan c.erased.result c.args.held.now c.args.page.now p in
-    let planned = subst P c.in-Erase.is c.in-Ok.ensures.plan in
-    let framed = c.deref.ensures.value ∙ planned.1 ∙ ap (λ (e : ℕ). frames_of e c.args.page.now (length c.args.page.now / 256)) c.erased.ensures.byte in
-    let lines = change_lines c.args.kept c.args.chip.now a.device.flash c.args.n c.args.held.now c.args.page.now read c.deref.result.now planned.0 framed in
-    let before = save_entries c.args.kept c.args.chip.now a.device.flash c.args.n in
-    let own : List Entry = Erases c.args.n ∷ program_entries c.args.n c.deref.result.now in
-    let first = c.in_ok-save_pages-in-Erase.ensures.honest flashes steady chip read in
-    let model_b = g.met.R.Rig.model c.save_pages.new.rig first.steady.honest in
-    let still = ap (λ (x : Device). x.chip) first.done ∙ chip in
-    let longer : List Entry = own ++ [] in
-    goes_as flashes (before ++ longer) _ l3 a d _ (ap (λ (es : List Entry). before ++ es) (append-nil own) ∙ lines)
-    (goes_then flashes before longer l2 l3 a b d (tt {0}) c.from_residual-in_err-rewrite_kept-in-Erase.result model_b first
-    (goes_failed flashes own [] l3 l3 b d _ c.from_residual-in_err-rewrite_kept-in-Erase.result (c.in_err-rewrite_kept-in-Erase.ensures.honest flashes first.steady still)
-    c.from_residual-in_err-rewrite_kept-in-Erase.ensures.1) (λ y p. p))
+    let here = goal.at.returns-in_err-rewrite_kept-in-Erase-clause-honest g c in
+    let is = planned g here.After-save_pages in
+    goes_fault flashes
+    (change_entries c.args.kept c.args.chip.now a.device.flash c.args.n c.args.page.now) l3 l3 a
+    (V c.rewrite_kept.new.rig) _ c.from_residual-in_err-rewrite_kept-in-Erase.result
+    (rewritten g here.After-rewrite_kept is.0 is.1 flashes steady chip read _
+    (c.in_err-rewrite_kept-in-Erase.ensures.honest flashes))
+    c.from_residual-in_err-rewrite_kept-in-Erase.ensures.1
 
 pub returns-in_ok-rewrite_kept-in-Erase-clause-honest : goal.returns-in_ok-rewrite_kept-in-Erase-clause-honest
 returns-in_ok-rewrite_kept-in-Erase-clause-honest g c flashes steady chip read =
     let V = g.R.Rig.view in
     let a = V c.args.rig.now in
-    let b = V c.save_pages.new.rig in
-    let d = V c.rewrite_kept.new.rig in
-    let l2 = c.save_pages.new.journal in
-    let l3 = c.rewrite_kept.new.journal in
-    let P : PagePlan → Type 0 = λ p. IsPlan c.erased.result c.args.held.now c.args.page.now p in
-    let planned = subst P c.in-Erase.is c.in-Ok.ensures.plan in
-    let framed = c.deref.ensures.value ∙ planned.1 ∙ ap (λ (e : ℕ). frames_of e c.args.page.now (length c.args.page.now / 256)) c.erased.ensures.byte in
-    let lines = change_lines c.args.kept c.args.chip.now a.device.flash c.args.n c.args.held.now c.args.page.now read c.deref.result.now planned.0 framed in
-    let before = save_entries c.args.kept c.args.chip.now a.device.flash c.args.n in
-    let own : List Entry = Erases c.args.n ∷ program_entries c.args.n c.deref.result.now in
-    let first = c.in_ok-save_pages-in-Erase.ensures.honest flashes steady chip read in
-    let model_b = g.met.R.Rig.model c.save_pages.new.rig first.steady.honest in
-    let still = ap (λ (x : Device). x.chip) first.done ∙ chip in
-    goes_as flashes (before ++ own) _ l3 a d _ lines
-    (goes_then flashes before own l2 l3 a b d (tt {0}) _ model_b first
-    (goes_ok flashes own l3 b d _ true (c.in_ok-rewrite_kept-in-Erase.ensures.honest flashes first.steady still) (λ p. p))
-    (λ y done. done ∙ ap (λ (x : Device). with_page c.args.chip.now c.args.n c.args.page.now x.flash) first.done))
+    let here = goal.at.returns-in_ok-rewrite_kept-in-Erase-clause-honest g c in
+    let is = planned g here.After-save_pages in
+    goes_ok flashes
+    (change_entries c.args.kept c.args.chip.now a.device.flash c.args.n c.args.page.now)
+    c.rewrite_kept.new.journal a (V c.rewrite_kept.new.rig) _ true
+    (rewritten g here.After-rewrite_kept is.0 is.1 flashes steady chip read _
+    (c.in_ok-rewrite_kept-in-Erase.ensures.honest flashes)) (λ p. p)
 
 pub returns-in_default-clause-puts : goal.returns-in_default-clause-puts
 returns-in_default-clause-puts g c = nothing_is_part (Some c.args.chip.now) _ (most_of_companion c.args.chip.now c.args.n + (9 + 2 * length c.args.page.now)) (g.R.Rig.view c.args.rig.now).calls
@@ -155,15 +219,15 @@ returns-in-Same-clause-order g c =
 pub returns-in_ok-rewrite_kept-in-Erase-clause-order : goal.returns-in_ok-rewrite_kept-in-Erase-clause-order
 returns-in_ok-rewrite_kept-in-Erase-clause-order g c =
     let V = g.R.Rig.view in
-    let chip = c.args.chip.now in
-    let P : PagePlan → Type 0 = λ p. IsPlan c.erased.result c.args.held.now c.args.page.now p in
-    let planned = subst P c.in-Erase.is c.in-Ok.ensures.plan in
-    let framed = c.deref.ensures.value ∙ planned.1 ∙ ap (λ (e : ℕ). frames_of e c.args.page.now (length c.args.page.now / 256)) c.erased.ensures.byte in
+    let frames = c.deref.result.now in
+    let here = (goal.at.returns-in_ok-rewrite_kept-in-Erase-clause-order g c).After-save_pages in
     let saved = c.in_ok-save_pages-in-Erase.ensures.order in
-    let own = rewrite_steps chip c.args.n c.args.page.now c.deref.result.now in (
+    let own = rewrite_steps c.args.chip.now c.args.n c.args.page.now frames in (
       saved.0 ++ own,
-      changed_some c.args.kept chip c.args.n c.args.held.now c.args.page.now c.deref.result.now saved.0 planned.0 framed saved.1,
-      does_then saved.0 own c.args.journal.now c.save_pages.new.journal c.rewrite_kept.new.journal (V c.args.rig.now) (V c.save_pages.new.rig) (V c.rewrite_kept.new.rig) saved.2 c.in_ok-rewrite_kept-in-Erase.ensures.order,
+      made g here frames saved.0 c.deref.ensures.value saved.1,
+      does_then saved.0 own c.args.journal.now c.save_pages.new.journal c.rewrite_kept.new.journal
+          (V c.args.rig.now) (V c.save_pages.new.rig) (V c.rewrite_kept.new.rig) saved.2
+          c.in_ok-rewrite_kept-in-Erase.ensures.order,
     )
 
 pub returns-in_default-clause-stops : goal.returns-in_default-clause-stops
@@ -173,34 +237,35 @@ returns-in_default-clause-stops g c =
 pub returns-in_err-save_pages-in-Erase-clause-stops : goal.returns-in_err-save_pages-in-Erase-clause-stops
 returns-in_err-save_pages-in-Erase-clause-stops g c =
     let V = g.R.Rig.view in
-    let chip = c.args.chip.now in
+    let k = c.args.chip.now in
     let n = c.args.n in
     let held = c.args.held.now in
-    let page = c.args.page.now in
-    let P : PagePlan → Type 0 = λ p. IsPlan c.erased.result held page p in
-    let planned = subst P c.in-Erase.is c.in-Ok.ensures.plan in
-    let framed = planned.1 ∙ ap (λ (e : ℕ). frames_of e page (length page / 256)) c.erased.ensures.byte in
     let frames = c.in-Erase.frames.items in
-    let own = rewrite_steps chip n page frames in
-    part_stops (Begin (IsSaved c.args.kept chip n held)) (Begin (IsChanged c.args.kept chip n held page)) c.args.journal.now.is_torn (V c.args.rig.now) (V c.save_pages.new.rig) _ c.from_residual.result c.from_residual.ensures.1
-    (begin_on (IsSaved c.args.kept chip n held) (IsChanged c.args.kept chip n held page) (λ xs saved. (own, changed_some c.args.kept chip n held page frames xs planned.0 framed saved))) c.in_err-save_pages-in-Erase.ensures.stops
+    let here = (goal.at.returns-in_err-save_pages-in-Erase-clause-stops g c).After-save_pages in
+    let Saved = IsSaved c.args.kept k n held in
+    let Made = IsChanged c.args.kept k n held c.args.page.now in
+    part_stops (Begin Saved) (Begin Made) c.args.journal.now.is_torn (V c.args.rig.now)
+    (V c.save_pages.new.rig) _ c.from_residual.result c.from_residual.ensures.1
+    (begin_on Saved Made (λ xs saved. (
+      rewrite_steps k n c.args.page.now frames,
+      made g here frames xs refl saved,
+    ))) c.in_err-save_pages-in-Erase.ensures.stops
 
 pub returns-in_err-rewrite_kept-in-Erase-clause-stops : goal.returns-in_err-rewrite_kept-in-Erase-clause-stops
 returns-in_err-rewrite_kept-in-Erase-clause-stops g c =
     let V = g.R.Rig.view in
-    let chip = c.args.chip.now in
+    let k = c.args.chip.now in
     let n = c.args.n in
-    let held = c.args.held.now in
-    let page = c.args.page.now in
-    let P : PagePlan → Type 0 = λ p. IsPlan c.erased.result held page p in
-    let planned = subst P c.in-Erase.is c.in-Ok.ensures.plan in
-    let framed = c.deref.ensures.value ∙ planned.1 ∙ ap (λ (e : ℕ). frames_of e page (length page / 256)) c.erased.ensures.byte in
     let frames = c.deref.result.now in
-    let own = rewrite_steps chip n page frames in
+    let here = (goal.at.returns-in_err-rewrite_kept-in-Erase-clause-stops g c).After-save_pages in
+    let Own = Are (rewrite_steps k n c.args.page.now frames) in
     let saved = c.in_ok-save_pages-in-Erase.ensures.order in
-    let Made = IsChanged c.args.kept chip n held page in
-    then_stops (Begin (Are own)) (Begin Made) saved.0 c.args.journal.now c.save_pages.new.journal (V c.args.rig.now) (V c.save_pages.new.rig) (V c.rewrite_kept.new.rig) _
-    c.from_residual-in_err-rewrite_kept-in-Erase.result c.from_residual-in_err-rewrite_kept-in-Erase.ensures.1 saved.2 c.in_err-rewrite_kept-in-Erase.ensures.stops
-    (begin_after (Are own) Made saved.0 (λ ys is.
+    let Made = IsChanged c.args.kept k n c.args.held.now c.args.page.now in
+    then_stops (Begin Own) (Begin Made) saved.0 c.args.journal.now c.save_pages.new.journal
+    (V c.args.rig.now) (V c.save_pages.new.rig) (V c.rewrite_kept.new.rig) _
+    c.from_residual-in_err-rewrite_kept-in-Erase.result
+    c.from_residual-in_err-rewrite_kept-in-Erase.ensures.1 saved.2
+    c.in_err-rewrite_kept-in-Erase.ensures.stops
+    (begin_after Own Made saved.0 (λ ys is.
     let Q : List Step → Type 0 = λ zs. Made (saved.0 ++ zs) in
-    subst Q (sym is) (changed_some c.args.kept chip n held page frames saved.0 planned.0 framed saved.1)))
+    subst Q (sym is) (made g here frames saved.0 c.deref.ensures.value saved.1)))

@@ -1,15 +1,19 @@
-use Rattle.std.proofs.Common.{◌≡◌, ◌∙◌, ◌*◌, ◌≤◌, ◌++◌, [], ℕ, Option, Some, None, Ok, true, refl, sym, subst, append-nil, arith, IsTrue}
-use Rattle.stm_wire.specs.Chip.{page_size}
+use Rattle.std.proofs.Common.{◌≡◌, ◌∙◌, ◌*◌, ◌≤◌, ℕ, Option, Result, Some, None, Ok, true, refl}
+use Rattle.std.proofs.Common.{sym, subst, arith, IsTrue}
+use Rattle.stm_wire.specs.Chip.{page_size, with_page}
 use Rattle.stm_wire.specs.PageLaws.{page_within}
 use Rattle.stm_wire.specs.PartLaws.{part_longer}
 use Rattle.stm_journal.specs.declared.kept.Kept.{Kept}
+use Rattle.stm_journal.specs.KeptPlaces.{kept_entry, place_of}
 use Rattle.stm_journal.specs.NewestLaws.{KeepsSame-refl}
 use Rattle.stm_journal.specs.States.{intent_of, newest_keeps}
 use Rattle.stm_session.specs.Lines.{rewrite_entries, work_entries}
-use Rattle.stm_session.specs.Steps.{Goes}
+use Rattle.stm_session.specs.Steps.{Goes, IsSteady}
+use Rattle.stm_session.specs.declared.fault.Fault.{Fault}
 use Rattle.stm_session.specs.Undoable.{state_at}
-use Rattle.stm_session.specs.Work.{with_work}
-use Rattle.stm_session.proofs.Going.{goes_as, goes_failed, goes_nowhere, goes_ok}
+use Rattle.stm_session.specs.Work.{page_at_work, with_work}
+use Rattle.stm_session.proofs.Exits.{goes_fault}
+use Rattle.stm_session.proofs.Going.{goes_nowhere, goes_ok}
 use Rattle.stm_session.proofs.Keeping.{depth_text, good_at}
 use Rattle.stm_session.proofs.Returns.{kept_in_text, number_exists, place_fits}
 use Rattle.stm_session.proofs.SentParts.{part_fails}
@@ -20,7 +24,56 @@ use Rattle.stm_wire.specs.declared.intent.Intent.{Intent}
 use Rattle.stm_journal.specs.States.{intent_of}
 use Rattle.stm_session.specs.Order.{Step, Begin, IsRewritten, IsWorkRewritten}
 use Rattle.stm_session.proofs.CutShort.{begin_as, part_stops}
+use Rattle.stm_session.proofs.page_at_work.rewrite_at_work.Given as given
 use Rattle.stm_session.proofs.page_at_work.rewrite_at_work.Goals as goal
+use Rattle.stm_session.proofs.page_at_work.rewrite_at_work.Goals.{After-rewrite_line}
+
+-- The lines are those of the page at work, whatever rewrite_line answers.
+rewritten : (g : given.Over) (c : goal.After-rewrite_line g) (flashes : List (List ℕ))
+    → IsSteady flashes c.args.journal.now (g.R.Rig.view c.args.rig.now)
+    → (g.R.Rig.view c.args.rig.now).device.chip ≡ c.args.chip.now → (r : Result (Unit {0}) Fault)
+    → ((k i : ℕ) (kept : Kept) → IsSteady flashes c.args.journal.now (g.R.Rig.view c.args.rig.now)
+    → (g.R.Rig.view c.args.rig.now).device.chip ≡ c.args.chip.now
+    → kept_entry (state_at (g.R.Rig.view c.args.rig.now).journal) k i ≡ Some kept
+    → place_of kept ≡ c.in-Some-page.place → kept.page ≡ c.intent_page-n.result
+    → Goes flashes (rewrite_entries c.args.chip.now kept.page kept.bytes)
+    c.rewrite_line.new.journal (g.R.Rig.view c.args.rig.now) (g.R.Rig.view c.rewrite_line.new.rig) r
+    (λ y. (g.R.Rig.view c.rewrite_line.new.rig).device.flash ≡ with_page c.args.chip.now kept.page
+    kept.bytes (g.R.Rig.view c.args.rig.now).device.flash))
+    → let work = page_at_work (state_at (g.R.Rig.view c.args.rig.now).journal).stack in
+    Goes flashes (work_entries c.args.chip.now work) c.rewrite_line.new.journal
+    (g.R.Rig.view c.args.rig.now) (g.R.Rig.view c.rewrite_line.new.rig) r
+    (λ y. (g.R.Rig.view c.rewrite_line.new.rig).device.flash ≡ with_work c.args.chip.now work
+    (g.R.Rig.view c.args.rig.now).device.flash)
+rewritten g c flashes steady chip r gives =
+    let V = g.R.Rig.view in
+    let l = c.args.journal.now in
+    let l2 = c.rewrite_line.new.journal in
+    let s = l.state in
+    let a = V c.args.rig.now in
+    let b = V c.rewrite_line.new.rig in
+    let K : ℕ → Type 0 = λ n. IsTrue (newest_keeps n s) in
+    let intended = c.depth-newest.ensures.sound.intended c.in-Some.intent (sym c.in-Some.ensures) in
+    let kept = subst K (sym c.intent_page-n.ensures) intended in
+    let newest = c.depth-newest.result in
+    let n = c.intent_page-n.result in
+    let place = c.in-Some-page.place in
+    let is = c.depth-newest.ensures.value in
+    let stands = stands_at s newest n is kept in
+    let i = stands.i in
+    let there = kept_in_text l a.journal newest i n _ place steady.loaded
+    (stands.place place c.in-Some-page.ensures.place) stands.number in
+    let state = state_at a.journal in
+    let once =
+    (c.step_laws.ensures.sound a.journal state (good_at l a.journal steady.loaded)).once in
+    let found = work_is state newest i c.in-Some.intent there.0
+    (is ∙ depth_text l a.journal steady.loaded) once
+    (sym (intent_text l a.journal steady.loaded) ∙ sym c.in-Some.ensures) there.1
+    (there.3 ∙ c.intent_page-n.ensures) in
+    let P : Option Kept → Type 0 = λ o. Goes {T = Unit {0}} flashes
+    (work_entries c.args.chip.now o) l2 a b r
+    (λ x. b.device.flash ≡ with_work c.args.chip.now o a.device.flash) in
+    subst P (sym found) (gives newest i there.0 steady chip there.1 there.2 there.3)
 
 pub returns-in_default-clause-honest : goal.returns-in_default-clause-honest
 returns-in_default-clause-honest g c flashes steady chip =
@@ -81,49 +134,24 @@ returns-clause-puts g c =
 pub returns-in_err-rewrite_line-clause-honest : goal.returns-in_err-rewrite_line-clause-honest
 returns-in_err-rewrite_line-clause-honest g c flashes steady chip =
     let V = g.R.Rig.view in
-    let l = c.args.journal.now in
-    let l2 = c.rewrite_line.new.journal in
-    let s = l.state in
     let a = V c.args.rig.now in
-    let b = V c.rewrite_line.new.rig in
-    let K : ℕ → Type 0 = λ n. IsTrue (newest_keeps n s) in
-    let kept = subst K (sym c.intent_page-n.ensures) (c.depth-newest.ensures.sound.intended c.in-Some.intent (sym c.in-Some.ensures)) in
-    let newest = c.depth-newest.result in
-    let n = c.intent_page-n.result in
-    let is = c.depth-newest.ensures.value in
-    let stands = stands_at s newest n is kept in
-    let i = stands.i in
-    let there = kept_in_text l a.journal newest i n _ c.in-Some-page.place steady.loaded (stands.place c.in-Some-page.place c.in-Some-page.ensures.place) stands.number in
-    let once = (c.step_laws.ensures.sound a.journal (state_at a.journal) (good_at l a.journal steady.loaded)).once in
-    let found = work_is (state_at a.journal) newest i c.in-Some.intent there.0 (is ∙ depth_text l a.journal steady.loaded) once (sym (intent_text l a.journal steady.loaded) ∙ sym c.in-Some.ensures) there.1 (there.3 ∙ c.intent_page-n.ensures) in
-    let P : Option Kept → Type 0 = λ o. Goes {T = Unit {0}} flashes (work_entries c.args.chip.now o) l2 a b c.from_residual.result (λ x. b.device.flash ≡ with_work c.args.chip.now o a.device.flash) in
-    let own = rewrite_entries c.args.chip.now there.0.page there.0.bytes in
-    subst P (sym found)
-    (goes_as flashes (own ++ []) own l2 a b _ (append-nil own)
-    (goes_failed flashes own [] l2 l2 a b _ c.from_residual.result (c.in_err-rewrite_line.ensures.honest flashes newest i there.0 steady chip there.1 there.2 there.3) c.from_residual.ensures.1))
+    let l2 = c.rewrite_line.new.journal in
+    let work = page_at_work (state_at a.journal).stack in
+    let last = (goal.at.returns-in_err-rewrite_line-clause-honest g c).After-rewrite_line in
+    goes_fault flashes (work_entries c.args.chip.now work) l2 l2 a (V c.rewrite_line.new.rig) _
+    c.from_residual.result
+    (rewritten g last flashes steady chip _ (c.in_err-rewrite_line.ensures.honest flashes))
+    c.from_residual.ensures.1
 
 pub returns-clause-honest : goal.returns-clause-honest
 returns-clause-honest g c flashes steady chip =
     let V = g.R.Rig.view in
-    let l = c.args.journal.now in
-    let l2 = c.rewrite_line.new.journal in
-    let s = l.state in
     let a = V c.args.rig.now in
-    let b = V c.rewrite_line.new.rig in
-    let K : ℕ → Type 0 = λ n. IsTrue (newest_keeps n s) in
-    let kept = subst K (sym c.intent_page-n.ensures) (c.depth-newest.ensures.sound.intended c.in-Some.intent (sym c.in-Some.ensures)) in
-    let newest = c.depth-newest.result in
-    let n = c.intent_page-n.result in
-    let is = c.depth-newest.ensures.value in
-    let stands = stands_at s newest n is kept in
-    let i = stands.i in
-    let there = kept_in_text l a.journal newest i n _ c.in-Some-page.place steady.loaded (stands.place c.in-Some-page.place c.in-Some-page.ensures.place) stands.number in
-    let once = (c.step_laws.ensures.sound a.journal (state_at a.journal) (good_at l a.journal steady.loaded)).once in
-    let found = work_is (state_at a.journal) newest i c.in-Some.intent there.0 (is ∙ depth_text l a.journal steady.loaded) once (sym (intent_text l a.journal steady.loaded) ∙ sym c.in-Some.ensures) there.1 (there.3 ∙ c.intent_page-n.ensures) in
-    let P : Option Kept → Type 0 = λ o. Goes {T = Unit {0}} flashes (work_entries c.args.chip.now o) l2 a b (Ok tt) (λ x. b.device.flash ≡ with_work c.args.chip.now o a.device.flash) in
-    let own = rewrite_entries c.args.chip.now there.0.page there.0.bytes in
-    subst P (sym found)
-    (goes_ok flashes own l2 a b _ (tt {0}) (c.in_ok-rewrite_line.ensures.honest flashes newest i there.0 steady chip there.1 there.2 there.3) (λ p. p))
+    let work = page_at_work (state_at a.journal).stack in
+    let last = (goal.at.returns-clause-honest g c).After-rewrite_line in
+    goes_ok flashes (work_entries c.args.chip.now work) c.rewrite_line.new.journal a
+    (V c.rewrite_line.new.rig) _ (tt {0})
+    (rewritten g last flashes steady chip _ (c.in_ok-rewrite_line.ensures.honest flashes)) (λ p. p)
 
 pub returns-in_err-rewrite_line-clause-stops : goal.returns-in_err-rewrite_line-clause-stops
 returns-in_err-rewrite_line-clause-stops g c =

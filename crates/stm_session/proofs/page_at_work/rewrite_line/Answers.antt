@@ -1,24 +1,106 @@
-use Rattle.std.proofs.Common.{◌≡◌, ◌∙◌, ◌+◌, ◌*◌, ◌/◌, ◌≤◌, ◌++◌, ◌∷◌, [], List, ℕ, Some, true, length, take, drop, sym, ap, ap₂, append-nil, arith, rules}
+use Rattle.std.proofs.Common.{◌≡◌, ◌∙◌, ◌+◌, ◌*◌, ◌/◌, ◌≤◌, ◌++◌, ◌∷◌, [], List, ℕ, Result, Some}
+use Rattle.std.proofs.Common.{true, length, take, drop, sym, ap, ap₂, arith, rules}
 use Rattle.std.proofs.Math.Seq.{take-append_seam}
 use Rattle.stm_wire.specs.Chip.{erased_byte, page_size, with_page}
 use Rattle.stm_wire.specs.Device.{Device}
 use Rattle.stm_wire.specs.PartLaws.{nothing_is_part}
+use Rattle.stm_journal.specs.KeptPlaces.{kept_entry, place_of}
+use Rattle.stm_journal.specs.declared.kept.Kept.{Kept}
 use Rattle.stm_chip.specs.declared.plan.Frame.{Frame}
 use Rattle.stm_chip.specs.Plan.{frames_of}
 use Rattle.stm_journal.specs.declared.entry.Entry.TheVariants.{Erases}
 use Rattle.stm_session.specs.Lines.{program_entries, rewrite_entries}
 use Rattle.stm_session.specs.Order.{IsRewritten, rewrite_steps}
+use Rattle.stm_session.specs.Order.{Are, Begin}
+use Rattle.stm_session.specs.Steps.{Goes, IsSteady}
 use Rattle.stm_session.specs.Undoable.{state_at}
+use Rattle.stm_session.specs.declared.fault.Fault.{Fault}
+use Rattle.stm_session.proofs.Exits.{goes_fault}
 use Rattle.stm_session.proofs.Fetchings.{fetch_goes, fetch_fails}
-use Rattle.stm_session.proofs.Going.{goes_as, goes_failed, goes_nowhere, goes_ok, goes_refused, goes_then}
+use Rattle.stm_session.proofs.Going.{goes_as, goes_nowhere, goes_ok, goes_refused, goes_then}
 use Rattle.stm_session.proofs.Keeping.{good_at}
 use Rattle.stm_session.proofs.Orders.{does_fetch, does_then}
 use Rattle.stm_session.proofs.SentParts.{fetch_part, part_after, part_fails_after}
-use Rattle.stm_session.specs.Order.{Are, Begin}
 use Rattle.stm_session.proofs.CutShort.{begin_as, memory_stops, then_stops}
 use Rattle.stm_session.proofs.Orders.{does_nothing}
 use Rattle.stm_session.proofs.UndoOrders.{journal_stops, some_rewrite}
+use Rattle.stm_session.proofs.page_at_work.rewrite_line.Given as given
 use Rattle.stm_session.proofs.page_at_work.rewrite_line.Goals as goal
+use Rattle.stm_session.proofs.page_at_work.rewrite_line.Goals.{After-rewrite_kept}
+
+-- What the exits behind rewrite_kept share.
+
+page_size_is : (g : given.Over) (c : goal.After-rewrite_kept g)
+    → length c.deref-2.result.now ≡ page_size c.args.chip.now c.args.n
+page_size_is g c = search rules
+
+-- what is put fits
+fits : (g : given.Over) (c : goal.After-rewrite_kept g)
+    → 0 + (9 + 2 * length c.deref-2.result.now) ≤ 3 * page_size c.args.chip.now c.args.n
+fits g c =
+    let many = page_size_is g c in
+    omega (arith, many, c.page_size-size.ensures.bytes, c.page_size-size.ensures.blocks.0)
+
+-- the frames are those of the page
+framed : (g : given.Over) (c : goal.After-rewrite_kept g)
+    → c.deref-3.result.now ≡ frames_of (erased_byte c.args.chip.now) c.deref-2.result.now
+    (length c.deref-2.result.now / 256)
+framed g c =
+    c.deref-3.ensures.value ∙ c.in_ok-frames.ensures.frames
+    ∙ ap₂ (λ (e : ℕ) (bytes : List ℕ). frames_of e bytes (length bytes / 256))
+    c.erased.ensures.byte (c.deref.ensures.value ∙ sym c.deref-2.ensures.value)
+
+-- the lines are those of the kept page, whatever rewrite_kept answers
+rewritten : (g : given.Over) (c : goal.After-rewrite_kept g) (flashes : List (List ℕ)) (k i : ℕ)
+    (kept : Kept) → IsSteady flashes c.args.journal.now (g.R.Rig.view c.args.rig.now)
+    → (g.R.Rig.view c.args.rig.now).device.chip ≡ c.args.chip.now
+    → kept_entry (state_at (g.R.Rig.view c.args.rig.now).journal) k i ≡ Some kept
+    → place_of kept ≡ c.args.place → kept.page ≡ c.args.n → (r : Result (Unit {0}) Fault)
+    → (IsSteady flashes c.args.journal.now (g.R.Rig.view c.fetch_page.new.rig)
+    → (g.R.Rig.view c.fetch_page.new.rig).device.chip ≡ c.args.chip.now
+    → Goes flashes (Erases c.args.n ∷ program_entries c.args.n c.deref-3.result.now)
+    c.rewrite_kept.new.journal (g.R.Rig.view c.fetch_page.new.rig)
+    (g.R.Rig.view c.rewrite_kept.new.rig) r
+    (λ y. (g.R.Rig.view c.rewrite_kept.new.rig).device.flash ≡ with_page c.args.chip.now c.args.n
+    c.deref-2.result.now (g.R.Rig.view c.fetch_page.new.rig).device.flash))
+    → Goes flashes (rewrite_entries c.args.chip.now kept.page kept.bytes)
+    c.rewrite_kept.new.journal (g.R.Rig.view c.args.rig.now) (g.R.Rig.view c.rewrite_kept.new.rig) r
+    (λ y. (g.R.Rig.view c.rewrite_kept.new.rig).device.flash ≡ with_page c.args.chip.now kept.page
+    kept.bytes (g.R.Rig.view c.args.rig.now).device.flash)
+rewritten g c flashes k i kept steady chip entry place number r gives =
+    let V = g.R.Rig.view in
+    let l = c.args.journal.now in
+    let l2 = c.rewrite_kept.new.journal in
+    let a = V c.args.rig.now in
+    let b = V c.fetch_page.new.rig in
+    let d = V c.rewrite_kept.new.rig in
+    let buf = c.fetch_page.new.buf in
+    let fetches = c.in_ok-fetch_page.ensures.honest steady.honest steady.loaded in
+    let first = fetch_goes c.step_laws.ensures flashes l c.args.place buf a b
+    (g.met.R.Rig.model c.args.rig.now steady.honest) steady (tt {0}) (λ (z : Unit {0}). Unit {0})
+    fetches tt in
+    let model_b = g.met.R.Rig.model c.fetch_page.new.rig first.honest in
+    let still = ap (λ (x : Device). x.chip) fetches.same_device ∙ chip in
+    let good = good_at l a.journal steady.loaded in
+    let many : length buf ≡ c.in_ok-page.page.len =
+    omega (arith, c.fetch_page.auto.buf, c.deref_mut.ensures.len) in
+    let page_is : c.deref-2.result.now ≡ kept.bytes =
+    c.deref-2.ensures.value
+    ∙ ap (λ (z : ℕ). take z (buf ++ drop (length buf) c.in_ok-page.page.items)) (sym many)
+    ∙ take-append_seam buf _ ∙ fetches.bytes (state_at a.journal) k i kept good entry place in
+    let own = Erases c.args.n ∷ program_entries c.args.n c.deref-3.result.now in
+    let lines : own ≡ rewrite_entries c.args.chip.now kept.page kept.bytes =
+    ap (λ (fs : List Frame). Erases c.args.n ∷ program_entries c.args.n fs) (framed g c)
+    ∙ ap₂ (λ (n : ℕ) (bytes : List ℕ). rewrite_entries c.args.chip.now n bytes) (sym number)
+    page_is in
+    let given = ap₂ (λ (xs flash : List ℕ). with_page c.args.chip.now c.args.n xs flash) page_is
+    (ap (λ (x : Device). x.flash) fetches.same_device)
+    ∙ ap (λ (n : ℕ). with_page c.args.chip.now n kept.bytes a.device.flash) (sym number) in
+    goes_as flashes own _ l2 a d r lines
+    (goes_then flashes [] own l l2 a b d (tt {0}) r model_b first (gives first.steady still)
+    (λ y done. done ∙ given))
+
+-- The exits.
 
 pub returns-in_err-page-clause-honest : goal.returns-in_err-page-clause-honest
 returns-in_err-page-clause-honest g c flashes k i kept steady chip entry place number =
@@ -53,53 +135,21 @@ returns-in_err-frames-clause-honest g c flashes k i kept steady chip entry place
 pub returns-in_err-rewrite_kept-clause-honest : goal.returns-in_err-rewrite_kept-clause-honest
 returns-in_err-rewrite_kept-clause-honest g c flashes k i kept steady chip entry place number =
     let V = g.R.Rig.view in
-    let l = c.args.journal.now in
     let l2 = c.rewrite_kept.new.journal in
-    let a = V c.args.rig.now in
-    let b = V c.fetch_page.new.rig in
-    let d = V c.rewrite_kept.new.rig in
-    let fetches = c.in_ok-fetch_page.ensures.honest steady.honest steady.loaded in
-    let first = fetch_goes c.step_laws.ensures flashes l c.args.place c.fetch_page.new.buf a b (g.met.R.Rig.model c.args.rig.now steady.honest) steady (tt {0}) (λ (z : Unit {0}). Unit {0}) fetches tt in
-    let model_b = g.met.R.Rig.model c.fetch_page.new.rig first.honest in
-    let still = ap (λ (x : Device). x.chip) fetches.same_device ∙ chip in
-    let fetched = fetches.bytes (state_at a.journal) k i kept (good_at l a.journal steady.loaded) entry place in
-    let many : length c.fetch_page.new.buf ≡ c.in_ok-page.page.len = omega (arith, c.fetch_page.auto.buf, c.deref_mut.ensures.len) in
-    let seam = ap (λ (z : ℕ). take z (c.fetch_page.new.buf ++ drop (length c.fetch_page.new.buf) c.in_ok-page.page.items)) (sym many) ∙ take-append_seam c.fetch_page.new.buf _ in
-    let page_is : c.deref.result.now ≡ kept.bytes = c.deref.ensures.value ∙ seam ∙ fetched in
-    let framed = c.deref-3.ensures.value ∙ c.in_ok-frames.ensures.frames ∙ ap₂ (λ (e : ℕ) (bytes : List ℕ). frames_of e bytes (length bytes / 256)) c.erased.ensures.byte page_is in
-    let own = Erases c.args.n ∷ program_entries c.args.n c.deref-3.result.now in
-    let lines : own ≡ rewrite_entries c.args.chip.now kept.page kept.bytes =
-    ap (λ (fs : List Frame). Erases c.args.n ∷ program_entries c.args.n fs) framed ∙ ap (λ (n : ℕ). rewrite_entries c.args.chip.now n kept.bytes) (sym number) in
-    goes_as flashes (own ++ []) _ l2 a d _ (append-nil own ∙ lines)
-    (goes_then flashes [] (own ++ []) l l2 a b d (tt {0}) c.from_residual-in_err-rewrite_kept.result model_b first
-    (goes_failed flashes own [] l2 l2 b d _ c.from_residual-in_err-rewrite_kept.result
-    (c.in_err-rewrite_kept.ensures.honest flashes first.steady still) c.from_residual-in_err-rewrite_kept.ensures.1) (λ y p. p))
+    let last = (goal.at.returns-in_err-rewrite_kept-clause-honest g c).After-rewrite_kept in
+    goes_fault flashes (rewrite_entries c.args.chip.now kept.page kept.bytes) l2 l2
+    (V c.args.rig.now) (V c.rewrite_kept.new.rig) _ c.from_residual-in_err-rewrite_kept.result
+    (rewritten g last flashes k i kept steady chip entry place number _
+    (c.in_err-rewrite_kept.ensures.honest flashes)) c.from_residual-in_err-rewrite_kept.ensures.1
 
 pub returns-clause-honest : goal.returns-clause-honest
 returns-clause-honest g c flashes k i kept steady chip entry place number =
     let V = g.R.Rig.view in
-    let l = c.args.journal.now in
-    let l2 = c.rewrite_kept.new.journal in
-    let a = V c.args.rig.now in
-    let b = V c.fetch_page.new.rig in
-    let d = V c.rewrite_kept.new.rig in
-    let fetches = c.in_ok-fetch_page.ensures.honest steady.honest steady.loaded in
-    let first = fetch_goes c.step_laws.ensures flashes l c.args.place c.fetch_page.new.buf a b (g.met.R.Rig.model c.args.rig.now steady.honest) steady (tt {0}) (λ (z : Unit {0}). Unit {0}) fetches tt in
-    let model_b = g.met.R.Rig.model c.fetch_page.new.rig first.honest in
-    let still = ap (λ (x : Device). x.chip) fetches.same_device ∙ chip in
-    let fetched = fetches.bytes (state_at a.journal) k i kept (good_at l a.journal steady.loaded) entry place in
-    let many : length c.fetch_page.new.buf ≡ c.in_ok-page.page.len = omega (arith, c.fetch_page.auto.buf, c.deref_mut.ensures.len) in
-    let seam = ap (λ (z : ℕ). take z (c.fetch_page.new.buf ++ drop (length c.fetch_page.new.buf) c.in_ok-page.page.items)) (sym many) ∙ take-append_seam c.fetch_page.new.buf _ in
-    let page_is : c.deref.result.now ≡ kept.bytes = c.deref.ensures.value ∙ seam ∙ fetched in
-    let sent_is : c.deref-2.result.now ≡ kept.bytes = c.deref-2.ensures.value ∙ seam ∙ fetched in
-    let framed = c.deref-3.ensures.value ∙ c.in_ok-frames.ensures.frames ∙ ap₂ (λ (e : ℕ) (bytes : List ℕ). frames_of e bytes (length bytes / 256)) c.erased.ensures.byte page_is in
-    let own = Erases c.args.n ∷ program_entries c.args.n c.deref-3.result.now in
-    let lines : own ≡ rewrite_entries c.args.chip.now kept.page kept.bytes =
-    ap (λ (fs : List Frame). Erases c.args.n ∷ program_entries c.args.n fs) framed ∙ ap (λ (n : ℕ). rewrite_entries c.args.chip.now n kept.bytes) (sym number) in
-    goes_as flashes own _ l2 a d _ lines
-    (goes_then flashes [] own l l2 a b d (tt {0}) _ model_b first
-    (goes_ok flashes own l2 b d _ (tt {0}) (c.in_ok-rewrite_kept.ensures.honest flashes first.steady still) (λ p. p))
-    (λ y done. done ∙ ap₂ (λ (xs flash : List ℕ). with_page c.args.chip.now c.args.n xs flash) sent_is (ap (λ (x : Device). x.flash) fetches.same_device) ∙ ap (λ (n : ℕ). with_page c.args.chip.now n kept.bytes a.device.flash) (sym number)))
+    let last = (goal.at.returns-clause-honest g c).After-rewrite_kept in
+    goes_ok flashes (rewrite_entries c.args.chip.now kept.page kept.bytes)
+    c.rewrite_kept.new.journal (V c.args.rig.now) (V c.rewrite_kept.new.rig) _ (tt {0})
+    (rewritten g last flashes k i kept steady chip entry place number _
+    (c.in_ok-rewrite_kept.ensures.honest flashes)) (λ p. p)
 
 pub returns-in_err-page-clause-puts : goal.returns-in_err-page-clause-puts
 returns-in_err-page-clause-puts g c = nothing_is_part (Some c.args.chip.now) _ (3 * page_size c.args.chip.now c.args.n) (g.R.Rig.view c.args.rig.now).calls
@@ -120,12 +170,12 @@ returns-in_err-rewrite_kept-clause-puts g c =
     let chip = Some c.args.chip.now in
     let a = (V c.args.rig.now).calls in
     let b = (V c.fetch_page.new.rig).calls in
-    let d = (V c.rewrite_kept.new.rig).calls in
-    let many : length c.deref-2.result.now ≡ page_size c.args.chip.now c.args.n = search rules in
-    let size = page_size c.args.chip.now c.args.n in
-    let most : 0 + (9 + 2 * length c.deref-2.result.now) ≤ 3 * size = omega (arith, many, c.page_size-size.ensures.bytes, c.page_size-size.ensures.blocks.0) in
-    part_fails_after chip 0 (9 + 2 * length c.deref-2.result.now) (3 * size) a b d _ c.from_residual-in_err-rewrite_kept.result most c.from_residual-in_err-rewrite_kept.ensures.1
-    (fetch_part chip true 0 a b c.in_ok-fetch_page.ensures.calls) c.in_err-rewrite_kept.ensures.puts
+    let most = fits g (goal.at.returns-in_err-rewrite_kept-clause-puts g c).After-rewrite_kept in
+    part_fails_after chip 0 (9 + 2 * length c.deref-2.result.now)
+    (3 * page_size c.args.chip.now c.args.n) a b (V c.rewrite_kept.new.rig).calls _
+    c.from_residual-in_err-rewrite_kept.result most c.from_residual-in_err-rewrite_kept.ensures.1
+    (fetch_part chip true 0 a b c.in_ok-fetch_page.ensures.calls)
+    c.in_err-rewrite_kept.ensures.puts
 
 pub returns-clause-puts : goal.returns-clause-puts
 returns-clause-puts g c =
@@ -133,11 +183,10 @@ returns-clause-puts g c =
     let chip = Some c.args.chip.now in
     let a = (V c.args.rig.now).calls in
     let b = (V c.fetch_page.new.rig).calls in
-    let d = (V c.rewrite_kept.new.rig).calls in
-    let many : length c.deref-2.result.now ≡ page_size c.args.chip.now c.args.n = search rules in
-    let size = page_size c.args.chip.now c.args.n in
-    let most : 0 + (9 + 2 * length c.deref-2.result.now) ≤ 3 * size = omega (arith, many, c.page_size-size.ensures.bytes, c.page_size-size.ensures.blocks.0) in
-    part_after chip true 0 (9 + 2 * length c.deref-2.result.now) (3 * size) a b d most (fetch_part chip true 0 a b c.in_ok-fetch_page.ensures.calls) c.in_ok-rewrite_kept.ensures.puts
+    let most = fits g (goal.at.returns-clause-puts g c).After-rewrite_kept in
+    part_after chip true 0 (9 + 2 * length c.deref-2.result.now)
+    (3 * page_size c.args.chip.now c.args.n) a b (V c.rewrite_kept.new.rig).calls most
+    (fetch_part chip true 0 a b c.in_ok-fetch_page.ensures.calls) c.in_ok-rewrite_kept.ensures.puts
 
 pub returns-clause-order : goal.returns-clause-order
 returns-clause-order g c =
@@ -145,18 +194,19 @@ returns-clause-order g c =
     let chip = c.args.chip.now in
     let n = c.args.n in
     let l = c.args.journal.now in
-    let l2 = c.rewrite_kept.new.journal in
     let a = V c.args.rig.now in
     let b = V c.fetch_page.new.rig in
-    let d = V c.rewrite_kept.new.rig in
     let page = c.deref-2.result.now in
     let own = rewrite_steps chip n page c.deref-3.result.now in
-    let same_page : c.deref.result.now ≡ page = c.deref.ensures.value ∙ sym c.deref-2.ensures.value in
-    let framed : c.deref-3.result.now ≡ frames_of (erased_byte chip) page (length page / 256) =
-    c.deref-3.ensures.value ∙ c.in_ok-frames.ensures.frames ∙ ap₂ (λ (e : ℕ) (bytes : List ℕ). frames_of e bytes (length bytes / 256)) c.erased.ensures.byte same_page in
-    let many : length page ≡ page_size chip n = search rules in
-    let rewritten : IsRewritten chip n own = record { page = page; size = many; is = ap (λ (fs : List Frame). rewrite_steps chip n page fs) framed } in
-    (own, rewritten, does_then [] own l l l2 a b d (does_fetch l a b c.in_ok-fetch_page.ensures.calls) c.in_ok-rewrite_kept.ensures.order)
+    let last = (goal.at.returns-clause-order g c).After-rewrite_kept in
+    let is = ap (λ (fs : List Frame). rewrite_steps chip n page fs) (framed g last) in
+    let rewritten : IsRewritten chip n own =
+    record { page = page; size = page_size_is g last; is = is } in (
+      own,
+      rewritten,
+      does_then [] own l l c.rewrite_kept.new.journal a b (V c.rewrite_kept.new.rig)
+          (does_fetch l a b c.in_ok-fetch_page.ensures.calls) c.in_ok-rewrite_kept.ensures.order,
+    )
 
 pub returns-in_err-page-clause-stops : goal.returns-in_err-page-clause-stops
 returns-in_err-page-clause-stops g c =
@@ -189,13 +239,13 @@ returns-in_err-rewrite_kept-clause-stops g c =
     let l = c.args.journal.now in
     let a = V c.args.rig.now in
     let b = V c.fetch_page.new.rig in
-    let d = V c.rewrite_kept.new.rig in
     let page = c.deref-2.result.now in
-    let own = rewrite_steps chip n page c.deref-3.result.now in
-    let same_page : c.deref.result.now ≡ page = c.deref.ensures.value ∙ sym c.deref-2.ensures.value in
-    let framed : c.deref-3.result.now ≡ frames_of (erased_byte chip) page (length page / 256) =
-    c.deref-3.ensures.value ∙ c.in_ok-frames.ensures.frames ∙ ap₂ (λ (e : ℕ) (bytes : List ℕ). frames_of e bytes (length bytes / 256)) c.erased.ensures.byte same_page in
-    let many : length page ≡ page_size chip n = search rules in
-    then_stops (Begin (Are own)) (Begin (IsRewritten chip n)) [] l l a b d _ c.from_residual-in_err-rewrite_kept.result c.from_residual-in_err-rewrite_kept.ensures.1 (does_fetch l a b c.in_ok-fetch_page.ensures.calls)
-    c.in_err-rewrite_kept.ensures.stops
-    (begin_as (Are own) (IsRewritten chip n) (λ ys is. record { page = page; size = many; is = is ∙ ap (λ (fs : List Frame). rewrite_steps chip n page fs) framed }))
+    let last = (goal.at.returns-in_err-rewrite_kept-clause-stops g c).After-rewrite_kept in
+    let Own = Are (rewrite_steps chip n page c.deref-3.result.now) in
+    let same = ap (λ (fs : List Frame). rewrite_steps chip n page fs) (framed g last) in
+    let many = page_size_is g last in
+    then_stops (Begin Own) (Begin (IsRewritten chip n)) [] l l a b (V c.rewrite_kept.new.rig) _
+    c.from_residual-in_err-rewrite_kept.result c.from_residual-in_err-rewrite_kept.ensures.1
+    (does_fetch l a b c.in_ok-fetch_page.ensures.calls) c.in_err-rewrite_kept.ensures.stops
+    (begin_as Own (IsRewritten chip n)
+    (λ ys is. record { page = page; size = many; is = is ∙ same }))

@@ -1,29 +1,144 @@
-use Rattle.std.proofs.Common.{◌≡◌, ◌∙◌, ◌++◌, [], List, ℕ, length, false, ap, ap₂, append-nil, refl, sym}
-use Rattle.stm_wire.specs.Chip.{ChipData, flash_size, page_of}
-use Rattle.stm_wire.specs.Device.{Device}
-use Rattle.stm_wire.specs.PageLaws.{length-page_of}
-use Rattle.stm_journal.specs.declared.entry.Entry.{Entry}
-use Rattle.stm_session.specs.Changing.{change_entries}
-use Rattle.stm_session.specs.Contents.{content}
-use Rattle.stm_session.proofs.Changes.{same_lines_of, told_same}
-use Rattle.stm_session.proofs.Going.{asks_fail, asks_on, goes_as, goes_nowhere, goes_failed, goes_ok, goes_refused, goes_then, page_held}
-use Rattle.stm_session.proofs.Restorings.{page_read}
-use Rattle.stm_session.proofs.Turns.{given_on}
-use Rattle.std.proofs.Common.{◌≤◌, ◌+◌, ◌*◌, Some, true, arith, rules}
-use Rattle.stm_wire.specs.Chip.{page_size}
-use Rattle.stm_wire.specs.Intents.{InPage}
-use Rattle.stm_wire.specs.PartLaws.{nothing_is_part, part_weaker}
-use Rattle.stm_session.specs.Sending.{most_of_companion, most_of_page}
-use Rattle.stm_session.proofs.SentParts.{part_after, part_fails, part_fails_after}
-use Rattle.std.proofs.Common.{◌/◌, inl, inr, not, subst}
+use Rattle.std.proofs.Common.{◌≡◌, ◌∙◌, ◌+◌, ◌*◌, ◌≤◌, ◌++◌, [], List, ℕ, Bool, Result, Some, Ok}
+use Rattle.std.proofs.Common.{true, false, inl, inr, not, length, ap, ap₂, refl, sym, subst, arith}
+use Rattle.std.proofs.Common.{rules}
 use Rattle.std.specs.Prelude.{bytes_eq}
+use Rattle.stm_wire.specs.Chip.{ChipData, flash_size, page_of, page_size, with_page}
+use Rattle.stm_wire.specs.Device.{Device}
+use Rattle.stm_wire.specs.Dialogue.{GoesOn}
+use Rattle.stm_wire.specs.PageLaws.{length-page_of}
+use Rattle.stm_wire.specs.PartLaws.{nothing_is_part, part_weaker}
+use Rattle.stm_wire.specs.Parts.{IsPart}
 use Rattle.stm_session.specs.ChangeOrder.{IsChanged, IsTurn, IsTurnOf}
-use Rattle.stm_session.specs.Fault.{Cause}
-use Rattle.stm_session.specs.Order.{Begin, StopsBy, page_reads}
+use Rattle.stm_session.specs.Changing.{change_entries}
+use Rattle.stm_session.specs.Contents.{IsGiven, content}
+use Rattle.stm_session.specs.declared.fault.Fault.{Fault}
+use Rattle.stm_session.specs.Order.{Begin, DoesSteps, page_reads}
+use Rattle.stm_session.specs.Sending.{most_of_companion, most_of_page}
+use Rattle.stm_session.specs.Steps.{Goes, IsSteady}
 use Rattle.stm_session.proofs.ChangeOrders.{some_turn, turn_of}
-use Rattle.stm_session.proofs.CutShort.{begin_after, by_fault, memory_stops, page_stops, page_was_read, then_stops}
+use Rattle.stm_session.proofs.Changes.{same_lines_of, told_same}
+use Rattle.stm_session.proofs.CutShort.{begin_after, memory_stops, then_stops}
+use Rattle.stm_session.proofs.Exits.{goes_fault, in_page, read_stops, reads_page}
+use Rattle.stm_session.proofs.Going.{asks_fail, asks_on, goes_as, goes_nowhere, goes_ok}
+use Rattle.stm_session.proofs.Going.{goes_refused, goes_then, page_held}
 use Rattle.stm_session.proofs.Orders.{does_nothing, does_then}
+use Rattle.stm_session.proofs.Restorings.{page_read}
+use Rattle.stm_session.proofs.SentParts.{part_after, part_fails, part_fails_after}
+use Rattle.stm_session.proofs.Turns.{given_on}
+use Rattle.stm_session.proofs.page_changes.turn_page.Given as given
 use Rattle.stm_session.proofs.page_changes.turn_page.Goals as goal
+use Rattle.stm_session.proofs.page_changes.turn_page.Goals.{After-change_page, After-content}
+use Rattle.stm_session.proofs.page_changes.turn_page.Goals.{After-read_range}
+
+-- reading the page fits
+read_fits : (g : given.Over) (c : goal.After-read_range g)
+    → 12 + 2 * c.page_size-size.result ≤ most_of_page c.args.chip.now c.args.n
+read_fits g c = omega (arith, c.page_size-size.ensures.bytes, c.page_size-size.ensures.blocks.0)
+
+-- What the exits behind content share.
+
+-- what the read puts
+few : (g : given.Over) (c : goal.After-content g)
+    → GoesOn (IsPart (Some c.args.chip.now) true (12 + 2 * c.page_size-size.result))
+    (g.R.Rig.view c.args.rig.now).calls (g.R.Rig.view c.read_range.new.rig).calls
+few g c =
+    let size = c.page_size-size.result in
+    let here = in_page c.args.chip.now c.args.n c.page_start-start.result size c.requires.exists
+    c.page_start-start.ensures.address c.page_size-size.ensures.bytes in
+    c.in_ok-held.ensures.few c.args.n here
+
+-- its steps
+was_read : (g : given.Over) (c : goal.After-content g) (held : List ℕ)
+    → held ≡ c.in_ok-held.held.items
+    → DoesSteps (page_reads c.args.chip.now c.args.n held) c.args.journal.now c.args.journal.now
+    (g.R.Rig.view c.args.rig.now) (g.R.Rig.view c.read_range.new.rig)
+was_read g c held same =
+    let l = c.args.journal.now in
+    let a = g.R.Rig.view c.args.rig.now in
+    let b = g.R.Rig.view c.read_range.new.rig in
+    reads_page c.args.chip.now c.args.n c.page_start-start.result c.page_size-size.result
+    c.requires.exists c.page_start-start.ensures.address c.page_size-size.ensures.bytes l
+    c.in_ok-held.held.items held a b c.page_size-size.ensures.blocks.1 c.in_ok-held.ensures.order
+    same
+
+-- What the exits behind change_page share.
+
+-- what is put fits
+fits : (g : given.Over) (c : goal.After-change_page g)
+    → (12 + 2 * c.page_size-size.result)
+    + (most_of_companion c.args.chip.now c.args.n + (9 + 2 * length c.deref-3.result.now))
+    ≤ most_of_page c.args.chip.now c.args.n
+fits g c =
+    let many : length c.deref-3.result.now ≡ page_size c.args.chip.now c.args.n = search rules in
+    omega (arith, many, c.page_size-size.ensures.bytes, c.page_size-size.ensures.blocks.0)
+
+-- the bytes that were read, and those that the command makes of them
+held_size : (g : given.Over) (c : goal.After-change_page g)
+    → length c.deref-2.result.now ≡ page_size c.args.chip.now c.args.n
+held_size g c = search rules
+
+is_made : (g : given.Over) (c : goal.After-change_page g)
+    → c.deref-3.result.now
+    ≡ content c.args.chip.now c.args.change.now c.args.n c.deref-2.result.now
+is_made g c =
+    let made = content c.args.chip.now c.args.change.now c.args.n in
+    c.deref-3.ensures.value ∙ c.in_ok-page.ensures.bytes
+    ∙ ap made (c.deref.ensures.value ∙ sym c.deref-2.ensures.value)
+
+-- the lines are those of the page's turn, whatever change_page answers
+turned : (g : given.Over) (c : goal.After-change_page g) (flashes : List (List ℕ))
+    → IsSteady flashes c.args.journal.now (g.R.Rig.view c.args.rig.now)
+    → (g.R.Rig.view c.args.rig.now).device.chip ≡ c.args.chip.now
+    → (r : Result Bool Fault) (changed : Bool)
+    → changed ≡ not (bytes_eq c.deref-2.result.now c.deref-3.result.now)
+    → (IsSteady flashes c.args.journal.now (g.R.Rig.view c.read_range.new.rig)
+    → (g.R.Rig.view c.read_range.new.rig).device.chip ≡ c.args.chip.now
+    → c.deref-2.result.now
+    ≡ page_of c.args.chip.now (g.R.Rig.view c.read_range.new.rig).device.flash c.args.n
+    → Goes flashes (change_entries c.args.kept c.args.chip.now
+    (g.R.Rig.view c.read_range.new.rig).device.flash c.args.n c.deref-3.result.now)
+    c.change_page.new.journal (g.R.Rig.view c.read_range.new.rig)
+    (g.R.Rig.view c.change_page.new.rig) r
+    (λ y. (g.R.Rig.view c.change_page.new.rig).device.flash ≡ with_page c.args.chip.now c.args.n
+    c.deref-3.result.now (g.R.Rig.view c.read_range.new.rig).device.flash))
+    → let flash = (g.R.Rig.view c.args.rig.now).device.flash in
+    let made = content c.args.chip.now c.args.change.now c.args.n
+    (page_of c.args.chip.now flash c.args.n) in
+    Goes flashes (change_entries c.args.kept c.args.chip.now flash c.args.n made)
+    c.change_page.new.journal (g.R.Rig.view c.args.rig.now) (g.R.Rig.view c.change_page.new.rig) r
+    (λ y. IsGiven c.args.chip.now c.args.n made flash
+    (g.R.Rig.view c.change_page.new.rig).device.flash changed)
+turned g c flashes steady chip r changed differs gives =
+    let V = g.R.Rig.view in
+    let k = c.args.chip.now in
+    let n = c.args.n in
+    let l = c.args.journal.now in
+    let l2 = c.change_page.new.journal in
+    let a = V c.args.rig.now in
+    let b = V c.read_range.new.rig in
+    let d = V c.change_page.new.rig in
+    let made = content k c.args.change.now n in
+    let asks = c.in_ok-held.ensures.honest steady.honest steady.settled chip in
+    let first = asks_on c.step_laws.ensures flashes l a b steady c.in_ok-held.held asks in
+    let model_b = g.met.R.Rig.model c.read_range.new.rig first.steady.honest in
+    let still = ap (λ (x : Device). x.chip) asks.same ∙ chip in
+    let flash_is = ap (λ (x : Device). x.flash) asks.same in
+    let items_are : c.in_ok-held.held.items ≡ page_of k a.device.flash n =
+    asks.done ∙ page_read k a.device.flash n c.page_start-start.result c.page_size-size.result
+    c.page_start-start.ensures.address c.page_size-size.ensures.bytes in
+    let held_is = c.deref-2.ensures.value ∙ items_are in
+    let read = held_is ∙ sym (ap (λ (x : Device). page_of k x.flash n) asks.same) in
+    let page_is : c.deref-3.result.now ≡ made (page_of k a.device.flash n) =
+    is_made g c ∙ ap made held_is in
+    let own = change_entries c.args.kept k b.device.flash n c.deref-3.result.now in
+    let lines = ap₂ (λ (f p : List ℕ). change_entries c.args.kept k f n p) flash_is page_is in
+    goes_as flashes own _ l2 a d r lines
+    (goes_then flashes [] own l l2 a b d (tt {0}) r model_b first (gives first.steady still read)
+    (λ y put. given_on k n a.device.flash b.device.flash d.device.flash c.deref-2.result.now
+    c.deref-3.result.now (made (page_of k a.device.flash n)) changed flash_is held_is page_is put
+    differs))
+
+-- The exits.
 
 pub returns-then-not-touches-clause-turned : goal.returns-then-not-touches-clause-turned
 returns-then-not-touches-clause-turned g c = Rattle.stm_session.proofs.Changes.not_turned c.args.kept false c.args.chip.now c.args.n c.args.journal.now.state refl
@@ -66,52 +181,29 @@ returns-in_err-page-clause-honest g c flashes steady chip =
 pub returns-in_err-changed-clause-honest : goal.returns-in_err-changed-clause-honest
 returns-in_err-changed-clause-honest g c flashes steady chip =
     let V = g.R.Rig.view in
+    let k = c.args.chip.now in
+    let n = c.args.n in
     let a = V c.args.rig.now in
-    let b = V c.read_range.new.rig in
-    let d = V c.change_page.new.rig in
-    let l = c.args.journal.now in
     let l2 = c.change_page.new.journal in
-    let made = content c.args.chip.now c.args.change.now c.args.n in
-    let asks = c.in_ok-held.ensures.honest steady.honest steady.settled chip in
-    let first = asks_on c.step_laws.ensures flashes l a b steady c.in_ok-held.held asks in
-    let model_b = g.met.R.Rig.model c.read_range.new.rig first.steady.honest in
-    let still = ap (λ (x : Device). x.chip) asks.same ∙ chip in
-    let items_are : c.in_ok-held.held.items ≡ page_of c.args.chip.now a.device.flash c.args.n =
-    asks.done ∙ page_read c.args.chip.now a.device.flash c.args.n c.page_start-start.result c.page_size-size.result c.page_start-start.ensures.address c.page_size-size.ensures.bytes in
-    let read = c.deref-2.ensures.value ∙ items_are ∙ sym (ap (λ (x : Device). page_of c.args.chip.now x.flash c.args.n) asks.same) in
-    let page_is : c.deref-3.result.now ≡ made (page_of c.args.chip.now a.device.flash c.args.n) = c.deref-3.ensures.value ∙ c.in_ok-page.ensures.bytes ∙ ap made (c.deref.ensures.value ∙ items_are) in
-    let own : List Entry = change_entries c.args.kept c.args.chip.now b.device.flash c.args.n c.deref-3.result.now in
-    let longer : List Entry = own ++ [] in
-    let lines = ap₂ (λ (f p : List ℕ). change_entries c.args.kept c.args.chip.now f c.args.n p) (ap (λ (x : Device). x.flash) asks.same) page_is in
-    goes_as flashes longer _ l2 a d _ (append-nil own ∙ lines)
-    (goes_then flashes [] longer l l2 a b d (tt {0}) c.from_residual-in_err-changed.result model_b first
-    (goes_failed flashes own [] l2 l2 b d _ c.from_residual-in_err-changed.result (c.in_err-changed.ensures.honest flashes first.steady still read) c.from_residual-in_err-changed.ensures.1) (λ y p. p))
+    let made = content k c.args.change.now n (page_of k a.device.flash n) in
+    let last = (goal.at.returns-in_err-changed-clause-honest g c).After-change_page in
+    goes_fault flashes (change_entries c.args.kept k a.device.flash n made) l2 l2 a
+    (V c.change_page.new.rig) _ c.from_residual-in_err-changed.result
+    (turned g last flashes steady chip _ _ refl (c.in_err-changed.ensures.honest flashes))
+    c.from_residual-in_err-changed.ensures.1
 
 pub returns-clause-honest : goal.returns-clause-honest
 returns-clause-honest g c flashes steady chip =
     let V = g.R.Rig.view in
+    let k = c.args.chip.now in
+    let n = c.args.n in
     let a = V c.args.rig.now in
-    let b = V c.read_range.new.rig in
-    let d = V c.change_page.new.rig in
-    let l = c.args.journal.now in
-    let l2 = c.change_page.new.journal in
-    let made = content c.args.chip.now c.args.change.now c.args.n in
-    let asks = c.in_ok-held.ensures.honest steady.honest steady.settled chip in
-    let first = asks_on c.step_laws.ensures flashes l a b steady c.in_ok-held.held asks in
-    let model_b = g.met.R.Rig.model c.read_range.new.rig first.steady.honest in
-    let still = ap (λ (x : Device). x.chip) asks.same ∙ chip in
-    let items_are : c.in_ok-held.held.items ≡ page_of c.args.chip.now a.device.flash c.args.n =
-    asks.done ∙ page_read c.args.chip.now a.device.flash c.args.n c.page_start-start.result c.page_size-size.result c.page_start-start.ensures.address c.page_size-size.ensures.bytes in
-    let read = c.deref-2.ensures.value ∙ items_are ∙ sym (ap (λ (x : Device). page_of c.args.chip.now x.flash c.args.n) asks.same) in
-    let page_is : c.deref-3.result.now ≡ made (page_of c.args.chip.now a.device.flash c.args.n) = c.deref-3.ensures.value ∙ c.in_ok-page.ensures.bytes ∙ ap made (c.deref.ensures.value ∙ items_are) in
-    let own : List Entry = change_entries c.args.kept c.args.chip.now b.device.flash c.args.n c.deref-3.result.now in
-    let lines = ap₂ (λ (f p : List ℕ). change_entries c.args.kept c.args.chip.now f c.args.n p) (ap (λ (x : Device). x.flash) asks.same) page_is in
-    goes_as flashes own _ l2 a d _ lines
-    (goes_ok flashes own l2 a d c.in_ok-changed.changed c.in_ok-changed.changed
-    (goes_then flashes [] own l l2 a b d (tt {0}) _ model_b first (c.in_ok-changed.ensures.honest flashes first.steady still read)
-    (λ y put. given_on c.args.chip.now c.args.n a.device.flash b.device.flash d.device.flash c.deref-2.result.now c.deref-3.result.now (made (page_of c.args.chip.now a.device.flash c.args.n)) c.in_ok-changed.changed
-    (ap (λ (x : Device). x.flash) asks.same) (c.deref-2.ensures.value ∙ items_are) page_is put c.in_ok-changed.ensures.changed))
-    (λ given. given))
+    let made = content k c.args.change.now n (page_of k a.device.flash n) in
+    let last = (goal.at.returns-clause-honest g c).After-change_page in
+    goes_ok flashes (change_entries c.args.kept k a.device.flash n made) c.change_page.new.journal a
+    (V c.change_page.new.rig) c.in_ok-changed.changed c.in_ok-changed.changed
+    (turned g last flashes steady chip _ c.in_ok-changed.changed c.in_ok-changed.ensures.changed
+    (c.in_ok-changed.ensures.honest flashes)) (λ given. given)
 
 pub returns-then-not-touches-clause-puts : goal.returns-then-not-touches-clause-puts
 returns-then-not-touches-clause-puts g c = nothing_is_part (Some c.args.chip.now) true (most_of_page c.args.chip.now c.args.n) (g.R.Rig.view c.args.rig.now).calls
@@ -119,51 +211,48 @@ returns-then-not-touches-clause-puts g c = nothing_is_part (Some c.args.chip.now
 pub returns-in_err-held-clause-puts : goal.returns-in_err-held-clause-puts
 returns-in_err-held-clause-puts g c =
     let V = g.R.Rig.view in
+    let chip = c.args.chip.now in
     let size = c.page_size-size.result in
-    let here : InPage c.args.chip.now c.args.n c.page_start-start.result size =
-    record { exists = c.requires.exists; begins = omega (arith, c.page_start-start.ensures.address); ends = omega (arith, c.page_start-start.ensures.address, c.page_size-size.ensures.bytes) } in
-    let first = 12 + 2 * size in
-    let whole = most_of_page c.args.chip.now c.args.n in
-    let most : first ≤ whole = omega (arith, c.page_size-size.ensures.bytes, c.page_size-size.ensures.blocks.0) in
-    part_fails (Some c.args.chip.now) first whole (V c.args.rig.now).calls (V c.read_range.new.rig).calls _ c.from_residual.result most c.from_residual.ensures.1 (c.in_err-held.ensures.few c.args.n here)
+    let fits = read_fits g (goal.at.returns-in_err-held-clause-puts g c).After-read_range in
+    part_fails (Some chip) (12 + 2 * size) (most_of_page chip c.args.n) (V c.args.rig.now).calls
+    (V c.read_range.new.rig).calls _ c.from_residual.result fits c.from_residual.ensures.1
+    (c.in_err-held.ensures.few c.args.n
+    (in_page chip c.args.n c.page_start-start.result size c.requires.exists
+    c.page_start-start.ensures.address c.page_size-size.ensures.bytes))
 
 pub returns-in_err-page-clause-puts : goal.returns-in_err-page-clause-puts
 returns-in_err-page-clause-puts g c =
     let V = g.R.Rig.view in
-    let size = c.page_size-size.result in
-    let here : InPage c.args.chip.now c.args.n c.page_start-start.result size =
-    record { exists = c.requires.exists; begins = omega (arith, c.page_start-start.ensures.address); ends = omega (arith, c.page_start-start.ensures.address, c.page_size-size.ensures.bytes) } in
-    let first = 12 + 2 * size in
-    let whole = most_of_page c.args.chip.now c.args.n in
-    let most : first ≤ whole = omega (arith, c.page_size-size.ensures.bytes, c.page_size-size.ensures.blocks.0) in
-    part_weaker (Some c.args.chip.now) _ first whole (V c.args.rig.now).calls (V c.read_range.new.rig).calls most (c.in_ok-held.ensures.few c.args.n here)
+    let chip = c.args.chip.now in
+    let fits = read_fits g (goal.at.returns-in_err-page-clause-puts g c).After-read_range in
+    part_weaker (Some chip) _ (12 + 2 * c.page_size-size.result) (most_of_page chip c.args.n)
+    (V c.args.rig.now).calls (V c.read_range.new.rig).calls fits
+    (few g (goal.at.returns-in_err-page-clause-puts g c).After-content)
 
 pub returns-in_err-changed-clause-puts : goal.returns-in_err-changed-clause-puts
 returns-in_err-changed-clause-puts g c =
     let V = g.R.Rig.view in
-    let size = c.page_size-size.result in
-    let here : InPage c.args.chip.now c.args.n c.page_start-start.result size =
-    record { exists = c.requires.exists; begins = omega (arith, c.page_start-start.ensures.address); ends = omega (arith, c.page_start-start.ensures.address, c.page_size-size.ensures.bytes) } in
-    let first = 12 + 2 * size in
-    let whole = most_of_page c.args.chip.now c.args.n in
-    let many : length c.deref-3.result.now ≡ page_size c.args.chip.now c.args.n = search rules in
-    let more = most_of_companion c.args.chip.now c.args.n + (9 + 2 * length c.deref-3.result.now) in
-    let most : first + more ≤ whole = omega (arith, many, c.page_size-size.ensures.bytes, c.page_size-size.ensures.blocks.0) in
-    part_fails_after (Some c.args.chip.now) first more whole (V c.args.rig.now).calls (V c.read_range.new.rig).calls (V c.change_page.new.rig).calls _ c.from_residual-in_err-changed.result most
-    c.from_residual-in_err-changed.ensures.1 (c.in_ok-held.ensures.few c.args.n here) c.in_err-changed.ensures.puts
+    let chip = c.args.chip.now in
+    let n = c.args.n in
+    let more = most_of_companion chip n + (9 + 2 * length c.deref-3.result.now) in
+    let read = (goal.at.returns-in_err-changed-clause-puts g c).After-content in
+    let last = (goal.at.returns-in_err-changed-clause-puts g c).After-change_page in
+    part_fails_after (Some chip) (12 + 2 * c.page_size-size.result) more (most_of_page chip n)
+    (V c.args.rig.now).calls (V c.read_range.new.rig).calls (V c.change_page.new.rig).calls _
+    c.from_residual-in_err-changed.result (fits g last) c.from_residual-in_err-changed.ensures.1
+    (few g read) c.in_err-changed.ensures.puts
 
 pub returns-clause-puts : goal.returns-clause-puts
 returns-clause-puts g c =
     let V = g.R.Rig.view in
-    let size = c.page_size-size.result in
-    let here : InPage c.args.chip.now c.args.n c.page_start-start.result size =
-    record { exists = c.requires.exists; begins = omega (arith, c.page_start-start.ensures.address); ends = omega (arith, c.page_start-start.ensures.address, c.page_size-size.ensures.bytes) } in
-    let first = 12 + 2 * size in
-    let whole = most_of_page c.args.chip.now c.args.n in
-    let many : length c.deref-3.result.now ≡ page_size c.args.chip.now c.args.n = search rules in
-    let more = most_of_companion c.args.chip.now c.args.n + (9 + 2 * length c.deref-3.result.now) in
-    let most : first + more ≤ whole = omega (arith, many, c.page_size-size.ensures.bytes, c.page_size-size.ensures.blocks.0) in
-    part_after (Some c.args.chip.now) true first more whole (V c.args.rig.now).calls (V c.read_range.new.rig).calls (V c.change_page.new.rig).calls most (c.in_ok-held.ensures.few c.args.n here) c.in_ok-changed.ensures.puts
+    let chip = c.args.chip.now in
+    let n = c.args.n in
+    let more = most_of_companion chip n + (9 + 2 * length c.deref-3.result.now) in
+    let read = (goal.at.returns-clause-puts g c).After-content in
+    let last = (goal.at.returns-clause-puts g c).After-change_page in
+    part_after (Some chip) true (12 + 2 * c.page_size-size.result) more (most_of_page chip n)
+    (V c.args.rig.now).calls (V c.read_range.new.rig).calls (V c.change_page.new.rig).calls
+    (fits g last) (few g read) c.in_ok-changed.ensures.puts
 
 pub returns-then-not-touches-clause-order : goal.returns-then-not-touches-clause-order
 returns-then-not-touches-clause-order g c =
@@ -176,66 +265,59 @@ returns-clause-order g c =
     let chip = c.args.chip.now in
     let n = c.args.n in
     let l = c.args.journal.now in
-    let l2 = c.change_page.new.journal in
-    let a = V c.args.rig.now in
-    let b = V c.read_range.new.rig in
-    let d = V c.change_page.new.rig in
-    let start = c.page_start-start.result in
-    let size = c.page_size-size.result in
-    let here : InPage chip n start size = record { exists = c.requires.exists; begins = omega (arith, c.page_start-start.ensures.address); ends = omega (arith, c.page_start-start.ensures.address, c.page_size-size.ensures.bytes) } in
     let held = c.deref-2.result.now in
     let reads = page_reads chip n held in
-    let read = page_was_read chip n l start size c.in_ok-held.held.items held a b c.page_start-start.ensures.address c.page_size-size.ensures.bytes (search rules) (c.in_ok-held.ensures.order n here c.page_size-size.ensures.blocks.1 l.is_torn) in
-    let made = content chip c.args.change.now n in
-    let page_is : c.deref-3.result.now ≡ made held = c.deref-3.ensures.value ∙ c.in_ok-page.ensures.bytes ∙ ap made (c.deref.ensures.value ∙ sym c.deref-2.ensures.value) in
-    let many : length held ≡ page_size chip n = search rules in
+    let read =
+    was_read g (goal.at.returns-clause-order g c).After-content held c.deref-2.ensures.value in
+    let last = (goal.at.returns-clause-order g c).After-change_page in
+    let page_is = is_made g last in
     let later = c.in_ok-changed.ensures.order in
     let steps = reads ++ later.0 in
     let P : List ℕ → Type 0 = λ p. IsChanged c.args.kept chip n held p later.0 in
+    let counts = c.in_ok-changed.ensures.changed
+    ∙ ap (λ (p : List ℕ). not (bytes_eq held p)) page_is in
     let turned : IsTurnOf c.args.kept chip c.args.change.now n c.in_ok-changed.changed steps =
     inr (record {
       may = c.touches.ensures.may c.if-not-touches.false;
       held = held;
-      size = many;
-      counts = c.in_ok-changed.ensures.changed ∙ ap (λ (p : List ℕ). not (bytes_eq held p)) page_is;
+      size = held_size g last;
+      counts = counts;
       later = later.0;
       is_changed = subst P page_is later.1;
       is = refl;
-    }) in
-    (steps, turned, does_then reads later.0 l l l2 a b d read later.2)
+    }) in (
+      steps,
+      turned,
+      does_then reads later.0 l l c.change_page.new.journal (V c.args.rig.now)
+          (V c.read_range.new.rig) (V c.change_page.new.rig) read later.2,
+    )
 
 pub returns-in_err-held-clause-stops : goal.returns-in_err-held-clause-stops
 returns-in_err-held-clause-stops g c =
     let V = g.R.Rig.view in
     let chip = c.args.chip.now in
     let n = c.args.n in
-    let torn = c.args.journal.now.is_torn in
-    let a = V c.args.rig.now in
-    let b = V c.read_range.new.rig in
-    let start = c.page_start-start.result in
-    let size = c.page_size-size.result in
-    let here : InPage chip n start size = record { exists = c.requires.exists; begins = omega (arith, c.page_start-start.ensures.address); ends = omega (arith, c.page_start-start.ensures.address, c.page_size-size.ensures.bytes) } in
-    let Turn = IsTurn c.args.kept chip c.args.change.now n in
-    by_fault (λ (k : Cause). StopsBy (Begin Turn) k torn a b) _ c.from_residual.result c.from_residual.ensures.1
-    (page_stops Turn chip n start size _ torn a b c.page_start-start.ensures.address c.page_size-size.ensures.bytes (some_turn c.args.kept chip c.args.change.now n (c.touches.ensures.may c.if-not-touches.false))
-    (c.in_err-held.ensures.order_stops n here c.page_size-size.ensures.blocks.1 torn))
+    let some = some_turn c.args.kept chip c.args.change.now n
+    (c.touches.ensures.may c.if-not-touches.false) in
+    read_stops chip n c.page_start-start.result c.page_size-size.result c.requires.exists
+    c.page_start-start.ensures.address c.page_size-size.ensures.bytes
+    (IsTurn c.args.kept chip c.args.change.now n) c.args.journal.now.is_torn (V c.args.rig.now)
+    (V c.read_range.new.rig) _ c.from_residual.result c.from_residual.ensures.1
+    c.page_size-size.ensures.blocks.1 some c.in_err-held.ensures.order_stops
 
 pub returns-in_err-page-clause-stops : goal.returns-in_err-page-clause-stops
 returns-in_err-page-clause-stops g c =
     let V = g.R.Rig.view in
     let chip = c.args.chip.now in
     let n = c.args.n in
-    let l = c.args.journal.now in
-    let a = V c.args.rig.now in
-    let b = V c.read_range.new.rig in
-    let start = c.page_start-start.result in
-    let size = c.page_size-size.result in
-    let here : InPage chip n start size = record { exists = c.requires.exists; begins = omega (arith, c.page_start-start.ensures.address); ends = omega (arith, c.page_start-start.ensures.address, c.page_size-size.ensures.bytes) } in
     let held = c.in_ok-held.held.items in
     let many : length held ≡ page_size chip n = search rules in
-    let read = page_was_read chip n l start size held held a b c.page_start-start.ensures.address c.page_size-size.ensures.bytes refl (c.in_ok-held.ensures.order n here c.page_size-size.ensures.blocks.1 l.is_torn) in
-    memory_stops (Begin (IsTurn c.args.kept chip c.args.change.now n)) l.is_torn (page_reads chip n held) a b c.from_residual-in_err-page.result c.from_residual-in_err-page.ensures.1
-    (some_turn c.args.kept chip c.args.change.now n (c.touches.ensures.may c.if-not-touches.false) held many) read.acts
+    let read = was_read g (goal.at.returns-in_err-page-clause-stops g c).After-content held refl in
+    let some = some_turn c.args.kept chip c.args.change.now n
+    (c.touches.ensures.may c.if-not-touches.false) held many in
+    memory_stops (Begin (IsTurn c.args.kept chip c.args.change.now n)) c.args.journal.now.is_torn
+    (page_reads chip n held) (V c.args.rig.now) (V c.read_range.new.rig)
+    c.from_residual-in_err-page.result c.from_residual-in_err-page.ensures.1 some read.acts
 
 pub returns-in_err-changed-clause-stops : goal.returns-in_err-changed-clause-stops
 returns-in_err-changed-clause-stops g c =
@@ -243,20 +325,17 @@ returns-in_err-changed-clause-stops g c =
     let chip = c.args.chip.now in
     let n = c.args.n in
     let l = c.args.journal.now in
-    let a = V c.args.rig.now in
-    let b = V c.read_range.new.rig in
-    let d = V c.change_page.new.rig in
-    let start = c.page_start-start.result in
-    let size = c.page_size-size.result in
-    let here : InPage chip n start size = record { exists = c.requires.exists; begins = omega (arith, c.page_start-start.ensures.address); ends = omega (arith, c.page_start-start.ensures.address, c.page_size-size.ensures.bytes) } in
     let held = c.deref-2.result.now in
-    let reads = page_reads chip n held in
-    let read = page_was_read chip n l start size c.in_ok-held.held.items held a b c.page_start-start.ensures.address c.page_size-size.ensures.bytes (search rules) (c.in_ok-held.ensures.order n here c.page_size-size.ensures.blocks.1 l.is_torn) in
-    let made = content chip c.args.change.now n in
     let page = c.deref-3.result.now in
-    let page_is : page ≡ made held = c.deref-3.ensures.value ∙ c.in_ok-page.ensures.bytes ∙ ap made (c.deref.ensures.value ∙ sym c.deref-2.ensures.value) in
-    let many : length held ≡ page_size chip n = search rules in
+    let reads = page_reads chip n held in
+    let here = (goal.at.returns-in_err-changed-clause-stops g c).After-content in
+    let last = (goal.at.returns-in_err-changed-clause-stops g c).After-change_page in
     let Made = IsChanged c.args.kept chip n held page in
     let Turn = IsTurn c.args.kept chip c.args.change.now n in
-    then_stops (Begin Made) (Begin Turn) reads l l a b d _ c.from_residual-in_err-changed.result c.from_residual-in_err-changed.ensures.1 read c.in_err-changed.ensures.stops
-    (begin_after Made Turn reads (λ ys changed. turn_of c.args.kept chip c.args.change.now n held page ys (c.touches.ensures.may c.if-not-touches.false) many page_is changed))
+    then_stops (Begin Made) (Begin Turn) reads l l (V c.args.rig.now) (V c.read_range.new.rig)
+    (V c.change_page.new.rig) _ c.from_residual-in_err-changed.result
+    c.from_residual-in_err-changed.ensures.1 (was_read g here held c.deref-2.ensures.value)
+    c.in_err-changed.ensures.stops
+    (begin_after Made Turn reads (λ ys changed. turn_of c.args.kept chip c.args.change.now n held
+    page ys (c.touches.ensures.may c.if-not-touches.false) (held_size g last) (is_made g last)
+    changed))

@@ -1,28 +1,203 @@
-use Rattle.std.proofs.Common.{◌≡◌, ◌∙◌, ◌++◌, if◌then◌else◌, [], List, ℕ, Ok, length, take, drop, ap, ap₂, append-nil, sym, subst, arith}
+use Rattle.std.proofs.Common.{◌≡◌, ◌∙◌, ◌+◌, ◌*◌, ◌≤◌, ◌++◌, if◌then◌else◌, [], List, ℕ, Result}
+use Rattle.std.proofs.Common.{Some, Ok, true, length, take, drop, ap, ap₂, append-nil, refl, sym}
+use Rattle.std.proofs.Common.{subst, arith, rules}
 use Rattle.std.proofs.Math.Seq.{take-append_seam}
 use Rattle.std.specs.Prelude.{bytes_eq}
 use Rattle.stm_wire.specs.Chip.{page_of, page_size, with_page}
 use Rattle.stm_wire.specs.Device.{Device}
-use Rattle.stm_journal.specs.Journals.{journal_of, good}
-use Rattle.stm_session.specs.Lines.{return_entries, rewrite_entries}
-use Rattle.stm_session.specs.Undoable.{state_at}
-use Rattle.stm_session.proofs.Fetchings.{fetch_goes, fetch_fails}
-use Rattle.stm_session.proofs.Going.{asks_fail, asks_on, goes_as, goes_failed, goes_ok, goes_refused, goes_then}
-use Rattle.stm_session.proofs.Keeping.{good_at}
-use Rattle.stm_session.proofs.Restorings.{lines_same, page_read}
-use Rattle.std.proofs.Common.{◌+◌, ◌*◌, ◌≤◌, true, Some, rules}
-use Rattle.stm_wire.specs.Intents.{InPage}
+use Rattle.stm_wire.specs.Dialogue.{GoesOn}
 use Rattle.stm_wire.specs.PartLaws.{part_weaker}
+use Rattle.stm_wire.specs.Parts.{IsPart}
+use Rattle.stm_wire.specs.Rig.{RigState}
+use Rattle.stm_journal.specs.Calls.{AreFetches}
+use Rattle.stm_journal.specs.declared.kept.Kept.{Kept}
+use Rattle.stm_journal.specs.Journals.{journal_of, good}
+use Rattle.stm_journal.specs.KeptPlaces.{kept_entry, place_of}
+use Rattle.stm_session.specs.declared.fault.Fault.{Fault}
+use Rattle.stm_session.specs.Lines.{return_entries, rewrite_entries}
+use Rattle.stm_session.specs.Order.{Step, Are, Begin, DoesSteps, IsReturned}
+use Rattle.stm_session.specs.Order.{page_reads, restore_steps}
 use Rattle.stm_session.specs.Sending.{is_whole}
-use Rattle.stm_session.proofs.SentParts.{fetch_part, part_after, part_fails, part_fails_after}
-use Rattle.std.proofs.Common.{◌/◌, ap₂, refl}
-use Rattle.stm_session.specs.Fault.{Cause}
-use Rattle.stm_session.specs.Order.{Step, Are, Begin, IsReturned, StopsBy, page_reads, restore_steps}
-use Rattle.stm_session.proofs.CutShort.{begin_after, by_fault, memory_stops, page_stops, page_was_read, then_stops}
-use Rattle.stm_session.proofs.UndoOrders.{journal_stops, some_return}
-use Rattle.stm_session.proofs.Orders.{does_as, does_fetch, does_then}
+use Rattle.stm_session.specs.Steps.{Goes, IsSteady}
+use Rattle.stm_session.specs.Undoable.{state_at}
 use Rattle.stm_session.proofs.Causes.{cause_behind}
+use Rattle.stm_session.proofs.CutShort.{begin_after, memory_stops, then_stops}
+use Rattle.stm_session.proofs.Exits.{goes_fault, in_page, read_stops, reads_page}
+use Rattle.stm_session.proofs.Fetchings.{fetch_goes, fetch_fails}
+use Rattle.stm_session.proofs.Going.{asks_fail, asks_on, goes_as, goes_ok, goes_refused, goes_then}
+use Rattle.stm_session.proofs.Keeping.{good_at}
+use Rattle.stm_session.proofs.Orders.{does_as, does_fetch, does_then}
+use Rattle.stm_session.proofs.Restorings.{lines_same, page_read}
+use Rattle.stm_session.proofs.SentParts.{fetch_part, part_after, part_fails, part_fails_after}
+use Rattle.stm_session.proofs.UndoOrders.{journal_stops, some_return}
+use Rattle.stm_session.proofs.returning.restore_line.Given as given
 use Rattle.stm_session.proofs.returning.restore_line.Goals as goal
+use Rattle.stm_session.proofs.returning.restore_line.Goals.{After-read_range, In_ok-held}
+use Rattle.stm_session.proofs.returning.restore_line.Goals.{After-restore_page}
+
+-- reading the page fits
+read_fits : (g : given.Over) (c : goal.After-read_range g)
+    → 12 + 2 * c.page_size-size.result ≤ 13 * page_size c.args.chip.now c.args.n
+read_fits g c = omega (arith, c.page_size-size.ensures.bytes, c.page_size-size.ensures.blocks.0)
+
+-- What the exits behind the read share.
+
+-- it asks for the page, and changes nothing
+asked : (g : given.Over) (c : goal.In_ok-held g) (flashes : List (List ℕ))
+    → IsSteady flashes c.args.journal.now (g.R.Rig.view c.args.rig.now)
+    → (g.R.Rig.view c.args.rig.now).device.chip ≡ c.args.chip.now
+    → Goes {T = Unit {0}} flashes [] c.args.journal.now (g.R.Rig.view c.args.rig.now)
+    (g.R.Rig.view c.read_range.new.rig) (Ok tt) (λ y. Unit {0})
+asked g c flashes steady chip =
+    let V = g.R.Rig.view in
+    asks_on c.step_laws.ensures flashes c.args.journal.now (V c.args.rig.now)
+    (V c.read_range.new.rig) steady c.in_ok-held.held
+    (c.in_ok-held.ensures.honest steady.honest steady.settled chip)
+
+-- what it puts
+few : (g : given.Over) (c : goal.In_ok-held g)
+    → GoesOn (IsPart (Some c.args.chip.now) true (12 + 2 * c.page_size-size.result))
+    (g.R.Rig.view c.args.rig.now).calls (g.R.Rig.view c.read_range.new.rig).calls
+few g c =
+    c.in_ok-held.ensures.few c.args.n
+    (in_page c.args.chip.now c.args.n c.page_start-start.result c.page_size-size.result
+    c.requires.exists c.page_start-start.ensures.address c.page_size-size.ensures.bytes)
+
+-- and nothing is put where the journal is read behind it
+sent : (g : given.Over) (c : goal.In_ok-held g) (d : RigState)
+    → GoesOn AreFetches (g.R.Rig.view c.read_range.new.rig).calls d.calls
+    → GoesOn (IsPart (Some c.args.chip.now) true (12 + 2 * c.page_size-size.result))
+    (g.R.Rig.view c.args.rig.now).calls d.calls
+sent g c d fetches =
+    let chip = Some c.args.chip.now in
+    let most = 12 + 2 * c.page_size-size.result in
+    let b = (g.R.Rig.view c.read_range.new.rig).calls in
+    part_after chip true most 0 most (g.R.Rig.view c.args.rig.now).calls b d.calls (omega arith)
+    (few g c) (fetch_part chip true 0 b d.calls fetches)
+
+-- its steps, and these are all where the journal is read behind it
+was_read : (g : given.Over) (c : goal.In_ok-held g) (held : List ℕ) → held ≡ c.in_ok-held.held.items
+    → DoesSteps (page_reads c.args.chip.now c.args.n held) c.args.journal.now c.args.journal.now
+    (g.R.Rig.view c.args.rig.now) (g.R.Rig.view c.read_range.new.rig)
+was_read g c held same =
+    let V = g.R.Rig.view in
+    reads_page c.args.chip.now c.args.n c.page_start-start.result c.page_size-size.result
+    c.requires.exists c.page_start-start.ensures.address c.page_size-size.ensures.bytes
+    c.args.journal.now c.in_ok-held.held.items held (V c.args.rig.now) (V c.read_range.new.rig)
+    c.page_size-size.ensures.blocks.1 c.in_ok-held.ensures.order same
+
+fetched : (g : given.Over) (c : goal.In_ok-held g) (held : List ℕ) (d : RigState)
+    → held ≡ c.in_ok-held.held.items
+    → GoesOn AreFetches (g.R.Rig.view c.read_range.new.rig).calls d.calls
+    → DoesSteps (page_reads c.args.chip.now c.args.n held) c.args.journal.now c.args.journal.now
+    (g.R.Rig.view c.args.rig.now) d
+fetched g c held d same fetches =
+    let V = g.R.Rig.view in
+    let l = c.args.journal.now in
+    let a = V c.args.rig.now in
+    let b = V c.read_range.new.rig in
+    let reads = page_reads c.args.chip.now c.args.n held in
+    does_as (reads ++ []) reads l l a d (append-nil reads)
+    (does_then reads [] l l l a b d (was_read g c held same) (does_fetch l b d fetches))
+
+-- What the exits behind restore_page share.
+
+held_size : (g : given.Over) (c : goal.After-restore_page g)
+    → length c.deref.result.now ≡ page_size c.args.chip.now c.args.n
+held_size g c = search rules
+
+given_size : (g : given.Over) (c : goal.After-restore_page g)
+    → length c.deref-2.result.now ≡ page_size c.args.chip.now c.args.n
+given_size g c = search rules
+
+-- what is put fits
+fits : (g : given.Over) (c : goal.After-restore_page g)
+    → (12 + 2 * c.page_size-size.result) + (9 + 2 * length c.deref-2.result.now)
+    ≤ 13 * page_size c.args.chip.now c.args.n
+fits g c =
+    let many = given_size g c in
+    omega (arith, many, c.page_size-size.ensures.bytes, c.page_size-size.ensures.blocks.0)
+
+-- the page is returned
+returned : (g : given.Over) (c : goal.After-restore_page g) (steps : List Step)
+    → steps ≡ restore_steps c.args.chip.now c.args.n c.deref.result.now c.deref-2.result.now
+    → IsReturned c.args.chip.now c.args.n
+    (page_reads c.args.chip.now c.args.n c.deref.result.now ++ steps)
+returned g c steps is =
+    record {
+      held = c.deref.result.now;
+      held_size = held_size g c;
+      page = c.deref-2.result.now;
+      size = given_size g c;
+      is = ap (λ (xs : List Step). page_reads c.args.chip.now c.args.n c.deref.result.now ++ xs) is;
+    }
+
+-- the lines are those of the kept page, whatever restore_page answers
+given_back : (g : given.Over) (c : goal.After-restore_page g) (flashes : List (List ℕ)) (k i : ℕ)
+    (kept : Kept) → IsSteady flashes c.args.journal.now (g.R.Rig.view c.args.rig.now)
+    → (g.R.Rig.view c.args.rig.now).device.chip ≡ c.args.chip.now
+    → kept_entry (state_at (g.R.Rig.view c.args.rig.now).journal) k i ≡ Some kept
+    → place_of kept ≡ c.args.place → kept.page ≡ c.args.n → (r : Result (Unit {0}) Fault)
+    → (IsSteady flashes c.args.journal.now (g.R.Rig.view c.fetch_page.new.rig)
+    → (g.R.Rig.view c.fetch_page.new.rig).device.chip ≡ c.args.chip.now
+    → c.deref.result.now
+    ≡ page_of c.args.chip.now (g.R.Rig.view c.fetch_page.new.rig).device.flash c.args.n
+    → Goes flashes (if bytes_eq c.deref.result.now c.deref-2.result.now then []
+    else rewrite_entries c.args.chip.now c.args.n c.deref-2.result.now) c.restore_page.new.journal
+    (g.R.Rig.view c.fetch_page.new.rig) (g.R.Rig.view c.restore_page.new.rig) r
+    (λ y. (g.R.Rig.view c.restore_page.new.rig).device.flash ≡ with_page c.args.chip.now c.args.n
+    c.deref-2.result.now (g.R.Rig.view c.fetch_page.new.rig).device.flash))
+    → Goes flashes
+    (return_entries c.args.chip.now (g.R.Rig.view c.args.rig.now).device.flash kept)
+    c.restore_page.new.journal (g.R.Rig.view c.args.rig.now) (g.R.Rig.view c.restore_page.new.rig) r
+    (λ y. (g.R.Rig.view c.restore_page.new.rig).device.flash ≡ with_page c.args.chip.now c.args.n
+    kept.bytes (g.R.Rig.view c.args.rig.now).device.flash)
+given_back g c flashes k i kept steady chip entry place number r gives =
+    let V = g.R.Rig.view in
+    let n = c.args.n in
+    let l = c.args.journal.now in
+    let l2 = c.restore_page.new.journal in
+    let a = V c.args.rig.now in
+    let b = V c.read_range.new.rig in
+    let d = V c.fetch_page.new.rig in
+    let e = V c.restore_page.new.rig in
+    let asks = c.in_ok-held.ensures.honest steady.honest steady.settled chip in
+    let first = asks_on c.step_laws.ensures flashes l a b steady c.in_ok-held.held asks in
+    let model_b = g.met.R.Rig.model c.read_range.new.rig first.steady.honest in
+    let fetches = c.in_ok-fetch_page.ensures.honest first.steady.honest first.steady.loaded in
+    let second = fetch_goes c.step_laws.ensures flashes l c.args.place c.fetch_page.new.buf b d
+    model_b first.steady (tt {0}) (λ (z : Unit {0}). Unit {0}) fetches tt in
+    let both = goes_then flashes [] [] l l a b d (tt {0}) (Ok tt) model_b first second (λ y p. p) in
+    let model_d = g.met.R.Rig.model c.fetch_page.new.rig both.honest in
+    let device_is : d.device ≡ a.device = fetches.same_device ∙ asks.same in
+    let still = ap (λ (x : Device). x.chip) device_is ∙ chip in
+    let held_is : c.deref.result.now ≡ page_of c.args.chip.now a.device.flash n =
+    c.deref.ensures.value ∙ asks.done
+    ∙ page_read c.args.chip.now a.device.flash n c.page_start-start.result c.page_size-size.result
+    c.page_start-start.ensures.address c.page_size-size.ensures.bytes in
+    let read =
+    held_is ∙ sym (ap (λ (x : Device). page_of c.args.chip.now x.flash n) device_is) in
+    let J : List ℕ → Type 0 = λ j. journal_of j ≡ good (state_at a.journal) in
+    let there = subst J (sym asks.left.journal_same) (good_at l a.journal steady.loaded) in
+    let fetched = fetches.bytes (state_at a.journal) k i kept there entry place in
+    let buf = c.fetch_page.new.buf in
+    let many : length buf ≡ c.in_ok-page.page.len =
+    omega (arith, c.fetch_page.auto.buf, c.deref_mut.ensures.len) in
+    let same : c.deref-2.result.now ≡ buf =
+    c.deref-2.ensures.value
+    ∙ ap (λ (z : ℕ). take z (buf ++ drop (length buf) c.in_ok-page.page.items)) (sym many)
+    ∙ take-append_seam buf _ in
+    let page_is : c.deref-2.result.now ≡ kept.bytes = same ∙ fetched in
+    let lines = lines_same c.args.chip.now a.device.flash n c.deref.result.now c.deref-2.result.now
+    kept held_is page_is number in
+    let own = if bytes_eq c.deref.result.now c.deref-2.result.now then []
+    else rewrite_entries c.args.chip.now n c.deref-2.result.now in
+    goes_as flashes own _ l2 a e r lines
+    (goes_then flashes [] own l l2 a d e (tt {0}) r model_d both (gives both.steady still read)
+    (λ y done. done ∙ ap₂ (λ (xs flash : List ℕ). with_page c.args.chip.now n xs flash) page_is
+    (ap (λ (x : Device). x.flash) device_is)))
+
+-- The exits.
 
 pub returns-in_err-held-clause-honest : goal.returns-in_err-held-clause-honest
 returns-in_err-held-clause-honest g c flashes k i kept steady chip entry place number =
@@ -30,16 +205,20 @@ returns-in_err-held-clause-honest g c flashes k i kept steady chip entry place n
     let l = c.args.journal.now in
     let a = V c.args.rig.now in
     let b = V c.read_range.new.rig in
-    asks_fail c.step_laws.ensures flashes l a b steady (return_entries c.args.chip.now a.device.flash kept) l _ c.from_residual.result (c.in_err-held.ensures.honest steady.honest steady.settled chip) c.from_residual.ensures.1
+    asks_fail c.step_laws.ensures flashes l a b steady
+    (return_entries c.args.chip.now a.device.flash kept) l _ c.from_residual.result
+    (c.in_err-held.ensures.honest steady.honest steady.settled chip) c.from_residual.ensures.1
 
 pub returns-in_err-page-clause-honest : goal.returns-in_err-page-clause-honest
 returns-in_err-page-clause-honest g c flashes k i kept steady chip entry place number =
     let V = g.R.Rig.view in
     let l = c.args.journal.now in
     let a = V c.args.rig.now in
-    let b = V c.read_range.new.rig in
-    goes_refused flashes [] (return_entries c.args.chip.now a.device.flash kept) l l a b (tt {0}) c.from_residual-in_err-page.result
-    (asks_on c.step_laws.ensures flashes l a b steady c.in_ok-held.held (c.in_ok-held.ensures.honest steady.honest steady.settled chip)) c.from_residual-in_err-page.ensures.1
+    let lines = return_entries c.args.chip.now a.device.flash kept in
+    let held = (goal.at.returns-in_err-page-clause-honest g c).In_ok-held in
+    goes_refused flashes [] lines l l a (V c.read_range.new.rig) (tt {0})
+    c.from_residual-in_err-page.result (asked g held flashes steady chip)
+    c.from_residual-in_err-page.ensures.1
 
 pub returns-in_err-fetch_page-clause-honest : goal.returns-in_err-fetch_page-clause-honest
 returns-in_err-fetch_page-clause-honest g c flashes k i kept steady chip entry place number =
@@ -48,222 +227,151 @@ returns-in_err-fetch_page-clause-honest g c flashes k i kept steady chip entry p
     let a = V c.args.rig.now in
     let b = V c.read_range.new.rig in
     let d = V c.fetch_page.new.rig in
-    let asks = c.in_ok-held.ensures.honest steady.honest steady.settled chip in
-    let first = asks_on c.step_laws.ensures flashes l a b steady c.in_ok-held.held asks in
-    let model_b = g.met.R.Rig.model c.read_range.new.rig first.steady.honest in
-    goes_then flashes [] (return_entries c.args.chip.now a.device.flash kept) l l a b d (tt {0}) c.from_residual-in_err-fetch_page.result model_b first
-    (fetch_fails c.step_laws.ensures flashes l c.args.place c.fetch_page.new.buf b d model_b first.steady (return_entries c.args.chip.now a.device.flash kept) l _ c.from_residual-in_err-fetch_page.result
-    (c.in_err-fetch_page.ensures.honest first.steady.honest first.steady.loaded) c.from_residual-in_err-fetch_page.ensures.1) (λ y p. p)
+    let lines = return_entries c.args.chip.now a.device.flash kept in
+    let held = (goal.at.returns-in_err-fetch_page-clause-honest g c).In_ok-held in
+    let first = asked g held flashes steady chip in
+    let model = g.met.R.Rig.model c.read_range.new.rig first.steady.honest in
+    goes_then flashes [] lines l l a b d (tt {0}) c.from_residual-in_err-fetch_page.result model
+    first (fetch_fails c.step_laws.ensures flashes l c.args.place c.fetch_page.new.buf b d model
+    first.steady lines l _ c.from_residual-in_err-fetch_page.result
+    (c.in_err-fetch_page.ensures.honest first.steady.honest first.steady.loaded)
+    c.from_residual-in_err-fetch_page.ensures.1) (λ y p. p)
 
 pub returns-in_err-restore_page-clause-honest : goal.returns-in_err-restore_page-clause-honest
 returns-in_err-restore_page-clause-honest g c flashes k i kept steady chip entry place number =
     let V = g.R.Rig.view in
-    let l = c.args.journal.now in
     let a = V c.args.rig.now in
-    let b = V c.read_range.new.rig in
-    let d = V c.fetch_page.new.rig in
-    let asks = c.in_ok-held.ensures.honest steady.honest steady.settled chip in
-    let first = asks_on c.step_laws.ensures flashes l a b steady c.in_ok-held.held asks in
-    let model_b = g.met.R.Rig.model c.read_range.new.rig first.steady.honest in
-    let e = V c.restore_page.new.rig in
-    let fetches = c.in_ok-fetch_page.ensures.honest first.steady.honest first.steady.loaded in
-    let second = fetch_goes c.step_laws.ensures flashes l c.args.place c.fetch_page.new.buf b d model_b first.steady (tt {0}) (λ (z : Unit {0}). Unit {0}) fetches tt in
-    let both = goes_then flashes [] [] l l a b d (tt {0}) (Ok tt) model_b first second (λ y p. p) in
-    let model_d = g.met.R.Rig.model c.fetch_page.new.rig both.honest in
-    let device_is : d.device ≡ a.device = fetches.same_device ∙ asks.same in
-    let still = ap (λ (x : Device). x.chip) device_is ∙ chip in
-    let held_is : c.deref.result.now ≡ page_of c.args.chip.now a.device.flash c.args.n =
-    c.deref.ensures.value ∙ asks.done ∙ page_read c.args.chip.now a.device.flash c.args.n c.page_start-start.result c.page_size-size.result c.page_start-start.ensures.address c.page_size-size.ensures.bytes in
-    let read = held_is ∙ sym (ap (λ (x : Device). page_of c.args.chip.now x.flash c.args.n) device_is) in
-    let J : List ℕ → Type 0 = λ j. journal_of j ≡ good (state_at a.journal) in
-    let there = subst J (sym asks.left.journal_same) (good_at l a.journal steady.loaded) in
-    let fetched = fetches.bytes (state_at a.journal) k i kept there entry place in
-    let many : length c.fetch_page.new.buf ≡ c.in_ok-page.page.len = omega (arith, c.fetch_page.auto.buf, c.deref_mut.ensures.len) in
-    let same : c.deref-2.result.now ≡ c.fetch_page.new.buf =
-    c.deref-2.ensures.value ∙ ap (λ (z : ℕ). take z (c.fetch_page.new.buf ++ drop (length c.fetch_page.new.buf) c.in_ok-page.page.items)) (sym many) ∙ take-append_seam c.fetch_page.new.buf _ in
-    let page_is : c.deref-2.result.now ≡ kept.bytes = same ∙ fetched in
-    let lines = lines_same c.args.chip.now a.device.flash c.args.n c.deref.result.now c.deref-2.result.now kept held_is page_is number in
-    let own = if bytes_eq c.deref.result.now c.deref-2.result.now then [] else rewrite_entries c.args.chip.now c.args.n c.deref-2.result.now in
-    goes_as flashes (own ++ []) _ c.restore_page.new.journal a e _ (append-nil own ∙ lines)
-    (goes_then flashes [] (own ++ []) l c.restore_page.new.journal a d e (tt {0}) c.from_residual-in_err-restore_page.result model_d both
-    (goes_failed flashes own [] c.restore_page.new.journal c.restore_page.new.journal d e _ c.from_residual-in_err-restore_page.result
-    (c.in_err-restore_page.ensures.honest flashes both.steady still read) c.from_residual-in_err-restore_page.ensures.1) (λ y p. p))
+    let l2 = c.restore_page.new.journal in
+    let last = (goal.at.returns-in_err-restore_page-clause-honest g c).After-restore_page in
+    goes_fault flashes (return_entries c.args.chip.now a.device.flash kept) l2 l2 a
+    (V c.restore_page.new.rig) _ c.from_residual-in_err-restore_page.result
+    (given_back g last flashes k i kept steady chip entry place number _
+    (c.in_err-restore_page.ensures.honest flashes)) c.from_residual-in_err-restore_page.ensures.1
 
 pub returns-clause-honest : goal.returns-clause-honest
 returns-clause-honest g c flashes k i kept steady chip entry place number =
     let V = g.R.Rig.view in
-    let l = c.args.journal.now in
     let a = V c.args.rig.now in
-    let b = V c.read_range.new.rig in
-    let d = V c.fetch_page.new.rig in
-    let asks = c.in_ok-held.ensures.honest steady.honest steady.settled chip in
-    let first = asks_on c.step_laws.ensures flashes l a b steady c.in_ok-held.held asks in
-    let model_b = g.met.R.Rig.model c.read_range.new.rig first.steady.honest in
-    let e = V c.restore_page.new.rig in
-    let fetches = c.in_ok-fetch_page.ensures.honest first.steady.honest first.steady.loaded in
-    let second = fetch_goes c.step_laws.ensures flashes l c.args.place c.fetch_page.new.buf b d model_b first.steady (tt {0}) (λ (z : Unit {0}). Unit {0}) fetches tt in
-    let both = goes_then flashes [] [] l l a b d (tt {0}) (Ok tt) model_b first second (λ y p. p) in
-    let model_d = g.met.R.Rig.model c.fetch_page.new.rig both.honest in
-    let device_is : d.device ≡ a.device = fetches.same_device ∙ asks.same in
-    let still = ap (λ (x : Device). x.chip) device_is ∙ chip in
-    let held_is : c.deref.result.now ≡ page_of c.args.chip.now a.device.flash c.args.n =
-    c.deref.ensures.value ∙ asks.done ∙ page_read c.args.chip.now a.device.flash c.args.n c.page_start-start.result c.page_size-size.result c.page_start-start.ensures.address c.page_size-size.ensures.bytes in
-    let read = held_is ∙ sym (ap (λ (x : Device). page_of c.args.chip.now x.flash c.args.n) device_is) in
-    let J : List ℕ → Type 0 = λ j. journal_of j ≡ good (state_at a.journal) in
-    let there = subst J (sym asks.left.journal_same) (good_at l a.journal steady.loaded) in
-    let fetched = fetches.bytes (state_at a.journal) k i kept there entry place in
-    let many : length c.fetch_page.new.buf ≡ c.in_ok-page.page.len = omega (arith, c.fetch_page.auto.buf, c.deref_mut.ensures.len) in
-    let same : c.deref-2.result.now ≡ c.fetch_page.new.buf =
-    c.deref-2.ensures.value ∙ ap (λ (z : ℕ). take z (c.fetch_page.new.buf ++ drop (length c.fetch_page.new.buf) c.in_ok-page.page.items)) (sym many) ∙ take-append_seam c.fetch_page.new.buf _ in
-    let page_is : c.deref-2.result.now ≡ kept.bytes = same ∙ fetched in
-    let lines = lines_same c.args.chip.now a.device.flash c.args.n c.deref.result.now c.deref-2.result.now kept held_is page_is number in
-    let own = if bytes_eq c.deref.result.now c.deref-2.result.now then [] else rewrite_entries c.args.chip.now c.args.n c.deref-2.result.now in
-    goes_as flashes own _ c.restore_page.new.journal a e _ lines
-    (goes_then flashes [] own l c.restore_page.new.journal a d e (tt {0}) _ model_d both
-    (goes_ok flashes own c.restore_page.new.journal d e _ (tt {0}) (c.in_ok-restore_page.ensures.honest flashes both.steady still read) (λ p. p))
-    (λ y done. done ∙ ap₂ (λ (xs flash : List ℕ). with_page c.args.chip.now c.args.n xs flash) page_is (ap (λ (x : Device). x.flash) device_is)))
+    let last = (goal.at.returns-clause-honest g c).After-restore_page in
+    goes_ok flashes (return_entries c.args.chip.now a.device.flash kept)
+    c.restore_page.new.journal a (V c.restore_page.new.rig) _ (tt {0})
+    (given_back g last flashes k i kept steady chip entry place number _
+    (c.in_ok-restore_page.ensures.honest flashes)) (λ p. p)
 
 pub returns-in_err-held-clause-puts : goal.returns-in_err-held-clause-puts
 returns-in_err-held-clause-puts g c =
     let V = g.R.Rig.view in
     let size = c.page_size-size.result in
-    let here : InPage c.args.chip.now c.args.n c.page_start-start.result size =
-    record { exists = c.requires.exists; begins = omega (arith, c.page_start-start.ensures.address); ends = omega (arith, c.page_start-start.ensures.address, c.page_size-size.ensures.bytes) } in
-    let most : 12 + 2 * size ≤ 13 * page_size c.args.chip.now c.args.n = omega (arith, c.page_size-size.ensures.bytes, c.page_size-size.ensures.blocks.0) in
-    part_fails (Some c.args.chip.now) (12 + 2 * size) (13 * page_size c.args.chip.now c.args.n) (V c.args.rig.now).calls (V c.read_range.new.rig).calls _ c.from_residual.result most c.from_residual.ensures.1
-    (c.in_err-held.ensures.few c.args.n here)
+    let here = in_page c.args.chip.now c.args.n c.page_start-start.result size c.requires.exists
+    c.page_start-start.ensures.address c.page_size-size.ensures.bytes in
+    let fits = read_fits g (goal.at.returns-in_err-held-clause-puts g c).After-read_range in
+    part_fails (Some c.args.chip.now) (12 + 2 * size) (13 * page_size c.args.chip.now c.args.n)
+    (V c.args.rig.now).calls (V c.read_range.new.rig).calls _ c.from_residual.result fits
+    c.from_residual.ensures.1 (c.in_err-held.ensures.few c.args.n here)
 
 pub returns-in_err-page-clause-puts : goal.returns-in_err-page-clause-puts
 returns-in_err-page-clause-puts g c =
     let V = g.R.Rig.view in
-    let size = c.page_size-size.result in
-    let here : InPage c.args.chip.now c.args.n c.page_start-start.result size =
-    record { exists = c.requires.exists; begins = omega (arith, c.page_start-start.ensures.address); ends = omega (arith, c.page_start-start.ensures.address, c.page_size-size.ensures.bytes) } in
-    let most : 12 + 2 * size ≤ 13 * page_size c.args.chip.now c.args.n = omega (arith, c.page_size-size.ensures.bytes, c.page_size-size.ensures.blocks.0) in
-    part_weaker (Some c.args.chip.now) (is_whole c.from_residual-in_err-page.result) (12 + 2 * size) (13 * page_size c.args.chip.now c.args.n) (V c.args.rig.now).calls (V c.read_range.new.rig).calls most
-    (c.in_ok-held.ensures.few c.args.n here)
+    let read = (goal.at.returns-in_err-page-clause-puts g c).After-read_range in
+    let held = (goal.at.returns-in_err-page-clause-puts g c).In_ok-held in
+    part_weaker (Some c.args.chip.now) (is_whole c.from_residual-in_err-page.result)
+    (12 + 2 * c.page_size-size.result) (13 * page_size c.args.chip.now c.args.n)
+    (V c.args.rig.now).calls (V c.read_range.new.rig).calls (read_fits g read) (few g held)
 
 pub returns-in_err-fetch_page-clause-puts : goal.returns-in_err-fetch_page-clause-puts
 returns-in_err-fetch_page-clause-puts g c =
     let V = g.R.Rig.view in
-    let size = c.page_size-size.result in
-    let here : InPage c.args.chip.now c.args.n c.page_start-start.result size =
-    record { exists = c.requires.exists; begins = omega (arith, c.page_start-start.ensures.address); ends = omega (arith, c.page_start-start.ensures.address, c.page_size-size.ensures.bytes) } in
-    let most : (12 + 2 * size) + 0 ≤ 13 * page_size c.args.chip.now c.args.n = omega (arith, c.page_size-size.ensures.bytes, c.page_size-size.ensures.blocks.0) in
+    let read = (goal.at.returns-in_err-fetch_page-clause-puts g c).After-read_range in
+    let held = (goal.at.returns-in_err-fetch_page-clause-puts g c).In_ok-held in
     let chip = Some c.args.chip.now in
+    let first = 12 + 2 * c.page_size-size.result in
+    let all = 13 * page_size c.args.chip.now c.args.n in
     let b = (V c.read_range.new.rig).calls in
     let d = (V c.fetch_page.new.rig).calls in
     let whole = is_whole c.from_residual-in_err-fetch_page.result in
-    part_after chip whole (12 + 2 * size) 0 (13 * page_size c.args.chip.now c.args.n) (V c.args.rig.now).calls b d most (c.in_ok-held.ensures.few c.args.n here)
+    let most : first + 0 ≤ all = omega (arith, read_fits g read) in
+    part_after chip whole first 0 all (V c.args.rig.now).calls b d most (few g held)
     (fetch_part chip whole 0 b d c.in_err-fetch_page.ensures.calls)
 
 pub returns-in_err-restore_page-clause-puts : goal.returns-in_err-restore_page-clause-puts
 returns-in_err-restore_page-clause-puts g c =
     let V = g.R.Rig.view in
-    let size = c.page_size-size.result in
-    let here : InPage c.args.chip.now c.args.n c.page_start-start.result size =
-    record { exists = c.requires.exists; begins = omega (arith, c.page_start-start.ensures.address); ends = omega (arith, c.page_start-start.ensures.address, c.page_size-size.ensures.bytes) } in
-    let chip = Some c.args.chip.now in
-    let a = (V c.args.rig.now).calls in
-    let b = (V c.read_range.new.rig).calls in
-    let d = (V c.fetch_page.new.rig).calls in
-    let e = (V c.restore_page.new.rig).calls in
-    let many : length c.deref-2.result.now ≡ page_size c.args.chip.now c.args.n = search rules in
-    let most : (12 + 2 * size) + (9 + 2 * length c.deref-2.result.now) ≤ 13 * page_size c.args.chip.now c.args.n = omega (arith, many, c.page_size-size.ensures.bytes, c.page_size-size.ensures.blocks.0) in
-    part_fails_after chip (12 + 2 * size) (9 + 2 * length c.deref-2.result.now) (13 * page_size c.args.chip.now c.args.n) a d e _ c.from_residual-in_err-restore_page.result most c.from_residual-in_err-restore_page.ensures.1
-    (part_after chip true (12 + 2 * size) 0 (12 + 2 * size) a b d (omega arith) (c.in_ok-held.ensures.few c.args.n here) (fetch_part chip true 0 b d c.in_ok-fetch_page.ensures.calls))
-    c.in_err-restore_page.ensures.puts
+    let held = (goal.at.returns-in_err-restore_page-clause-puts g c).In_ok-held in
+    let last = (goal.at.returns-in_err-restore_page-clause-puts g c).After-restore_page in
+    let before = sent g held (V c.fetch_page.new.rig) c.in_ok-fetch_page.ensures.calls in
+    part_fails_after (Some c.args.chip.now) (12 + 2 * c.page_size-size.result)
+    (9 + 2 * length c.deref-2.result.now) (13 * page_size c.args.chip.now c.args.n)
+    (V c.args.rig.now).calls (V c.fetch_page.new.rig).calls (V c.restore_page.new.rig).calls _
+    c.from_residual-in_err-restore_page.result (fits g last)
+    c.from_residual-in_err-restore_page.ensures.1 before c.in_err-restore_page.ensures.puts
 
 pub returns-clause-puts : goal.returns-clause-puts
 returns-clause-puts g c =
     let V = g.R.Rig.view in
-    let size = c.page_size-size.result in
-    let here : InPage c.args.chip.now c.args.n c.page_start-start.result size =
-    record { exists = c.requires.exists; begins = omega (arith, c.page_start-start.ensures.address); ends = omega (arith, c.page_start-start.ensures.address, c.page_size-size.ensures.bytes) } in
-    let chip = Some c.args.chip.now in
-    let a = (V c.args.rig.now).calls in
-    let b = (V c.read_range.new.rig).calls in
-    let d = (V c.fetch_page.new.rig).calls in
-    let e = (V c.restore_page.new.rig).calls in
-    let many : length c.deref-2.result.now ≡ page_size c.args.chip.now c.args.n = search rules in
-    let most : (12 + 2 * size) + (9 + 2 * length c.deref-2.result.now) ≤ 13 * page_size c.args.chip.now c.args.n = omega (arith, many, c.page_size-size.ensures.bytes, c.page_size-size.ensures.blocks.0) in
-    part_after chip true (12 + 2 * size) (9 + 2 * length c.deref-2.result.now) (13 * page_size c.args.chip.now c.args.n) a d e most
-    (part_after chip true (12 + 2 * size) 0 (12 + 2 * size) a b d (omega arith) (c.in_ok-held.ensures.few c.args.n here) (fetch_part chip true 0 b d c.in_ok-fetch_page.ensures.calls))
-    c.in_ok-restore_page.ensures.puts
+    let held = (goal.at.returns-clause-puts g c).In_ok-held in
+    let last = (goal.at.returns-clause-puts g c).After-restore_page in
+    let before = sent g held (V c.fetch_page.new.rig) c.in_ok-fetch_page.ensures.calls in
+    part_after (Some c.args.chip.now) true (12 + 2 * c.page_size-size.result)
+    (9 + 2 * length c.deref-2.result.now) (13 * page_size c.args.chip.now c.args.n)
+    (V c.args.rig.now).calls (V c.fetch_page.new.rig).calls (V c.restore_page.new.rig).calls
+    (fits g last) before c.in_ok-restore_page.ensures.puts
 
 pub returns-clause-order : goal.returns-clause-order
 returns-clause-order g c =
     let V = g.R.Rig.view in
     let chip = c.args.chip.now in
     let n = c.args.n in
-    let l = c.args.journal.now in
-    let l2 = c.restore_page.new.journal in
-    let a = V c.args.rig.now in
-    let b = V c.read_range.new.rig in
-    let d = V c.fetch_page.new.rig in
-    let e = V c.restore_page.new.rig in
-    let start = c.page_start-start.result in
-    let size = c.page_size-size.result in
-    let here : InPage chip n start size = record { exists = c.requires.exists; begins = omega (arith, c.page_start-start.ensures.address); ends = omega (arith, c.page_start-start.ensures.address, c.page_size-size.ensures.bytes) } in
     let held = c.deref.result.now in
     let reads = page_reads chip n held in
     let own = restore_steps chip n held c.deref-2.result.now in
-    let read = page_was_read chip n l start size c.in_ok-held.held.items held a b c.page_start-start.ensures.address c.page_size-size.ensures.bytes (search rules) (c.in_ok-held.ensures.order n here c.page_size-size.ensures.blocks.1 l.is_torn) in
-    let fetched = does_as (reads ++ []) reads l l a d (append-nil reads) (does_then reads [] l l l a b d read (does_fetch l b d c.in_ok-fetch_page.ensures.calls)) in
-    let held_size : length held ≡ page_size chip n = search rules in
-    let many : length c.deref-2.result.now ≡ page_size chip n = search rules in
-    let returned : IsReturned chip n (reads ++ own) = record { held = held; held_size = held_size; page = c.deref-2.result.now; size = many; is = refl } in
-    (reads ++ own, returned, does_then reads own l l l2 a d e fetched c.in_ok-restore_page.ensures.order)
+    let read = (goal.at.returns-clause-order g c).In_ok-held in
+    let last = (goal.at.returns-clause-order g c).After-restore_page in
+    let d = V c.fetch_page.new.rig in
+    let before =
+    fetched g read held d c.deref.ensures.value c.in_ok-fetch_page.ensures.calls in
+    let l = c.args.journal.now in (
+      reads ++ own,
+      returned g last own refl,
+      does_then reads own l l c.restore_page.new.journal (V c.args.rig.now) d
+          (V c.restore_page.new.rig) before c.in_ok-restore_page.ensures.order,
+    )
 
 pub returns-in_err-held-clause-stops : goal.returns-in_err-held-clause-stops
 returns-in_err-held-clause-stops g c =
     let V = g.R.Rig.view in
-    let chip = c.args.chip.now in
-    let n = c.args.n in
-    let l = c.args.journal.now in
-    let a = V c.args.rig.now in
-    let b = V c.read_range.new.rig in
-    let start = c.page_start-start.result in
-    let size = c.page_size-size.result in
-    let here : InPage chip n start size = record { exists = c.requires.exists; begins = omega (arith, c.page_start-start.ensures.address); ends = omega (arith, c.page_start-start.ensures.address, c.page_size-size.ensures.bytes) } in
-    by_fault (λ (k : Cause). StopsBy (Begin (IsReturned chip n)) k l.is_torn a b) _ c.from_residual.result c.from_residual.ensures.1
-    (page_stops (IsReturned chip n) chip n start size _ l.is_torn a b c.page_start-start.ensures.address c.page_size-size.ensures.bytes (some_return chip n) (c.in_err-held.ensures.order_stops n here c.page_size-size.ensures.blocks.1 l.is_torn))
+    read_stops c.args.chip.now c.args.n c.page_start-start.result c.page_size-size.result
+    c.requires.exists c.page_start-start.ensures.address c.page_size-size.ensures.bytes
+    (IsReturned c.args.chip.now c.args.n) c.args.journal.now.is_torn (V c.args.rig.now)
+    (V c.read_range.new.rig) _ c.from_residual.result c.from_residual.ensures.1
+    c.page_size-size.ensures.blocks.1 (some_return c.args.chip.now c.args.n)
+    c.in_err-held.ensures.order_stops
 
 pub returns-in_err-page-clause-stops : goal.returns-in_err-page-clause-stops
 returns-in_err-page-clause-stops g c =
     let V = g.R.Rig.view in
     let chip = c.args.chip.now in
     let n = c.args.n in
-    let l = c.args.journal.now in
-    let a = V c.args.rig.now in
-    let b = V c.read_range.new.rig in
-    let start = c.page_start-start.result in
-    let size = c.page_size-size.result in
-    let here : InPage chip n start size = record { exists = c.requires.exists; begins = omega (arith, c.page_start-start.ensures.address); ends = omega (arith, c.page_start-start.ensures.address, c.page_size-size.ensures.bytes) } in
     let held = c.in_ok-held.held.items in
-    let reads = page_reads chip n held in
-    let read = page_was_read chip n l start size held held a b c.page_start-start.ensures.address c.page_size-size.ensures.bytes refl (c.in_ok-held.ensures.order n here c.page_size-size.ensures.blocks.1 l.is_torn) in
     let many : length held ≡ page_size chip n = search rules in
-    memory_stops (Begin (IsReturned chip n)) l.is_torn reads a b c.from_residual-in_err-page.result c.from_residual-in_err-page.ensures.1 (some_return chip n held many) read.acts
+    let read = (goal.at.returns-in_err-page-clause-stops g c).In_ok-held in
+    memory_stops (Begin (IsReturned chip n)) c.args.journal.now.is_torn (page_reads chip n held)
+    (V c.args.rig.now) (V c.read_range.new.rig) c.from_residual-in_err-page.result
+    c.from_residual-in_err-page.ensures.1 (some_return chip n held many)
+    (was_read g read held refl).acts
 
 pub returns-in_err-fetch_page-clause-stops : goal.returns-in_err-fetch_page-clause-stops
 returns-in_err-fetch_page-clause-stops g c =
     let V = g.R.Rig.view in
     let chip = c.args.chip.now in
     let n = c.args.n in
-    let l = c.args.journal.now in
-    let a = V c.args.rig.now in
-    let b = V c.read_range.new.rig in
-    let start = c.page_start-start.result in
-    let size = c.page_size-size.result in
-    let here : InPage chip n start size = record { exists = c.requires.exists; begins = omega (arith, c.page_start-start.ensures.address); ends = omega (arith, c.page_start-start.ensures.address, c.page_size-size.ensures.bytes) } in
     let held = c.in_ok-held.held.items in
-    let reads = page_reads chip n held in
-    let read = page_was_read chip n l start size held held a b c.page_start-start.ensures.address c.page_size-size.ensures.bytes refl (c.in_ok-held.ensures.order n here c.page_size-size.ensures.blocks.1 l.is_torn) in
     let many : length held ≡ page_size chip n = search rules in
     let d = V c.fetch_page.new.rig in
-    let fetched = does_as (reads ++ []) reads l l a d (append-nil reads) (does_then reads [] l l l a b d read (does_fetch l b d c.fetch_page.ensures.calls)) in
-    journal_stops (Begin (IsReturned chip n)) l.is_torn reads _ a d c.from_residual-in_err-fetch_page.result c.from_residual-in_err-fetch_page.ensures.1 (some_return chip n held many) fetched.acts
+    let read = (goal.at.returns-in_err-fetch_page-clause-stops g c).In_ok-held in
+    journal_stops (Begin (IsReturned chip n)) c.args.journal.now.is_torn (page_reads chip n held) _
+    (V c.args.rig.now) d c.from_residual-in_err-fetch_page.result
+    c.from_residual-in_err-fetch_page.ensures.1 (some_return chip n held many)
+    (fetched g read held d refl c.fetch_page.ensures.calls).acts
 
 pub returns-in_err-restore_page-clause-stops : goal.returns-in_err-restore_page-clause-stops
 returns-in_err-restore_page-clause-stops g c =
@@ -271,30 +379,27 @@ returns-in_err-restore_page-clause-stops g c =
     let chip = c.args.chip.now in
     let n = c.args.n in
     let l = c.args.journal.now in
-    let a = V c.args.rig.now in
-    let b = V c.read_range.new.rig in
-    let start = c.page_start-start.result in
-    let size = c.page_size-size.result in
-    let here : InPage chip n start size = record { exists = c.requires.exists; begins = omega (arith, c.page_start-start.ensures.address); ends = omega (arith, c.page_start-start.ensures.address, c.page_size-size.ensures.bytes) } in
-    let d = V c.fetch_page.new.rig in
-    let e = V c.restore_page.new.rig in
     let held = c.deref.result.now in
-    let page = c.deref-2.result.now in
     let reads = page_reads chip n held in
-    let own = restore_steps chip n held page in
-    let read = page_was_read chip n l start size c.in_ok-held.held.items held a b c.page_start-start.ensures.address c.page_size-size.ensures.bytes (search rules) (c.in_ok-held.ensures.order n here c.page_size-size.ensures.blocks.1 l.is_torn) in
-    let fetched = does_as (reads ++ []) reads l l a d (append-nil reads) (does_then reads [] l l l a b d read (does_fetch l b d c.in_ok-fetch_page.ensures.calls)) in
-    let held_size : length held ≡ page_size chip n = search rules in
-    let many : length page ≡ page_size chip n = search rules in
-    then_stops (Begin (Are own)) (Begin (IsReturned chip n)) reads l l a d e _ c.from_residual-in_err-restore_page.result c.from_residual-in_err-restore_page.ensures.1 fetched c.in_err-restore_page.ensures.stops
-    (begin_after (Are own) (IsReturned chip n) reads (λ ys is. record { held = held; held_size = held_size; page = page; size = many; is = ap (λ (zs : List Step). reads ++ zs) is }))
+    let own = restore_steps chip n held c.deref-2.result.now in
+    let read = (goal.at.returns-in_err-restore_page-clause-stops g c).In_ok-held in
+    let last = (goal.at.returns-in_err-restore_page-clause-stops g c).After-restore_page in
+    let d = V c.fetch_page.new.rig in
+    let before =
+    fetched g read held d c.deref.ensures.value c.in_ok-fetch_page.ensures.calls in
+    then_stops (Begin (Are own)) (Begin (IsReturned chip n)) reads l l (V c.args.rig.now) d
+    (V c.restore_page.new.rig) _ c.from_residual-in_err-restore_page.result
+    c.from_residual-in_err-restore_page.ensures.1 before c.in_err-restore_page.ensures.stops
+    (begin_after (Are own) (IsReturned chip n) reads (returned g last))
 
 pub returns-in_err-restore_page-clause-cause : goal.returns-in_err-restore_page-clause-cause
 returns-in_err-restore_page-clause-cause g c =
     let V = g.R.Rig.view in
     let read = c.in_ok-held.ensures.cause in
     let fetched = c.in_ok-fetch_page.ensures.cause in
-    cause_behind {T = Unit {0}} {U = Unit {0}} tt (V c.args.rig.now) (V c.fetch_page.new.rig) (V c.restore_page.new.rig) c.in_err-restore_page.field-0.0 c.from_residual-in_err-restore_page.result c.from_residual-in_err-restore_page.ensures.1
+    cause_behind {T = Unit {0}} {U = Unit {0}} tt (V c.args.rig.now) (V c.fetch_page.new.rig)
+    (V c.restore_page.new.rig) c.in_err-restore_page.field-0.0
+    c.from_residual-in_err-restore_page.result c.from_residual-in_err-restore_page.ensures.1
     (record {
       line_later = omega (arith, read.line_later, fetched.line_count);
       journal_later = omega (arith, read.journal_later, fetched.later);

@@ -1,10 +1,13 @@
-use Rattle.std.proofs.Common.{◌≡◌, ◌∙◌, sym, ap, rules, List, [], ◌∷◌, ℕ, length}
+use Rattle.std.proofs.Common.{◌≡◌, ◌∙◌, sym, ap, rules, List, [], ◌∷◌, ℕ, Result, length}
 use Rattle.stm_wire.specs.Chip.{ChipData, erased_page, flash_size, with_page}
 use Rattle.stm_chip.specs.declared.plan.Frame.{Frame}
 use Rattle.stm_chip.specs.Plan.{written}
 use Rattle.stm_journal.specs.declared.entry.Entry.{Entry}
 use Rattle.stm_journal.specs.declared.entry.Entry.TheVariants.{Erases, Programs}
+use Rattle.stm_session.specs.declared.fault.Fault.{Fault}
 use Rattle.stm_session.specs.Lines.{program_entries}
+use Rattle.stm_session.specs.Steps.{Goes, IsSteady}
+use Rattle.stm_session.proofs.Exits.{goes_fault}
 use Rattle.stm_session.proofs.Frames.{no_frames, some_frames, written-none}
 use Rattle.stm_session.proofs.Going.{goes_as, goes_then, goes_failed, goes_ok, at_exit}
 use Rattle.std.proofs.Common.{◌+◌, ◌*◌, true, Some, arith}
@@ -15,7 +18,59 @@ use Rattle.stm_session.specs.Order.{Adds, Step, erase_steps, program_steps, rewr
 use Rattle.stm_session.proofs.Orders.{does_as, does_then, some_program}
 use Rattle.stm_session.specs.Order.{Are, Begin}
 use Rattle.stm_session.proofs.CutShort.{begin_after, begin_on, part_stops, then_stops}
+use Rattle.stm_session.proofs.rewriting.rewrite_kept.Given as given
 use Rattle.stm_session.proofs.rewriting.rewrite_kept.Goals as goal
+use Rattle.stm_session.proofs.rewriting.rewrite_kept.Goals.{After-program_kept}
+
+-- What the exits behind program_kept share.
+
+-- its steps are those of frames, of which there are some
+programs_are : (g : given.Over) (c : goal.After-program_kept g)
+    → Adds (Programs c.args.n ∷ [])
+    ∷ write_steps c.args.chip.now c.args.n c.args.page.now c.args.frames.now
+    ≡ program_steps c.args.chip.now c.args.n c.args.page.now c.args.frames.now
+programs_are g c =
+    some_program c.args.chip.now c.args.n c.args.page.now c.args.frames.now (search rules)
+
+-- the lines are those of rewriting the page, whatever program_kept answers
+rewritten : (g : given.Over) (c : goal.After-program_kept g) (flashes : List (List ℕ))
+    → IsSteady flashes c.args.journal.now (g.R.Rig.view c.args.rig.now)
+    → (g.R.Rig.view c.args.rig.now).device.chip ≡ c.args.chip.now → (r : Result (Unit {0}) Fault)
+    → ((base : List ℕ)
+    → IsSteady flashes c.erase_kept.new.journal (g.R.Rig.view c.erase_kept.new.rig)
+    → (g.R.Rig.view c.erase_kept.new.rig).device.chip ≡ c.args.chip.now
+    → length base ≡ flash_size c.args.chip.now
+    → (g.R.Rig.view c.erase_kept.new.rig).device.flash ≡ with_page c.args.chip.now c.args.n
+    (erased_page c.args.chip.now c.args.n) base
+    → Goes flashes (Programs c.args.n ∷ []) c.program_kept.new.journal
+    (g.R.Rig.view c.erase_kept.new.rig) (g.R.Rig.view c.program_kept.new.rig) r
+    (λ y. (g.R.Rig.view c.program_kept.new.rig).device.flash ≡ with_page c.args.chip.now c.args.n
+    (written c.args.page.now c.args.frames.now (erased_page c.args.chip.now c.args.n)) base))
+    → Goes flashes (Erases c.args.n ∷ program_entries c.args.n c.args.frames.now)
+    c.program_kept.new.journal (g.R.Rig.view c.args.rig.now) (g.R.Rig.view c.program_kept.new.rig) r
+    (λ y. (g.R.Rig.view c.program_kept.new.rig).device.flash ≡ with_page c.args.chip.now c.args.n
+    c.args.page.now (g.R.Rig.view c.args.rig.now).device.flash)
+rewritten g c flashes steady chip r gives =
+    let V = g.R.Rig.view in
+    let n = c.args.n in
+    let l2 = c.erase_kept.new.journal in
+    let l3 = c.program_kept.new.journal in
+    let a = V c.args.rig.now in
+    let b = V c.erase_kept.new.rig in
+    let d = V c.program_kept.new.rig in
+    let first = c.in_ok-erase_kept.ensures.honest flashes steady chip in
+    let model = g.met.R.Rig.model c.erase_kept.new.rig first.steady.honest in
+    let start = g.met.R.Rig.model c.args.rig.now steady.honest in
+    let still = (at_exit _ a b model first.moments).make.chip ∙ chip in
+    let whole = start.device.size ∙ ap (λ (p : ChipData). flash_size p) chip in
+    let some : Programs n ∷ [] ≡ program_entries n c.args.frames.now =
+    some_frames n c.args.frames.now (search rules) in
+    goes_as flashes (Erases n ∷ Programs n ∷ []) (Erases n ∷ program_entries n c.args.frames.now) l3
+    a d r (ap (λ (es : List Entry). Erases n ∷ es) some)
+    (goes_then flashes (Erases n ∷ []) (Programs n ∷ []) l2 l3 a b d (tt {0}) r model first
+    (gives a.device.flash first.steady still whole first.done)
+    (λ y done. done ∙ ap (λ (xs : List ℕ). with_page c.args.chip.now n xs a.device.flash)
+    c.requires.gives))
 
 pub returns-in_err-erase_kept-clause-honest : goal.returns-in_err-erase_kept-clause-honest
 returns-in_err-erase_kept-clause-honest g c flashes steady chip =
@@ -26,33 +81,20 @@ returns-in_err-erase_kept-clause-honest g c flashes steady chip =
 pub returns-in_err-program_kept-clause-honest : goal.returns-in_err-program_kept-clause-honest
 returns-in_err-program_kept-clause-honest g c flashes steady chip =
     let V = g.R.Rig.view in
-    let first = c.in_ok-erase_kept.ensures.honest flashes steady chip in
-    let model = g.met.R.Rig.model c.erase_kept.new.rig first.steady.honest in
-    let start = g.met.R.Rig.model c.args.rig.now steady.honest in
-    let still = (at_exit _ (V c.args.rig.now) (V c.erase_kept.new.rig) model first.moments).make.chip ∙ chip in
-    let whole = start.device.size ∙ ap (λ (p : ChipData). flash_size p) chip in
-    let some : Programs c.args.n ∷ [] ≡ program_entries c.args.n c.args.frames.now = some_frames c.args.n c.args.frames.now (search rules) in
-    goes_as flashes (Erases c.args.n ∷ Programs c.args.n ∷ []) (Erases c.args.n ∷ program_entries c.args.n c.args.frames.now) c.program_kept.new.journal (V c.args.rig.now) (V c.program_kept.new.rig) _
-    (ap (λ (es : List Entry). Erases c.args.n ∷ es) some)
-    (goes_then flashes (Erases c.args.n ∷ []) (Programs c.args.n ∷ []) c.erase_kept.new.journal c.program_kept.new.journal (V c.args.rig.now) (V c.erase_kept.new.rig) (V c.program_kept.new.rig) _ c.from_residual-in_err-program_kept.result model first
-    (goes_failed flashes (Programs c.args.n ∷ []) [] c.program_kept.new.journal c.program_kept.new.journal (V c.erase_kept.new.rig) (V c.program_kept.new.rig) _ c.from_residual-in_err-program_kept.result
-    (c.in_err-program_kept.ensures.honest flashes (V c.args.rig.now).device.flash first.steady still whole first.done) c.from_residual-in_err-program_kept.ensures.1) (λ y p. p))
+    let l3 = c.program_kept.new.journal in
+    let last = (goal.at.returns-in_err-program_kept-clause-honest g c).After-program_kept in
+    goes_fault flashes (Erases c.args.n ∷ program_entries c.args.n c.args.frames.now) l3 l3
+    (V c.args.rig.now) (V c.program_kept.new.rig) _ c.from_residual-in_err-program_kept.result
+    (rewritten g last flashes steady chip _ (c.in_err-program_kept.ensures.honest flashes))
+    c.from_residual-in_err-program_kept.ensures.1
 
 pub returns-clause-honest : goal.returns-clause-honest
 returns-clause-honest g c flashes steady chip =
     let V = g.R.Rig.view in
-    let first = c.in_ok-erase_kept.ensures.honest flashes steady chip in
-    let model = g.met.R.Rig.model c.erase_kept.new.rig first.steady.honest in
-    let start = g.met.R.Rig.model c.args.rig.now steady.honest in
-    let still = (at_exit _ (V c.args.rig.now) (V c.erase_kept.new.rig) model first.moments).make.chip ∙ chip in
-    let whole = start.device.size ∙ ap (λ (p : ChipData). flash_size p) chip in
-    let some : Programs c.args.n ∷ [] ≡ program_entries c.args.n c.args.frames.now = some_frames c.args.n c.args.frames.now (search rules) in
-    goes_as flashes (Erases c.args.n ∷ Programs c.args.n ∷ []) (Erases c.args.n ∷ program_entries c.args.n c.args.frames.now) c.program_kept.new.journal (V c.args.rig.now) (V c.program_kept.new.rig) _
-    (ap (λ (es : List Entry). Erases c.args.n ∷ es) some)
-    (goes_then flashes (Erases c.args.n ∷ []) (Programs c.args.n ∷ []) c.erase_kept.new.journal c.program_kept.new.journal (V c.args.rig.now) (V c.erase_kept.new.rig) (V c.program_kept.new.rig) _ _ model first
-    (goes_ok flashes (Programs c.args.n ∷ []) c.program_kept.new.journal (V c.erase_kept.new.rig) (V c.program_kept.new.rig) _ (tt {0})
-    (c.in_ok-program_kept.ensures.honest flashes (V c.args.rig.now).device.flash first.steady still whole first.done)
-    (λ done. done ∙ ap (λ (xs : List ℕ). with_page c.args.chip.now c.args.n xs (V c.args.rig.now).device.flash) c.requires.gives)) (λ y p. p))
+    let last = (goal.at.returns-clause-honest g c).After-program_kept in
+    goes_ok flashes (Erases c.args.n ∷ program_entries c.args.n c.args.frames.now)
+    c.program_kept.new.journal (V c.args.rig.now) (V c.program_kept.new.rig) _ (tt {0})
+    (rewritten g last flashes steady chip _ (c.in_ok-program_kept.ensures.honest flashes)) (λ p. p)
 
 pub returns-then-is_empty-clause-honest : goal.returns-then-is_empty-clause-honest
 returns-then-is_empty-clause-honest g c flashes steady chip =
@@ -102,17 +144,18 @@ pub returns-clause-order : goal.returns-clause-order
 returns-clause-order g c =
     let V = g.R.Rig.view in
     let chip = c.args.chip.now in
-    let l = c.args.journal.now in
-    let l2 = c.erase_kept.new.journal in
+    let n = c.args.n in
+    let page = c.args.page.now in
+    let frames = c.args.frames.now in
     let l3 = c.program_kept.new.journal in
-    let a = V c.args.rig.now in
-    let b = V c.erase_kept.new.rig in
-    let d = V c.program_kept.new.rig in
-    let own = erase_steps chip c.args.n in
-    let more : List Step = Adds (Programs c.args.n ∷ []) ∷ write_steps chip c.args.n c.args.page.now c.args.frames.now in
-    let some : more ≡ program_steps chip c.args.n c.args.page.now c.args.frames.now = some_program chip c.args.n c.args.page.now c.args.frames.now (search rules) in
-    does_as (own ++ more) (rewrite_steps chip c.args.n c.args.page.now c.args.frames.now) l l3 a d (ap (λ (ss : List Step). own ++ ss) some)
-    (does_then own more l l2 l3 a b d c.in_ok-erase_kept.ensures.order c.in_ok-program_kept.ensures.order)
+    let own = erase_steps chip n in
+    let more : List Step = Adds (Programs n ∷ []) ∷ write_steps chip n page frames in
+    let some = programs_are g (goal.at.returns-clause-order g c).After-program_kept in
+    does_as (own ++ more) (rewrite_steps chip n page frames) c.args.journal.now l3
+    (V c.args.rig.now) (V c.program_kept.new.rig) (ap (λ (ss : List Step). own ++ ss) some)
+    (does_then own more c.args.journal.now c.erase_kept.new.journal l3 (V c.args.rig.now)
+    (V c.erase_kept.new.rig) (V c.program_kept.new.rig) c.in_ok-erase_kept.ensures.order
+    c.in_ok-program_kept.ensures.order)
 
 pub returns-in_err-erase_kept-clause-stops : goal.returns-in_err-erase_kept-clause-stops
 returns-in_err-erase_kept-clause-stops g c =
@@ -127,15 +170,15 @@ returns-in_err-erase_kept-clause-stops g c =
 pub returns-in_err-program_kept-clause-stops : goal.returns-in_err-program_kept-clause-stops
 returns-in_err-program_kept-clause-stops g c =
     let V = g.R.Rig.view in
-    let chip = c.args.chip.now in
-    let l = c.args.journal.now in
-    let l2 = c.erase_kept.new.journal in
-    let a = V c.args.rig.now in
-    let b = V c.erase_kept.new.rig in
-    let d = V c.program_kept.new.rig in
-    let own = erase_steps chip c.args.n in
-    let more : List Step = Adds (Programs c.args.n ∷ []) ∷ write_steps chip c.args.n c.args.page.now c.args.frames.now in
-    let all = rewrite_steps chip c.args.n c.args.page.now c.args.frames.now in
-    let some : more ≡ program_steps chip c.args.n c.args.page.now c.args.frames.now = some_program chip c.args.n c.args.page.now c.args.frames.now (search rules) in
-    then_stops (Begin (Are more)) (Begin (Are all)) own l l2 a b d _ c.from_residual-in_err-program_kept.result c.from_residual-in_err-program_kept.ensures.1
-    c.in_ok-erase_kept.ensures.order c.in_err-program_kept.ensures.stops (begin_after (Are more) (Are all) own (λ ys is. ap (λ (zs : List Step). own ++ zs) (is ∙ some)))
+    let own = erase_steps c.args.chip.now c.args.n in
+    let more : List Step = Adds (Programs c.args.n ∷ [])
+    ∷ write_steps c.args.chip.now c.args.n c.args.page.now c.args.frames.now in
+    let all = rewrite_steps c.args.chip.now c.args.n c.args.page.now c.args.frames.now in
+    let last = (goal.at.returns-in_err-program_kept-clause-stops g c).After-program_kept in
+    then_stops (Begin (Are more)) (Begin (Are all)) own c.args.journal.now
+    c.erase_kept.new.journal (V c.args.rig.now) (V c.erase_kept.new.rig)
+    (V c.program_kept.new.rig) _ c.from_residual-in_err-program_kept.result
+    c.from_residual-in_err-program_kept.ensures.1 c.in_ok-erase_kept.ensures.order
+    c.in_err-program_kept.ensures.stops
+    (begin_after (Are more) (Are all) own
+    (λ ys is. ap (λ (zs : List Step). own ++ zs) (is ∙ programs_are g last)))

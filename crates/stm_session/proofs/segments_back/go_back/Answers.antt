@@ -1,4 +1,4 @@
-use Rattle.std.proofs.Common.{◌∙◌, ◌*◌, ◌≤◌, ◌++◌, List, Some, true, refl, subst, arith}
+use Rattle.std.proofs.Common.{◌≡◌, ◌∙◌, ◌*◌, ◌≤◌, ◌++◌, List, ℕ, Some, true, refl, subst, arith}
 use Rattle.stm_journal.specs.declared.kept.Kept.{Kept}
 use Rattle.stm_session.specs.Order.{AreTakenBack}
 use Rattle.stm_session.specs.Sending.{most_of_command, most_of_undo}
@@ -13,7 +13,21 @@ use Rattle.stm_journal.specs.States.{intent_of}
 use Rattle.stm_session.specs.Order.{Step, AreAllTakenBack, Begin, IsWorkRewritten}
 use Rattle.stm_session.proofs.CutShort.{begin_after, begin_on, part_stops, then_stops}
 use Rattle.stm_session.proofs.UndoOrders.{pages_count, some_segments}
+use Rattle.stm_session.specs.Steps.{IsSteady}
+use Rattle.stm_session.proofs.segments_back.go_back.Given as given
 use Rattle.stm_session.proofs.segments_back.go_back.Goals as goal
+use Rattle.stm_session.proofs.segments_back.go_back.Goals.{After-take_back_newest}
+
+-- behind the page at work the chip is the one before
+still : (g : given.Over) (c : goal.After-take_back_newest g) (flashes : List (List ℕ))
+    → IsSteady flashes c.args.journal.now (g.R.Rig.view c.args.rig.now)
+    → (g.R.Rig.view c.args.rig.now).device.chip ≡ c.args.chip.now
+    → (g.R.Rig.view c.rewrite_at_work.new.rig).device.chip ≡ c.args.chip.now
+still g c flashes steady chip =
+    let first = c.in_ok-rewrite_at_work.ensures.honest flashes steady chip in
+    let model = g.met.R.Rig.model c.rewrite_at_work.new.rig first.honest in
+    (at_exit _ (g.R.Rig.view c.args.rig.now) (g.R.Rig.view c.rewrite_at_work.new.rig) model
+    first.moments).make.chip ∙ chip
 
 pub take_back_newest-requires-clause-fits : goal.take_back_newest-requires-clause-fits
 take_back_newest-requires-clause-fits g c = fits_pages c.args.chip.now c.args.journal.now.state.stack c.rewrite_at_work.new.journal.state.stack c.in_ok-rewrite_at_work.ensures.same.same c.requires.fits
@@ -29,29 +43,26 @@ returns-in_err-rewrite_at_work-clause-honest g c flashes steady chip =
 pub returns-in_err-take_back_newest-clause-honest : goal.returns-in_err-take_back_newest-clause-honest
 returns-in_err-take_back_newest-clause-honest g c flashes steady chip =
     let V = g.R.Rig.view in
-    let a = V c.args.rig.now in
-    let b = V c.rewrite_at_work.new.rig in
-    let d = V c.take_back_newest.new.rig in
-    let l2 = c.rewrite_at_work.new.journal in
-    let l3 = c.take_back_newest.new.journal in
+    let last = (goal.at.returns-in_err-take_back_newest-clause-honest g c).After-take_back_newest in
     let first = c.in_ok-rewrite_at_work.ensures.honest flashes steady chip in
     let model = g.met.R.Rig.model c.rewrite_at_work.new.rig first.honest in
-    let still = (at_exit _ a b model first.moments).make.chip ∙ chip in
-    all_failed c.args.taken flashes a b c.requires.one c.args.chip.now chip d l2 l3 model first _ c.from_residual-in_err-take_back_newest.result
-    (c.in_err-take_back_newest.ensures.honest flashes first.steady still) c.from_residual-in_err-take_back_newest.ensures.1
+    all_failed c.args.taken flashes (V c.args.rig.now) (V c.rewrite_at_work.new.rig) c.requires.one
+    c.args.chip.now chip (V c.take_back_newest.new.rig) c.rewrite_at_work.new.journal
+    c.take_back_newest.new.journal model first _ c.from_residual-in_err-take_back_newest.result
+    (c.in_err-take_back_newest.ensures.honest flashes first.steady
+    (still g last flashes steady chip)) c.from_residual-in_err-take_back_newest.ensures.1
 
 pub returns-clause-honest : goal.returns-clause-honest
 returns-clause-honest g c flashes steady chip =
     let V = g.R.Rig.view in
-    let a = V c.args.rig.now in
-    let b = V c.rewrite_at_work.new.rig in
-    let d = V c.take_back_newest.new.rig in
-    let l2 = c.rewrite_at_work.new.journal in
-    let l3 = c.take_back_newest.new.journal in
+    let last = (goal.at.returns-clause-honest g c).After-take_back_newest in
     let first = c.in_ok-rewrite_at_work.ensures.honest flashes steady chip in
     let model = g.met.R.Rig.model c.rewrite_at_work.new.rig first.honest in
-    let still = (at_exit _ a b model first.moments).make.chip ∙ chip in
-    all_back c.args.taken flashes a b c.requires.one c.args.chip.now chip d l2 l3 model first (c.in_ok-take_back_newest.ensures.honest flashes first.steady still)
+    all_back c.args.taken flashes (V c.args.rig.now) (V c.rewrite_at_work.new.rig) c.requires.one
+    c.args.chip.now chip (V c.take_back_newest.new.rig) c.rewrite_at_work.new.journal
+    c.take_back_newest.new.journal model first
+    (c.in_ok-take_back_newest.ensures.honest flashes first.steady
+    (still g last flashes steady chip))
 
 pub returns-in_err-rewrite_at_work-clause-puts : goal.returns-in_err-rewrite_at_work-clause-puts
 returns-in_err-rewrite_at_work-clause-puts g c =

@@ -17,7 +17,35 @@ use Rattle.std.proofs.Common.{List}
 use Rattle.stm_session.specs.Order.{Step, Begin}
 use Rattle.stm_session.proofs.CutShort.{then_stops}
 use Rattle.stm_session.proofs.UndoOrders.{back_begun, pages_count}
+use Rattle.stm_session.specs.Steps.{IsSteady}
+use Rattle.stm_session.proofs.segments_back.take_back_newest.Given as given
 use Rattle.stm_session.proofs.segments_back.take_back_newest.Goals as goal
+use Rattle.stm_session.proofs.segments_back.take_back_newest.Goals.{After-take_back}
+
+-- What each turn shares: a segment is left, and the chip is the one before.
+within : (g : given.Over) (c : goal.After-take_back g)
+    → c.loop-i.i < length c.args.journal.now.state.stack
+within g c =
+    let lt : c.loop-i.i < c.args.taken = omega (arith, c.loop-i-test.true) in
+    omega (arith, lt, c.requires.some)
+
+left : (g : given.Over) (c : goal.After-take_back g)
+    → 0 < length c.loop-i.journal.state.stack
+left g c =
+    let fits = within g c in
+    let depth = rest_depth c.loop-i.i c.args.journal.now.state c.loop-i.journal.state
+    c.loop-i.invariant.rest (omega (arith, fits)) in
+    omega (arith, fits, depth)
+
+still : (g : given.Over) (c : goal.After-take_back g) (flashes : List (List ℕ))
+    → IsSteady flashes c.args.journal.now (g.R.Rig.view c.args.rig.now)
+    → (g.R.Rig.view c.args.rig.now).device.chip ≡ c.args.chip.now
+    → (g.R.Rig.view c.loop-i.rig).device.chip ≡ c.args.chip.now
+still g c flashes steady chip =
+    let so_far = c.loop-i.invariant.honest flashes steady chip in
+    let model = g.met.R.Rig.model c.loop-i.rig so_far.steady.honest in
+    (at_exit _ (g.R.Rig.view c.args.rig.now) (g.R.Rig.view c.loop-i.rig) model
+    so_far.moments).make.chip ∙ chip
 
 pub loop-i-init : goal.loop-i-init
 loop-i-init g c =
@@ -44,22 +72,23 @@ take_back-requires-clause-some g c =
 pub returns-in_err-take_back-clause-honest : goal.returns-in_err-take_back-clause-honest
 returns-in_err-take_back-clause-honest g c flashes steady chip =
     let V = g.R.Rig.view in
+    let k = c.args.chip.now in
     let l = c.args.journal.now in
     let l2 = c.loop-i.journal in
-    let a = V c.args.rig.now in
+    let l3 = c.take_back.new.journal in
     let b = V c.loop-i.rig in
-    let d = V c.take_back.new.rig in
     let i = c.loop-i.i in
-    let lt : i < c.args.taken = omega (arith, c.loop-i-test.true) in
-    let within : i < length l.state.stack = omega (arith, lt, c.requires.some) in
-    let depth = rest_depth i l.state l2.state c.loop-i.invariant.rest (omega (arith, within)) in
-    let some : 0 < length l2.state.stack = omega (arith, within, depth) in
+    let turn = (goal.at.returns-in_err-take_back-clause-honest g c).After-take_back in
+    let fits = within g turn in
     let so_far = c.loop-i.invariant.honest flashes steady chip in
     let model = g.met.R.Rig.model c.loop-i.rig so_far.steady.honest in
-    let still = (at_exit _ a b model so_far.moments).make.chip ∙ chip in
-    let split = next_flash i flashes (some_left _ l2 b so_far.steady some) in
-    let next = c.in_err-take_back.ensures.honest _ _ (steady_split c.args.chip.now i flashes l l2 c.take_back.new.journal a b d model steady so_far chip within split) still in
-    goes_back_failed c.args.chip.now i flashes l l2 c.take_back.new.journal a b d model steady so_far chip within split c.args.taken c.take_back.new.journal _ c.from_residual.result (omega (arith, lt)) next c.from_residual.ensures.1
+    let split = next_flash i flashes (some_left _ l2 b so_far.steady (left g turn)) in
+    let next = c.in_err-take_back.ensures.honest _ _
+    (steady_split k i flashes l l2 l3 (V c.args.rig.now) b (V c.take_back.new.rig) model steady
+    so_far chip fits split) (still g turn flashes steady chip) in
+    goes_back_failed k i flashes l l2 l3 (V c.args.rig.now) b (V c.take_back.new.rig) model steady
+    so_far chip fits split c.args.taken l3 _ c.from_residual.result
+    (omega (arith, c.loop-i-test.true)) next c.from_residual.ensures.1
 
 pub loop-i-preserved : goal.loop-i-preserved
 loop-i-preserved g c =
@@ -70,10 +99,9 @@ loop-i-preserved g c =
     let b = V c.loop-i.rig in
     let d = V c.take_back.new.rig in
     let i = c.loop-i.i in
-    let lt : i < c.args.taken = omega (arith, c.loop-i-test.true) in
-    let within : i < length l.state.stack = omega (arith, lt, c.requires.some) in
-    let depth = rest_depth i l.state l2.state c.loop-i.invariant.rest (omega (arith, within)) in
-    let some : 0 < length l2.state.stack = omega (arith, within, depth) in
+    let turn = (goal.at.loop-i-preserved g c).After-take_back in
+    let fits = within g turn in
+    let some = left g turn in
     record {
       rest = rest_next i _ _ _ c.loop-i.invariant.rest c.in_ok-take_back.ensures.rest;
       line = c.in_ok-take_back.ensures.cause.line_done ∙ c.loop-i.invariant.line;
@@ -93,10 +121,12 @@ loop-i-preserved g c =
       honest = λ flashes steady chip.
           let so_far = c.loop-i.invariant.honest flashes steady chip in
           let model = g.met.R.Rig.model c.loop-i.rig so_far.steady.honest in
-          let still = (at_exit _ a b model so_far.moments).make.chip ∙ chip in
           let split = next_flash i flashes (some_left _ l2 b so_far.steady some) in
-          let next = c.in_ok-take_back.ensures.honest _ _ (steady_split c.args.chip.now i flashes l l2 c.take_back.new.journal a b d model steady so_far chip within split) still in
-          goes_back_more c.args.chip.now i flashes l l2 c.take_back.new.journal a b d model steady so_far chip within split _ (i + 1) (omega arith) next;
+          let next = c.in_ok-take_back.ensures.honest _ _
+          (steady_split c.args.chip.now i flashes l l2 c.take_back.new.journal a b d model steady
+          so_far chip fits split) (still g turn flashes steady chip) in
+          goes_back_more c.args.chip.now i flashes l l2 c.take_back.new.journal a b d model steady
+          so_far chip fits split _ (i + 1) (omega arith) next;
     }
 
 pub returns-clause-honest : goal.returns-clause-honest
@@ -139,9 +169,7 @@ returns-in_err-take_back-clause-stops g c =
     let l2 = c.loop-i.journal in
     let i = c.loop-i.i in
     let lt : i < c.args.taken = omega (arith, c.loop-i-test.true) in
-    let within : i < length l.state.stack = omega (arith, lt, c.requires.some) in
-    let depth = rest_depth i l.state l2.state c.loop-i.invariant.rest (omega (arith, within)) in
-    let some : 0 < length l2.state.stack = omega (arith, within, depth) in
+    let some = left g (goal.at.returns-in_err-take_back-clause-stops g c).After-take_back in
     let all = pages_of_segments l.state.stack in
     let below = pages_of_segments (drop 1 l2.state.stack) in
     let before = c.loop-i.invariant.order in
