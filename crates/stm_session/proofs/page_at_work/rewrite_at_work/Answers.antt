@@ -6,7 +6,7 @@ use Rattle.stm_wire.specs.PartLaws.{part_longer}
 use Rattle.stm_journal.specs.declared.kept.Kept.{Kept}
 use Rattle.stm_journal.specs.KeptPlaces.{kept_entry, place_of}
 use Rattle.stm_journal.specs.NewestLaws.{KeepsSame-refl}
-use Rattle.stm_journal.specs.States.{intent_of, newest_keeps}
+use Rattle.stm_journal.specs.States.{StateData, intent_of, intent_page, newest_keeps}
 use Rattle.stm_session.specs.Lines.{rewrite_entries, work_entries}
 use Rattle.stm_session.specs.Steps.{Goes, IsSteady}
 use Rattle.stm_session.specs.declared.fault.Fault.{Fault}
@@ -18,15 +18,21 @@ use Rattle.stm_session.proofs.Keeping.{depth_text, good_at}
 use Rattle.stm_session.proofs.Returns.{kept_in_text, number_exists, place_fits}
 use Rattle.stm_session.proofs.SentParts.{part_fails}
 use Rattle.stm_session.proofs.Settlings.{intent_text}
-use Rattle.stm_session.proofs.Work.{no_work, stands_at, work_is}
-use Rattle.std.proofs.Common.{List}
+use Rattle.stm_session.proofs.Work.{StandsAt, no_work, stands_at, work_is}
+use Rattle.std.proofs.Common.{List, length}
 use Rattle.stm_wire.specs.declared.intent.Intent.{Intent}
-use Rattle.stm_journal.specs.States.{intent_of}
 use Rattle.stm_session.specs.Order.{Step, Begin, IsRewritten, IsWorkRewritten}
 use Rattle.stm_session.proofs.CutShort.{begin_as, part_stops}
 use Rattle.stm_session.proofs.page_at_work.rewrite_at_work.Given as given
 use Rattle.stm_session.proofs.page_at_work.rewrite_at_work.Goals as goal
 use Rattle.stm_session.proofs.page_at_work.rewrite_at_work.Goals.{After-rewrite_line}
+
+-- The page of the intent stands in a line of the newest segment.
+stands : (s : StateData) (newest n : ℕ) (i : Intent) → newest ≡ length s.stack
+    → n ≡ intent_page i → IsTrue (newest_keeps (intent_page i) s) → StandsAt s newest n
+stands s newest n i is page kept =
+    let K : ℕ → Type 0 = λ m. IsTrue (newest_keeps m s) in
+    stands_at s newest n is (subst K (sym page) kept)
 
 -- The lines are those of the page at work, whatever rewrite_line answers.
 rewritten : (g : given.Over) (c : goal.After-rewrite_line g) (flashes : List (List ℕ))
@@ -52,17 +58,15 @@ rewritten g c flashes steady chip r gives =
     let s = l.state in
     let a = V c.args.rig.now in
     let b = V c.rewrite_line.new.rig in
-    let K : ℕ → Type 0 = λ n. IsTrue (newest_keeps n s) in
-    let intended = c.depth-newest.ensures.sound.intended c.in-Some.intent (sym c.in-Some.ensures) in
-    let kept = subst K (sym c.intent_page-n.ensures) intended in
+    let kept = c.depth-newest.ensures.sound.intended c.in-Some.intent (sym c.in-Some.ensures) in
     let newest = c.depth-newest.result in
     let n = c.intent_page-n.result in
     let place = c.in-Some-page.place in
     let is = c.depth-newest.ensures.value in
-    let stands = stands_at s newest n is kept in
-    let i = stands.i in
+    let line = stands s newest n c.in-Some.intent is c.intent_page-n.ensures kept in
+    let i = line.i in
     let there = kept_in_text l a.journal newest i n _ place steady.loaded
-    (stands.place place c.in-Some-page.ensures.place) stands.number in
+    (line.place place c.in-Some-page.ensures.place) line.number in
     let state = state_at a.journal in
     let once =
     (c.step_laws.ensures.sound a.journal state (good_at l a.journal steady.loaded)).once in
@@ -87,33 +91,33 @@ returns-in_default-clause-honest g c flashes steady chip =
 
 pub unreachable-requires : goal.unreachable-requires
 unreachable-requires g c =
-    let s = c.args.journal.now.state in
-    let K : ℕ → Type 0 = λ n. IsTrue (newest_keeps n s) in
-    let kept = subst K (sym c.intent_page-n.ensures) (c.depth-newest.ensures.sound.intended c.in-Some.intent (sym c.in-Some.ensures)) in
-    (stands_at s c.depth-newest.result c.intent_page-n.result c.depth-newest.ensures.value kept).somewhere c.in_default-page.ensures.place
+    let line = stands c.args.journal.now.state c.depth-newest.result c.intent_page-n.result
+    c.in-Some.intent c.depth-newest.ensures.value c.intent_page-n.ensures
+    (c.depth-newest.ensures.sound.intended c.in-Some.intent (sym c.in-Some.ensures)) in
+    line.somewhere c.in_default-page.ensures.place
 
 pub rewrite_line-requires-clause-exists : goal.rewrite_line-requires-clause-exists
 rewrite_line-requires-clause-exists g c =
     let s = c.args.journal.now.state in
-    let K : ℕ → Type 0 = λ n. IsTrue (newest_keeps n s) in
-    let kept = subst K (sym c.intent_page-n.ensures) (c.depth-newest.ensures.sound.intended c.in-Some.intent (sym c.in-Some.ensures)) in
     let newest = c.depth-newest.result in
     let n = c.intent_page-n.result in
     let is = c.depth-newest.ensures.value in
-    let stands = stands_at s newest n is kept in
-    number_exists s s newest stands.i (KeepsSame-refl s) is stands.within c.args.chip.now n _ c.requires.fits stands.number
+    let kept = c.depth-newest.ensures.sound.intended c.in-Some.intent (sym c.in-Some.ensures) in
+    let line = stands s newest n c.in-Some.intent is c.intent_page-n.ensures kept in
+    number_exists s s newest line.i (KeepsSame-refl s) is line.within c.args.chip.now n _
+    c.requires.fits line.number
 
 pub rewrite_line-requires-clause-size : goal.rewrite_line-requires-clause-size
 rewrite_line-requires-clause-size g c =
     let s = c.args.journal.now.state in
-    let K : ℕ → Type 0 = λ n. IsTrue (newest_keeps n s) in
-    let kept = subst K (sym c.intent_page-n.ensures) (c.depth-newest.ensures.sound.intended c.in-Some.intent (sym c.in-Some.ensures)) in
-    let newest = c.depth-newest.result in
     let n = c.intent_page-n.result in
     let is = c.depth-newest.ensures.value in
-    let stands = stands_at s newest n is kept in
-    place_fits s s newest stands.i (KeepsSame-refl s) is stands.within c.args.chip.now n _ c.requires.fits stands.number
-    c.in-Some-page.place (stands.place c.in-Some-page.place c.in-Some-page.ensures.place)
+    let kept = c.depth-newest.ensures.sound.intended c.in-Some.intent (sym c.in-Some.ensures) in
+    let line =
+    stands s c.depth-newest.result n c.in-Some.intent is c.intent_page-n.ensures kept in
+    place_fits s s c.depth-newest.result line.i (KeepsSame-refl s) is line.within
+    c.args.chip.now n _ c.requires.fits line.number c.in-Some-page.place
+    (line.place c.in-Some-page.place c.in-Some-page.ensures.place)
 
 pub returns-in_err-rewrite_line-clause-puts : goal.returns-in_err-rewrite_line-clause-puts
 returns-in_err-rewrite_line-clause-puts g c =
