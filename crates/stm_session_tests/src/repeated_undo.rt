@@ -1,18 +1,9 @@
-// An undo that was stopped after any step, or failed at any call, is repeated, and gives back the
-// flash.
+// An undo that was stopped after any step is repeated, and gives back the flash.
 use crate::devices::{device, is_all, kept, send, table};
 use std::test::Fail;
 use stm_chip::Table;
 use stm_session::{Fault, undo};
 use stm_wire::{EraseKind, MemoryRig, Patience, Rig, erase_page, program};
-
-/// A call that fails in an undo.
-#[derive(Clone, Copy)]
-enum Failing {
-    Put,
-    Get,
-    Append,
-}
 
 /// Connects the device, and writes 01 02 03 04 at its base.
 fn write(rig: &mut MemoryRig) -> Result<(), Fail> {
@@ -26,7 +17,7 @@ fn write(rig: &mut MemoryRig) -> Result<(), Fail> {
 }
 
 /// A settled chip 0A01 with a flash of 00, after 01 02 03 04 was written at its base.
-fn after_a_write(rt: &HostRuntime, table: &Table) -> Result<MemoryRig, Fail> {
+pub fn after_a_write(rt: &HostRuntime, table: &Table) -> Result<MemoryRig, Fail> {
     let head = b"stmjournal 2 0A01\nopen 1\npage 0 ";
     let journal = kept(rt, head, 256, b"\nerase 0\nprogram 0\nend 1\n")?;
     let mut rig = device(rt, table, 0x0A01, 0x00, journal)?;
@@ -35,7 +26,7 @@ fn after_a_write(rt: &HostRuntime, table: &Table) -> Result<MemoryRig, Fail> {
 }
 
 /// Whether an undo takes the one segment back, and the flash is as it was before.
-fn comes_back(rt: &HostRuntime, table: &Table, rig: &mut MemoryRig) -> bool {
+pub fn comes_back(rt: &HostRuntime, table: &Table, rig: &mut MemoryRig) -> bool {
     undo(rt.alloc(), rig, table, 0) == Ok(1) && is_all(rig.flash(), 0x00)
 }
 
@@ -79,64 +70,5 @@ fn first_unstopped(rt: &HostRuntime, count: u64) -> Result<Option<u64>, Fail> {
 #[test]
 fn each_stop_of_an_undo_is_taken_up(rt: HostRuntime) -> Result<(), Fail> {
     assert_eq!(rt; first_unstopped(&rt, 597)?, None);
-    Ok(())
-}
-
-/// What the undo answers whose k-th call of a kind fails; and whether, where it fails, the next one
-/// comes to its end.
-fn fails_at(
-    rt: &HostRuntime,
-    table: &Table,
-    failing: Failing,
-    k: u64,
-) -> Result<(Option<Fault>, bool), Fail> {
-    let mut rig = after_a_write(rt, table)?;
-    match failing {
-        Failing::Put => rig.fail_put(k),
-        Failing::Get => rig.fail_get(k),
-        Failing::Append => rig.fail_append(k),
-    }
-    match undo(rt.alloc(), &mut rig, table, 0) {
-        Ok(_) => Ok((None, is_all(rig.flash(), 0x00))),
-        Err(fault) => Ok((Some(fault), comes_back(rt, table, &mut rig))),
-    }
-}
-
-/// The first call of a kind, of those before the `count`th, that doesn't fail with this fault, or
-/// after which the next undo doesn't come to its end; the `count`th one isn't made.
-fn first_other(
-    rt: &HostRuntime,
-    failing: Failing,
-    count: u64,
-    fault: Fault,
-) -> Result<Option<u64>, Fail> {
-    let table = table(rt)?;
-    for k in 1..count {
-        if fails_at(rt, &table, failing, k)? != (Some(fault), true) {
-            return Ok(Some(k));
-        }
-    }
-    if fails_at(rt, &table, failing, count)? != (None, true) {
-        return Ok(Some(count));
-    }
-    Ok(None)
-}
-
-#[test]
-fn each_put_of_an_undo_may_fail(rt: HostRuntime) -> Result<(), Fail> {
-    assert_eq!(rt; first_other(&rt, Failing::Put, 288, Fault::Line)?, None);
-    Ok(())
-}
-
-// Quiet gets are counted.
-#[test]
-fn each_get_of_an_undo_may_fail(rt: HostRuntime) -> Result<(), Fail> {
-    assert_eq!(rt; first_other(&rt, Failing::Get, 287, Fault::Line)?, None);
-    Ok(())
-}
-
-#[test]
-fn each_append_of_an_undo_may_fail(rt: HostRuntime) -> Result<(), Fail> {
-    assert_eq!(rt; first_other(&rt, Failing::Append, 4, Fault::Journal)?, None);
     Ok(())
 }

@@ -6,11 +6,25 @@
 // N bytes N and 12; a line its bytes, of which a page's digits are two a byte; the frame that
 // erases a page 7, and 9 where the chip's code is 44.
 use crate::stopped_runs::Part::{Add, Line, Open};
-use crate::stopped_runs::{Between, Case, Change, Part, first_failure};
+use crate::stopped_runs::{Between, Case, Change, Part, Parts, first_failure};
 use std::test::Fail;
 
-/// Behind three segments 4 bytes across the edge of pages 0 and 1: `open 4`, and of each page four
-/// reads, its line, `erase`, the frame, `program`, and four frames of its 256 bytes.
+/// A page of 1,024 bytes is kept and written: its line, `erase`, the frame, `program`, and four
+/// frames. Before its line stand four reads.
+const LONG_READS: &[Part] = &[Line(268), Line(268), Line(268), Line(268)];
+
+const LONG_PAGE: &[Part] = &[
+    Add(2056),
+    Add(8),
+    Line(7),
+    Add(10),
+    Line(268),
+    Line(268),
+    Line(268),
+    Line(268),
+];
+
+/// Behind three segments 4 bytes across the edge of pages 0 and 1: `open 4`, both pages, and `end`.
 const OVER_AN_EDGE: Case = Case {
     id: 0x0412,
     page: 1024,
@@ -23,35 +37,12 @@ const OVER_AN_EDGE: Case = Case {
     ],
     change: Change::Write(1022, &[0xA1, 0xA2, 0xA3, 0xA4]),
     parts: &[
-        Line(5),
-        Line(15),
-        Line(7),
-        Open(7),
-        Line(268),
-        Line(268),
-        Line(268),
-        Line(268),
-        Add(2056),
-        Add(8),
-        Line(7),
-        Add(10),
-        Line(268),
-        Line(268),
-        Line(268),
-        Line(268),
-        Line(268),
-        Line(268),
-        Line(268),
-        Line(268),
-        Add(2056),
-        Add(8),
-        Line(7),
-        Add(10),
-        Line(268),
-        Line(268),
-        Line(268),
-        Line(268),
-        Add(6),
+        &[Line(5), Line(15), Line(7), Open(7)],
+        LONG_READS,
+        LONG_PAGE,
+        LONG_READS,
+        LONG_PAGE,
+        &[Add(6)],
     ],
 };
 
@@ -74,7 +65,7 @@ fn a_write_over_an_edge_comes_back_with_all_before_it(rt: HostRuntime) -> Result
 }
 
 /// Chip 0A03, whose erased byte is 00, with a flash of FF.
-fn zeros(change: Change, parts: &'static [Part]) -> Case {
+fn zeros(change: Change, parts: Parts) -> Case {
     Case {
         id: 0x0A03,
         page: 256,
@@ -86,47 +77,33 @@ fn zeros(change: Change, parts: &'static [Part]) -> Case {
     }
 }
 
+/// What a run begins with where there is no journal.
+pub const BEGINNING: &[Part] = &[Line(5), Line(15), Line(7), Open(25)];
+
+const KEEPS: &[Part] = &[Line(268), Add(520)];
+
+const ERASES: &[Part] = &[Add(8), Line(7)];
+
+const PROGRAMS: &[Part] = &[Add(10), Line(268)];
+
 /// A write over the edge of pages 2 and 3, and an erase of pages 0 and 2.
-const ZEROS: [(Change, &[Part]); 2] = [
+const ZEROS: [(Change, Parts); 2] = [
     (
         Change::Write(767, &[0xB1, 0xB2]),
         &[
-            Line(5),
-            Line(15),
-            Line(7),
-            Open(25),
-            Line(268),
-            Add(520),
-            Add(8),
-            Line(7),
-            Add(10),
-            Line(268),
-            Line(268),
-            Add(520),
-            Add(8),
-            Line(7),
-            Add(10),
-            Line(268),
-            Add(6),
+            BEGINNING,
+            KEEPS,
+            ERASES,
+            PROGRAMS,
+            KEEPS,
+            ERASES,
+            PROGRAMS,
+            &[Add(6)],
         ],
     ),
     (
         Change::Erase(&[2, 0]),
-        &[
-            Line(5),
-            Line(15),
-            Line(7),
-            Open(25),
-            Line(268),
-            Add(520),
-            Add(8),
-            Line(7),
-            Line(268),
-            Add(520),
-            Add(8),
-            Line(7),
-            Add(6),
-        ],
+        &[BEGINNING, KEEPS, ERASES, KEEPS, ERASES, &[Add(6)]],
     ),
 ];
 

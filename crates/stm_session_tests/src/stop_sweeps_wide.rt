@@ -2,96 +2,38 @@
 // last pages, and of those about number 256, which are settled with 02, where smaller ones are
 // settled with their own number (docs/SETTLING.md). Page 257 is kept before page 1. The parts are
 // those of docs/SESSIONS.md, as in `stop_sweeps`.
-use crate::stopped_runs::Part::{Add, Line, Open};
-use crate::stopped_runs::{Between, Case, Change, Part, first_failure};
+use crate::stop_sweeps::BEGINNING;
+use crate::stopped_runs::Part::{Add, Line};
+use crate::stopped_runs::{Between, Case, Change, Part, Parts, first_failure};
 use std::test::Fail;
 
-const ERASE_0: &[Part] = &[
-    Line(5),
-    Line(15),
-    Line(7),
-    Open(25),
-    Line(268),
-    Add(520),
-    Add(8),
-    Line(9),
-    Add(6),
-];
+/// A page is kept and erased: page 0, page 1, with page 257, which is read and kept too, and one
+/// whose number has three digits.
+const PAGE_0: &[Part] = &[Line(268), Add(520), Add(8), Line(9)];
 
-const WRITE_0: &[Part] = &[
-    Line(5),
-    Line(15),
-    Line(7),
-    Open(25),
-    Line(268),
-    Add(520),
-    Add(8),
-    Line(9),
-    Add(10),
-    Line(268),
-    Add(6),
-];
+const PAGE_1: &[Part] = &[Line(268), Line(268), Add(522), Add(520), Add(8), Line(9)];
 
-/// With page 257, which is read and kept.
-const ERASE_1: &[Part] = &[
-    Line(5),
-    Line(15),
-    Line(7),
-    Open(25),
-    Line(268),
-    Line(268),
-    Add(522),
-    Add(520),
-    Add(8),
-    Line(9),
-    Add(6),
-];
+const PAGE: &[Part] = &[Line(268), Add(522), Add(10), Line(9)];
 
-const WRITE_1: &[Part] = &[
-    Line(5),
-    Line(15),
-    Line(7),
-    Open(25),
-    Line(268),
-    Line(268),
-    Add(522),
-    Add(520),
-    Add(8),
-    Line(9),
-    Add(10),
-    Line(268),
-    Add(6),
-];
+const END: &[Part] = &[Add(6)];
 
-/// Of a page whose number has three digits.
-const ERASE: &[Part] = &[
-    Line(5),
-    Line(15),
-    Line(7),
-    Open(25),
-    Line(268),
-    Add(522),
-    Add(10),
-    Line(9),
-    Add(6),
-];
+const ERASE_0: Parts = &[BEGINNING, PAGE_0, END];
 
-const WRITE: &[Part] = &[
-    Line(5),
-    Line(15),
-    Line(7),
-    Open(25),
-    Line(268),
-    Add(522),
-    Add(10),
-    Line(9),
-    Add(12),
-    Line(268),
-    Add(6),
-];
+const WRITE_0: Parts = &[BEGINNING, PAGE_0, &[Add(10), Line(268)], END];
+
+const ERASE_1: Parts = &[BEGINNING, PAGE_1, END];
+
+const WRITE_1: Parts = &[BEGINNING, PAGE_1, &[Add(10), Line(268)], END];
+
+const ERASE: Parts = &[BEGINNING, PAGE, END];
+
+const WRITE: Parts = &[BEGINNING, PAGE, &[Add(12), Line(268)], END];
+
+/// What each write puts.
+const BYTES: &[u8] = &[0x01, 0x02, 0x03];
 
 /// Chip 0A02 with a flash of 00.
-pub fn wide(change: Change, parts: &'static [Part]) -> Case {
+pub fn wide(change: Change, parts: Parts) -> Case {
     Case {
         id: 0x0A02,
         page: 256,
@@ -103,99 +45,36 @@ pub fn wide(change: Change, parts: &'static [Part]) -> Case {
     }
 }
 
-#[test]
-fn page_0_comes_back(rt: HostRuntime) -> Result<(), Fail> {
-    let rows = [
-        (Change::Erase(&[0]), ERASE_0),
-        (Change::Write(1, &[0x01, 0x02, 0x03]), WRITE_0),
-    ];
-    for (change, parts) in rows {
-        let case = wide(change, parts);
-        assert_eq!(rt;
-            first_failure(&rt, &case, Between::Nothing, 0, 5, 61)?,
-            None
-        );
+/// Pages: an erase of one, and a write of three bytes behind its first, with the parts of each.
+const PAGES: [(Change, Parts); 12] = [
+    (Change::Erase(&[0]), ERASE_0),
+    (Change::Write(1, BYTES), WRITE_0),
+    (Change::Erase(&[1]), ERASE_1),
+    (Change::Write(257, BYTES), WRITE_1),
+    (Change::Erase(&[255]), ERASE),
+    (Change::Write(65_281, BYTES), WRITE),
+    (Change::Erase(&[256]), ERASE),
+    (Change::Write(65_537, BYTES), WRITE),
+    (Change::Erase(&[257]), ERASE),
+    (Change::Write(65_793, BYTES), WRITE),
+    (Change::Erase(&[511]), ERASE),
+    (Change::Write(130_817, BYTES), WRITE),
+];
+
+/// The first of these changes that has a stop after which it isn't taken back, and that stop.
+fn first_stop(rt: &HostRuntime, rows: &[(Change, Parts)]) -> Result<Option<(usize, u64)>, Fail> {
+    for (place, (change, parts)) in rows.iter().enumerate() {
+        let case = wide(*change, parts);
+        if let Some(steps) = first_failure(rt, &case, Between::Nothing, 0, 5, 61)? {
+            return Ok(Some((place, steps)));
+        }
     }
-    Ok(())
+    Ok(None)
 }
 
 #[test]
-fn page_1_comes_back(rt: HostRuntime) -> Result<(), Fail> {
-    let rows = [
-        (Change::Erase(&[1]), ERASE_1),
-        (Change::Write(257, &[0x01, 0x02, 0x03]), WRITE_1),
-    ];
-    for (change, parts) in rows {
-        let case = wide(change, parts);
-        assert_eq!(rt;
-            first_failure(&rt, &case, Between::Nothing, 0, 5, 61)?,
-            None
-        );
-    }
-    Ok(())
-}
-
-#[test]
-fn page_255_comes_back(rt: HostRuntime) -> Result<(), Fail> {
-    let rows = [
-        (Change::Erase(&[255]), ERASE),
-        (Change::Write(65_281, &[0x01, 0x02, 0x03]), WRITE),
-    ];
-    for (change, parts) in rows {
-        let case = wide(change, parts);
-        assert_eq!(rt;
-            first_failure(&rt, &case, Between::Nothing, 0, 5, 61)?,
-            None
-        );
-    }
-    Ok(())
-}
-
-#[test]
-fn page_256_comes_back(rt: HostRuntime) -> Result<(), Fail> {
-    let rows = [
-        (Change::Erase(&[256]), ERASE),
-        (Change::Write(65_537, &[0x01, 0x02, 0x03]), WRITE),
-    ];
-    for (change, parts) in rows {
-        let case = wide(change, parts);
-        assert_eq!(rt;
-            first_failure(&rt, &case, Between::Nothing, 0, 5, 61)?,
-            None
-        );
-    }
-    Ok(())
-}
-
-#[test]
-fn page_257_comes_back(rt: HostRuntime) -> Result<(), Fail> {
-    let rows = [
-        (Change::Erase(&[257]), ERASE),
-        (Change::Write(65_793, &[0x01, 0x02, 0x03]), WRITE),
-    ];
-    for (change, parts) in rows {
-        let case = wide(change, parts);
-        assert_eq!(rt;
-            first_failure(&rt, &case, Between::Nothing, 0, 5, 61)?,
-            None
-        );
-    }
-    Ok(())
-}
-
-#[test]
-fn page_511_comes_back(rt: HostRuntime) -> Result<(), Fail> {
-    let rows = [
-        (Change::Erase(&[511]), ERASE),
-        (Change::Write(130_817, &[0x01, 0x02, 0x03]), WRITE),
-    ];
-    for (change, parts) in rows {
-        let case = wide(change, parts);
-        assert_eq!(rt;
-            first_failure(&rt, &case, Between::Nothing, 0, 5, 61)?,
-            None
-        );
-    }
+fn pages_come_back(rt: HostRuntime) -> Result<(), Fail> {
+    assert_eq!(rt; first_stop(&rt, &PAGES)?, None);
     Ok(())
 }
 
@@ -211,7 +90,7 @@ const BEFALLS: [(Between, u64, u64); 4] = [
 #[test]
 fn lost_replies_and_resets_do_no_harm(rt: HostRuntime) -> Result<(), Fail> {
     for (between, near, stride) in BEFALLS {
-        let case = wide(Change::Write(257, &[0x01, 0x02, 0x03]), WRITE_1);
+        let case = wide(Change::Write(257, BYTES), WRITE_1);
         assert_eq!(rt; first_failure(&rt, &case, between, 0, near, stride)?, None);
         let case = wide(Change::Erase(&[256]), ERASE);
         assert_eq!(rt; first_failure(&rt, &case, between, 0, near, stride)?, None);

@@ -39,6 +39,9 @@ pub enum Between {
     Power(u8, bool),
 }
 
+/// The parts of a run, in lists that follow one another.
+pub type Parts = &'static [&'static [Part]];
+
 /// A run on a fresh device, the stack of segments before it, and the parts that it has by
 /// docs/SESSIONS.md.
 #[derive(Clone, Copy)]
@@ -53,7 +56,7 @@ pub struct Case {
     pub before: &'static [Change],
     /// What the run that is stopped does.
     pub change: Change,
-    pub parts: &'static [Part],
+    pub parts: Parts,
 }
 
 /// What each stop of a case begins with: the flash before each segment, the last one that of the
@@ -121,20 +124,22 @@ pub fn start_of(rt: &HostRuntime, table: &Table, case: &Case) -> Result<Start, F
 }
 
 /// What a run answers that is stopped after so many steps, and how many segments it has begun.
-fn due(parts: &[Part], steps: u64) -> (Option<Fault>, u32) {
+fn due(parts: Parts, steps: u64) -> (Option<Fault>, u32) {
     let mut left = steps;
     let mut begun = 0_u32;
-    for part in parts {
-        let (size, fault) = match part {
-            Part::Line(size) => (*size, Fault::Line),
-            Part::Open(size) | Part::Add(size) => (*size, Fault::Journal),
-        };
-        if left < size {
-            return (Some(fault), begun);
-        }
-        left = left.saturating_sub(size);
-        if let Part::Open(_) = part {
-            begun = begun.saturating_add(1);
+    for list in parts {
+        for part in *list {
+            let (size, fault) = match part {
+                Part::Line(size) => (*size, Fault::Line),
+                Part::Open(size) | Part::Add(size) => (*size, Fault::Journal),
+            };
+            if left < size {
+                return (Some(fault), begun);
+            }
+            left = left.saturating_sub(size);
+            if let Part::Open(_) = part {
+                begun = begun.saturating_add(1);
+            }
         }
     }
     (None, begun)
@@ -147,22 +152,26 @@ fn size_of(part: Part) -> u64 {
 }
 
 /// How many steps a run of these parts takes.
-fn total(parts: &[Part]) -> u64 {
+fn total(parts: Parts) -> u64 {
     let mut steps = 0_u64;
-    for part in parts {
-        steps = steps.saturating_add(size_of(*part));
+    for list in parts {
+        for part in *list {
+            steps = steps.saturating_add(size_of(*part));
+        }
     }
     steps
 }
 
 /// Whether a part begins or ends near this step.
-fn is_near_a_turn(parts: &[Part], steps: u64, near: u64) -> bool {
+fn is_near_a_turn(parts: Parts, steps: u64, near: u64) -> bool {
     let mut turn = 0_u64;
-    for part in parts {
-        if turn.abs_diff(steps) <= near {
-            return true;
+    for list in parts {
+        for part in *list {
+            if turn.abs_diff(steps) <= near {
+                return true;
+            }
+            turn = turn.saturating_add(size_of(*part));
         }
-        turn = turn.saturating_add(size_of(*part));
     }
     turn.abs_diff(steps) <= near
 }

@@ -7,6 +7,9 @@ use std::alloc::Global;
 use std::test::Fail;
 use stm_image::{HexFault, Image, RawFault, read_hex, read_raw, write_hex};
 
+/// A text, and the pairs that it means, or its fault.
+pub(crate) type Row = (&'static [u8], Result<&'static [(u32, u8)], HexFault>);
+
 const FOUR: &[u8] = b":020000040800F2\r\n:0400000001020304F2\r\n:00000001FF\r\n";
 
 // Bytes that two tools turned into HEX texts: byte i is 7 times i, plus 3.
@@ -44,20 +47,23 @@ fn has(image: &Image, pairs: &[(u32, u8)]) -> bool {
     beyond && image.len() == pairs.len() && image.is_empty() == pairs.is_empty()
 }
 
-// Whether a text means just these pairs.
-fn means(alloc: Global, text: &[u8], pairs: &[(u32, u8)]) -> bool {
-    match read_hex(alloc, text) {
-        Ok(image) => has(&image, pairs),
-        Err(_) => false,
+// Whether a text means just these pairs, or has this fault.
+fn is_read_as(alloc: Global, text: &[u8], due: Result<&[(u32, u8)], HexFault>) -> bool {
+    match (read_hex(alloc, text), due) {
+        (Ok(image), Ok(pairs)) => has(&image, pairs),
+        (Err(fault), Err(due)) => fault == due,
+        _ => false,
     }
 }
 
-// The fault of a text.
-fn fault(alloc: Global, text: &[u8]) -> Option<HexFault> {
-    match read_hex(alloc, text) {
-        Ok(_) => None,
-        Err(fault) => Some(fault),
+/// The first of these texts that is read as something else.
+pub(crate) fn first_other(alloc: Global, rows: &[Row]) -> Option<usize> {
+    for (place, (text, due)) in rows.iter().enumerate() {
+        if !is_read_as(alloc, text, *due) {
+            return Some(place);
+        }
     }
+    None
 }
 
 // Whether an image has just these bytes, from a start on.
@@ -93,132 +99,176 @@ fn means_raw(alloc: Global, text: &[u8], bytes: &[u8], start: u32) -> bool {
     is_text_of(alloc, text, bytes, start) && is_raw(alloc, bytes, start)
 }
 
+const SETS: &[Row] = &[
+    (
+        FOUR,
+        Ok(&[
+            (0x0800_0000, 1),
+            (0x0800_0001, 2),
+            (0x0800_0002, 3),
+            (0x0800_0003, 4),
+        ]),
+    ),
+    (
+        b":0100000055AA\n:0100000055AA\n:00000001FF",
+        Ok(&[(0, 0x55)]),
+    ),
+    (
+        b":020000021200EA\n:02FFFF00AABB9B\n:00000001FF",
+        Ok(&[(0x12000, 0xBB), (0x21FFF, 0xAA)]),
+    ),
+    (b":00000001FF", Ok(&[])),
+    (b":00000001FFjunk", Ok(&[])),
+    (
+        b" \t:01000200aa53\r:0100010001FD\n:0100020001FC:00000001ff",
+        Err(HexFault::Conflict(3)),
+    ),
+    (
+        b" \t:01000200aa53\r:0100010001FD\n:01000200AA53:00000001ff",
+        Ok(&[(1, 1), (2, 0xAA)]),
+    ),
+    (
+        b":02000004FFFFFC\n:02FFFF000102FD\n:00000001FF",
+        Ok(&[(0, 2), (0xFFFF_FFFF, 1)]),
+    ),
+];
+
 #[test]
 fn texts_mean_their_sets(rt: HostRuntime) {
-    let alloc = rt.alloc();
-    let four = [
-        (0x0800_0000, 1),
-        (0x0800_0001, 2),
-        (0x0800_0002, 3),
-        (0x0800_0003, 4),
-    ];
-    assert!(rt; means(alloc, FOUR, &four));
-    assert!(rt;
-        means(
-            alloc,
-            b":0100000055AA\n:0100000055AA\n:00000001FF",
-            &[(0, 0x55)]
-        )
-    );
-    assert!(rt;
-        means(
-            alloc,
-            b":020000021200EA\n:02FFFF00AABB9B\n:00000001FF",
-            &[(0x12000, 0xBB), (0x21FFF, 0xAA)]
-        )
-    );
-    assert!(rt; means(alloc, b":00000001FF", &[]));
-    assert!(rt; means(alloc, b":00000001FFjunk", &[]));
-    assert!(rt;
-        !means(
-            alloc,
-            b" \t:01000200aa53\r:0100010001FD\n:0100020001FC:00000001ff",
-            &[(1, 1), (2, 0xAA)]
-        )
-    );
-    assert!(rt;
-        means(
-            alloc,
-            b" \t:01000200aa53\r:0100010001FD\n:01000200AA53:00000001ff",
-            &[(1, 1), (2, 0xAA)]
-        )
-    );
-    assert!(rt;
-        means(
-            alloc,
-            b":02000004FFFFFC\n:02FFFF000102FD\n:00000001FF",
-            &[(0, 2), (0xFFFF_FFFF, 1)]
-        )
-    );
+    assert_eq!(rt; first_other(rt.alloc(), SETS), None);
 }
+
+const FAULTS: &[Row] = &[
+    (
+        b":020000040800F2\r\n:0400000001020304F2\r\n",
+        Err(HexFault::NoEnd(3)),
+    ),
+    (
+        b":020000040800F2\r\n:0400000001020304F3\r\n:00000001FF",
+        Err(HexFault::Checksum(2)),
+    ),
+    (
+        b":0100000055AA\n:0100000056A9\n:00000001FF",
+        Err(HexFault::Conflict(2)),
+    ),
+    (b"", Err(HexFault::NoEnd(1))),
+    (b":02000002120", Err(HexFault::Short(1))),
+    (b":0G", Err(HexFault::BadDigit(1))),
+    (b"x", Err(HexFault::NoColon(1))),
+    (b":00000006FA", Err(HexFault::Kind(1))),
+    (b":00000006FB", Err(HexFault::Checksum(1))),
+    (b":0100000100FE", Err(HexFault::Length(1))),
+    (
+        b":0100000055AA\n:0100000155A9\n:0100000056A9\n:0100000057A8\n:0",
+        Err(HexFault::Length(2)),
+    ),
+    (
+        b":0100000055AA\n:0100010055A9\n:0100000056A9\n:0100000057A8\n:0",
+        Err(HexFault::Conflict(3)),
+    ),
+];
 
 #[test]
 fn faults_stand_in_their_texts(rt: HostRuntime) {
-    let alloc = rt.alloc();
-    let cases: [(&[u8], HexFault); 12] = [
-        (
-            b":020000040800F2\r\n:0400000001020304F2\r\n",
-            HexFault::NoEnd(3),
-        ),
-        (
-            b":020000040800F2\r\n:0400000001020304F3\r\n:00000001FF",
-            HexFault::Checksum(2),
-        ),
-        (
-            b":0100000055AA\n:0100000056A9\n:00000001FF",
-            HexFault::Conflict(2),
-        ),
-        (b"", HexFault::NoEnd(1)),
-        (b":02000002120", HexFault::Short(1)),
-        (b":0G", HexFault::BadDigit(1)),
-        (b"x", HexFault::NoColon(1)),
-        (b":00000006FA", HexFault::Kind(1)),
-        (b":00000006FB", HexFault::Checksum(1)),
-        (b":0100000100FE", HexFault::Length(1)),
-        (
-            b":0100000055AA\n:0100000155A9\n:0100000056A9\n:0100000057A8\n:0",
-            HexFault::Length(2),
-        ),
-        (
-            b":0100000055AA\n:0100010055A9\n:0100000056A9\n:0100000057A8\n:0",
-            HexFault::Conflict(3),
-        ),
-    ];
-    for (text, wanted) in &cases {
-        assert_eq!(rt; fault(alloc, text), Some(*wanted));
-    }
+    assert_eq!(rt; first_other(rt.alloc(), FAULTS), None);
+}
+
+/// What is written of the set that a text means.
+fn rewritten(alloc: Global, text: &[u8]) -> Result<Vec<u8>, Fail> {
+    Ok(write_hex(alloc, &read_hex(alloc, text)?)?)
+}
+
+/// What is written of bytes from a start on.
+fn written(alloc: Global, bytes: &[u8], start: u32) -> Result<Vec<u8>, Fail> {
+    Ok(write_hex(alloc, &read_raw(alloc, bytes, start)?)?)
+}
+
+/// Whether just this is written of the set that a text means.
+fn is_rewritten_as(alloc: Global, text: &[u8], due: &[u8]) -> Result<bool, Fail> {
+    Ok(rewritten(alloc, text)?.as_slice() == due)
 }
 
 #[test]
 fn images_are_written(rt: HostRuntime) -> Result<(), Fail> {
-    let alloc = rt.alloc();
-    let four = write_hex(alloc, &read_hex(alloc, FOUR)?)?;
-    assert_eq!(rt;
-        four.as_slice(),
-        b":020000040800F2\n:0400000001020304F2\n:00000001FF\n".as_slice()
-    );
-    let edge = read_raw(alloc, &[0x11, 0x22], 0x0800_FFFF)?;
-    let text = write_hex(alloc, &edge)?;
-    assert_eq!(rt;
-        text.as_slice(),
-        b":020000040800F2\n:01FFFF0011F0\n:020000040801F1\n:0100000022DD\n:00000001FF\n".as_slice()
-    );
-    let none = write_hex(alloc, &read_raw(alloc, &[], 7)?)?;
-    assert_eq!(rt; none.as_slice(), b":00000001FF\n".as_slice());
-    let read = write_hex(alloc, &read_hex(alloc, SREC_CAT)?)?;
-    let raw = write_hex(alloc, &read_raw(alloc, RAW, 0x0800_FFF0)?)?;
-    assert_eq!(rt; read.as_slice(), raw.as_slice());
-    assert!(rt; means_raw(alloc, raw.as_slice(), RAW, 0x0800_FFF0));
+    let due = b":020000040800F2\n:0400000001020304F2\n:00000001FF\n";
+    assert!(rt; is_rewritten_as(rt.alloc(), FOUR, due)?);
     Ok(())
+}
+
+/// Bytes, the place of the first one, and what is written of them.
+const WRITTEN: &[(&[u8], u32, &[u8])] = &[
+    (
+        &[0x11, 0x22],
+        0x0800_FFFF,
+        b":020000040800F2\n:01FFFF0011F0\n:020000040801F1\n:0100000022DD\n:00000001FF\n",
+    ),
+    (&[], 7, b":00000001FF\n"),
+];
+
+/// The first of these rows of which something else is written.
+fn first_written(alloc: Global) -> Result<Option<usize>, Fail> {
+    for (place, (bytes, start, due)) in WRITTEN.iter().enumerate() {
+        if written(alloc, bytes, *start)?.as_slice() != *due {
+            return Ok(Some(place));
+        }
+    }
+    Ok(None)
+}
+
+#[test]
+fn raw_bytes_are_written(rt: HostRuntime) -> Result<(), Fail> {
+    assert_eq!(rt; first_written(rt.alloc())?, None);
+    Ok(())
+}
+
+/// Whether one text is written of these bytes and of the set that another text means, and it means
+/// them.
+fn is_written_alike(alloc: Global, text: &[u8], bytes: &[u8], start: u32) -> Result<bool, Fail> {
+    let raw = written(alloc, bytes, start)?;
+    Ok(is_rewritten_as(alloc, text, &raw)? && means_raw(alloc, &raw, bytes, start))
+}
+
+#[test]
+fn one_set_is_written_alike(rt: HostRuntime) -> Result<(), Fail> {
+    assert!(rt; is_written_alike(rt.alloc(), SREC_CAT, RAW, 0x0800_FFF0)?);
+    Ok(())
+}
+
+/// Whether bytes from a start on are just these pairs; or their fault.
+fn is_raw_as(alloc: Global, bytes: &[u8], start: u32, due: Result<&[(u32, u8)], RawFault>) -> bool {
+    match (read_raw(alloc, bytes, start), due) {
+        (Ok(image), Ok(pairs)) => has(&image, pairs),
+        (Err(fault), Err(due)) => fault == due,
+        _ => false,
+    }
 }
 
 #[test]
 fn raw_bytes_end_by_the_last_address(rt: HostRuntime) {
-    let alloc = rt.alloc();
-    match read_raw(alloc, &[1, 2], 0xFFFF_FFFE) {
-        Ok(image) => assert!(rt; has(&image, &[(0xFFFF_FFFE, 1), (0xFFFF_FFFF, 2)])),
-        Err(_) => assert!(rt; false),
+    let pairs = [(0xFFFF_FFFE, 1), (0xFFFF_FFFF, 2)];
+    let last = is_raw_as(rt.alloc(), &[1, 2], 0xFFFF_FFFE, Ok(&pairs));
+    let past = is_raw_as(rt.alloc(), &[1, 2], 0xFFFF_FFFF, Err(RawFault::PastEnd));
+    assert!(rt; last && past);
+}
+
+/// Texts that other tools made of the same bytes, and where these lie.
+const OF_OTHER_TOOLS: [(&[u8], u32); 3] = [
+    (OBJCOPY_LINEAR, 0x0800_FFF0),
+    (OBJCOPY_SEGMENT, 0x0002_FFF0),
+    (SREC_CAT, 0x0800_FFF0),
+];
+
+/// The first of these texts that means other bytes.
+fn first_of_other_tools(alloc: Global) -> Option<usize> {
+    for (place, (text, start)) in OF_OTHER_TOOLS.iter().enumerate() {
+        if !means_raw(alloc, text, RAW, *start) {
+            return Some(place);
+        }
     }
-    match read_raw(alloc, &[1, 2], 0xFFFF_FFFF) {
-        Ok(_) => assert!(rt; false),
-        Err(fault) => assert_eq!(rt; fault, RawFault::PastEnd),
-    }
+    None
 }
 
 #[test]
 fn texts_of_other_tools_are_read(rt: HostRuntime) {
-    let alloc = rt.alloc();
-    assert!(rt; means_raw(alloc, OBJCOPY_LINEAR, RAW, 0x0800_FFF0));
-    assert!(rt; means_raw(alloc, OBJCOPY_SEGMENT, RAW, 0x0002_FFF0));
-    assert!(rt; means_raw(alloc, SREC_CAT, RAW, 0x0800_FFF0));
+    assert_eq!(rt; first_of_other_tools(rt.alloc()), None);
 }

@@ -24,81 +24,143 @@ fn is_chip(alloc: Global, base: u32, count: u16, size: u32) -> Result<bool, Allo
     .is_some())
 }
 
+/// The base, how many pages, the size of a page, and whether that is a chip.
+const LIMITS: [(u32, u16, u32, bool); 18] = [
+    (0x0800_0000, 128, 1024, true),
+    (0x0800_0000, 0, 1024, false),
+    (0x0800_0000, 1, 256, true),
+    (0x0800_0000, 1, 0, false),
+    (0x0800_0000, 1, 255, false),
+    (0x0800_0000, 1, 257, false),
+    (0x0800_0000, 1, 384, false),
+    (0x0800_0000, 256, 256, true),
+    (0x0800_0000, 257, 256, false),
+    (0x0800_0000, 1, 2_097_152, true),
+    (0x0800_0000, 2, 1_048_576, true),
+    (0x0800_0000, 1, 2_097_408, false),
+    (0x0800_0000, 2, 1_048_832, false),
+    (0x0100_0000, 1, 1024, true),
+    (0x00FF_FF00, 1, 1024, false),
+    (0x0800_0080, 1, 1024, false),
+    (0xFFFF_FC00, 1, 1024, true),
+    (0xFFFF_FD00, 1, 1024, false),
+];
+
+/// The first row of `LIMITS` that is something else.
+fn first_limit(alloc: Global) -> Result<Option<usize>, AllocError> {
+    for (place, (base, count, size, due)) in LIMITS.iter().enumerate() {
+        if is_chip(alloc, *base, *count, *size)? != *due {
+            return Ok(Some(place));
+        }
+    }
+    Ok(None)
+}
+
 #[test]
 fn limits_at_their_edges(rt: HostRuntime) -> Result<(), Fail> {
-    let rows = [
-        // base, count of pages, size of a page, a chip or none
-        (0x0800_0000, 128, 1024, true),
-        (0x0800_0000, 0, 1024, false),
-        (0x0800_0000, 1, 256, true),
-        (0x0800_0000, 1, 0, false),
-        (0x0800_0000, 1, 255, false),
-        (0x0800_0000, 1, 257, false),
-        (0x0800_0000, 1, 384, false),
-        (0x0800_0000, 256, 256, true),
-        (0x0800_0000, 257, 256, false),
-        (0x0800_0000, 1, 2_097_152, true),
-        (0x0800_0000, 2, 1_048_576, true),
-        (0x0800_0000, 1, 2_097_408, false),
-        (0x0800_0000, 2, 1_048_832, false),
-        (0x0100_0000, 1, 1024, true),
-        (0x00FF_FF00, 1, 1024, false),
-        (0x0800_0080, 1, 1024, false),
-        (0xFFFF_FC00, 1, 1024, true),
-        (0xFFFF_FD00, 1, 1024, false),
-    ];
-    for (base, count, size, want) in rows {
-        assert_eq!(rt;
-            is_chip(rt.alloc(), base, count, size)?,
-            want,
-            "at {base:x}, {count} pages of {size}"
-        );
-    }
-    // One page of another size is refused among right ones.
+    assert_eq!(rt; first_limit(rt.alloc())?, None);
+    Ok(())
+}
+
+#[test]
+fn one_page_of_another_size_is_refused(rt: HostRuntime) -> Result<(), Fail> {
     let mut sizes = pages(rt.alloc(), 3, 1024)?;
     sizes.push(1000)?;
-    assert!(rt; Chip::new(0x410, 0x0800_0000, sizes, EraseKind::Page, 0xFF).is_none());
+    let is_chip = Chip::new(0x410, 0x0800_0000, sizes, EraseKind::Page, 0xFF).is_some();
+    assert!(rt; !is_chip);
     Ok(())
+}
+
+/// How it erases, how many pages of 256 bytes, what an erased place holds, and whether that is a
+/// chip.
+const KINDS: [(EraseKind, u16, u8, bool); 7] = [
+    (EraseKind::Page, 256, 0xFF, true),
+    (EraseKind::Page, 257, 0xFF, false),
+    (EraseKind::Extended, 512, 0xFF, true),
+    (EraseKind::Extended, 513, 0xFF, false),
+    (EraseKind::Page, 4, 0x00, true),
+    (EraseKind::Page, 4, 0x01, false),
+    (EraseKind::Extended, 4, 0xFE, false),
+];
+
+/// How many pages such a chip has, and what an erased place of it holds.
+fn told(
+    alloc: Global,
+    kind: EraseKind,
+    count: u16,
+    erased: u8,
+) -> Result<Option<(u16, u8)>, AllocError> {
+    let sizes = pages(alloc, count, 256)?;
+    Ok(match Chip::new(0xA02, 0x0800_0000, sizes, kind, erased) {
+        Some(chip) => Some((chip.pages(), chip.erased())),
+        None => None,
+    })
+}
+
+/// The first row of `KINDS` that is something else.
+fn first_kind(alloc: Global) -> Result<Option<usize>, AllocError> {
+    for (place, (kind, count, erased, is_chip)) in KINDS.iter().enumerate() {
+        let due = if *is_chip {
+            Some((*count, *erased))
+        } else {
+            None
+        };
+        if told(alloc, *kind, *count, *erased)? != due {
+            return Ok(Some(place));
+        }
+    }
+    Ok(None)
 }
 
 #[test]
 fn kinds_and_erased_bytes_have_their_limits(rt: HostRuntime) -> Result<(), Fail> {
-    let rows = [
-        // how it erases, count of pages, what an erased place holds, a chip or none
-        (EraseKind::Page, 256, 0xFF, true),
-        (EraseKind::Page, 257, 0xFF, false),
-        (EraseKind::Extended, 512, 0xFF, true),
-        (EraseKind::Extended, 513, 0xFF, false),
-        (EraseKind::Page, 4, 0x00, true),
-        (EraseKind::Page, 4, 0x01, false),
-        (EraseKind::Extended, 4, 0xFE, false),
-    ];
-    for (kind, count, erased, want) in rows {
-        let sizes = pages(rt.alloc(), count, 256)?;
-        let chip = Chip::new(0xA02, 0x0800_0000, sizes, kind, erased);
-        let told = chip.map(|chip| (chip.pages(), chip.erased()));
-        let wanted = want.then_some((count, erased));
-        assert_eq!(rt; told, wanted, "{count} pages, {erased:x}");
-    }
+    assert_eq!(rt; first_kind(rt.alloc())?, None);
     Ok(())
+}
+
+/// Four pages of 16 KiB, and one of 64.
+fn mixed(alloc: Global) -> Result<Chip, Fail> {
+    let mut sizes = pages(alloc, 4, 0x4000)?;
+    sizes.push(0x1_0000)?;
+    Ok(Chip::new(0x413, 0x0800_0000, sizes, EraseKind::Extended, 0xFF).ok_or("no chip")?)
 }
 
 #[test]
 fn reads_its_values(rt: HostRuntime) -> Result<(), Fail> {
-    let mut sizes = pages(rt.alloc(), 4, 0x4000)?;
-    sizes.push(0x1_0000)?;
-    let chip = Chip::new(0x413, 0x0800_0000, sizes, EraseKind::Extended, 0xFF).ok_or("no chip")?;
-    assert_eq!(rt; chip.id(), 0x413);
-    assert_eq!(rt; chip.base(), 0x0800_0000);
-    assert_eq!(rt; chip.kind(), EraseKind::Extended);
-    assert_eq!(rt; chip.flash_size(), 0x2_0000);
-    assert_eq!(rt; chip.end(), 0x0802_0000);
-    let chip = chip.clone()?;
-    assert_eq!(rt; chip.pages(), 5);
-    assert_eq!(rt; chip.page_start(0), 0x0800_0000);
-    assert_eq!(rt; chip.page_start(4), 0x0801_0000);
-    assert_eq!(rt; chip.page_size(3), 0x4000);
-    assert_eq!(rt; chip.page_size(4), 0x1_0000);
+    let chip = mixed(rt.alloc())?;
+    let found = (chip.id(), chip.kind(), chip.flash_size());
+    let ends = (chip.base(), chip.end());
+    assert!(rt;
+        found == (0x413, EraseKind::Extended, 0x2_0000) && ends == (0x0800_0000, 0x0802_0000)
+    );
+    Ok(())
+}
+
+/// Where a page begins, and its size.
+fn page_of(chip: &Chip, n: u16) -> Option<(u32, u32)> {
+    if n < chip.pages() {
+        Some((chip.page_start(n), chip.page_size(n)))
+    } else {
+        None
+    }
+}
+
+#[test]
+fn a_copy_reads_its_pages(rt: HostRuntime) -> Result<(), Fail> {
+    let chip = mixed(rt.alloc())?.clone()?;
     chip.keeps_limits();
+    let pages = [
+        page_of(&chip, 0),
+        page_of(&chip, 3),
+        page_of(&chip, 4),
+        page_of(&chip, 5),
+    ];
+    let due = [
+        Some((0x0800_0000, 0x4000)),
+        Some((0x0800_C000, 0x4000)),
+        Some((0x0801_0000, 0x1_0000)),
+        None,
+    ];
+    assert_eq!(rt; (chip.pages(), pages), (5, due));
     Ok(())
 }

@@ -1,8 +1,8 @@
 // The texts of chip tables, and what becomes of them.
 use std::alloc::{AllocError, Global};
 use std::test::Fail;
-use stm_chip::{TableFault, read_table};
-use stm_wire::EraseKind;
+use stm_chip::{Table, TableFault, read_table};
+use stm_wire::{Chip, EraseKind};
 
 const FIRST: &str =
     "[[chip]]\nid = 0x410\nbase = 0x08000000\npages = [[128, 1024]]\nerase = \"page\"\n\n";
@@ -23,195 +23,242 @@ fn chip_with(alloc: Global, id: &str, pages: &str, erase: &str) -> Result<String
     format!(in alloc; "[[chip]]\nid = {id}\nbase = 0x08000000\npages = {pages}\nerase = {erase}\n")
 }
 
+/// Id, pages, bytes of the flash, and how it erases.
+const SAMPLE: [(u16, u16, u32, EraseKind); 5] = [
+    (0x410, 128, 131_072, EraseKind::Page),
+    (0x412, 32, 32_768, EraseKind::Page),
+    (0x414, 256, 524_288, EraseKind::Page),
+    (0x413, 12, 1_048_576, EraseKind::Extended),
+    (0xA01, 256, 65_536, EraseKind::Extended),
+];
+
+/// What a row of `SAMPLE` has, and the base.
+fn told(chip: &Chip) -> (u16, u16, u32, EraseKind, u32) {
+    (
+        chip.id(),
+        chip.pages(),
+        chip.flash_size(),
+        chip.kind(),
+        chip.base(),
+    )
+}
+
+/// The first row of `SAMPLE` of which the table has no such chip.
+fn first_other(table: &Table) -> Option<usize> {
+    for (place, (id, pages, size, kind)) in SAMPLE.iter().enumerate() {
+        let due = (*id, *pages, *size, *kind, 0x0800_0000);
+        match table.find(*id) {
+            Some(chip) => {
+                if told(chip) != due {
+                    return Some(place);
+                }
+            }
+            None => return Some(place),
+        }
+    }
+    None
+}
+
 #[test]
 fn reads_the_sample(rt: HostRuntime) -> Result<(), Fail> {
     let text = sample_with(rt.alloc(), SECOND)?;
     let table = read_table(rt.alloc(), text.as_bytes())?;
-    let rows = [
-        // id, pages, bytes of the flash, how it erases
-        (0x410, 128, 131_072, EraseKind::Page),
-        (0x412, 32, 32_768, EraseKind::Page),
-        (0x414, 256, 524_288, EraseKind::Page),
-        (0x413, 12, 1_048_576, EraseKind::Extended),
-        (0xA01, 256, 65_536, EraseKind::Extended),
-    ];
-    for (id, pages, size, kind) in rows {
-        let chip = table.find(id).ok_or("no chip")?;
-        assert_eq!(rt; chip.id(), id);
-        assert_eq!(rt; chip.base(), 0x0800_0000);
-        assert_eq!(rt; chip.pages(), pages, "of {id:x}");
-        assert_eq!(rt; chip.flash_size(), size, "of {id:x}");
-        assert_eq!(rt; chip.kind(), kind, "of {id:x}");
-    }
-    assert!(rt; table.find(0x411).is_none());
+    let found = (first_other(&table), table.find(0x411).is_some());
+    assert_eq!(rt; found, (None, false));
     Ok(())
+}
+
+/// What an erased place holds of a chip with this value of `erase` and the keys behind it.
+fn erased_with(alloc: Global, erase: &str) -> Result<u8, Fail> {
+    let text = chip_with(alloc, "0xA03", "[[4, 256]]", erase)?;
+    let table = read_table(alloc, text.as_bytes())?;
+    let chip = table.find(0xA03).ok_or("no chip")?;
+    Ok(chip.erased())
 }
 
 #[test]
 fn reads_what_an_erased_place_holds(rt: HostRuntime) -> Result<(), Fail> {
-    let rows = [
-        ("\"page\"", 0xFF),
-        ("\"page\"\nerased = 255", 0xFF),
-        ("\"page\"\nerased = 0", 0x00),
-    ];
-    for (erase, want) in rows {
-        let text = chip_with(rt.alloc(), "0xA03", "[[4, 256]]", erase)?;
-        let table = read_table(rt.alloc(), text.as_bytes())?;
-        let chip = table.find(0xA03).ok_or("no chip")?;
-        assert_eq!(rt; chip.erased(), want, "{text}");
-    }
+    let none = erased_with(rt.alloc(), "\"page\"")?;
+    let ones = erased_with(rt.alloc(), "\"page\"\nerased = 255")?;
+    let zeros = erased_with(rt.alloc(), "\"page\"\nerased = 0")?;
+    assert_eq!(rt; (none, ones, zeros), (0xFF, 0xFF, 0x00));
     Ok(())
+}
+
+/// Texts, and their faults.
+const DOCUMENTS: [(&[u8], Option<TableFault>); 6] = [
+    (b"", Some(TableFault::Missing(0))),
+    (b"chip = []", None),
+    (b"chip = 3", Some(TableFault::Missing(0))),
+    (b"chip = [{}, 3]", Some(TableFault::Missing(0))),
+    (b"[[chip]", Some(TableFault::Syntax)),
+    (b"# \xff", Some(TableFault::Syntax)),
+];
+
+/// The first of these texts with another fault.
+fn first_document(alloc: Global) -> Option<usize> {
+    for (place, (text, due)) in DOCUMENTS.iter().enumerate() {
+        if read_table(alloc, text).err() != *due {
+            return Some(place);
+        }
+    }
+    None
 }
 
 #[test]
 fn refuses_documents(rt: HostRuntime) {
-    let rows = [
-        (b"".as_slice(), Some(TableFault::Missing(0))),
-        (b"chip = []".as_slice(), None),
-        (b"chip = 3".as_slice(), Some(TableFault::Missing(0))),
-        (b"chip = [{}, 3]".as_slice(), Some(TableFault::Missing(0))),
-        (b"[[chip]".as_slice(), Some(TableFault::Syntax)),
-        (b"# \xff".as_slice(), Some(TableFault::Syntax)),
-    ];
-    for (text, want) in rows {
-        assert_eq!(rt; read_table(rt.alloc(), text).err(), want, "{text:?}");
+    assert_eq!(rt; first_document(rt.alloc()), None);
+}
+
+/// A table's second chip, and the fault of the table. In one entry a broken limit comes before an
+/// id that was there; the first faulty entry decides.
+const SECOND_CHIPS: [(&str, TableFault); 3] = [
+    (
+        "[[chip]]\nid = 0x412\nbase = 0x08000000\npages = [[32, 100]]\nerase = \"page\"\n",
+        TableFault::Limit(2),
+    ),
+    (
+        "[[chip]]\nid = 0x410\nbase = 0x08000000\npages = [[32, 1024]]\nerase = \"page\"\n",
+        TableFault::TwiceId(2),
+    ),
+    (
+        "[[chip]]\nid = 0x410\nbase = 0\npages = [[32, 1024]]\nerase = \"page\"\n[[chip]]\n",
+        TableFault::Limit(2),
+    ),
+];
+
+/// The first of these chips whose table has another fault.
+fn first_second_chip(alloc: Global) -> Result<Option<usize>, AllocError> {
+    for (place, (second, due)) in SECOND_CHIPS.iter().enumerate() {
+        let text = sample_with(alloc, second)?;
+        if read_table(alloc, text.as_bytes()).err() != Some(*due) {
+            return Ok(Some(place));
+        }
     }
+    Ok(None)
 }
 
 #[test]
 fn refuses_a_second_chip(rt: HostRuntime) -> Result<(), Fail> {
-    let rows = [
-        (
-            "[[chip]]\nid = 0x412\nbase = 0x08000000\npages = [[32, 100]]\nerase = \"page\"\n",
-            TableFault::Limit(2),
-        ),
-        (
-            "[[chip]]\nid = 0x410\nbase = 0x08000000\npages = [[32, 1024]]\nerase = \"page\"\n",
-            TableFault::TwiceId(2),
-        ),
-        // In one entry a broken limit comes before an id that was there; the
-        // first faulty entry decides.
-        (
-            "[[chip]]\nid = 0x410\nbase = 0\npages = [[32, 1024]]\nerase = \"page\"\n[[chip]]\n",
-            TableFault::Limit(2),
-        ),
-    ];
-    for (second, want) in rows {
-        let text = sample_with(rt.alloc(), second)?;
-        assert_eq!(rt;
-            read_table(rt.alloc(), text.as_bytes()).err(),
-            Some(want),
-            "{second}"
-        );
-    }
+    assert_eq!(rt; first_second_chip(rt.alloc())?, None);
     Ok(())
+}
+
+/// Id, pages, `erase` and the keys behind it, and the fault.
+const VALUES: [(&str, &str, &str, Option<TableFault>); 21] = [
+    ("1", "[[1, 256]]", "\"page\"\nmaker = \"any\"", None),
+    ("65535", "[[1, 256]]", "\"page\"", None),
+    (
+        "65536",
+        "[[1, 256]]",
+        "\"page\"",
+        Some(TableFault::Limit(1)),
+    ),
+    ("-1", "[[1, 256]]", "\"page\"", Some(TableFault::Limit(1))),
+    (
+        "\"1\"",
+        "[[1, 256]]",
+        "\"page\"",
+        Some(TableFault::Missing(1)),
+    ),
+    (
+        "0x1ffffffffffffffff",
+        "[[1, 256]]",
+        "\"page\"",
+        Some(TableFault::Syntax),
+    ),
+    ("1", "[]", "\"page\"", Some(TableFault::Limit(1))),
+    ("1", "[[0, 256]]", "\"page\"", Some(TableFault::Limit(1))),
+    ("1", "[[257, 256]]", "\"page\"", Some(TableFault::Limit(1))),
+    (
+        "1",
+        "[[1000000000000, 256]]",
+        "\"page\"",
+        Some(TableFault::Limit(1)),
+    ),
+    ("1", "[[1, 2, 3]]", "\"page\"", Some(TableFault::Missing(1))),
+    (
+        "1",
+        "[[0, 256], []]",
+        "\"page\"",
+        Some(TableFault::Missing(1)),
+    ),
+    (
+        "1",
+        "[[1, 256.0]]",
+        "\"page\"",
+        Some(TableFault::Missing(1)),
+    ),
+    ("1", "[[1, 256]]", "\"mass\"", Some(TableFault::Limit(1))),
+    ("1", "[[1, 256]]", "3", Some(TableFault::Missing(1))),
+    ("1", "[[512, 256]]", "\"extended\"", None),
+    (
+        "1",
+        "[[513, 256]]",
+        "\"extended\"",
+        Some(TableFault::Limit(1)),
+    ),
+    ("1", "[[1, 256]]", "\"page\"\nerased = 0", None),
+    (
+        "1",
+        "[[1, 256]]",
+        "\"page\"\nerased = 1",
+        Some(TableFault::Limit(1)),
+    ),
+    (
+        "1",
+        "[[1, 256]]",
+        "\"page\"\nerased = -1",
+        Some(TableFault::Limit(1)),
+    ),
+    // What is of another kind comes before a broken limit.
+    (
+        "1",
+        "[[0, 256]]",
+        "\"page\"\nerased = \"0\"",
+        Some(TableFault::Missing(1)),
+    ),
+];
+
+/// The first of these values with another fault.
+fn first_value(alloc: Global) -> Result<Option<usize>, AllocError> {
+    for (place, (id, pages, erase, due)) in VALUES.iter().enumerate() {
+        let text = chip_with(alloc, id, pages, erase)?;
+        if read_table(alloc, text.as_bytes()).err() != *due {
+            return Ok(Some(place));
+        }
+    }
+    Ok(None)
 }
 
 #[test]
 fn refuses_values(rt: HostRuntime) -> Result<(), Fail> {
-    let rows = [
-        // id, pages, erase, the fault
-        ("1", "[[1, 256]]", "\"page\"\nmaker = \"any\"", None),
-        ("65535", "[[1, 256]]", "\"page\"", None),
-        (
-            "65536",
-            "[[1, 256]]",
-            "\"page\"",
-            Some(TableFault::Limit(1)),
-        ),
-        ("-1", "[[1, 256]]", "\"page\"", Some(TableFault::Limit(1))),
-        (
-            "\"1\"",
-            "[[1, 256]]",
-            "\"page\"",
-            Some(TableFault::Missing(1)),
-        ),
-        (
-            "0x1ffffffffffffffff",
-            "[[1, 256]]",
-            "\"page\"",
-            Some(TableFault::Syntax),
-        ),
-        ("1", "[]", "\"page\"", Some(TableFault::Limit(1))),
-        ("1", "[[0, 256]]", "\"page\"", Some(TableFault::Limit(1))),
-        ("1", "[[257, 256]]", "\"page\"", Some(TableFault::Limit(1))),
-        (
-            "1",
-            "[[1000000000000, 256]]",
-            "\"page\"",
-            Some(TableFault::Limit(1)),
-        ),
-        ("1", "[[1, 2, 3]]", "\"page\"", Some(TableFault::Missing(1))),
-        (
-            "1",
-            "[[0, 256], []]",
-            "\"page\"",
-            Some(TableFault::Missing(1)),
-        ),
-        (
-            "1",
-            "[[1, 256.0]]",
-            "\"page\"",
-            Some(TableFault::Missing(1)),
-        ),
-        ("1", "[[1, 256]]", "\"mass\"", Some(TableFault::Limit(1))),
-        ("1", "[[1, 256]]", "3", Some(TableFault::Missing(1))),
-        ("1", "[[512, 256]]", "\"extended\"", None),
-        (
-            "1",
-            "[[513, 256]]",
-            "\"extended\"",
-            Some(TableFault::Limit(1)),
-        ),
-        ("1", "[[1, 256]]", "\"page\"\nerased = 0", None),
-        (
-            "1",
-            "[[1, 256]]",
-            "\"page\"\nerased = 1",
-            Some(TableFault::Limit(1)),
-        ),
-        (
-            "1",
-            "[[1, 256]]",
-            "\"page\"\nerased = -1",
-            Some(TableFault::Limit(1)),
-        ),
-        // What is of another kind comes before a broken limit.
-        (
-            "1",
-            "[[0, 256]]",
-            "\"page\"\nerased = \"0\"",
-            Some(TableFault::Missing(1)),
-        ),
-    ];
-    for (id, pages, erase, want) in rows {
-        let text = chip_with(rt.alloc(), id, pages, erase)?;
-        assert_eq!(rt;
-            read_table(rt.alloc(), text.as_bytes()).err(),
-            want,
-            "{text}"
-        );
-    }
+    assert_eq!(rt; first_value(rt.alloc())?, None);
     Ok(())
 }
 
-#[test]
-fn reads_each_beginning(rt: HostRuntime) -> Result<(), Fail> {
-    let text = sample_with(rt.alloc(), SECOND)?;
-    let bytes = text.as_bytes();
-    let mut read = 0u32;
-    let mut empty = 0u32;
+/// How many beginnings of a text are read, how many have no chip, and how many another fault than
+/// a beginning has.
+fn beginnings(alloc: Global, bytes: &[u8]) -> (u32, u32, u32) {
+    let mut read = 0_u32;
+    let mut empty = 0_u32;
+    let mut others = 0_u32;
     for end in 0..=bytes.len() {
-        match read_table(rt.alloc(), &bytes[..end]) {
+        match read_table(alloc, &bytes[..end]) {
             Ok(_) => read = read.saturating_add(1),
             Err(TableFault::Missing(0)) => empty = empty.saturating_add(1),
             Err(TableFault::Missing(_) | TableFault::Syntax) => {}
-            Err(other) => assert!(rt; false, "{other} at {end}"),
+            Err(_) => others = others.saturating_add(1),
         }
     }
-    // A chip ends at its last quotation mark, at the end of that line and, but for the last
-    // chip, at the blank line.
-    assert_eq!(rt; read, 14);
-    assert_eq!(rt; empty, 1);
+    (read, empty, others)
+}
+
+// A chip ends at its last quotation mark, at the end of that line and, but for the last chip, at
+// the blank line.
+#[test]
+fn reads_each_beginning(rt: HostRuntime) -> Result<(), Fail> {
+    let text = sample_with(rt.alloc(), SECOND)?;
+    assert_eq!(rt; beginnings(rt.alloc(), text.as_bytes()), (14, 1, 0));
     Ok(())
 }

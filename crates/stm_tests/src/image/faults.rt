@@ -1,17 +1,10 @@
 // Which fault is told, and at which record: of beginnings, and of records that disagree.
+use crate::image::{Row, first_other};
 use std::alloc::Global;
 use stm_image::{HexFault, read_hex};
 
 /// The text of which beginnings are read.
 const WHOLE: &[u8] = b":020000040800F2\r\n:0400000001020304F2\r\n:00000001FF\r\n";
-
-/// The fault of a text.
-fn fault(alloc: Global, text: &[u8]) -> Option<HexFault> {
-    match read_hex(alloc, text) {
-        Ok(_) => None,
-        Err(fault) => Some(fault),
-    }
-}
 
 /// What is told of the first bytes of `WHOLE`: its records end at bytes 15, 36 and 49.
 fn fault_of_beginning(count: usize) -> Option<HexFault> {
@@ -26,62 +19,63 @@ fn fault_of_beginning(count: usize) -> Option<HexFault> {
     }
 }
 
-#[test]
-fn beginnings_tell_their_record(rt: HostRuntime) {
-    let alloc = rt.alloc();
+/// The first count of bytes of `WHOLE` that is read as something else.
+fn first_beginning(alloc: Global) -> Option<usize> {
     for count in 0..=WHOLE.len() {
         let Some(beginning) = WHOLE.get(..count) else {
-            continue
+            return Some(count);
         };
-        assert_eq!(rt;
-            fault(alloc, beginning),
-            fault_of_beginning(count),
-            "{count}"
-        );
+        if read_hex(alloc, beginning).err() != fault_of_beginning(count) {
+            return Some(count);
+        }
     }
+    None
 }
 
 #[test]
+fn beginnings_tell_their_record(rt: HostRuntime) {
+    assert_eq!(rt; first_beginning(rt.alloc()), None);
+}
+
+const CONFLICTS: &[Row] = &[
+    // One address, with four bytes.
+    (
+        b":0100000001FE\n:0100000002FD\n:0100000001FE\n:0100000003FC",
+        Err(HexFault::Conflict(2)),
+    ),
+    // The record with the lowest address isn't the first that disagrees.
+    (
+        b":020004000102F7\n:0100000009F6\n:0100050003F7\n:0100000008F7",
+        Err(HexFault::Conflict(3)),
+    ),
+    // An equal byte again disagrees with nothing.
+    (
+        b":0100080001F6\n:0100000005FA\n:0100080001F6\n:0100000006F9\n:0100080002F5",
+        Err(HexFault::Conflict(4)),
+    ),
+    // The third of four records whose bytes stand together.
+    (
+        b":0100050007F3\n:020000000101FC\n:020002000101FA\n:020004000101F8\n:0100060001F8",
+        Err(HexFault::Conflict(4)),
+    ),
+    // Records that go on where others ended, and then back.
+    (
+        b":0100000001FE\n:0100010002FC\n:0100020003FA\n:0100020003FA\n:0100030004F8\n:0100040005F6\n:0100030005F7\n:0100000009F6",
+        Err(HexFault::Conflict(7)),
+    ),
+    // A record that goes on at the lowest address of its segment.
+    (
+        b":020000020000FC\n:02FFFF00AABB9B\n:01000000BB44\n:01FFFF00AA57\n:02FFFF00AABC9A",
+        Err(HexFault::Conflict(5)),
+    ),
+    // A record that goes on at address 0.
+    (
+        b":02000004FFFFFC\n:02FFFF000102FD\n:020000040000FA\n:0100000002FD\n:0100000003FC",
+        Err(HexFault::Conflict(5)),
+    ),
+];
+
+#[test]
 fn the_first_record_that_disagrees_is_told(rt: HostRuntime) {
-    let alloc = rt.alloc();
-    let rows: [(&[u8], u64); 7] = [
-        // One address, with four bytes.
-        (
-            b":0100000001FE\n:0100000002FD\n:0100000001FE\n:0100000003FC",
-            2,
-        ),
-        // The record with the lowest address isn't the first that disagrees.
-        (
-            b":020004000102F7\n:0100000009F6\n:0100050003F7\n:0100000008F7",
-            3,
-        ),
-        // An equal byte again disagrees with nothing.
-        (
-            b":0100080001F6\n:0100000005FA\n:0100080001F6\n:0100000006F9\n:0100080002F5",
-            4,
-        ),
-        // The third of four records whose bytes stand together.
-        (
-            b":0100050007F3\n:020000000101FC\n:020002000101FA\n:020004000101F8\n:0100060001F8",
-            4,
-        ),
-        // Records that go on where others ended, and then back.
-        (
-            b":0100000001FE\n:0100010002FC\n:0100020003FA\n:0100020003FA\n:0100030004F8\n:0100040005F6\n:0100030005F7\n:0100000009F6",
-            7,
-        ),
-        // A record that goes on at the lowest address of its segment.
-        (
-            b":020000020000FC\n:02FFFF00AABB9B\n:01000000BB44\n:01FFFF00AA57\n:02FFFF00AABC9A",
-            5,
-        ),
-        // A record that goes on at address 0.
-        (
-            b":02000004FFFFFC\n:02FFFF000102FD\n:020000040000FA\n:0100000002FD\n:0100000003FC",
-            5,
-        ),
-    ];
-    for (text, record) in &rows {
-        assert_eq!(rt; fault(alloc, text), Some(HexFault::Conflict(*record)));
-    }
+    assert_eq!(rt; first_other(rt.alloc(), CONFLICTS), None);
 }

@@ -1,6 +1,7 @@
 // Runs: records that overlap, that go on after each other, and that end at the last address; what
 // is laid, compared and copied.
-use crate::image::{fault, means};
+use crate::image::{Row, first_other};
+use std::alloc::Global;
 use std::test::Fail;
 use stm_image::{HexFault, Image, read_hex, read_raw, write_hex};
 
@@ -11,150 +12,156 @@ fn laid(image: &Image) -> [u8; 5] {
     bytes
 }
 
+/// An address, bytes from there on, and the first place at which the image has another one.
+type Compared = (u32, &'static [u8], Option<u32>);
+
+/// The first of these rows with another first difference.
+fn first_compared(image: &Image, rows: &[Compared]) -> Option<usize> {
+    for (place, (address, bytes, due)) in rows.iter().enumerate() {
+        if image.first_difference(*address, bytes) != *due {
+            return Some(place);
+        }
+    }
+    None
+}
+
+const SCATTERED: &[u8] = b":020000000102FB\n:020004000304F3\n:00000001FF\n";
+
+const OF_SCATTERED: &[Compared] = &[
+    (1, &[2, 8, 7, 3, 4], None),
+    (1, &[2, 9, 9, 3, 5], Some(5)),
+    (1, &[7, 9, 9, 3, 5], Some(1)),
+    (6, &[0, 0], None),
+];
+
 #[test]
 fn images_are_laid_and_compared(rt: HostRuntime) -> Result<(), Fail> {
-    let alloc = rt.alloc();
-    let text = b":020000000102FB\n:020004000304F3\n:00000001FF\n";
-    let image = read_hex(alloc, text)?;
+    let image = read_hex(rt.alloc(), SCATTERED)?;
     image.rises();
-    assert_eq!(rt; laid(&image), [2, 9, 9, 3, 4]);
-    assert_eq!(rt; image.first_difference(1, &[2, 8, 7, 3, 4]), None);
-    assert_eq!(rt; image.first_difference(1, &[2, 9, 9, 3, 5]), Some(5));
-    assert_eq!(rt; image.first_difference(1, &[7, 9, 9, 3, 5]), Some(1));
-    assert_eq!(rt; image.first_difference(6, &[0, 0]), None);
-    let copy = image.clone()?;
-    assert_eq!(rt; write_hex(alloc, &copy)?.as_slice(), text.as_slice());
-    assert_eq!(rt; laid(&copy), laid(&image));
+    let other = first_compared(&image, OF_SCATTERED);
+    assert_eq!(rt; (laid(&image), other), ([2, 9, 9, 3, 4], None));
     Ok(())
 }
+
+/// What the image of a text is laid as when it's copied, and what is written of it.
+fn copied(alloc: Global, text: &[u8]) -> Result<([u8; 5], Vec<u8>), Fail> {
+    let copy = read_hex(alloc, text)?.clone()?;
+    Ok((laid(&copy), write_hex(alloc, &copy)?))
+}
+
+#[test]
+fn an_image_is_copied(rt: HostRuntime) -> Result<(), Fail> {
+    let (bytes, text) = copied(rt.alloc(), SCATTERED)?;
+    assert!(rt; bytes == [2, 9, 9, 3, 4] && text.as_slice() == SCATTERED);
+    Ok(())
+}
+
+/// Two bytes that end at the last address.
+fn last_two(alloc: Global) -> Result<Image, Fail> {
+    Ok(read_raw(alloc, &[1, 2], 0xFFFF_FFFE)?)
+}
+
+const OF_LAST_TWO: &[Compared] = &[
+    (0xFFFF_FFFF, &[2, 5, 6], None),
+    (0xFFFF_FFFF, &[3, 5, 6], Some(0xFFFF_FFFF)),
+];
 
 #[test]
 fn the_last_address_is_laid_and_compared(rt: HostRuntime) -> Result<(), Fail> {
-    let alloc = rt.alloc();
-    let image = read_raw(alloc, &[1, 2], 0xFFFF_FFFE)?;
+    let image = last_two(rt.alloc())?;
     let mut bytes = [0u8; 3];
     image.lay(0xFFFF_FFFD, &mut bytes);
-    assert_eq!(rt; bytes, [0, 1, 2]);
-    assert_eq!(rt; image.first_difference(0xFFFF_FFFF, &[2, 5, 6]), None);
-    assert_eq!(rt;
-        image.first_difference(0xFFFF_FFFF, &[3, 5, 6]),
-        Some(0xFFFF_FFFF)
-    );
+    let other = first_compared(&image, OF_LAST_TWO);
+    assert_eq!(rt; (bytes, other), ([0, 1, 2], None));
     Ok(())
 }
 
+const OVERLAPS: &[Row] = &[
+    (
+        b":020008000809E5\n:020000000001FD\n:080001000102030405060708D3\n:00000001FF\n",
+        Ok(TEN),
+    ),
+    (
+        b":0A00000000010203040506070809C9\n:03000300030405EE\n:00000001FF\n",
+        Ok(TEN),
+    ),
+    (
+        b":020005000506EE\n:03000500050607E6\n:020002000203F7\n:00000001FF\n",
+        Ok(&[(2, 2), (3, 3), (5, 5), (6, 6), (7, 7)]),
+    ),
+];
+
+/// Ten bytes, each that of its place.
+const TEN: &[(u32, u8)] = &[
+    (0, 0),
+    (1, 1),
+    (2, 2),
+    (3, 3),
+    (4, 4),
+    (5, 5),
+    (6, 6),
+    (7, 7),
+    (8, 8),
+    (9, 9),
+];
+
 #[test]
 fn records_that_overlap_are_one_set(rt: HostRuntime) {
-    let alloc = rt.alloc();
-    assert!(rt;
-        means(
-            alloc,
-            b":020008000809E5\n:020000000001FD\n:080001000102030405060708D3\n:00000001FF\n",
-            &[
-                (0, 0),
-                (1, 1),
-                (2, 2),
-                (3, 3),
-                (4, 4),
-                (5, 5),
-                (6, 6),
-                (7, 7),
-                (8, 8),
-                (9, 9)
-            ]
-        )
-    );
-    assert!(rt;
-        means(
-            alloc,
-            b":0A00000000010203040506070809C9\n:03000300030405EE\n:00000001FF\n",
-            &[
-                (0, 0),
-                (1, 1),
-                (2, 2),
-                (3, 3),
-                (4, 4),
-                (5, 5),
-                (6, 6),
-                (7, 7),
-                (8, 8),
-                (9, 9)
-            ]
-        )
-    );
-    assert!(rt;
-        means(
-            alloc,
-            b":020005000506EE\n:03000500050607E6\n:020002000203F7\n:00000001FF\n",
-            &[(2, 2), (3, 3), (5, 5), (6, 6), (7, 7)]
-        )
-    );
+    assert_eq!(rt; first_other(rt.alloc(), OVERLAPS), None);
 }
+
+const CONFLICTS: &[Row] = &[
+    (
+        b":020008000809E5\n:020000000001FD\n:080001000102030405060709D2\n:00000001FF\n",
+        Err(HexFault::Conflict(3)),
+    ),
+    (
+        b":0A00000000010203040506070809C9\n:03000300030409EA\n:00000001FF\n",
+        Err(HexFault::Conflict(2)),
+    ),
+    (
+        b":020005000506EE\n:020005000507ED\n:00000001FF\n",
+        Err(HexFault::Conflict(2)),
+    ),
+    (
+        b":020005000506EE\n:0100070007F1\n:020004000405F1\n:020006000608EA\n:0100070006F2\n:00000001FF\n",
+        Err(HexFault::Conflict(4)),
+    ),
+];
 
 #[test]
 fn records_that_overlap_may_conflict(rt: HostRuntime) {
-    let alloc = rt.alloc();
-    assert_eq!(rt;
-        fault(
-            alloc,
-            b":020008000809E5\n:020000000001FD\n:080001000102030405060709D2\n:00000001FF\n"
-        ),
-        Some(HexFault::Conflict(3))
-    );
-    assert_eq!(rt;
-        fault(
-            alloc,
-            b":0A00000000010203040506070809C9\n:03000300030409EA\n:00000001FF\n"
-        ),
-        Some(HexFault::Conflict(2))
-    );
-    assert_eq!(rt;
-        fault(alloc, b":020005000506EE\n:020005000507ED\n:00000001FF\n"),
-        Some(HexFault::Conflict(2))
-    );
-    assert_eq!(rt;
-        fault(
-            alloc,
-            b":020005000506EE\n:0100070007F1\n:020004000405F1\n:020006000608EA\n:0100070006F2\n:00000001FF\n"
-        ),
-        Some(HexFault::Conflict(4))
-    );
+    assert_eq!(rt; first_other(rt.alloc(), CONFLICTS), None);
 }
+
+const RUNS: &[Row] = &[
+    (
+        b":04FFFE0001020304F5\n:020000040001F9\n:0100020005F8\n:00000001FF\n",
+        Ok(&[
+            (0xFFFE, 1),
+            (0xFFFF, 2),
+            (0x10000, 3),
+            (0x10001, 4),
+            (0x10002, 5),
+        ]),
+    ),
+    (
+        b":020000021000EC\n:04FFFE0001020304F5\n:0100020005F8\n:00000001FF\n",
+        Ok(&[
+            (0x10000, 3),
+            (0x10001, 4),
+            (0x10002, 5),
+            (0x1FFFE, 1),
+            (0x1FFFF, 2),
+        ]),
+    ),
+    (
+        b":02000004FFFFFC\n:02FFFE000102FE\n:020000040000FA\n:0100000003FC\n:00000001FF\n",
+        Ok(&[(0, 3), (0xFFFF_FFFE, 1), (0xFFFF_FFFF, 2)]),
+    ),
+];
 
 #[test]
 fn runs_go_on_over_64_kib_and_end_at_the_last_address(rt: HostRuntime) {
-    let alloc = rt.alloc();
-    assert!(rt;
-        means(
-            alloc,
-            b":04FFFE0001020304F5\n:020000040001F9\n:0100020005F8\n:00000001FF\n",
-            &[
-                (0xFFFE, 1),
-                (0xFFFF, 2),
-                (0x10000, 3),
-                (0x10001, 4),
-                (0x10002, 5)
-            ]
-        )
-    );
-    assert!(rt;
-        means(
-            alloc,
-            b":020000021000EC\n:04FFFE0001020304F5\n:0100020005F8\n:00000001FF\n",
-            &[
-                (0x10000, 3),
-                (0x10001, 4),
-                (0x10002, 5),
-                (0x1FFFE, 1),
-                (0x1FFFF, 2)
-            ]
-        )
-    );
-    assert!(rt;
-        means(
-            alloc,
-            b":02000004FFFFFC\n:02FFFE000102FE\n:020000040000FA\n:0100000003FC\n:00000001FF\n",
-            &[(0, 3), (0xFFFFFFFE, 1), (0xFFFFFFFF, 2)]
-        )
-    );
+    assert_eq!(rt; first_other(rt.alloc(), RUNS), None);
 }

@@ -3,10 +3,11 @@ ghost use Rattle.std.specs.Prelude.{◌≡◌, ◌<◌, ◌≤◌, ◌+◌, leng
 ghost use Rattle.stm_journal.specs.States.{is_unfinished, newest_is_open};
 ghost use Rattle.stm_journal.specs.Newest.{next_page};
 
-use crate::journal::rig_with;
+use crate::journal::opened;
+use std::alloc::Global;
 use std::test::Fail;
 use stm_journal::{Journal, JournalFault};
-use stm_wire::Rig;
+use stm_wire::{MemoryRig, Rig};
 
 /// One page of a command is written.
 #[tactic(auto, using(stm_journal::specs::NewestLaws::newest_may_keep_behind))]
@@ -65,26 +66,37 @@ fn take_back<R: Rig>(journal: &mut Journal, rig: &mut R) -> Result<(), JournalFa
     journal.undone(rig)
 }
 
+/// The journal's bytes behind a command that wrote these pages; and the Rig behind its undo, and
+/// whether there is a segment then.
+fn undone(
+    alloc: Global,
+    lines: &[u8],
+    pages: &[u16],
+    held: &[u8],
+) -> Result<(Vec<u8>, MemoryRig, bool), Fail>
+    requires rising { AllPairs (λ m n. m < n) pages.now }
+    requires some { 0 < length held.now }
+{
+    let (mut journal, mut rig) = opened(alloc, lines)?;
+    write_pages(&mut journal, &mut rig, pages, held)?;
+    let written = Vec::from_slice(alloc, rig.journal())?;
+    if journal.depth() == 0 {
+        return Err(Fail::from("no command"));
+    }
+    take_back(&mut journal, &mut rig)?;
+    let is_open = journal.is_open();
+    Ok((written, rig, is_open))
+}
+
 #[test]
 fn a_command_and_its_undo(rt: HostRuntime) -> Result<(), Fail> {
-    let mut rig = rig_with(rt.alloc(), b"stmjournal 1 0412\n")?;
-    let mut journal = Journal::load(rt.alloc(), &mut rig)?;
-    let depth = journal.depth();
-    assert!(rt; depth < 65535);
-    let unfinished = journal.is_unfinished();
-    assert!(rt; !unfinished);
-    write_pages(&mut journal, &mut rig, &[2, 5], &[0xFF])?;
-    assert!(rt;
-        rig.journal().ends_with(
-            b"\nopen 1\npage 2 FF\nerase 2\nprogram 2\npage 5 FF\nerase 5\nprogram 5\nend 1\n"
-        )
+    let (written, rig, is_open) = undone(rt.alloc(), b"stmjournal 1 0412\n", &[2, 5], &[0xFF])?;
+    let is_written = written.ends_with(
+        b"\nopen 1\npage 2 FF\nerase 2\nprogram 2\npage 5 FF\nerase 5\nprogram 5\nend 1\n",
     );
-    let depth = journal.depth();
-    assert!(rt; 0 < depth);
-    take_back(&mut journal, &mut rig)?;
-    assert!(rt;
-        rig.journal().ends_with(b"\nend 1\nerase 2\nprogram 2\nerase 5\nprogram 5\nundone 1\n")
+    let is_undone = rig.journal().ends_with(
+        b"\nend 1\nerase 2\nprogram 2\nerase 5\nprogram 5\nundone 1\n",
     );
-    assert!(rt; !journal.is_open());
+    assert_eq!(rt; (is_written, is_undone, is_open), (true, true, false));
     Ok(())
 }

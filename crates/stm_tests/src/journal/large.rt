@@ -2,7 +2,7 @@
 ghost use Rattle.std.specs.Prelude.{◌<◌, length, AllPairs};
 
 use crate::journal::call_order::write_pages;
-use crate::journal::rig_with;
+use crate::journal::{fault_of, loaded, opened};
 use std::alloc::{AllocError, Global};
 use std::test::Fail;
 use stm_journal::{Journal, JournalFault};
@@ -35,13 +35,7 @@ fn written(rt: &HostRuntime, lines: &[u8], pages: &[u16], held: &[u8]) -> Result
     requires rising { AllPairs (λ m n. m < n) pages.now }
     requires some { 0 < length held.now }
 {
-    let mut rig = rig_with(rt.alloc(), lines)?;
-    let mut journal = Journal::load(rt.alloc(), &mut rig)?;
-    let depth = journal.depth();
-    let unfinished = journal.is_unfinished();
-    if depth >= 65535 || unfinished {
-        return Err(Fail::from("no command can begin"));
-    }
+    let (mut journal, mut rig) = opened(rt.alloc(), lines)?;
     write_pages(&mut journal, &mut rig, pages, held)?;
     Ok(rig)
 }
@@ -108,8 +102,7 @@ fn segments(alloc: Global, count: u32, last: &str) -> Result<String, AllocError>
 #[test]
 fn a_journal_of_several_buffers(rt: HostRuntime) -> Result<(), Fail> {
     let text = segments(rt.alloc(), 500, "open 501\n")?;
-    let mut rig = rig_with(rt.alloc(), text.as_bytes())?;
-    let journal = Journal::load(rt.alloc(), &mut rig)?;
+    let journal = loaded(rt.alloc(), text.as_bytes())?;
     let found = (journal.depth(), journal.is_unfinished());
     let kept = (journal.kept(1, 0), journal.kept(500, 0));
     assert_eq!(rt;
@@ -122,8 +115,9 @@ fn a_journal_of_several_buffers(rt: HostRuntime) -> Result<(), Fail> {
 #[test]
 fn a_journal_of_several_buffers_with_a_number_twice(rt: HostRuntime) -> Result<(), Fail> {
     let text = segments(rt.alloc(), 500, "open 500\n")?;
-    let mut rig = rig_with(rt.alloc(), text.as_bytes())?;
-    let fault = Journal::load(rt.alloc(), &mut rig).err();
-    assert_eq!(rt; fault, Some(JournalFault::Bad(2502)));
+    assert_eq!(rt;
+        fault_of(rt.alloc(), text.as_bytes())?,
+        Some(JournalFault::Bad(2502))
+    );
     Ok(())
 }
