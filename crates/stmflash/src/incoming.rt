@@ -52,23 +52,20 @@ impl Incoming {
         Some(byte)
     }
 
-    /// Takes what a stream has in place of what was here, and answers how much: 0 at the stream's
-    /// end. Where the read fails, all stays as it was.
+    /// Takes what a stream has, where nothing is here, and answers how much: 0 at the stream's end.
+    /// Where the read fails, nothing is here still.
     fn fill<S: Read>(&mut self, stream: &mut S) -> io::Result<usize>
+        requires { self.old ≡ [] }
         ensures { MatchResult result
             (λ count. (count ≡ length self.new)
             × Consumes (S.remaining stream.old) (S.remaining stream.new) self.new)
             (λ e. (self.new ≡ self.old)
             × Keeps (S.remaining stream.old) (S.remaining stream.new)) }
     {
-        let mut bytes = [0u8; ROOM];
-        let count = stream.read(&mut bytes)?;
-        *self = Incoming {
-            bytes,
-            from: 0,
-            to: count,
-        };
-        Ok(count)
+        self.from = 0;
+        self.to = 0;
+        self.to = stream.read(&mut self.bytes)?;
+        Ok(self.to)
     }
 
     /// Takes the next byte that comes on a stream, with those behind it, where none is here; None
