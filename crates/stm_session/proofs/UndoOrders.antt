@@ -1,8 +1,7 @@
 -- Beginnings of what an undo does: there is always something left to do, or nothing is.
-use Rattle.std.proofs.Common.{◌≡◌, ℕ, zero, suc, ◌+◌, ◌-◌, ◌/◌, ◌<◌, ◌≤◌, Bool, List, [], ◌∷◌, ◌++◌, length, take, drop, replicate, Option, Some, None, Result, Ok, Err, IsErrAnd, refl, sym, ◌∙◌, ap, subst, arith, append_assoc}
+use Rattle.std.proofs.Common.{◌≡◌, ℕ, zero, suc, ◌+◌, ◌-◌, ◌/◌, ◌<◌, ◌≤◌, Bool, List, [], ◌∷◌, ◌++◌, length, take, drop, replicate, Some, None, Result, IsErrAnd, refl, sym, ◌∙◌, ap, subst, arith, append_assoc}
 use Rattle.std.specs.Prelude.{slice_get}
 use Rattle.std.proofs.lemmas.List.{length-drop, length-map, length-replicate}
-use Rattle.stm_wire.specs.declared.intent.Intent.{Intent}
 use Rattle.stm_wire.specs.Chip.{ChipData, erased_byte, page_size}
 use Rattle.stm_wire.specs.Dialogue.{GoesOn}
 use Rattle.stm_wire.specs.Rig.{RigState}
@@ -12,10 +11,10 @@ use Rattle.stm_journal.specs.declared.fault.JournalFault.{JournalFault}
 use Rattle.stm_journal.specs.declared.fault.JournalFault.TheVariants.{File, Bad, OtherDevice, Memory}
 use Rattle.stm_journal.specs.declared.kept.Kept.{Kept}
 use Rattle.stm_journal.specs.Newest.{pages_of_segments}
-use Rattle.stm_journal.specs.States.{SegmentData, intent_page}
+use Rattle.stm_journal.specs.States.{SegmentData}
 use Rattle.stm_session.specs.declared.fault.Fault.{Fault}
 use Rattle.stm_session.specs.Fault.{Cause, cause_of, fault_of_journal}
-use Rattle.stm_session.specs.Order.{Step, Adds, AreAllTakenBack, AreReturned, AreTakenBack, Begin, FailsBy, IsInOrder, IsReturned, IsRewritten, IsTakenBack, IsWorkRewritten, Stops, StopsBy, page_reads, restore_steps, rewrite_steps, torn_behind}
+use Rattle.stm_session.specs.Order.{Step, Adds, AreReturned, AreTakenBack, Begin, FailsBy, IsInOrder, IsReturned, IsRewritten, IsTakenBack, Stops, StopsBy, page_reads, restore_steps, rewrite_steps, torn_behind}
 use Rattle.stm_session.proofs.CutShort.{by_fault, halts}
 use Rattle.stm_session.proofs.Orders.{returned_next, taken_next}
 

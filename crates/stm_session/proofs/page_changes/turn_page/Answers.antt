@@ -1,4 +1,4 @@
-use Rattle.std.proofs.Common.{◌≡◌, ◌∙◌, ◌+◌, ◌*◌, ◌≤◌, ◌++◌, [], List, ℕ, Bool, Result, Some, Ok}
+use Rattle.std.proofs.Common.{◌≡◌, ◌∙◌, ◌+◌, ◌*◌, ◌≤◌, ◌++◌, [], List, ℕ, Bool, Result, Some}
 use Rattle.std.proofs.Common.{true, false, inl, inr, not, length, ap, ap₂, refl, sym, subst, arith}
 use Rattle.std.proofs.Common.{rules}
 use Rattle.std.specs.Prelude.{bytes_eq}
