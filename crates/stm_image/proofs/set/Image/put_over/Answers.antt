@@ -10,9 +10,10 @@ use Rattle.stm_image.specs.Pairs.{Pairs, IsImage}
 use Rattle.stm_image.specs.Pieces.{Stand, pairs_at}
 use Rattle.stm_image.specs.declared.pieces.Piece.{Piece}
 use Rattle.stm_image.proofs.Lying.{is_image}
-use Rattle.stm_image.proofs.Putting.{reaches, found_at, puts_over}
+use Rattle.stm_image.proofs.Putting.{IsHolder, reaches, found_at, puts_over}
 use Rattle.stm_image.proofs.Running.{lasts_rise}
 use Rattle.stm_image.proofs.set.Image.put_over.Goals as goal
+use Rattle.stm_image.proofs.set.Image.put_over.Goals.{After-index-piece}
 
 -- the piece at a place is the first to end at an address or after it
 abbrev Low : List Piece → ℕ → ℕ → Type 0
@@ -37,41 +38,61 @@ index-piece-requires c =
     let lt = reaches runs.bytes.items runs.list.items place c.args.address (length c.args.bytes.now) c.self.invariant.stand low (subst N (sym c.self.view_is) c.requires) some in
     omega (arith, lt, runs.list.ok.0)
 
+-- The piece that was found, in which the bytes lie.
+module _ (c : goal.After-index-piece) where
+  abbrev piece : Piece
+  piece = c.index-piece.result.now
+
+  abbrev list : List Piece
+  list = c.self.inside.runs.list.items
+
+  low : Low list c.args.address c.first_ending_from-place.result
+  low =
+      subst (λ (l : List Piece). Low l c.args.address c.first_ending_from-place.result)
+      c.as_slice.ensures.value c.first_ending_from-place.ensures.before
+
+  high : High list c.args.address c.first_ending_from-place.result
+  high =
+      subst (λ (l : List Piece). High l c.args.address c.first_ending_from-place.result)
+      c.as_slice.ensures.value c.first_ending_from-place.ensures.here
+
+  named : Names (pairs_at c.self.inside.runs.bytes.items list)
+      c.args.address (length c.args.bytes.now)
+  named =
+      let N : Pairs → Type 0 = λ ps. Names ps c.args.address (length c.args.bytes.now) in
+      subst N (sym c.self.view_is) c.requires
+
+  some : 0 < length c.args.bytes.now
+  some = grind (arith, nat_tests)
+
+  found : IsHolder c.self.inside.runs.bytes.items list
+      c.first_ending_from-place.result piece c.args.address (length c.args.bytes.now)
+  found =
+      found_at c.self.inside.runs.bytes.items list c.first_ending_from-place.result piece
+      c.self.invariant.stand c.self.invariant.apart c.args.address (length c.args.bytes.now)
+      low high named some c.index-piece.ensures
+
 pub overflow_sub-skip : goal.overflow_sub-skip
 overflow_sub-skip c =
-    let runs = c.self.inside.runs in
-    let place = c.first_ending_from-place.result in
-    let N : Pairs → Type 0 = λ ps. Names ps c.args.address (length c.args.bytes.now) in
-    let same = c.as_slice.ensures.value in
-    let low = subst (λ (l : List Piece). Low l c.args.address place) same c.first_ending_from-place.ensures.before in
-    let high = subst (λ (l : List Piece). High l c.args.address place) same c.first_ending_from-place.ensures.here in
-    let some : 0 < length c.args.bytes.now = grind (arith, nat_tests) in
-    let found = found_at runs.bytes.items runs.list.items place c.index-piece.result.now c.self.invariant.stand c.self.invariant.apart c.args.address (length c.args.bytes.now) low high (subst N (sym c.self.view_is) c.requires) some c.index-piece.ensures in
-    found.begins
+    let at = (goal.at.overflow_sub-skip c).After-index-piece in
+    (found at).begins
 
 pub overflow_add-skip : goal.overflow_add-skip
 overflow_add-skip c =
-    let runs = c.self.inside.runs in
-    let place = c.first_ending_from-place.result in
-    let N : Pairs → Type 0 = λ ps. Names ps c.args.address (length c.args.bytes.now) in
-    let same = c.as_slice.ensures.value in
-    let low = subst (λ (l : List Piece). Low l c.args.address place) same c.first_ending_from-place.ensures.before in
-    let high = subst (λ (l : List Piece). High l c.args.address place) same c.first_ending_from-place.ensures.here in
-    let some : 0 < length c.args.bytes.now = grind (arith, nat_tests) in
-    let found = found_at runs.bytes.items runs.list.items place c.index-piece.result.now c.self.invariant.stand c.self.invariant.apart c.args.address (length c.args.bytes.now) low high (subst N (sym c.self.view_is) c.requires) some c.index-piece.ensures in
-    let within = found.ends in let begins = found.begins in let own = found.own.ends in let fits = runs.bytes.ok in omega arith
+    let at = (goal.at.overflow_add-skip c).After-index-piece in
+    let within = (found at).ends in
+    let begins = (found at).begins in
+    let own = (found at).own.ends in
+    let fits = c.self.inside.runs.bytes.ok in
+    omega arith
 
 pub put_at-requires : goal.put_at-requires
 put_at-requires c =
-    let runs = c.self.inside.runs in
-    let place = c.first_ending_from-place.result in
-    let N : Pairs → Type 0 = λ ps. Names ps c.args.address (length c.args.bytes.now) in
-    let same = c.as_slice.ensures.value in
-    let low = subst (λ (l : List Piece). Low l c.args.address place) same c.first_ending_from-place.ensures.before in
-    let high = subst (λ (l : List Piece). High l c.args.address place) same c.first_ending_from-place.ensures.here in
-    let some : 0 < length c.args.bytes.now = grind (arith, nat_tests) in
-    let found = found_at runs.bytes.items runs.list.items place c.index-piece.result.now c.self.invariant.stand c.self.invariant.apart c.args.address (length c.args.bytes.now) low high (subst N (sym c.self.view_is) c.requires) some c.index-piece.ensures in
-    let within = found.ends in let begins = found.begins in let own = found.own.ends in omega (arith, c.as_mut_slice.ensures.len, runs.bytes.ok.0)
+    let at = (goal.at.put_at-requires c).After-index-piece in
+    let within = (found at).ends in
+    let begins = (found at).begins in
+    let own = (found at).own.ends in
+    omega (arith, c.as_mut_slice.ensures.len, c.self.inside.runs.bytes.ok.0)
 
 pub invariant_of-self : goal.invariant_of-self
 invariant_of-self c =
@@ -91,18 +112,21 @@ invariant_of-self c =
 pub returns : goal.returns
 returns c =
     let runs = c.self.inside.runs in
-    let place = c.first_ending_from-place.result in
-    let N : Pairs → Type 0 = λ ps. Names ps c.args.address (length c.args.bytes.now) in
-    let same = c.as_slice.ensures.value in
-    let low = subst (λ (l : List Piece). Low l c.args.address place) same c.first_ending_from-place.ensures.before in
-    let high = subst (λ (l : List Piece). High l c.args.address place) same c.first_ending_from-place.ensures.here in
-    let some : 0 < length c.args.bytes.now = grind (arith, nat_tests) in
-    let found = found_at runs.bytes.items runs.list.items place c.index-piece.result.now c.self.invariant.stand c.self.invariant.apart c.args.address (length c.args.bytes.now) low high (subst N (sym c.self.view_is) c.requires) some c.index-piece.ensures in
-    let P : List ℕ → Type 0 = λ b. IsPutAt c.args.bytes.now b (c.index-piece.result.now.place + (c.args.address - c.index-piece.result.now.first)) c.put_at.new.to in
-    let over = puts_over runs.bytes.items runs.list.items place c.index-piece.result.now c.self.invariant.stand c.self.invariant.apart found.lt found.is c.args.address c.args.bytes.now c.put_at.new.to low found.high (subst N (sym c.self.view_is) c.requires) some
-    (subst P c.as_mut_slice.ensures.value c.put_at.ensures) in
+    let at = (goal.at.returns c).After-index-piece in
+    let piece = c.index-piece.result.now in
+    let skip = piece.place + (c.args.address - piece.first) in
     let new = c.put_at.new.to in
-    let long : length new ≡ length runs.bytes.items = c.put_at.ensures.same_length ∙ ap (λ (b : List ℕ). length b) c.as_mut_slice.ensures.value in
+    let P : List ℕ → Type 0 = λ b. IsPutAt c.args.bytes.now b skip new in
+    let over = puts_over runs.bytes.items runs.list.items c.first_ending_from-place.result piece
+    c.self.invariant.stand c.self.invariant.apart (found at).lt (found at).is
+    c.args.address c.args.bytes.now new (low at) (found at).high (named at) (some at)
+    (subst P c.as_mut_slice.ensures.value c.put_at.ensures) in
+    let long : length new ≡ length runs.bytes.items =
+    c.put_at.ensures.same_length
+    ∙ ap (λ (b : List ℕ). length b) c.as_mut_slice.ensures.value in
     let is = with_items_is runs.bytes new (omega (arith, long, runs.bytes.ok.0)) in
-    let N : List ℕ → Type 0 = λ b. IsPutOver c.args.self.now c.args.address c.args.bytes.now (pairs_at b runs.list.items) in
-    subst N (sym is) (subst (λ (ps : Pairs). IsPutOver ps c.args.address c.args.bytes.now (pairs_at new runs.list.items)) c.self.view_is over)
+    let B : List ℕ → Type 0 =
+    λ b. IsPutOver c.args.self.now c.args.address c.args.bytes.now (pairs_at b runs.list.items) in
+    let S : Pairs → Type 0 =
+    λ ps. IsPutOver ps c.args.address c.args.bytes.now (pairs_at new runs.list.items) in
+    subst B (sym is) (subst S c.self.view_is over)
