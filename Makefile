@@ -32,6 +32,10 @@ STMFLASH_BINARY ?= bin/stmflash
 # what is installed and packed
 BINARY ?= $(STMFLASH_BINARY)
 JOBS ?= $(shell nproc)
+# how many checks `rt ci` has at a time: one a processor, where each has 5 GB of free memory (it takes 3 at the most). Without a
+# number it reckons with far more, and lets the largest crates wait, on which the others wait
+CHECKS ?= $(shell awk -v most=$(JOBS) '/^MemAvailable/ { n = int($$2 / 5000000) } END { print n < 1 ? 1 : n < most ? n : most }' \
+    /proc/meminfo)
 SOAKED = $(if $(wildcard bin/stmflash),bin/stmflash,bin/stmflash-unproved)
 
 .PHONY: all demo tests test wrong-bodies soak install deb pictures bench beside clean
@@ -56,7 +60,7 @@ tests:
 # `rt ci` leaves the program that it proved at crates/stmflash/out/, as each of two compilers built it: stmflash by LLVM,
 # stmflash.by-rattle by Rattle's own.
 test:
-	rt ci
+	RT_JOBS=$(CHECKS) rt ci
 	python3 tools/allocations crates/refused_memory/out/refused_memory
 	python3 tools/refused-program crates/stmflash/out/stmflash
 	python3 tools/large-journals crates/stmflash/out/stmflash
