@@ -64,17 +64,29 @@ kind_rule kinds = record (needed_rule (codes "KIND")) { parser = Some kinds }
 abbrev pub text_of : Option (Bor Text) → Option Text
 text_of = option_map (λ s. s.now)
 
+-- a subcommand with the option that names the table
+abbrev pub with_table : Environment → Text → App
+with_table e name =
+    with_rule (new_app name) (standing_option_rule (codes "table") (text_of e.table))
+
+-- a subcommand with the options that name the table, the device and the journal
+abbrev pub with_places : Environment → Text → App
+with_places e name =
+    with_rule (with_rule (with_table e name)
+    (standing_option_rule (codes "device") (text_of e.device)))
+    (standing_option_rule (codes "journal") (text_of e.journal))
+
+-- the same, with the options of how long a device may take to answer
+abbrev pub with_waits : Environment → Text → App
+with_waits e name =
+    with_rule (with_rule (with_rule (with_places e name)
+    (default_option_rule (codes "wait") (codes "500")))
+    (default_option_rule (codes "give-up") (codes "20"))) (flag_rule (codes "fresh"))
+
 -- a subcommand with the options that every use of a device has
 abbrev pub on_device : Environment → Text → App
 on_device e name =
-    with_rule (with_rule
-    (with_rule (with_rule (with_rule (with_rule (with_rule (with_rule (with_rule (new_app name)
-    (standing_option_rule (codes "table") (text_of e.table)))
-    (standing_option_rule (codes "device") (text_of e.device)))
-    (standing_option_rule (codes "journal") (text_of e.journal)))
-    (default_option_rule (codes "wait") (codes "500")))
-    (default_option_rule (codes "give-up") (codes "20"))) (flag_rule (codes "fresh")))
-    (flag_rule (codes "progress")))
+    with_rule (with_rule (with_rule (with_waits e name) (flag_rule (codes "progress")))
     (flag_rule (codes "quiet"))) (option_rule (codes "stop"))
 
 abbrev pub info_app : Environment → App
@@ -119,9 +131,9 @@ abbrev pub protect_app : Environment → ValueParser → App
 protect_app e kinds = with_rule (on_device e (codes "protect")) (kind_rule kinds)
 
 abbrev pub sim_app : Environment → App
-sim_app e = with_rule (with_rule (with_rule (with_rule (with_rule (with_rule (new_app (codes "sim"))
-    (standing_option_rule (codes "table") (text_of e.table))) (needed_option_rule (codes "id")))
-    (needed_option_rule (codes "flash"))) (needed_option_rule (codes "socket")))
+sim_app e = with_rule (with_rule (with_rule (with_rule (with_rule (with_table e (codes "sim"))
+    (needed_option_rule (codes "id"))) (needed_option_rule (codes "flash")))
+    (needed_option_rule (codes "socket")))
     (default_option_rule (codes "mode") (codes "600")))
     (default_option_rule (codes "clients") (codes "1"))
 

@@ -3,7 +3,7 @@ ghost use Rattle.std.specs.Prelude.{IfOk};
 ghost use Rattle.stm_words.specs.CommandSet.{Makes, TakesKinds, command_set, erase_app, go_app};
 ghost use Rattle.stm_words.specs.CommandSet.{info_app, keep_app, log_app, on_device, on_journal};
 ghost use Rattle.stm_words.specs.CommandSet.{protect_app, read_app, sim_app, undo_app, verify_app};
-ghost use Rattle.stm_words.specs.CommandSet.{write_app};
+ghost use Rattle.stm_words.specs.CommandSet.{with_places, with_table, with_waits, write_app};
 
 use crate::argument::{
     default_option, flag, kind, letter, needed, needed_option, option, optional, range, repeated,
@@ -17,6 +17,53 @@ use std::alloc::{AllocError, Global};
 /// The version that `--version` tells.
 const VERSION: &str = "0.2.0";
 
+/// A subcommand with the option that names the table.
+fn with_table<'a>(
+    alloc: Global,
+    environment: Environment<'a>,
+    name: &'a str,
+    about: &'a str,
+) -> Result<Command<'a>, AllocError>
+    ensures { IfOk result (Makes (with_table environment.entry name.entry.now)) }
+{
+    Command::new(alloc, name).about(about).arg(standing_option(
+        alloc,
+        "table",
+        "FILE",
+        environment.table,
+        help::TABLE,
+    ))
+}
+
+/// A subcommand with the options that name the table, the device and the journal.
+fn with_places<'a>(
+    alloc: Global,
+    environment: Environment<'a>,
+    name: &'a str,
+    about: &'a str,
+) -> Result<Command<'a>, AllocError>
+    ensures { IfOk result (Makes (with_places environment.entry name.entry.now)) }
+{
+    with_table(alloc, environment, name, about)?
+        .arg(standing_option(alloc, "device", "DEV", environment.device, help::DEVICE))?
+        .arg(standing_option(alloc, "journal", "FILE", environment.journal, help::JOURNAL))
+}
+
+/// The same, with the options of how long a device may take to answer.
+fn with_waits<'a>(
+    alloc: Global,
+    environment: Environment<'a>,
+    name: &'a str,
+    about: &'a str,
+) -> Result<Command<'a>, AllocError>
+    ensures { IfOk result (Makes (with_waits environment.entry name.entry.now)) }
+{
+    with_places(alloc, environment, name, about)?
+        .arg(default_option(alloc, "wait", "MS", "500", help::WAIT))?
+        .arg(default_option(alloc, "give-up", "SECONDS", "20", help::GIVE_UP))?
+        .arg(flag(alloc, "fresh", help::FRESH))
+}
+
 /// A subcommand with the options that every use of a device has.
 fn on_device<'a>(
     alloc: Global,
@@ -26,14 +73,7 @@ fn on_device<'a>(
 ) -> Result<Command<'a>, AllocError>
     ensures { IfOk result (Makes (on_device environment.entry name.entry.now)) }
 {
-    Command::new(alloc, name)
-        .about(about)
-        .arg(standing_option(alloc, "table", "FILE", environment.table, help::TABLE))?
-        .arg(standing_option(alloc, "device", "DEV", environment.device, help::DEVICE))?
-        .arg(standing_option(alloc, "journal", "FILE", environment.journal, help::JOURNAL))?
-        .arg(default_option(alloc, "wait", "MS", "500", help::WAIT))?
-        .arg(default_option(alloc, "give-up", "SECONDS", "20", help::GIVE_UP))?
-        .arg(flag(alloc, "fresh", help::FRESH))?
+    with_waits(alloc, environment, name, about)?
         .arg(flag(alloc, "progress", help::PROGRESS))?
         .arg(flag(alloc, "quiet", help::QUIET))?
         .arg(option(alloc, "stop", "K", help::STOP))
@@ -137,9 +177,7 @@ fn protect<'a>(alloc: Global, environment: Environment<'a>) -> Result<Command<'a
 fn sim<'a>(alloc: Global, environment: Environment<'a>) -> Result<Command<'a>, AllocError>
     ensures { IfOk result (Makes (sim_app environment.entry)) }
 {
-    Command::new(alloc, "sim")
-        .about(help::SIM)
-        .arg(standing_option(alloc, "table", "FILE", environment.table, help::TABLE))?
+    with_table(alloc, environment, "sim", help::SIM)?
         .arg(needed_option(alloc, "id", "ID", help::ID))?
         .arg(needed_option(alloc, "flash", "FILE", help::FLASH))?
         .arg(needed_option(alloc, "socket", "PATH", help::SOCKET))?

@@ -1,0 +1,16 @@
+use Rattle.std.proofs.Common.{codes}
+use Rattle.std.proofs.lemmas.Result.{IfOk-weaker}
+use Rattle.clap.specs.Words.{App, with_rule}
+use Rattle.stm_words.specs.CommandSet.{Makes, standing_option_rule, text_of, with_table}
+use Rattle.stm_words.proofs.Subcommands.{adds}
+use Rattle.stm_words.proofs.command_set.with_places.Goals as goal
+
+pub returns : goal.returns
+returns c =
+    let a0 : App = with_table c.args.environment c.args.name.now in
+    let a1 : App = with_rule a0 (standing_option_rule (codes "device") (text_of c.args.environment.device)) in
+    let m0 : Makes a0 c.in_ok-with_table.field-0 = c.in_ok-with_table.ensures in
+    let m1 : Makes a1 c.in_ok-arg.field-0 =
+    adds a0 (standing_option_rule (codes "device") (text_of c.args.environment.device)) c.in_ok-with_table.field-0 c.standing_option.result c.in_ok-arg.field-0 m0 c.standing_option.ensures.rule c.standing_option.ensures.local c.in_ok-arg.ensures in
+    IfOk-weaker c.arg-2.result _ _
+    (λ r h. adds a1 (standing_option_rule (codes "journal") (text_of c.args.environment.journal)) c.in_ok-arg.field-0 c.standing_option-2.result r m1 c.standing_option-2.ensures.rule c.standing_option-2.ensures.local h) c.arg-2.ensures
