@@ -11,7 +11,8 @@ use Rattle.stm_wire.specs.FlashLaws.{same_all}
 use Rattle.stm_journal.specs.declared.kept.Kept.{Kept}
 use Rattle.stm_journal.specs.States.{SegmentData, may_keep, is_open_stage, keeping}
 use Rattle.stm_journal.specs.Flashes.{with_kept_pages, flashes_before_segments}
-use Rattle.stm_journal.specs.Fits.{FitsChip, AllKeptFit, AllHeld}
+use Rattle.stm_journal.specs.Fits.{fits_chip, AllKeptFit, AllHeld}
+use Rattle.stm_journal.specs.FitsLaws.{fits-exists, fits-size}
 use Rattle.stm_journal.specs.FlashLaws.{KeepingKeepsFlashes, ChangesKeepFlashes, HeldIsBefore}
 
 -- a kept page, and pages, laid over a flash
@@ -26,7 +27,7 @@ has pages n = list_any (λ k. k.page == n) pages
 
 size_laid : (chip : ChipData) (pages : List Kept) (flash : List ℕ) → length flash ≡ flash_size chip → AllKeptFit chip pages → length (laid chip pages flash) ≡ flash_size chip
 size_laid chip [] flash size fit = size
-size_laid chip (k ∷ pages) flash size fit = size_laid chip pages (lay chip flash k) (length-with_page chip flash k.bytes k.page size fit.0.size) fit.1
+size_laid chip (k ∷ pages) flash size fit = size_laid chip pages (lay chip flash k) (length-with_page chip flash k.bytes k.page size (fits-size chip k fit.0)) fit.1
 
 rest-has : (a b : Bool) → a ≡ false → (a || b) ≡ true → b ≡ true
 rest-has true b lacks h = absurd (false≢true (sym lacks))
@@ -38,15 +39,15 @@ agree_laid : (chip : ChipData) (pages : List Kept) (f g : List ℕ) (m : ℕ) �
 agree_laid chip [] f g m here fs gs fit (inl e) = e
 agree_laid chip [] f g m here fs gs fit (inr h) = absurd (false≢true h)
 agree_laid chip (k ∷ pages) f g m here fs gs fit either =
-    agree_laid chip pages (lay chip f k) (lay chip g k) m here (length-with_page chip f k.bytes k.page fs fit.0.size) (length-with_page chip g k.bytes k.page gs fit.0.size) fit.1 (step (cases_eq k.page m))
+    agree_laid chip pages (lay chip f k) (lay chip g k) m here (length-with_page chip f k.bytes k.page fs (fits-size chip k fit.0)) (length-with_page chip g k.bytes k.page gs (fits-size chip k fit.0)) fit.1 (step (cases_eq k.page m))
   where
     step : (k.page ≡ m) ⊎ (k.page ≡ m → ⊥) → (page_of chip (lay chip g k) m ≡ page_of chip (lay chip f k) m) ⊎ (has pages m ≡ true)
     step (inl e) =
         let P : ℕ → Type 0 = λ n. page_of chip (lay chip g k) n ≡ page_of chip (lay chip f k) n in
-        inl (subst P e (page_put chip g k.bytes k.page gs fit.0.size ∙ sym (page_put chip f k.bytes k.page fs fit.0.size)))
+        inl (subst P e (page_put chip g k.bytes k.page gs (fits-size chip k fit.0) ∙ sym (page_put chip f k.bytes k.page fs (fits-size chip k fit.0))))
     step (inr ne) =
         ⊎_elim
-        (λ same. inl (page_put-other chip g k.bytes k.page gs fit.0.size m here (λ e. ne (sym e)) ∙ same ∙ sym (page_put-other chip f k.bytes k.page fs fit.0.size m here (λ e. ne (sym e)))))
+        (λ same. inl (page_put-other chip g k.bytes k.page gs (fits-size chip k fit.0) m here (λ e. ne (sym e)) ∙ same ∙ sym (page_put-other chip f k.bytes k.page fs (fits-size chip k fit.0) m here (λ e. ne (sym e)))))
         (λ kept. inr (rest-has (k.page == m) (has pages m) (ne_eqb k.page m ne) kept))
         either
 
@@ -70,19 +71,19 @@ page_laid-other : (chip : ChipData) (pages : List Kept) (flash : List ℕ) (m : 
 page_laid-other chip [] flash m here size fit lacks = refl
 page_laid-other chip (k ∷ pages) flash m here size fit lacks =
     let both = neither (k.page == m) (has pages m) lacks in
-    page_laid-other chip pages (lay chip flash k) m here (length-with_page chip flash k.bytes k.page size fit.0.size) fit.1 both.1
-    ∙ page_put-other chip flash k.bytes k.page size fit.0.size m here (λ e. false≢true (sym both.0 ∙ eq-eqb k.page m (sym e)))
+    page_laid-other chip pages (lay chip flash k) m here (length-with_page chip flash k.bytes k.page size (fits-size chip k fit.0)) fit.1 both.1
+    ∙ page_put-other chip flash k.bytes k.page size (fits-size chip k fit.0) m here (λ e. false≢true (sym both.0 ∙ eq-eqb k.page m (sym e)))
   where
     neither : (a b : Bool) → (a || b) ≡ false → (a ≡ false) × (b ≡ false)
     neither true b h = absurd (false≢true (sym h))
     neither false b h = (refl, h)
 
 -- a page that holds what a further line keeps
-laid_more : (chip : ChipData) (pages : List Kept) (flash : List ℕ) (kept : Kept) → length flash ≡ flash_size chip → AllKeptFit chip pages → FitsChip chip kept
+laid_more : (chip : ChipData) (pages : List Kept) (flash : List ℕ) (kept : Kept) → length flash ≡ flash_size chip → AllKeptFit chip pages → fits_chip chip kept ≡ true
     → has pages kept.page ≡ false → kept.bytes ≡ page_of chip flash kept.page → laid chip (pages ++ kept ∷ []) flash ≡ laid chip pages flash
 laid_more chip pages flash kept size fit fits lacks holds =
     let before : List ℕ = laid chip pages flash in
-    let now : kept.bytes ≡ page_of chip before kept.page = holds ∙ sym (page_laid-other chip pages flash kept.page fits.exists size fit lacks) in
+    let now : kept.bytes ≡ page_of chip before kept.page = holds ∙ sym (page_laid-other chip pages flash kept.page (fits-exists chip kept fits) size fit lacks) in
     fold_push (λ f k. with_page chip k.page k.bytes f) flash pages kept
     ∙ ap (λ (bytes : List ℕ). with_page chip kept.page bytes before) now
     ∙ put_page chip before kept.page (size_laid chip pages flash size fit)

@@ -1,17 +1,17 @@
 -- Kept pages that a chip has.
-use Rattle.std.specs.Prelude.{◌≡◌, ℕ, ◌<◌, List, [], ◌∷◌, length}
+use Rattle.std.specs.Prelude.{◌≡◌, ℕ, Bool, true, ◌&&◌, ◌==◌, nat_lt, List, [], ◌∷◌, length}
 use Rattle.stm_wire.specs.Chip.{ChipData, page_count, page_size, page_of}
 use Rattle.stm_journal.specs.declared.kept.Kept.{Kept}
 use Rattle.stm_journal.specs.States.{SegmentData}
 
 -- the chip has this page, of this size
-pub record FitsChip (chip : ChipData) (kept : Kept) : Type 0 where
-  pub exists : kept.page < page_count chip
-  pub size : length kept.bytes ≡ page_size chip kept.page
+abbrev pub fits_chip : ChipData → Kept → Bool
+fits_chip chip kept =
+    nat_lt kept.page (page_count chip) && (length kept.bytes == page_size chip kept.page)
 
 abbrev pub AllKeptFit : ChipData → List Kept → Type 0
 AllKeptFit chip [] = Unit {0}
-AllKeptFit chip (kept ∷ pages) = FitsChip chip kept × AllKeptFit chip pages
+AllKeptFit chip (kept ∷ pages) = (fits_chip chip kept ≡ true) × AllKeptFit chip pages
 
 abbrev pub AllFit : ChipData → List SegmentData → Type 0
 AllFit chip [] = Unit {0}

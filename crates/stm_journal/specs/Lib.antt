@@ -21,6 +21,7 @@ pub mod Forget
 pub mod Pieces
 pub mod ForgetLaws
 pub mod Fits
+pub mod FitsLaws
 pub mod FlashLaws
 pub mod Added
 pub mod PageFetching

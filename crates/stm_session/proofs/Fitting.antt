@@ -1,15 +1,15 @@
 -- A journal is refused for what it keeps exactly where it isn't one of the chip.
-use Rattle.std.proofs.Common.{◌≡◌, ℕ, ◌<◌, Bool, true, false, not, ◌&&◌, ◌||◌, ◌==◌, nat_lt, if◌then◌else◌, List, [], ◌∷◌, ◌++◌, length, Option, Some, None, option_map, refl, sym, ◌∙◌, ap, arith}
+use Rattle.std.proofs.Common.{◌≡◌, ℕ, Bool, true, false, not, ◌&&◌, ◌||◌, ◌==◌, nat_lt, if◌then◌else◌, List, [], ◌∷◌, ◌++◌, Option, Some, None, option_map, refl, sym, ◌∙◌, ap, arith}
 use Rattle.std.specs.List.{list_any}
 use Rattle.std.proofs.lemmas.Bool.{true≢false}
 use Rattle.std.proofs.lemmas.Bool.Decides.{nat_tests}
-use Rattle.stm_wire.specs.Chip.{ChipData, page_count, page_size}
+use Rattle.stm_wire.specs.Chip.{ChipData, page_count}
 use Rattle.stm_journal.specs.declared.header.JournalHeader.{JournalHeader}
 use Rattle.stm_journal.specs.declared.kept.Kept.{Kept}
 use Rattle.stm_journal.specs.States.{StateData, SegmentData}
 use Rattle.stm_session.specs.declared.fault.Fault.TheVariants.{BadJournal}
-use Rattle.stm_session.specs.Refusal.{fits_chip, fits_among, lacks_companion, header_misfits, misfit_lines_of, misfit_lines, lesser, least, least_with, misfit_refusal}
-use Rattle.stm_journal.specs.Fits.{FitsChip, AllKeptFit, AllFit}
+use Rattle.stm_session.specs.Refusal.{fits_among, lacks_companion, header_misfits, misfit_lines_of, misfit_lines, lesser, least, least_with, misfit_refusal}
+use Rattle.stm_journal.specs.Fits.{fits_chip, AllKeptFit, AllFit}
 use Rattle.stm_session.specs.Undoable.{AllKeepCompanions, HasVersion, IsJournalOf, has_companion}
 
 same-tested : (a b : ℕ) → (a == b) ≡ true → a ≡ b
@@ -40,20 +40,12 @@ no-line : (b : Bool) (line : ℕ) → (if b then [] else line ∷ []) ≡ [] →
 no-line true line e = refl
 no-line false line e = absurd (cc)
 
-less-tested : (a b : ℕ) → nat_lt a b ≡ true → a < b
-less-tested a b h = grind (arith, nat_tests)
-
-fits-tested : (chip : ChipData) (kept : Kept) → fits_chip chip kept ≡ true → FitsChip chip kept
-fits-tested chip kept is =
-    let both = and-both (nat_lt kept.page (page_count chip)) (length kept.bytes == page_size chip kept.page) is in
-    record { exists = less-tested kept.page (page_count chip) both.0; size = same-tested (length kept.bytes) (page_size chip kept.page) both.1 }
-
 kept-fit : (chip : ChipData) (among pages : List Kept) → misfit_lines_of chip among pages ≡ [] → AllKeptFit chip pages
 kept-fit chip among [] e = tt
 kept-fit chip among (kept ∷ pages) e =
     let both = both-empty (if fits_among chip among kept then [] else kept.line ∷ []) (misfit_lines_of chip among pages) e in
     let each = and-both (fits_chip chip kept) (not (lacks_companion chip among kept.page)) (no-line (fits_among chip among kept) kept.line both.0) in
-    (fits-tested chip kept each.0, kept-fit chip among pages both.1)
+    (each.0, kept-fit chip among pages both.1)
 
 -- where a page of these is page 1, its companion is among them
 companion-there : (chip : ChipData) (among pages : List Kept) → misfit_lines_of chip among pages ≡ [] → has_companion chip ≡ true → list_any (λ kept. kept.page == 1) pages ≡ true
@@ -97,20 +89,6 @@ unrefused-fits chip s e =
     let each = all-fit chip s.stack none.1 in
     record { version = header-fits chip s.header none.0; pages = each.0; companions = each.1 }
 
--- and one of the chip isn't refused
-fits-says : (chip : ChipData) (kept : Kept) → FitsChip chip kept → fits_chip chip kept ≡ true
-fits-says chip kept fits = both-true (nat_lt kept.page (page_count chip)) (length kept.bytes == page_size chip kept.page) (lt-says kept.page (page_count chip) fits.exists) (same-says (length kept.bytes) (page_size chip kept.page) fits.size)
-  where
-    both-true : (a b : Bool) → a ≡ true → b ≡ true → (a && b) ≡ true
-    both-true true b p q = q
-    both-true false b p q = p
-
-    lt-says : (a b : ℕ) → a < b → nat_lt a b ≡ true
-    lt-says a b h = grind (arith, nat_tests)
-
-    same-says : (a b : ℕ) → a ≡ b → (a == b) ≡ true
-    same-says a b h = grind (arith, nat_tests)
-
 -- a page isn't alone where the segment keeps its companion
 not-alone : (n : ℕ) (chip : ChipData) (among : List Kept) → ((n == 1) ≡ true → has_companion chip ≡ true → list_any (λ kept. kept.page == 257) among ≡ true) → not (lacks_companion chip among n) ≡ true
 not-alone n chip among there = by_test (n == 1) (has_companion chip) (list_any (λ kept. kept.page == 257) among) there
@@ -142,7 +120,7 @@ pages-fit : (chip : ChipData) (among pages : List Kept) → (has_companion chip 
 pages-fit chip among [] there fit = refl
 pages-fit chip among (kept ∷ pages) there (first, rest) =
     no-misfit (fits_among chip among kept) kept.line (misfit_lines_of chip among pages)
-    (both-hold (fits_chip chip kept) (not (lacks_companion chip among kept.page)) (fits-says chip kept first)
+    (both-hold (fits_chip chip kept) (not (lacks_companion chip among kept.page)) first
     (not-alone kept.page chip among (λ one has. there has (one-there (kept.page == 1) (list_any (λ k. k.page == 1) pages) one))))
     (pages-fit chip among pages (λ has one. there has (rest-there (kept.page == 1) (list_any (λ k. k.page == 1) pages) one)) rest)
 

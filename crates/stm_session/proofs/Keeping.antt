@@ -10,7 +10,8 @@ use Rattle.stm_wire.specs.Intents.{settling_byte}
 use Rattle.stm_journal.specs.declared.kept.Kept.{Kept}
 use Rattle.stm_journal.specs.declared.header.JournalHeader.{JournalHeader}
 use Rattle.stm_journal.specs.States.{StateData, SegmentData, on_newest, keeping, newest_keeps, newest_may_keep, newest_has, is_unfinished, intent_of, keeps, names_other}
-use Rattle.stm_journal.specs.Fits.{FitsChip, AllKeptFit, AllFit}
+use Rattle.stm_journal.specs.Fits.{fits_chip, AllKeptFit, AllFit}
+use Rattle.stm_journal.specs.FitsLaws.{both-fit}
 use Rattle.stm_journal.specs.FlashLaws.{KeepingKeepsFlashes, ChangesKeepFlashes}
 use Rattle.stm_journal.specs.Flashes.{flashes_before_segments, with_kept_pages}
 use Rattle.stm_journal.specs.ForgetLaws.{newest_keeps-forgets, newest_may_keep-forgets, is_unfinished-forgets, depth-forgets}
@@ -204,11 +205,11 @@ any-less n (k ∷ pages) kept h = by_test (k.page == n) h (λ rest. any-less n p
     by_test true h rest = inl refl
     by_test false h rest = rest h
 
-fit-more : (chip : ChipData) (pages : List Kept) (kept : Kept) → AllKeptFit chip pages → FitsChip chip kept → AllKeptFit chip (pages ++ kept ∷ [])
+fit-more : (chip : ChipData) (pages : List Kept) (kept : Kept) → AllKeptFit chip pages → fits_chip chip kept ≡ true → AllKeptFit chip (pages ++ kept ∷ [])
 fit-more chip [] kept fit fits = (fits, tt)
 fit-more chip (k ∷ pages) kept fit fits = (fit.0, fit-more chip pages kept fit.1 fits)
 
-fits_keeping : (chip : ChipData) (kept : Kept) (stack : List SegmentData) → AllFit chip stack → FitsChip chip kept → AllFit chip (on_newest (keeping kept) stack)
+fits_keeping : (chip : ChipData) (kept : Kept) (stack : List SegmentData) → AllFit chip stack → fits_chip chip kept ≡ true → AllFit chip (on_newest (keeping kept) stack)
 fits_keeping chip kept [] fits fit = tt
 fits_keeping chip kept (segment ∷ below) fits fit = (fit-more chip segment.pages kept fits.0 fit, fits.1)
 
@@ -233,10 +234,10 @@ keeps_keeping law flashes d s s2 n bytes is keeps has exists holds size may ther
     let Fit : List SegmentData → Type 0 = λ stack. AllFit d.chip stack in
     let All : List SegmentData → Type 0 = λ stack. AllKeepCompanions d.chip stack in
     let kept : Kept = has.kept in
-    let fit : FitsChip d.chip kept = record {
-      exists = let P : ℕ → Type 0 = λ m. m < page_count d.chip in subst P (sym has.page) exists;
-      size = ap (λ (b : List ℕ). length b) has.held ∙ size ∙ ap (λ (m : ℕ). Rattle.stm_wire.specs.Chip.page_size d.chip m) (sym has.page);
-    } in
+    let exists_kept : kept.page < page_count d.chip = let P : ℕ → Type 0 = λ m. m < page_count d.chip in subst P (sym has.page) exists in
+    let size_kept : length kept.bytes ≡ Rattle.stm_wire.specs.Chip.page_size d.chip kept.page =
+    ap (λ (b : List ℕ). length b) has.held ∙ size ∙ ap (λ (m : ℕ). Rattle.stm_wire.specs.Chip.page_size d.chip m) (sym has.page) in
+    let fit : fits_chip d.chip kept ≡ true = both-fit d.chip kept exists_kept size_kept in
     let May : ℕ → Type 0 = λ m. IsTrue (newest_may_keep m s) in
     record {
       own = ap (λ (h : Option JournalHeader). names_other d.chip.id (record { header = h; stack = [] })) has.header ∙ keeps.own;

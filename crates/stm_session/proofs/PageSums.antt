@@ -12,6 +12,7 @@ use Rattle.stm_wire.specs.Parts.{IsPart}
 use Rattle.stm_wire.specs.PartLaws.{part_longer}
 use Rattle.stm_journal.specs.declared.kept.Kept.{Kept}
 use Rattle.stm_journal.specs.Fits.{AllKeptFit}
+use Rattle.stm_journal.specs.FitsLaws.{fits-exists}
 use Rattle.stm_journal.specs.States.{LacksPage, PagesOnce}
 use Rattle.stm_session.specs.Sending.{most_of_command}
 use Rattle.stm_session.proofs.SentParts.{part_after}
@@ -27,7 +28,7 @@ AreBelow count (kept ∷ pages) = (kept.page < count) × AreBelow count pages
 
 are_below : (chip : ChipData) (pages : List Kept) → AllKeptFit chip pages → AreBelow (page_count chip) pages
 are_below chip [] fit = tt
-are_below chip (kept ∷ pages) (fits, fit) = (fits.exists, are_below chip pages fit)
+are_below chip (kept ∷ pages) (fits, fit) = (fits-exists chip kept fits, are_below chip pages fit)
 
 first-false : (a b : Bool) → (a || b) ≡ false → a ≡ false
 first-false true b h = h

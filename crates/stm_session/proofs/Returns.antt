@@ -9,7 +9,8 @@ use Rattle.stm_wire.specs.PageLaws.{length-with_bytes, other_page, page_within}
 use Rattle.stm_journal.specs.declared.entry.Entry.{Entry}
 use Rattle.stm_journal.specs.declared.kept.Kept.{Kept}
 use Rattle.stm_journal.specs.declared.kept.PagePlace.{PagePlace}
-use Rattle.stm_journal.specs.Fits.{FitsChip, AllKeptFit, AllFit}
+use Rattle.stm_journal.specs.Fits.{fits_chip, AllKeptFit, AllFit}
+use Rattle.stm_journal.specs.FitsLaws.{fits-exists, fits-size}
 use Rattle.stm_journal.specs.ForgetLaws.{kept_at-forgets, kept_count-forgets, kept_place-forgets}
 use Rattle.stm_journal.specs.Journals.{Loaded, IsLoaded}
 use Rattle.stm_journal.specs.KeptPlaces.{kept_count, kept_entry, kept_place, place_of}
@@ -41,12 +42,12 @@ line_exists [] i lt = absurd (omega (arith, lt))
 line_exists (x ∷ pages) zero lt = (x, refl)
 line_exists (x ∷ pages) (suc i) lt = line_exists pages i (omega (arith, lt))
 
-fits_line : (chip : ChipData) (pages : List Kept) (i : ℕ) (k : Kept) → AllKeptFit chip pages → slice_get pages i ≡ Some k → FitsChip chip k
+fits_line : (chip : ChipData) (pages : List Kept) (i : ℕ) (k : Kept) → AllKeptFit chip pages → slice_get pages i ≡ Some k → fits_chip chip k ≡ true
 fits_line chip [] i k fits is = absurd (let h : None ≡ Some k = is in cc)
 fits_line chip (x ∷ pages) zero k fits is =
     let some : Some x ≡ Some k = is in
     let same : x ≡ k = cc in
-    subst (FitsChip chip) same fits.0
+    subst (λ (kept : Kept). fits_chip chip kept ≡ true) same fits.0
 fits_line chip (x ∷ pages) (suc i) k fits is = fits_line chip pages i k fits.1 is
 
 pub newest_fits : (chip : ChipData) (stack : List SegmentData) → AllFit chip stack → AllKeptFit chip (newest_kept stack)
@@ -82,7 +83,7 @@ module _ (s s2 : StateData) (newest i : ℕ) (same : KeepsSame s s2) (is : newes
         let first : (n, line) ≡ (there.0.page, there.0.line) = cc in
         ap (λ (p : ℕ × ℕ). p.0) first
 
-    line_fits : FitsChip chip there.0
+    line_fits : fits_chip chip there.0 ≡ true
     line_fits =
         fits_line chip (newest_kept s2.stack) i there.0 (newest_fits chip s2.stack (fits_pages chip s.stack s2.stack same.same fits)) (sym (entry_newest s2 newest i still_newest) ∙ there.1)
 
@@ -90,7 +91,7 @@ module _ (s s2 : StateData) (newest i : ℕ) (same : KeepsSame s s2) (is : newes
     the_kept = (there.0, sym (entry_newest s newest i is) ∙ sym (same.entry newest i) ∙ there.1, sym number)
 
     pub number_exists : n < page_count chip
-    number_exists = let P : ℕ → Type 0 = λ m. m < page_count chip in subst P (sym number) line_fits.exists
+    number_exists = let P : ℕ → Type 0 = λ m. m < page_count chip in subst P (sym number) (fits-exists chip there.0 line_fits)
 
     pub number_kept : IsTrue (newest_keeps n s2)
     number_kept = newest_keeps_kept s2 newest i n line still_newest number_is
@@ -99,7 +100,7 @@ module _ (s s2 : StateData) (newest i : ℕ) (same : KeepsSame s s2) (is : newes
     place_fits place place_is =
         let some : Some place ≡ Some (place_of there.0) = sym place_is ∙ ap (λ (o : Option Kept). option_map place_of o) there.1 in
         let one : place ≡ place_of there.0 = cc in
-        ap (λ (p : PagePlace). p.length) one ∙ line_fits.size ∙ ap (λ (m : ℕ). page_size chip m) (sym number)
+        ap (λ (p : PagePlace). p.length) one ∙ fits-size chip there.0 line_fits ∙ ap (λ (m : ℕ). page_size chip m) (sym number)
 
 -- the same line in the text
 place_text : (l : Loaded) (journal : List ℕ) (k i : ℕ) → IsLoaded l journal → kept_place l.state k i ≡ kept_place (state_at journal) k i
@@ -178,11 +179,12 @@ page_until chip [] flash i k once fits size is = absurd (let h : None ≡ Some k
 page_until chip (x ∷ pages) flash zero k once fits size is = refl
 page_until chip (x ∷ pages) flash (suc i) k once fits size is =
     let within = page_within chip.sizes x.page in
-    let fit : page_offset chip x.page + length x.bytes ≤ length flash = omega (arith, within, fits.0.size, size) in
+    let x_size : length x.bytes ≡ page_size chip x.page = fits-size chip x fits.0 in
+    let fit : page_offset chip x.page + length x.bytes ≤ length flash = omega (arith, within, x_size, size) in
     let long : length (with_page chip x.page x.bytes flash) ≡ flash_size chip = length-with_bytes (page_offset chip x.page) x.bytes flash fit ∙ size in
     let other : k.page ≢ x.page = λ e. let P : ℕ → Type 0 = λ m. list_any (λ y. y.page == m) pages ≡ true in false≢true (sym once.0 ∙ subst P e (any_at pages i k is)) in
     page_until chip pages (with_page chip x.page x.bytes flash) i k once.1 fits.1 long is
-    ∙ other_page chip flash x.bytes (page_offset chip x.page) k.page x.page size (omega arith) (omega (arith, fits.0.size)) (fits_line chip pages i k fits.1 is).exists other
+    ∙ other_page chip flash x.bytes (page_offset chip x.page) k.page x.page size (omega arith) (omega (arith, x_size)) (fits-exists chip k (fits_line chip pages i k fits.1 is)) other
 
 -- the lines of a page go by what it holds
 pub lines_by : (chip : ChipData) (old new : List ℕ) (kept : Kept) → page_of chip new kept.page ≡ page_of chip old kept.page → return_entries chip new kept ≡ return_entries chip old kept

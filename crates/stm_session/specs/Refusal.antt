@@ -4,12 +4,13 @@ use Rattle.std.specs.Prelude.{List, [], ◌∷◌, ◌++◌, length, fold, Optio
 use Rattle.std.specs.Prelude.{Result, Ok, Err}
 use Rattle.std.specs.List.{list_any, find, flat_map}
 use Rattle.std.specs.Option.{option_map_or}
-use Rattle.stm_wire.specs.Chip.{ChipData, page_count, page_size}
+use Rattle.stm_wire.specs.Chip.{ChipData, page_count}
 use Rattle.stm_wire.specs.Device.{Device}
 use Rattle.stm_wire.specs.Rig.{RigState}
 use Rattle.stm_wire.specs.Moments.{LeavesOnly}
 use Rattle.stm_journal.specs.declared.header.JournalHeader.{JournalHeader}
 use Rattle.stm_journal.specs.declared.kept.Kept.{Kept}
+use Rattle.stm_journal.specs.Fits.{fits_chip}
 use Rattle.stm_journal.specs.States.{StateData, SegmentData, segment_of, is_unfinished, names_other}
 use Rattle.stm_journal.specs.Journals.{JournalData, good, bad}
 use Rattle.stm_session.specs.declared.fault.Fault.{Fault}
@@ -30,11 +31,6 @@ first_refusal (None ∷ rest) = first_refusal rest
 -- the chip of a table that has this id
 abbrev pub chip_with : List ChipData → ℕ → Option ChipData
 chip_with table id = find (λ chip. chip.id == id) table
-
--- the chip has this kept page, of this size
-abbrev pub fits_chip : ChipData → Kept → Bool
-fits_chip chip kept =
-    nat_lt kept.page (page_count chip) && (length kept.bytes == page_size chip kept.page)
 
 -- the pages that a segment keeps
 abbrev pub pages_kept : Option SegmentData → List Kept
