@@ -11,7 +11,7 @@
 #               simulator over a real socket, 60 kills of the program there, and random sessions: 300, and 2,000 of the proved
 #               one (python3)
 #   make wrong-bodies
-#               has the prover refuse the wrong bodies of the large crates that the gate leaves out (tools/wrong-bodies)
+#               has the prover refuse the wrong bodies of the gate and those that it leaves out (tools/wrong-bodies)
 #   make install PREFIX=/usr/local DESTDIR=
 #               what `make` left at bin/stmflash, the line to a serial port, manual pages, chips.toml, completions, unit, udev rule;
 #               it proves and builds nothing, so that it needs no `rt`, also under sudo
@@ -61,6 +61,7 @@ tests:
 # stmflash.by-rattle by Rattle's own.
 test:
 	RT_JOBS=$(CHECKS) rt ci
+	RT_JOBS=$(CHECKS) python3 tools/wrong-bodies --built
 	python3 tools/allocations crates/refused_memory/out/refused_memory
 	python3 tools/refused-program crates/stmflash/out/stmflash
 	python3 tools/large-journals crates/stmflash/out/stmflash
@@ -75,7 +76,7 @@ test:
 	python3 tools/soak crates/stmflash/out/stmflash --sessions 2000 --jobs $(JOBS)
 
 wrong-bodies:
-	python3 tools/wrong-bodies
+	python3 tools/wrong-bodies --by-hand
 
 soak:
 	@test -x bin/stmflash || test -x bin/stmflash-unproved || sh tools/demo.sh

@@ -17,16 +17,16 @@ TOP = os.path.dirname(os.path.dirname(HERE))
 SEED = "planted"
 EDITS = (
     "crates/stm_session/must-fail/settles_with_connect.edit",
-    "crates/stm_session/wrong-bodies/keeps_page_one_alone.edit",
+    "crates/stm_session/wrong-bodies/by-hand/keeps_page_one_alone.edit",
     "crates/stm_session/must-fail/undone_before_its_pages.edit",
-    "crates/stm_session/wrong-bodies/keeps_a_page_behind_its_erase.edit",
-    "crates/stm_journal/must-fail/no_mark.edit",
+    "crates/stm_session/wrong-bodies/by-hand/keeps_a_page_behind_its_erase.edit",
+    "crates/stm_journal/wrong-bodies/no_mark.edit",
 )
 
 
 def plant(edit, copy):
     """Does the replacements of an edit in the copy's crate."""
-    crate = os.path.join(copy, os.path.dirname(os.path.dirname(edit)))
+    crate = os.path.join(copy, *edit.split("/")[:2])
     name = None
     with open(os.path.join(TOP, edit)) as file:
         for line in file.read().splitlines():
