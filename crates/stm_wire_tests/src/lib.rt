@@ -2,7 +2,11 @@
 #![tactic(auto)]
 
 #[cfg(test)]
+mod acts;
+#[cfg(test)]
 mod bad_lines;
+#[cfg(test)]
+mod rigs;
 #[cfg(test)]
 mod settling;
 #[cfg(test)]

@@ -3,12 +3,12 @@
 ghost use Rattle.std.specs.Prelude.{◌^◌, ◌-◌, Some};
 ghost use Rattle.stm_wire.specs.Unmodelled.{unmodelled};
 
-use crate::simulator::rig_of;
+use crate::acts::Act::{Erase, GetCommands, GetId, Go, Program, Protect, Read, Settle};
+use crate::acts::{Act, first_other};
+use crate::rigs::{LOW_DENSITY, rig_of};
+use std::alloc::Global;
 use std::test::Fail;
-use stm_wire::{
-    EraseKind, MemoryRig, Patience, Protection, Rig, RigFault, erase_page, get_commands, get_id,
-    go, program, protect, read, settle,
-};
+use stm_wire::{EraseKind, MemoryRig, Patience, Protection, Rig, RigFault};
 
 /// The Rig in memory, and how long its gets waited.
 #[derive(Drop)]
@@ -80,36 +80,64 @@ impl Rig for Watch {
     }
 }
 
-#[test]
-fn settling_waits_briefly_but_for_the_reply_to_7f(rt: HostRuntime) -> Result<(), Fail> {
-    let mut watch = Watch::new(rig_of(rt.alloc(), EraseKind::Page, 0xFF)?);
+/// What is done, and how many gets wait briefly, where that is told, long, and long after 7F.
+type Waits = (&'static [Act], (Option<u32>, u64, u32));
+
+/// Which waits are others than these: the place, with the first act that is answered otherwise, and
+/// how long its gets waited.
+type Other = (usize, Option<usize>, (u32, u64, u32));
+
+fn first_other_wait(watch: &mut Watch, waits: &[Waits]) -> Option<Other> {
+    for (i, (acts, due)) in waits.iter().enumerate() {
+        let other = first_other(watch, acts);
+        let waited = watch.waits();
+        let due = (due.0.unwrap_or(waited.0), due.1, due.2);
+        if (other, waited) != (None, due) {
+            return Some((i, other, waited));
+        }
+    }
+    None
+}
+
+/// The first of these waits that is another on a fresh device.
+fn first_wrong(alloc: Global, waits: &[Waits]) -> Result<Option<Other>, Fail> {
+    let mut watch = Watch::new(rig_of(alloc, LOW_DENSITY, 0xFF)?);
+    Ok(first_other_wait(&mut watch, waits))
+}
+
+const SETTLING: &[Waits] = &[
     // The device is fresh and ignores the byte: a draining, a batch of fourteen bytes, two
     // bytes, 7F, the byte twice.
-    assert_eq!(rt; settle(&mut watch, 0x05, 16), Ok(()));
-    assert_eq!(rt; watch.waits(), (7, 1, 1));
+    (&[Settle(0x05, 16, Ok(()))], (Some(7), 1, 1)),
     // Now it is settled, and refuses in the first batch.
-    assert_eq!(rt; settle(&mut watch, 0x05, 16), Ok(()));
-    assert_eq!(rt; watch.waits().1, 0);
+    (&[Settle(0x05, 16, Ok(()))], (None, 0, 0)),
+];
+
+const COMMANDS: &[Waits] = &[
+    (&[Settle(0x7F, 16, Ok(()))], (None, 0, 0)),
+    (
+        &[
+            GetCommands(Ok((0x22, 9))),
+            GetId(Ok(0x0412)),
+            Program(0x0800_0000, [1, 2, 3, 4], Ok(())),
+            Read(0x0800_0000, Ok([1, 2, 3, 4, 0xFF, 0xFF, 0xFF, 0xFF])),
+            Erase(EraseKind::Page, 0, Ok(())),
+            Protect(Protection::ReadoutUnprotect, Ok(())),
+        ],
+        (Some(0), 36, 0),
+    ),
+    (&[Settle(0x7F, 16, Ok(()))], (None, 0, 0)),
+    (&[Go(0x0800_0000, Ok(()))], (Some(0), 2, 0)),
+];
+
+#[test]
+fn settling_waits_briefly_but_for_the_reply_to_7f(rt: HostRuntime) -> Result<(), Fail> {
+    assert_eq!(rt; first_wrong(rt.alloc(), SETTLING)?, None);
     Ok(())
 }
 
 #[test]
 fn commands_wait_long(rt: HostRuntime) -> Result<(), Fail> {
-    let mut watch = Watch::new(rig_of(rt.alloc(), EraseKind::Page, 0xFF)?);
-    assert_eq!(rt; settle(&mut watch, 0x7F, 16), Ok(()));
-    assert_eq!(rt; watch.waits().1, 0);
-    let mut data = [0; 4];
-    assert!(rt; get_commands(&mut watch).is_ok());
-    assert_eq!(rt; get_id(&mut watch), Ok(0x0412));
-    assert_eq!(rt; program(&mut watch, 0x0800_0000, &[1, 2, 3, 4]), Ok(()));
-    assert_eq!(rt; read(&mut watch, 0x0800_0000, &mut data), Ok(()));
-    assert_eq!(rt; data, [1, 2, 3, 4]);
-    assert_eq!(rt; erase_page(&mut watch, EraseKind::Page, 0), Ok(()));
-    assert_eq!(rt; protect(&mut watch, Protection::ReadoutUnprotect), Ok(()));
-    assert_eq!(rt; watch.waits(), (0, 32, 0));
-    assert_eq!(rt; settle(&mut watch, 0x7F, 16), Ok(()));
-    assert_eq!(rt; watch.waits().1, 0);
-    assert_eq!(rt; go(&mut watch, 0x0800_0000), Ok(()));
-    assert_eq!(rt; watch.waits(), (0, 2, 0));
+    assert_eq!(rt; first_wrong(rt.alloc(), COMMANDS)?, None);
     Ok(())
 }

@@ -1,8 +1,8 @@
 // The verdict on each list of bytes that can come: it falls with the last byte, and not before.
-use crate::simulator::rig_of;
+use crate::rigs::{EXTENDED, LOW_DENSITY, Make, rig_of};
 use std::alloc::Global;
 use std::test::Fail;
-use stm_wire::{EraseKind, MemoryRig, Patience, Rig};
+use stm_wire::{MemoryRig, Patience, Rig};
 
 /// What a device made of the last byte of a list.
 #[derive(Clone, Copy, Debug, PartialEq, Eq)]
@@ -47,6 +47,13 @@ fn connect(rig: &mut MemoryRig) -> Result<(), Fail> {
     Ok(())
 }
 
+/// A connected device whose flash is all 00.
+fn connected(alloc: Global, make: Make) -> Result<MemoryRig, Fail> {
+    let mut rig = rig_of(alloc, make, 0x00)?;
+    connect(&mut rig)?;
+    Ok(rig)
+}
+
 /// Whether a connected device has this verdict at the last byte of a list, and none before
 /// it; it is connected again.
 fn agrees(rig: &mut MemoryRig, bytes: &[u8], due: Verdict) -> Result<bool, Fail> {
@@ -69,13 +76,22 @@ fn agrees(rig: &mut MemoryRig, bytes: &[u8], due: Verdict) -> Result<bool, Fail>
 /// Lists, each with its verdict.
 type Lists = &'static [(&'static [u8], Verdict)];
 
-/// The first list that has another verdict than its own.
-fn first_wrong(alloc: Global, kind: EraseKind, lists: Lists) -> Result<Option<usize>, Fail> {
-    let mut rig = rig_of(alloc, kind, 0x00)?;
-    connect(&mut rig)?;
+/// The first list on which a connected device has another verdict than its own.
+fn first_other(rig: &mut MemoryRig, lists: Lists) -> Result<Option<usize>, Fail> {
     for (i, (bytes, due)) in lists.iter().enumerate() {
-        if !agrees(&mut rig, bytes, *due)? {
+        if !agrees(rig, bytes, *due)? {
             return Ok(Some(i));
+        }
+    }
+    Ok(None)
+}
+
+/// The first of the lists for one kind of device that has another verdict than its own: which
+/// lists, and which of them.
+fn first_wrong(alloc: Global, verdicts: &[(Make, Lists)]) -> Result<Option<(usize, usize)>, Fail> {
+    for (i, (make, lists)) in verdicts.iter().enumerate() {
+        if let Some(j) = first_other(&mut connected(alloc, *make)?, lists)? {
+            return Ok(Some((i, j)));
         }
     }
     Ok(None)
@@ -89,23 +105,39 @@ struct LongFrame {
     check: u8,
 }
 
+/// A long frame up to its check, and then this byte, if any.
+fn long_list(alloc: Global, frame: LongFrame, last: Option<u8>) -> Result<Vec<u8>, Fail> {
+    let mut bytes = vec![in alloc; 0x00; frame.zeros]?;
+    bytes.extend_from_slice(last.as_slice())?;
+    let mut list = Vec::from_slice(alloc, frame.head)?;
+    list.extend_from_slice(&bytes)?;
+    Ok(list)
+}
+
 /// Whether a long frame has its verdict at its check; none where it is cut before it; and
 /// another with another check.
-fn agrees_on_long(alloc: Global, kind: EraseKind, frame: LongFrame) -> Result<bool, Fail> {
-    let mut rig = rig_of(alloc, kind, 0x00)?;
-    connect(&mut rig)?;
-    let mut bytes = Vec::new(alloc);
-    bytes.extend_from_slice(frame.head)?;
-    for _ in 0..frame.zeros {
-        bytes.push(0x00)?;
+fn agrees_on_long(alloc: Global, rig: &mut MemoryRig, frame: LongFrame) -> Result<bool, Fail> {
+    let ends = [
+        (None, OPEN),
+        (Some(frame.check), DONE),
+        (Some(!frame.check), REFUSED),
+    ];
+    for (last, due) in ends {
+        if !agrees(rig, &long_list(alloc, frame, last)?, due)? {
+            return Ok(false);
+        }
     }
-    let cut = agrees(&mut rig, &bytes, OPEN)?;
-    bytes.push(frame.check)?;
-    let whole = agrees(&mut rig, &bytes, DONE)?;
-    bytes.pop();
-    bytes.push(!frame.check)?;
-    let wrong = agrees(&mut rig, &bytes, REFUSED)?;
-    Ok(cut && whole && wrong)
+    Ok(true)
+}
+
+/// The first long frame that has another verdict than these.
+fn first_wrong_frame(alloc: Global, frames: &[(Make, LongFrame)]) -> Result<Option<usize>, Fail> {
+    for (i, (make, frame)) in frames.iter().enumerate() {
+        if !agrees_on_long(alloc, &mut connected(alloc, *make)?, *frame)? {
+            return Ok(Some(i));
+        }
+    }
+    Ok(None)
 }
 
 const OPEN: Verdict = Verdict::Open;
@@ -272,6 +304,14 @@ const EXTENDED_ERASES: Lists = &[
     (&[0x44, 0xBB, 0xFF, 0xEF, 0x00, 0x00, 0x10], OPEN),
 ];
 
+const VERDICTS: &[(Make, Lists)] = &[
+    (LOW_DENSITY, SHORT),
+    (LOW_DENSITY, ADDRESSED),
+    (LOW_DENSITY, WRITES),
+    (LOW_DENSITY, ERASES),
+    (EXTENDED, EXTENDED_ERASES),
+];
+
 const LONGEST_WRITE: LongFrame = LongFrame {
     head: &[0x31, 0xCE, 0x08, 0x00, 0x7F, 0x00, 0x77, 0xFF],
     zeros: 256,
@@ -290,25 +330,20 @@ const LONGEST_EXTENDED_ERASE: LongFrame = LongFrame {
     check: 0x10,
 };
 
+const LONGEST: &[(Make, LongFrame)] = &[
+    (LOW_DENSITY, LONGEST_WRITE),
+    (LOW_DENSITY, LONGEST_ERASE),
+    (EXTENDED, LONGEST_EXTENDED_ERASE),
+];
+
 #[test]
 fn verdicts_fall_with_the_last_byte(rt: HostRuntime) -> Result<(), Fail> {
-    let alloc = rt.alloc();
-    assert_eq!(rt; first_wrong(alloc, EraseKind::Page, SHORT)?, None);
-    assert_eq!(rt; first_wrong(alloc, EraseKind::Page, ADDRESSED)?, None);
-    assert_eq!(rt; first_wrong(alloc, EraseKind::Page, WRITES)?, None);
-    assert_eq!(rt; first_wrong(alloc, EraseKind::Page, ERASES)?, None);
-    assert_eq!(rt;
-        first_wrong(alloc, EraseKind::Extended, EXTENDED_ERASES)?,
-        None
-    );
+    assert_eq!(rt; first_wrong(rt.alloc(), VERDICTS)?, None);
     Ok(())
 }
 
 #[test]
 fn the_longest_frames_have_verdicts(rt: HostRuntime) -> Result<(), Fail> {
-    let alloc = rt.alloc();
-    assert!(rt; agrees_on_long(alloc, EraseKind::Page, LONGEST_WRITE)?);
-    assert!(rt; agrees_on_long(alloc, EraseKind::Page, LONGEST_ERASE)?);
-    assert!(rt; agrees_on_long(alloc, EraseKind::Extended, LONGEST_EXTENDED_ERASE)?);
+    assert_eq!(rt; first_wrong_frame(rt.alloc(), LONGEST)?, None);
     Ok(())
 }
