@@ -16,9 +16,9 @@ HERE = os.path.dirname(os.path.abspath(__file__))
 TOP = os.path.dirname(os.path.dirname(HERE))
 SEED = "planted"
 EDITS = (
-    "crates/stm_session/must-fail/settles_with_connect.edit",
+    "crates/stm_session/wrong-bodies/settles_with_connect.edit",
     "crates/stm_session/wrong-bodies/by-hand/keeps_page_one_alone.edit",
-    "crates/stm_session/must-fail/undone_before_its_pages.edit",
+    "crates/stm_session/wrong-bodies/undone_before_its_pages.edit",
     "crates/stm_session/wrong-bodies/by-hand/keeps_a_page_behind_its_erase.edit",
     "crates/stm_journal/wrong-bodies/no_mark.edit",
 )
