@@ -103,19 +103,24 @@ fn compare(rt: &HostRuntime, raw: &str, start: &str, names: &[String]) -> io::Re
     Ok(())
 }
 
-fn main(rt: HostRuntime) -> io::Result<()> {
-    let words: Vec<String> = env::args(&rt)?.collect(rt.alloc())?;
-    match words.as_slice() {
-        [_, verb, hex] if verb.as_str() == "read" => read(&rt, hex.as_str()),
+// Does what the words say.
+fn work(rt: &HostRuntime, words: &[String]) -> io::Result<()> {
+    match words {
+        [_, verb, hex] if verb.as_str() == "read" => read(rt, hex.as_str()),
         [_, verb, raw, start, hex] if verb.as_str() == "write" => {
-            write(&rt, raw.as_str(), start.as_str(), hex.as_str())
+            write(rt, raw.as_str(), start.as_str(), hex.as_str())
         }
         [_, verb, raw, start, hex] if verb.as_str() == "copy" => {
-            copy(&rt, raw.as_str(), start.as_str(), hex.as_str())
+            copy(rt, raw.as_str(), start.as_str(), hex.as_str())
         }
         [_, verb, raw, start, names @ ..] if verb.as_str() == "compare" => {
-            compare(&rt, raw.as_str(), start.as_str(), names)
+            compare(rt, raw.as_str(), start.as_str(), names)
         }
         _ => println!(rt; "{USAGE}"),
     }
+}
+
+fn main(rt: HostRuntime) -> io::Result<()> {
+    let words: Vec<String> = env::args(&rt)?.collect(rt.alloc())?;
+    work(&rt, words.as_slice())
 }

@@ -85,27 +85,30 @@ fn settle_fresh(rt: &HostRuntime, chip: Chip, limit: &str, times: &str) -> io::R
     println!(rt; "{calls} calls")
 }
 
-fn main(rt: HostRuntime) -> io::Result<()> {
-    let words: Vec<String> = env::args(&rt)?.collect(rt.alloc())?;
-    match words.as_slice() {
-        [_, verb, table, id, raw, times] if verb.as_str() == "touched" => {
-            match chip_of(&rt, table.as_str(), id.as_str())? {
-                Some(chip) => touch(&rt, &chip, raw.as_str(), times.as_str()),
-                None => Ok(()),
-            }
-        }
-        [_, verb, table, id, journal] if verb.as_str() == "load" => {
-            match chip_of(&rt, table.as_str(), id.as_str())? {
-                Some(chip) => load(&rt, chip, journal.as_str()),
-                None => Ok(()),
-            }
-        }
-        [_, verb, table, id, limit, times] if verb.as_str() == "settle" => {
-            match chip_of(&rt, table.as_str(), id.as_str())? {
-                Some(chip) => settle_fresh(&rt, chip, limit.as_str(), times.as_str()),
-                None => Ok(()),
-            }
+// Does a job on a chip.
+fn work_on(rt: &HostRuntime, chip: Chip, verb: &str, job: &[String]) -> io::Result<()> {
+    match job {
+        [raw, times] if verb == "touched" => touch(rt, &chip, raw.as_str(), times.as_str()),
+        [journal] if verb == "load" => load(rt, chip, journal.as_str()),
+        [limit, times] if verb == "settle" => {
+            settle_fresh(rt, chip, limit.as_str(), times.as_str())
         }
         _ => println!(rt; "{USAGE}"),
     }
+}
+
+// Does what the words say.
+fn work(rt: &HostRuntime, words: &[String]) -> io::Result<()> {
+    let [_, verb, table, id, job @ ..] = words else {
+        return println!(rt; "{USAGE}");
+    };
+    match chip_of(rt, table.as_str(), id.as_str())? {
+        Some(chip) => work_on(rt, chip, verb.as_str(), job),
+        None => Ok(()),
+    }
+}
+
+fn main(rt: HostRuntime) -> io::Result<()> {
+    let words: Vec<String> = env::args(&rt)?.collect(rt.alloc())?;
+    work(&rt, words.as_slice())
 }

@@ -11,7 +11,7 @@ use std::{env, fs, io};
 use stm_chip::{Table, read_table};
 use stm_image::{Image, read_raw};
 use stm_session::{Command, run, undo};
-use stm_wire::{MemoryRig, RigCall};
+use stm_wire::{Chip, MemoryRig, RigCall};
 
 const USAGE: &str = "usage: nothing, write, rewrite, verify, read or undo, and TABLE ID RAW";
 
@@ -25,31 +25,56 @@ struct Bench {
     size: u32,
 }
 
+// The table of a file, or `None` once it is told that it is none.
+fn table_of(rt: &HostRuntime, name: &str) -> io::Result<Option<Table>> {
+    let text = fs::read(rt, name)?;
+    if let Ok(table) = read_table(rt.alloc(), text.as_slice()) {
+        return Ok(Some(table));
+    }
+    println!(rt; "{name}: no table")?;
+    Ok(None)
+}
+
+// A copy of the table's chip with this number, or `None` once it is told that there is none.
+fn chip_of(rt: &HostRuntime, table: &Table, id: &str) -> io::Result<Option<Chip>> {
+    if let Some(chip) = table.find(id.parse::<u16>().unwrap_or(0)) {
+        return Ok(Some(chip.clone()?));
+    }
+    println!(rt; "no chip {id}")?;
+    Ok(None)
+}
+
+// The image of a file from this address on, and its size, or `None` once it is told that it is
+// none.
+fn image_of(rt: &HostRuntime, raw: &str, base: u32) -> io::Result<Option<(Image, u32)>> {
+    let bytes = fs::read(rt, raw)?;
+    if let Ok(image) = read_raw(rt.alloc(), bytes.as_slice(), base) {
+        return Ok(Some((image, u32::try_from(bytes.len()).unwrap_or(0))));
+    }
+    println!(rt; "{raw}: no image")?;
+    Ok(None)
+}
+
+// A device of this chip, with an erased flash.
+fn device(rt: &HostRuntime, chip: Chip) -> io::Result<Option<MemoryRig>> {
+    let flash = vec![in rt.alloc(); chip.erased(); chip.flash_size() as usize]?;
+    Ok(MemoryRig::new(rt.alloc(), chip, flash, Vec::new(rt.alloc())))
+}
+
 // A device of the table's chip with this number, and the image of this file, or `None` once
 // it is told what is wrong.
 fn bench_of(rt: &HostRuntime, name: &str, id: &str, raw: &str) -> io::Result<Option<Bench>> {
-    let text = fs::read(rt, name)?;
-    let bytes = fs::read(rt, raw)?;
-    let Ok(table) = read_table(rt.alloc(), text.as_slice()) else {
-        println!(rt; "{name}: no table")?;
+    let Some(table) = table_of(rt, name)? else {
         return Ok(None);
     };
-    let Some(found) = table.find(id.parse::<u16>().unwrap_or(0)) else {
-        println!(rt; "{name}: no chip {id}")?;
+    let Some(chip) = chip_of(rt, &table, id)? else {
         return Ok(None);
     };
-    let chip = found.clone()?;
     let base = chip.base();
-    let flash = vec![in rt.alloc(); chip.erased(); chip.flash_size() as usize]?;
-    let Ok(image) = read_raw(rt.alloc(), bytes.as_slice(), base) else {
-        println!(rt; "{raw}: no image")?;
+    let Some((image, size)) = image_of(rt, raw, base)? else {
         return Ok(None);
     };
-    let Some(rig) = MemoryRig::new(rt.alloc(), chip, flash, Vec::new(rt.alloc())) else {
-        return Ok(None);
-    };
-    let size = u32::try_from(bytes.len()).unwrap_or(0);
-    Ok(Some(Bench {
+    Ok(device(rt, chip)?.map(|rig| Bench {
         table,
         image,
         rig,
@@ -138,13 +163,18 @@ fn measure(rt: &HostRuntime, bench: &mut Bench, verb: &str) -> io::Result<()> {
     bench.tell(rt, start)
 }
 
-fn main(rt: HostRuntime) -> io::Result<()> {
-    let words: Vec<String> = env::args(&rt)?.collect(rt.alloc())?;
-    let [_, verb, table, id, raw] = words.as_slice() else {
+// Does what the words say.
+fn work(rt: &HostRuntime, words: &[String]) -> io::Result<()> {
+    let [_, verb, table, id, raw] = words else {
         return println!(rt; "{USAGE}");
     };
-    match bench_of(&rt, table.as_str(), id.as_str(), raw.as_str())? {
-        Some(mut bench) => measure(&rt, &mut bench, verb.as_str()),
+    match bench_of(rt, table.as_str(), id.as_str(), raw.as_str())? {
+        Some(mut bench) => measure(rt, &mut bench, verb.as_str()),
         None => Ok(()),
     }
+}
+
+fn main(rt: HostRuntime) -> io::Result<()> {
+    let words: Vec<String> = env::args(&rt)?.collect(rt.alloc())?;
+    work(&rt, words.as_slice())
 }
