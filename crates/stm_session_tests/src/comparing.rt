@@ -2,7 +2,7 @@
 // middle of a run.
 use crate::stories::Act::{Ends, Flash, Journal, Never, Puts, Run, Undo};
 use crate::stories::Ask::{Erase, Read, Verify, Write};
-use crate::stories::{Ask, Told, first_wrong_of};
+use crate::stories::{Ask, Told, goes_right};
 use std::test::Fail;
 use stm_session::Fault;
 
@@ -20,8 +20,7 @@ fn reads_blocks_that_stay_within_a_page(rt: HostRuntime) -> Result<(), Fail> {
         )]),
         Journal(&[]),
     ];
-    assert_eq!(rt; first_wrong_of(&rt, 0x0412, 0xFF, &[], &acts)?, None);
-    Ok(())
+    goes_right(&rt, 0x0412, 0xFF, &[], &acts)
 }
 
 #[test]
@@ -38,8 +37,7 @@ fn tells_the_first_place_that_differs(rt: HostRuntime) -> Result<(), Fail> {
         Flash(&[(b"\xFF", 32768)]),
         Journal(&[]),
     ];
-    assert_eq!(rt; first_wrong_of(&rt, 0x0412, 0xFF, &[], &acts)?, None);
-    Ok(())
+    goes_right(&rt, 0x0412, 0xFF, &[], &acts)
 }
 
 // Nothing behind the block that differs is read.
@@ -52,8 +50,7 @@ fn stops_at_the_block_that_differs(rt: HostRuntime) -> Result<(), Fail> {
         ),
         Puts(&[(&[0x11, 0xEE, 0x08, 0x00, 0x00, 0x00, 0x08, 0xFF, 0x00], 1)]),
     ];
-    assert_eq!(rt; first_wrong_of(&rt, 0x0412, 0xFF, &[], &acts)?, None);
-    Ok(())
+    goes_right(&rt, 0x0412, 0xFF, &[], &acts)
 }
 
 #[test]
@@ -65,8 +62,7 @@ fn verifies_up_to_the_last_byte(rt: HostRuntime) -> Result<(), Fail> {
         ),
         Run(&[Verify(0x0800_7FFF, &[0xFF])], Ok(&[Told::Verified])),
     ];
-    assert_eq!(rt; first_wrong_of(&rt, 0x0412, 0xFF, &[], &acts)?, None);
-    Ok(())
+    goes_right(&rt, 0x0412, 0xFF, &[], &acts)
 }
 
 /// Two bytes that don't all lie in the flash.
@@ -80,7 +76,7 @@ const BEHIND: [&[Ask]; 3] = [
 fn refuses_to_verify_behind_the_last_byte(rt: HostRuntime) -> Result<(), Fail> {
     for asks in BEHIND {
         let acts = [Run(asks, Err(Fault::OutOfFlash)), Never(0x11)];
-        assert_eq!(rt; first_wrong_of(&rt, 0x0412, 0xFF, &[], &acts)?, None);
+        goes_right(&rt, 0x0412, 0xFF, &[], &acts)?;
     }
     Ok(())
 }
@@ -91,8 +87,7 @@ fn an_empty_image_agrees_unread(rt: HostRuntime) -> Result<(), Fail> {
         Run(&[Verify(0x0800_0000, &[])], Ok(&[Told::Verified])),
         Never(0x11),
     ];
-    assert_eq!(rt; first_wrong_of(&rt, 0x0412, 0xFF, &[], &acts)?, None);
-    Ok(())
+    goes_right(&rt, 0x0412, 0xFF, &[], &acts)
 }
 
 // The write before it stands, as an ended segment; the erase behind it isn't begun.
@@ -112,8 +107,7 @@ fn a_difference_ends_the_run(rt: HostRuntime) -> Result<(), Fail> {
         Undo(0, Ok(1)),
         Flash(&[(b"\xFF", 32768)]),
     ];
-    assert_eq!(rt; first_wrong_of(&rt, 0x0412, 0xFF, &[], &acts)?, None);
-    Ok(())
+    goes_right(&rt, 0x0412, 0xFF, &[], &acts)
 }
 
 /// Three bytes at the end of page 0 and the start of page 1 are written, verified, read, and erased
@@ -143,6 +137,5 @@ fn each_command_sees_what_those_before_it_left(rt: HostRuntime) -> Result<(), Fa
         Undo(0, Ok(2)),
         Flash(&[(b"\xFF", 32768)]),
     ];
-    assert_eq!(rt; first_wrong_of(&rt, 0x0412, 0xFF, &[], &acts)?, None);
-    Ok(())
+    goes_right(&rt, 0x0412, 0xFF, &[], &acts)
 }

@@ -1,9 +1,10 @@
 // Chips, devices and journals that the tests of stopped sessions share.
+use std::fmt::Debug;
 use std::test::Fail;
 use stm_chip::{Table, read_table};
 use stm_image::{Image, read_raw};
 use stm_session::{Command, Outcome};
-use stm_wire::{MemoryRig, Rig, RigCall};
+use stm_wire::{Chip, MemoryRig, Rig, RigCall};
 
 /// Chips 0410 and 0412 of the sample table, and four for tests: 0A01 and 0A02, erased by 44, 0A03,
 /// whose erased byte is 00, and 0A05, whose pages have 2,048 bytes.
@@ -46,11 +47,39 @@ pages = [[4, 2048]]
 erase = "page"
 "#;
 
+/// Ends a test that fails where something isn't so.
+pub fn passes(is_right: bool) -> Result<(), Fail> {
+    if is_right {
+        Ok(())
+    } else {
+        Err(Fail::new("something isn't as it is due"))
+    }
+}
+
+/// Ends a test that fails where another answer is found than is due.
+pub fn answers<T: PartialEq + Debug + Drop>(found: T, due: T) -> Result<(), Fail> {
+    if found == due {
+        Ok(())
+    } else {
+        Err(Fail::new(format_args!("{found:?}, where {due:?} is due")))
+    }
+}
+
+/// A test's failure at a number of steps, calls or bytes.
+pub fn failed_at(number: u64) -> Fail {
+    Fail::new(format_args!("something else than is due at {number}"))
+}
+
 pub fn table(rt: &HostRuntime) -> Result<Table, Fail> {
     match read_table(rt.alloc(), TABLE.as_bytes()) {
         Ok(table) => Ok(table),
         Err(_) => Err(Fail::new("no table")),
     }
+}
+
+/// This chip of the table.
+pub fn chip_of(table: &Table, id: u16) -> Result<Chip, Fail> {
+    Ok(table.find(id).ok_or("no chip")?.clone()?)
 }
 
 /// A fresh device with this chip of the table, this flash and a journal.
@@ -61,9 +90,7 @@ pub fn rig_of(
     flash: Vec<u8>,
     journal: Vec<u8>,
 ) -> Result<MemoryRig, Fail> {
-    let chip = table.find(id).ok_or("no chip")?;
-    let chip = chip.clone()?;
-    Ok(MemoryRig::new(rt.alloc(), chip, flash, journal).ok_or("no rig")?)
+    Ok(MemoryRig::new(rt.alloc(), chip_of(table, id)?, flash, journal).ok_or("no rig")?)
 }
 
 /// A fresh device with this chip of the table, this byte in each place of its flash, and a journal.
@@ -80,13 +107,14 @@ pub fn device(
     rig_of(rt, table, id, flash, journal)
 }
 
-/// The device is connected, and these bytes came; nobody took its replies.
-pub fn send(rig: &mut MemoryRig, bytes: &[u8]) -> Result<(), Fail> {
-    rig.put(0x7F)?;
+/// The device is connected, and these bytes came; nobody took its replies. Whether all could be
+/// put.
+pub fn send(rig: &mut MemoryRig, bytes: &[u8]) -> bool {
+    let mut is_sent = rig.put(0x7F).is_ok();
     for byte in bytes {
-        rig.put(*byte)?;
+        is_sent = is_sent && rig.put(*byte).is_ok();
     }
-    Ok(())
+    is_sent
 }
 
 /// Adds the digits of so many bytes, each of them written by these two.

@@ -1,5 +1,5 @@
 // A flash of 512 KiB, read whole.
-use crate::devices::{counting, is_counting};
+use crate::devices::{counting, is_counting, passes, rig_of};
 use crate::stories::Act::Run;
 use crate::stories::{Ask, Told, first_wrong};
 use std::test::Fail;
@@ -17,10 +17,13 @@ fn table(rt: &HostRuntime) -> Result<Table, Fail> {
 }
 
 fn device(rt: &HostRuntime, table: &Table) -> Result<MemoryRig, Fail> {
-    let chip = table.find(0x0414).ok_or("no chip")?;
-    let chip = chip.clone()?;
-    let flash = counting(rt, 524_288)?;
-    Ok(MemoryRig::new(rt.alloc(), chip, flash, Vec::new(rt.alloc())).ok_or("no rig")?)
+    rig_of(
+        rt,
+        table,
+        0x0414,
+        counting(rt, 524_288)?,
+        Vec::new(rt.alloc()),
+    )
 }
 
 /// Whether the whole flash is read, and is as it was.
@@ -36,6 +39,5 @@ fn is_read(rt: &HostRuntime) -> Result<bool, Fail> {
 
 #[test]
 fn reads_a_flash_of_524288_bytes(rt: HostRuntime) -> Result<(), Fail> {
-    assert!(rt; is_read(&rt)?);
-    Ok(())
+    passes(is_read(&rt)?)
 }

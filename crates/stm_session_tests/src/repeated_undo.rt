@@ -1,5 +1,5 @@
 // An undo that was stopped after any step is repeated, and gives back the flash.
-use crate::devices::{device, is_all, kept, send, table};
+use crate::devices::{device, failed_at, is_all, kept, passes, send, table};
 use std::test::Fail;
 use stm_chip::Table;
 use stm_session::{Fault, undo};
@@ -7,7 +7,9 @@ use stm_wire::{EraseKind, MemoryRig, Patience, Rig, erase_page, program};
 
 /// Connects the device, and writes 01 02 03 04 at its base.
 fn write(rig: &mut MemoryRig) -> Result<(), Fail> {
-    send(rig, &[])?;
+    if !send(rig, &[]) {
+        return Err(Fail::new("not connected"));
+    }
     rig.get(Patience::Long)?;
     erase_page(rig, EraseKind::Extended, 0)?;
     let mut page = [0x00; 256];
@@ -40,35 +42,31 @@ fn is_stopped_at(rt: &HostRuntime, table: &Table, steps: u64) -> Result<bool, Fa
     Ok(stopped && comes_back(rt, table, &mut rig))
 }
 
-/// Whether the undo ends behind so many steps.
-fn ends_after(rt: &HostRuntime, steps: u64) -> Result<bool, Fail> {
-    let table = table(rt)?;
-    let mut rig = after_a_write(rt, &table)?;
+/// The undo ends behind so many steps.
+fn ends_after(rt: &HostRuntime, table: &Table, steps: u64) -> Result<(), Fail> {
+    let mut rig = after_a_write(rt, table)?;
     rig.stop_after(steps);
-    Ok(comes_back(rt, &table, &mut rig))
+    passes(comes_back(rt, table, &mut rig))
 }
 
 // Settling takes 3 steps, Get 15, Get ID 7, the page 268, `erase 0` 8, its frame 9, `program 0` 10,
 // its frame 268, `undone 1` 9.
 #[test]
 fn an_undo_takes_597_steps(rt: HostRuntime) -> Result<(), Fail> {
-    assert!(rt; ends_after(&rt, 597)?);
-    Ok(())
+    ends_after(&rt, &table(&rt)?, 597)
 }
 
-/// The first of the stops before so many steps that isn't taken up.
-fn first_unstopped(rt: &HostRuntime, count: u64) -> Result<Option<u64>, Fail> {
-    let table = table(rt)?;
+/// Each of the stops before so many steps is taken up.
+fn all_are_stopped(rt: &HostRuntime, table: &Table, count: u64) -> Result<(), Fail> {
     for steps in 0..count {
-        if !is_stopped_at(rt, &table, steps)? {
-            return Ok(Some(steps));
+        if !is_stopped_at(rt, table, steps)? {
+            return Err(failed_at(steps));
         }
     }
-    Ok(None)
+    Ok(())
 }
 
 #[test]
 fn each_stop_of_an_undo_is_taken_up(rt: HostRuntime) -> Result<(), Fail> {
-    assert_eq!(rt; first_unstopped(&rt, 597)?, None);
-    Ok(())
+    all_are_stopped(&rt, &table(&rt)?, 597)
 }

@@ -1,7 +1,7 @@
 // Sessions that were stopped inside a frame: the settling byte of the journal's intent ends the
 // frame, and undo gives back what that did.
 use crate::stories::Act::{Begins, Ends, Flash, Reset, Send, StopAfter, Undo};
-use crate::stories::{Parts, first_wrong_of};
+use crate::stories::{Parts, goes_right};
 use std::test::Fail;
 use stm_session::Fault;
 
@@ -23,8 +23,7 @@ fn an_erase_by_43_takes_its_page(rt: HostRuntime) -> Result<(), Fail> {
         Flash(&[(b"\0", 32768)]),
         Ends(b"\nerase 5\nerase 5\nprogram 5\nundone 1\n"),
     ];
-    assert_eq!(rt; first_wrong_of(&rt, 0x0412, 0x00, ERASE_5, &acts)?, None);
-    Ok(())
+    goes_right(&rt, 0x0412, 0x00, ERASE_5, &acts)
 }
 
 // The count 0000, page 0000 and the check 00. The last 00 is the first byte of Get.
@@ -37,21 +36,17 @@ fn an_erase_by_44_takes_its_page(rt: HostRuntime) -> Result<(), Fail> {
         Flash(&[(b"\0", 65_536)]),
         Ends(b"\nerase 0\nerase 0\nprogram 0\nundone 1\n"),
     ];
-    assert_eq!(rt;
-        first_wrong_of(
-            &rt,
-            0x0A01,
-            0x00,
-            &[
-                (b"stmjournal 2 0A01\nopen 1\npage 0 ", 1),
-                (b"00", 256),
-                (b"\nerase 0\n", 1)
-            ],
-            &acts
-        )?,
-        None
-    );
-    Ok(())
+    goes_right(
+        &rt,
+        0x0A01,
+        0x00,
+        &[
+            (b"stmjournal 2 0A01\nopen 1\npage 0 ", 1),
+            (b"00", 256),
+            (b"\nerase 0\n", 1),
+        ],
+        &acts,
+    )
 }
 
 // The address 08000802 and its check, the count 02, three data bytes, and a check that is refused.
@@ -65,21 +60,17 @@ fn a_write_is_refused(rt: HostRuntime) -> Result<(), Fail> {
         Flash(&[(b"\0", 131_072)]),
         Ends(b"\nerase 2\nprogram 2\nundone 1\n"),
     ];
-    assert_eq!(rt;
-        first_wrong_of(
-            &rt,
-            0x0410,
-            0x00,
-            &[
-                (b"stmjournal 2 0410\nopen 1\npage 2 ", 1),
-                (b"00", 1024),
-                (b"\nerase 2\nprogram 2\n", 1)
-            ],
-            &acts
-        )?,
-        None
-    );
-    Ok(())
+    goes_right(
+        &rt,
+        0x0410,
+        0x00,
+        &[
+            (b"stmjournal 2 0410\nopen 1\npage 2 ", 1),
+            (b"00", 1024),
+            (b"\nerase 2\nprogram 2\n", 1),
+        ],
+        &acts,
+    )
 }
 
 // The longest list of such a chip: a count FF and 256 bytes, and then their check, which is
@@ -93,21 +84,17 @@ fn a_write_of_256_bytes_is_refused(rt: HostRuntime) -> Result<(), Fail> {
         Flash(&[(b"\0", 32768)]),
         Ends(b"\nerase 5\nprogram 5\nerase 5\nprogram 5\nundone 1\n"),
     ];
-    assert_eq!(rt;
-        first_wrong_of(
-            &rt,
-            0x0412,
-            0x00,
-            &[
-                (b"stmjournal 2 0412\nopen 1\npage 5 ", 1),
-                (b"00", 1024),
-                (b"\nerase 5\nprogram 5\n", 1)
-            ],
-            &acts
-        )?,
-        None
-    );
-    Ok(())
+    goes_right(
+        &rt,
+        0x0412,
+        0x00,
+        &[
+            (b"stmjournal 2 0412\nopen 1\npage 5 ", 1),
+            (b"00", 1024),
+            (b"\nerase 5\nprogram 5\n", 1),
+        ],
+        &acts,
+    )
 }
 
 // Two replies are taken, and three bytes 05 put. A device that was reset ignores 510 bytes in two
@@ -124,6 +111,5 @@ fn a_reset_device_is_connected_first(rt: HostRuntime) -> Result<(), Fail> {
         Flash(&[(b"\0", 32768)]),
         Begins(&[(0x05, 512), (0x7F, 1), (0x05, 2), (0x00, 1), (0xFF, 1)]),
     ];
-    assert_eq!(rt; first_wrong_of(&rt, 0x0412, 0x00, ERASE_5, &acts)?, None);
-    Ok(())
+    goes_right(&rt, 0x0412, 0x00, ERASE_5, &acts)
 }

@@ -185,14 +185,19 @@ fn is_answered(
     })
 }
 
-/// Does what isn't a call of a session, and tells whether what is to be is.
-fn is_so(rt: &HostRuntime, rig: &mut MemoryRig, before: usize, act: &Act) -> Result<bool, Fail> {
+/// Does what isn't a call of a session, and tells whether it could be done.
+fn is_done(rig: &mut MemoryRig, act: &Act) -> bool {
     match act {
-        Act::Send(bytes) => send(rig, bytes)?,
+        Act::Send(bytes) => return send(rig, bytes),
         Act::StopAfter(steps) => rig.stop_after(*steps),
         Act::Reset => rig.reset(),
         _ => {}
     }
+    true
+}
+
+/// Tells whether what is to be is.
+fn is_so(rt: &HostRuntime, rig: &MemoryRig, before: usize, act: &Act) -> Result<bool, Fail> {
     Ok(match act {
         Act::Flash(parts) => is_made_of(rig.flash(), parts),
         Act::Journal(parts) => is_made_of(rig.journal(), parts),
@@ -218,7 +223,8 @@ pub fn first_wrong(
     let mut before = 0;
     for (place, act) in acts.iter().enumerate() {
         let calls = rig.calls().len();
-        if !is_answered(rt, table, rig, act)? || !is_so(rt, rig, before, act)? {
+        let is_right = is_answered(rt, table, rig, act)? && is_done(rig, act);
+        if !is_right || !is_so(rt, rig, before, act)? {
             return Ok(Some(place));
         }
         if calls < rig.calls().len() {
@@ -238,6 +244,34 @@ pub fn first_wrong_of(
     acts: &[Act],
 ) -> Result<Option<usize>, Fail> {
     let table = table(rt)?;
-    let mut rig = device(rt, &table, id, byte, made_of(rt, journal)?)?;
-    first_wrong(rt, &table, &mut rig, acts)
+    first_wrong(rt, &table, &mut made(rt, &table, id, byte, journal)?, acts)
+}
+
+fn made(
+    rt: &HostRuntime,
+    table: &Table,
+    id: u16,
+    byte: u8,
+    journal: Parts,
+) -> Result<MemoryRig, Fail> {
+    device(rt, table, id, byte, made_of(rt, journal)?)
+}
+
+/// Ends a test: it fails where an act went wrong.
+pub fn ends_right(wrong: Option<usize>) -> Result<(), Fail> {
+    match wrong {
+        None => Ok(()),
+        Some(place) => Err(Fail::new(format_args!("act {place} goes wrong"))),
+    }
+}
+
+/// A test of such a device: it fails with the first of the acts that goes wrong.
+pub fn goes_right(
+    rt: &HostRuntime,
+    id: u16,
+    byte: u8,
+    journal: Parts,
+    acts: &[Act],
+) -> Result<(), Fail> {
+    ends_right(first_wrong_of(rt, id, byte, journal, acts)?)
 }

@@ -1,11 +1,11 @@
 // Writes and erases of worked cases: what is sent, what the journal keeps, what is answered, and
 // what stands in the flash.
-use crate::old_journals::first_wrong_with;
+use crate::old_journals::goes_right_with;
 use crate::stories::Act::{
     Ends, Fetches, Flash, Journal, Length, Never, Puts, Rest, Run, StopAfter, Undo,
 };
 use crate::stories::Ask::{Erase, Read, Verify, Write};
-use crate::stories::{Act, Ask, Told, first_wrong_of};
+use crate::stories::{Act, Ask, Told, goes_right};
 use std::test::Fail;
 use stm_session::Fault;
 
@@ -26,8 +26,7 @@ fn writes_the_last_byte(rt: HostRuntime) -> Result<(), Fail> {
         ]),
         Flash(&[(b"\xFF", 32767), (b"\xAA", 1)]),
     ];
-    assert_eq!(rt; first_wrong_of(&rt, 0x0412, 0xFF, &[], &acts)?, None);
-    Ok(())
+    goes_right(&rt, 0x0412, 0xFF, &[], &acts)
 }
 
 #[test]
@@ -37,8 +36,7 @@ fn writes_nothing_past_the_end(rt: HostRuntime) -> Result<(), Fail> {
         Journal(&[]),
         Flash(&[(b"\xFF", 32768)]),
     ];
-    assert_eq!(rt; first_wrong_of(&rt, 0x0412, 0xFF, &[], &acts)?, None);
-    Ok(())
+    goes_right(&rt, 0x0412, 0xFF, &[], &acts)
 }
 
 #[test]
@@ -48,8 +46,7 @@ fn an_empty_write_is_a_segment(rt: HostRuntime) -> Result<(), Fail> {
         Journal(&[(b"stmjournal 2 0412\nopen 1\nend 1\n", 1)]),
         Flash(&[(b"\xFF", 32768)]),
     ];
-    assert_eq!(rt; first_wrong_of(&rt, 0x0412, 0xFF, &[], &acts)?, None);
-    Ok(())
+    goes_right(&rt, 0x0412, 0xFF, &[], &acts)
 }
 
 /// AA BB CC across the edge of pages 0 and 1.
@@ -72,8 +69,7 @@ fn keeps_both_pages_of_a_write_across_their_edge(rt: HostRuntime) -> Result<(), 
         Length(4179),
         Flash(&[(b"\0", 1023), (&[0xAA, 0xBB, 0xCC], 1), (b"\0", 130_046)]),
     ];
-    assert_eq!(rt; first_wrong_of(&rt, 0x0410, 0x00, &[], &acts)?, None);
-    Ok(())
+    goes_right(&rt, 0x0410, 0x00, &[], &acts)
 }
 
 #[test]
@@ -87,8 +83,7 @@ fn a_write_of_what_stands_sends_no_erase(rt: HostRuntime) -> Result<(), Fail> {
         Ends(b"\nend 1\nopen 2\nend 2\n"),
         Never(0x43),
     ];
-    assert_eq!(rt; first_wrong_of(&rt, 0x0410, 0x00, &[], &acts)?, None);
-    Ok(())
+    goes_right(&rt, 0x0410, 0x00, &[], &acts)
 }
 
 #[test]
@@ -109,8 +104,7 @@ fn two_writes_are_two_segments(rt: HostRuntime) -> Result<(), Fail> {
         Flash(&[(b"\xFF", 32768)]),
         Undo(0, Ok(0)),
     ];
-    assert_eq!(rt; first_wrong_of(&rt, 0x0412, 0xFF, &[], &acts)?, None);
-    Ok(())
+    goes_right(&rt, 0x0412, 0xFF, &[], &acts)
 }
 
 #[test]
@@ -132,8 +126,7 @@ fn erases_each_page_once_and_rising(rt: HostRuntime) -> Result<(), Fail> {
             (b"\0", 26_624),
         ]),
     ];
-    assert_eq!(rt; first_wrong_of(&rt, 0x0412, 0x00, &[], &acts)?, None);
-    Ok(())
+    goes_right(&rt, 0x0412, 0x00, &[], &acts)
 }
 
 #[test]
@@ -143,8 +136,7 @@ fn a_page_that_is_not_there_is_refused_first(rt: HostRuntime) -> Result<(), Fail
         Journal(&[]),
         Flash(&[(b"\0", 32768)]),
     ];
-    assert_eq!(rt; first_wrong_of(&rt, 0x0412, 0x00, &[], &acts)?, None);
-    Ok(())
+    goes_right(&rt, 0x0412, 0x00, &[], &acts)
 }
 
 #[test]
@@ -154,8 +146,7 @@ fn a_device_without_the_command_is_refused_first(rt: HostRuntime) -> Result<(), 
         Journal(&[]),
         Flash(&[(b"\0", 32768)]),
     ];
-    assert_eq!(rt; first_wrong_with(&rt, 0x00, &[], &acts)?, None);
-    Ok(())
+    goes_right_with(&rt, 0x00, &[], &acts)
 }
 
 #[test]
@@ -168,8 +159,7 @@ fn a_verify_tells_the_first_difference(rt: HostRuntime) -> Result<(), Fail> {
         Run(&[Verify(0x0800_03FE, &[0xFF; 3])], Ok(&[Told::Verified])),
         Journal(&[]),
     ];
-    assert_eq!(rt; first_wrong_of(&rt, 0x0412, 0xFF, &[], &acts)?, None);
-    Ok(())
+    goes_right(&rt, 0x0412, 0xFF, &[], &acts)
 }
 
 // Page 257 is kept before page 1, and isn't counted.
@@ -185,8 +175,7 @@ fn page_1_is_kept_with_page_257(rt: HostRuntime) -> Result<(), Fail> {
             (b"\nerase 1\nend 1\n", 1),
         ]),
     ];
-    assert_eq!(rt; first_wrong_of(&rt, 0x0A02, 0x00, &[], &acts)?, None);
-    Ok(())
+    goes_right(&rt, 0x0A02, 0x00, &[], &acts)
 }
 
 // A flash that erases to 00: the frame's block is cut after its last byte that isn't 00.
@@ -207,8 +196,7 @@ fn a_write_over_zeros(rt: HostRuntime) -> Result<(), Fail> {
         Run(&[Erase(&[2])], Ok(&[Told::Erased(1, 0)])),
         Never(0x43),
     ];
-    assert_eq!(rt; first_wrong_of(&rt, 0x0A03, 0x00, &[], &acts)?, None);
-    Ok(())
+    goes_right(&rt, 0x0A03, 0x00, &[], &acts)
 }
 
 // The stop falls behind 43 BC. The steps before it: settling 5, Get 15, Get ID 7, header and `open`
@@ -225,8 +213,7 @@ fn an_erase_that_was_stopped_is_taken_back(rt: HostRuntime) -> Result<(), Fail> 
         Flash(&[(b"\0", 32768)]),
         Ends(b"00\nerase 5\nerase 5\nprogram 5\nundone 1\n"),
     ];
-    assert_eq!(rt; first_wrong_of(&rt, 0x0412, 0x00, &[], &acts)?, None);
-    Ok(())
+    goes_right(&rt, 0x0412, 0x00, &[], &acts)
 }
 
 /// Settling a second time, Get, Get ID, `open 2`, four reads, the page's line, `erase 0`, its
@@ -256,6 +243,5 @@ fn a_stopped_write_wants_an_undo_first(rt: HostRuntime) -> Result<(), Fail> {
         Undo(0, Ok(0)),
         Fetches,
     ];
-    assert_eq!(rt; first_wrong_of(&rt, 0x0412, 0xFF, &[], &acts)?, None);
-    Ok(())
+    goes_right(&rt, 0x0412, 0xFF, &[], &acts)
 }
