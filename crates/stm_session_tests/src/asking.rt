@@ -1,6 +1,6 @@
 // Sessions that only ask, over a Rig in memory: each call where nothing is refused, and each
 // refusal.
-use crate::devices::{self, counting, is_all, is_counting};
+use crate::devices::{self, counting, is_all, is_counting, passes};
 use crate::stories::Act::{Fetches, Go, Info, IsGone, Never, Protect, Run};
 use crate::stories::{Act, Ask, Told, first_wrong};
 use std::test::Fail;
@@ -59,44 +59,57 @@ fn device(rt: &HostRuntime, id: u16, journal: &[u8]) -> Result<MemoryRig, Fail> 
     devices::rig_of(rt, &table, id, flash, Vec::from_slice(rt.alloc(), journal)?)
 }
 
-/// Whether these acts go right with a device of this id and this journal, and the device.
+/// The first of these acts that goes wrong with a device of this id and this journal, and the
+/// device.
 fn done(
     rt: &HostRuntime,
     id: u16,
     journal: &[u8],
     acts: &[Act],
-) -> Result<(bool, MemoryRig), Fail> {
-    let table = table(rt)?;
+) -> Result<(Option<usize>, MemoryRig), Fail> {
     let mut rig = device(rt, id, journal)?;
-    let wrong = first_wrong(rt, &table, &mut rig, acts)?;
-    Ok((wrong.is_none(), rig))
+    let wrong = first_wrong(rt, &table(rt)?, &mut rig, acts)?;
+    Ok((wrong, rig))
 }
 
-/// Whether these acts go right, and leave the journal and the flash as they were.
-fn are_right(rt: &HostRuntime, id: u16, journal: &[u8], acts: &[Act]) -> Result<bool, Fail> {
-    let (right, rig) = done(rt, id, journal, acts)?;
-    Ok(right && rig.journal() == journal && is_counting(rig.flash()))
+/// The test fails where an act went wrong, or another journal or flash than is due was left.
+fn ends(wrong: Option<usize>, is_left: bool, journal: &[u8]) -> Result<(), Fail> {
+    if wrong.is_none() && is_left {
+        return Ok(());
+    }
+    let size = journal.len();
+    Err(Fail::new(format_args!("a journal of {size} bytes: {wrong:?}, {is_left}")))
 }
 
-/// Whether `info` tells what the device is.
-fn is_told(rt: &HostRuntime, journal: &[u8]) -> Result<bool, Fail> {
-    let table = table(rt)?;
-    let mut rig = device(rt, 0x0412, journal)?;
-    let told = info(rt.alloc(), &mut rig, &table)?;
-    let codes = &told.commands.codes[..usize::from(told.commands.count)];
-    Ok(
-        (told.id, told.base, told.pages) == (0x0412, 0x0800_0000, 32)
-            && (told.size, told.kind) == (32768, EraseKind::Page)
-            && told.commands.version == 0x22
-            && codes == CODES.as_slice(),
+/// These acts go right, and leave the journal and the flash as they were.
+fn all_stays(rt: &HostRuntime, id: u16, journal: &[u8], acts: &[Act]) -> Result<(), Fail> {
+    let (wrong, rig) = done(rt, id, journal, acts)?;
+    ends(
+        wrong,
+        rig.journal() == journal && is_counting(rig.flash()),
+        journal,
     )
+}
+
+fn is_so(told: &stm_session::Info) -> bool {
+    let codes = told.commands.codes.get(..usize::from(told.commands.count));
+    (told.id, told.base, told.pages) == (0x0412, 0x0800_0000, 32)
+        && (told.size, told.kind) == (32768, EraseKind::Page)
+        && told.commands.version == 0x22
+        && codes == Some(CODES.as_slice())
+}
+
+/// `info` tells what the device is.
+fn is_told(rt: &HostRuntime, journal: &[u8]) -> Result<(), Fail> {
+    let mut rig = device(rt, 0x0412, journal)?;
+    passes(is_so(&info(rt.alloc(), &mut rig, &table(rt)?)?))
 }
 
 #[test]
 fn tells_what_a_device_is(rt: HostRuntime) -> Result<(), Fail> {
     for journal in [b"".as_slice(), CLOSED, ENDED] {
-        assert!(rt; is_told(&rt, journal)?);
-        assert!(rt; are_right(&rt, 0x0412, journal, &[Info(None)])?);
+        is_told(&rt, journal)?;
+        all_stays(&rt, 0x0412, journal, &[Info(None)])?;
     }
     Ok(())
 }
@@ -116,7 +129,7 @@ fn reads_across_pages_and_up_to_the_end(rt: HostRuntime) -> Result<(), Fail> {
             Told::Read(0, 0),
             Told::Read(0x7FFF, 1),
         ];
-        assert!(rt; are_right(&rt, 0x0412, journal, &[Run(PARTS, Ok(told))])?);
+        all_stays(&rt, 0x0412, journal, &[Run(PARTS, Ok(told))])?;
     }
     Ok(())
 }
@@ -124,22 +137,26 @@ fn reads_across_pages_and_up_to_the_end(rt: HostRuntime) -> Result<(), Fail> {
 #[test]
 fn leaves_the_bootloader(rt: HostRuntime) -> Result<(), Fail> {
     for journal in [b"".as_slice(), CLOSED] {
-        assert!(rt; are_right(&rt, 0x0412, journal, &[Go(None), IsGone])?);
+        all_stays(&rt, 0x0412, journal, &[Go(None), IsGone])?;
     }
     Ok(())
 }
 
-/// Whether the end of the readout protection leaves an erased flash, and the journal.
-fn is_unprotected(rt: &HostRuntime, journal: &[u8]) -> Result<bool, Fail> {
+/// The end of the readout protection leaves an erased flash, and the journal.
+fn is_unprotected(rt: &HostRuntime, journal: &[u8]) -> Result<(), Fail> {
     let acts = [Protect(Protection::ReadoutUnprotect, None)];
-    let (right, rig) = done(rt, 0x0412, journal, &acts)?;
-    Ok(right && rig.journal() == journal && is_all(rig.flash(), 0xFF))
+    let (wrong, rig) = done(rt, 0x0412, journal, &acts)?;
+    ends(
+        wrong,
+        rig.journal() == journal && is_all(rig.flash(), 0xFF),
+        journal,
+    )
 }
 
 #[test]
 fn ends_the_readout_protection(rt: HostRuntime) -> Result<(), Fail> {
     for journal in [b"".as_slice(), CLOSED] {
-        assert!(rt; is_unprotected(&rt, journal)?);
+        is_unprotected(&rt, journal)?;
     }
     Ok(())
 }
@@ -158,8 +175,7 @@ fn refuses_a_bad_journal_before_it_sends(rt: HostRuntime) -> Result<(), Fail> {
         Fetches,
     ];
     let journal = b"stmjournal 1 0412\nopen 1\nend 2\nopen 3\n";
-    assert!(rt; are_right(&rt, 0x0412, journal, &acts)?);
-    Ok(())
+    all_stays(&rt, 0x0412, journal, &acts)
 }
 
 #[test]
@@ -171,7 +187,7 @@ fn refuses_an_unfinished_journal_before_it_sends(rt: HostRuntime) -> Result<(), 
             Run(&[], Err(Fault::Unfinished)),
             Fetches,
         ];
-        assert!(rt; are_right(&rt, 0x0412, journal, &acts)?);
+        all_stays(&rt, 0x0412, journal, &acts)?;
     }
     Ok(())
 }
@@ -185,15 +201,15 @@ fn refuses_to_leave_with_a_segment_before_it_sends(rt: HostRuntime) -> Result<()
             Protect(Protection::ReadoutUnprotect, Some(Fault::InSession)),
             Fetches,
         ];
-        assert!(rt; are_right(&rt, 0x0412, journal, &acts)?);
+        all_stays(&rt, 0x0412, journal, &acts)?;
     }
     Ok(())
 }
 
-/// Whether `info` and a run of no commands answer this fault, and leave the journal and the flash
+/// `info` and a run of no commands answer this fault, and leave the journal and the flash
 /// as they were.
-fn is_refused(rt: &HostRuntime, id: u16, journal: &[u8], fault: Fault) -> Result<bool, Fail> {
-    are_right(rt, id, journal, &[Info(Some(fault)), Run(&[], Err(fault))])
+fn is_refused(rt: &HostRuntime, id: u16, journal: &[u8], fault: Fault) -> Result<(), Fail> {
+    all_stays(rt, id, journal, &[Info(Some(fault)), Run(&[], Err(fault))])
 }
 
 // An ended journal of a device that the table hasn't is refused as another device's.
@@ -214,7 +230,7 @@ fn refuses_another_device(rt: HostRuntime) -> Result<(), Fail> {
         ),
     ];
     for (id, journal, fault) in rows {
-        assert!(rt; is_refused(&rt, id, journal, fault)?, "{id:04X}: {fault}");
+        is_refused(&rt, id, journal, fault)?;
     }
     Ok(())
 }
@@ -222,10 +238,7 @@ fn refuses_another_device(rt: HostRuntime) -> Result<(), Fail> {
 #[test]
 fn refuses_a_kept_page_that_the_chip_has_not(rt: HostRuntime) -> Result<(), Fail> {
     for (journal, line) in MISFITS {
-        assert!(rt;
-            is_refused(&rt, 0x0412, journal, Fault::BadJournal(line))?,
-            "line {line}"
-        );
+        is_refused(&rt, 0x0412, journal, Fault::BadJournal(line))?;
     }
     Ok(())
 }
@@ -242,7 +255,7 @@ const OUTSIDE: [&[Ask]; 3] = [
 fn refuses_a_place_outside_the_flash(rt: HostRuntime) -> Result<(), Fail> {
     for asks in OUTSIDE {
         let acts = [Run(asks, Err(Fault::OutOfFlash)), Never(0x11)];
-        assert!(rt; are_right(&rt, 0x0412, b"", &acts)?);
+        all_stays(&rt, 0x0412, b"", &acts)?;
     }
     Ok(())
 }
