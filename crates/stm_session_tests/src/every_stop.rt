@@ -4,7 +4,7 @@
 // takes 1,141 steps: settling 5, Get 15, Get ID 7, the header and `open 1` 25, reading the page
 // 268, its line 520, `erase 0` 8, the erase frame 9, `program 0` 10, the write frame 268, `end 1`
 // 6.
-use crate::devices::{device, is_all, table, write_of};
+use crate::devices::{device, failed_at, is_all, passes, table, write_of};
 use std::test::Fail;
 use stm_chip::Table;
 use stm_session::{Command, Fault, run, undo};
@@ -26,17 +26,29 @@ pub fn small_write(rt: &HostRuntime) -> Result<[Command; 1], Fail> {
     write_of(rt, &[0x01, 0x02, 0x03, 0x04], 0x0800_0000)
 }
 
-/// What the write answers that is stopped after so many steps, and the device; the stop is lifted.
+/// What the commands answer that are stopped after so many steps; the stop is lifted.
+pub fn stop(
+    rt: &HostRuntime,
+    table: &Table,
+    rig: &mut MemoryRig,
+    commands: &[Command],
+    steps: u64,
+) -> Option<Fault> {
+    rig.stop_after(steps);
+    let fault = run(rt.alloc(), rig, table, commands).err();
+    rig.stop_after(u64::MAX);
+    fault
+}
+
+/// What the write answers that is stopped after so many steps, and the device.
 pub fn stopped_write(
     rt: &HostRuntime,
     table: &Table,
     steps: u64,
 ) -> Result<(Option<Fault>, MemoryRig), Fail> {
-    let mut rig = fresh(rt, table)?;
     let command = small_write(rt)?;
-    rig.stop_after(steps);
-    let fault = run(rt.alloc(), &mut rig, table, &command).err();
-    rig.stop_after(u64::MAX);
+    let mut rig = fresh(rt, table)?;
+    let fault = stop(rt, table, &mut rig, &command, steps);
     Ok((fault, rig))
 }
 
@@ -53,46 +65,45 @@ fn comes_back(rt: &HostRuntime, table: &Table, steps: u64, segments: u32) -> Res
     Ok(is_counted(fault) && taken == Ok(segments) && is_all(rig.flash(), 0x00))
 }
 
-/// The first number of steps, of these, behind which the write isn't stopped, or so many segments
-/// don't come back.
-fn first_failure(rt: &HostRuntime, from: u64, to: u64, segments: u32) -> Result<Option<u64>, Fail> {
+/// Behind each number of steps, of these, the write is stopped, and so many segments come back; the
+/// test fails at the first other one.
+fn all_come_back(rt: &HostRuntime, from: u64, to: u64, segments: u32) -> Result<(), Fail> {
     let table = table(rt)?;
     for steps in from..to {
         if !comes_back(rt, &table, steps, segments)? {
-            return Ok(Some(steps));
+            return Err(failed_at(steps));
         }
     }
-    Ok(None)
+    Ok(())
 }
 
-/// Whether the write ends behind so many steps, and leaves its bytes and every other as it was.
-fn is_written_after(rt: &HostRuntime, steps: u64) -> Result<bool, Fail> {
-    let table = table(rt)?;
-    let (fault, rig) = stopped_write(rt, &table, steps)?;
-    let others = rig.flash().get(4..).unwrap_or(&[1]);
-    Ok(fault.is_none() && rig.flash().starts_with(&[1, 2, 3, 4]) && is_all(others, 0x00))
+/// Whether the write's bytes stand there, and every other is as it was.
+fn is_written(flash: &[u8]) -> bool {
+    flash.starts_with(&[1, 2, 3, 4]) && is_all(flash.get(4..).unwrap_or(&[1]), 0x00)
+}
+
+/// The write ends behind so many steps.
+fn is_written_after(rt: &HostRuntime, table: &Table, steps: u64) -> Result<(), Fail> {
+    let (fault, rig) = stopped_write(rt, table, steps)?;
+    passes(fault.is_none() && is_written(rig.flash()))
 }
 
 #[test]
 fn a_write_takes_1141_steps(rt: HostRuntime) -> Result<(), Fail> {
-    assert!(rt; is_written_after(&rt, WRITE)?);
-    Ok(())
+    is_written_after(&rt, &table(&rt)?, WRITE)
 }
 
 #[test]
 fn each_stop_before_the_segment_leaves_nothing(rt: HostRuntime) -> Result<(), Fail> {
-    assert_eq!(rt; first_failure(&rt, 0, OPENED, 0)?, None);
-    Ok(())
+    all_come_back(&rt, 0, OPENED, 0)
 }
 
 #[test]
 fn each_stop_while_the_page_is_kept_is_taken_back(rt: HostRuntime) -> Result<(), Fail> {
-    assert_eq!(rt; first_failure(&rt, OPENED, 600, 1)?, None);
-    Ok(())
+    all_come_back(&rt, OPENED, 600, 1)
 }
 
 #[test]
 fn each_later_stop_is_taken_back(rt: HostRuntime) -> Result<(), Fail> {
-    assert_eq!(rt; first_failure(&rt, 600, WRITE, 1)?, None);
-    Ok(())
+    all_come_back(&rt, 600, WRITE, 1)
 }

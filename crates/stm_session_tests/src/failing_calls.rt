@@ -5,7 +5,7 @@ use crate::every_stop::{fresh, small_write};
 use crate::repeated_undo::{after_a_write, comes_back};
 use std::test::Fail;
 use stm_chip::Table;
-use stm_session::{Fault, run, undo};
+use stm_session::{Command, Fault, run, undo};
 use stm_wire::MemoryRig;
 
 /// A call that fails.
@@ -32,6 +32,20 @@ fn fail(rig: &mut MemoryRig, failing: Failing, k: u64) {
     }
 }
 
+fn failed_write(
+    rt: &HostRuntime,
+    table: &Table,
+    rig: &mut MemoryRig,
+    command: &[Command],
+    (failing, k): (Failing, u64),
+) -> (Option<Fault>, bool) {
+    fail(rig, failing, k);
+    let fault = run(rt.alloc(), rig, table, command).err();
+    fail(rig, failing, 0);
+    let taken = undo(rt.alloc(), rig, table, 0);
+    (fault, taken.is_ok() && is_all(rig.flash(), 0x00))
+}
+
 /// What the write answers whose k-th call of a kind fails; and whether all of it can be taken back.
 fn write_fails_at(
     rt: &HostRuntime,
@@ -39,13 +53,9 @@ fn write_fails_at(
     failing: Failing,
     k: u64,
 ) -> Result<(Option<Fault>, bool), Fail> {
-    let mut rig = fresh(rt, table)?;
-    fail(&mut rig, failing, k);
     let command = small_write(rt)?;
-    let fault = run(rt.alloc(), &mut rig, table, &command).err();
-    fail(&mut rig, failing, 0);
-    let taken = undo(rt.alloc(), &mut rig, table, 0);
-    Ok((fault, taken.is_ok() && is_all(rig.flash(), 0x00)))
+    let mut rig = fresh(rt, table)?;
+    Ok(failed_write(rt, table, &mut rig, &command, (failing, k)))
 }
 
 /// What the undo answers whose k-th call of a kind fails; and whether, where it fails, the next one
@@ -58,9 +68,13 @@ fn undo_fails_at(
 ) -> Result<(Option<Fault>, bool), Fail> {
     let mut rig = after_a_write(rt, table)?;
     fail(&mut rig, failing, k);
-    match undo(rt.alloc(), &mut rig, table, 0) {
-        Ok(_) => Ok((None, is_all(rig.flash(), 0x00))),
-        Err(fault) => Ok((Some(fault), comes_back(rt, table, &mut rig))),
+    Ok(failed_undo(rt, table, &mut rig))
+}
+
+fn failed_undo(rt: &HostRuntime, table: &Table, rig: &mut MemoryRig) -> (Option<Fault>, bool) {
+    match undo(rt.alloc(), rig, table, 0) {
+        Ok(_) => (None, is_all(rig.flash(), 0x00)),
+        Err(fault) => (Some(fault), comes_back(rt, table, rig)),
     }
 }
 
@@ -81,19 +95,15 @@ fn fails_at(
 /// after which not all can be taken back; the `count`th one isn't made.
 fn first_other(
     rt: &HostRuntime,
+    table: &Table,
     session: Session,
-    failing: Failing,
-    count: u64,
-    fault: Fault,
+    (failing, count, fault): (Failing, u64, Fault),
 ) -> Result<Option<u64>, Fail> {
-    let table = table(rt)?;
-    for k in 1..count {
-        if fails_at(rt, &table, session, failing, k)? != (Some(fault), true) {
+    for k in 1..=count {
+        let due = if k < count { Some(fault) } else { None };
+        if fails_at(rt, table, session, failing, k)? != (due, true) {
             return Ok(Some(k));
         }
-    }
-    if fails_at(rt, &table, session, failing, count)? != (None, true) {
-        return Ok(Some(count));
     }
     Ok(None)
 }
@@ -114,28 +124,23 @@ const OF_AN_UNDO: Kinds = [
     (Failing::Append, 4, Fault::Journal),
 ];
 
-/// The first kind of these with another call, and that call.
-fn first_kind(
-    rt: &HostRuntime,
-    session: Session,
-    kinds: &Kinds,
-) -> Result<Option<(usize, u64)>, Fail> {
-    for (place, (failing, count, fault)) in kinds.iter().enumerate() {
-        if let Some(k) = first_other(rt, session, *failing, *count, *fault)? {
-            return Ok(Some((place, k)));
+/// No kind of these has another call; the test fails with the first one.
+fn all_fail(rt: &HostRuntime, session: Session, kinds: &Kinds) -> Result<(), Fail> {
+    let table = table(rt)?;
+    for (place, kind) in kinds.iter().enumerate() {
+        if let Some(k) = first_other(rt, &table, session, *kind)? {
+            return Err(Fail::new(format_args!("call {k} of kind {place}")));
         }
     }
-    Ok(None)
+    Ok(())
 }
 
 #[test]
 fn each_call_of_a_write_may_fail(rt: HostRuntime) -> Result<(), Fail> {
-    assert_eq!(rt; first_kind(&rt, Session::Write, &OF_A_WRITE)?, None);
-    Ok(())
+    all_fail(&rt, Session::Write, &OF_A_WRITE)
 }
 
 #[test]
 fn each_call_of_an_undo_may_fail(rt: HostRuntime) -> Result<(), Fail> {
-    assert_eq!(rt; first_kind(&rt, Session::Undo, &OF_AN_UNDO)?, None);
-    Ok(())
+    all_fail(&rt, Session::Undo, &OF_AN_UNDO)
 }
