@@ -32,6 +32,8 @@ mod large;
 #[cfg(test)]
 mod laws;
 #[cfg(test)]
+mod lost_power;
+#[cfg(test)]
 mod old_journals;
 #[cfg(test)]
 mod power_losses;
@@ -51,6 +53,8 @@ mod stop_sweeps_wide;
 mod stopped_runs;
 #[cfg(test)]
 mod stories;
+#[cfg(test)]
+mod sweeps;
 #[cfg(test)]
 mod taking_back;
 #[cfg(test)]

@@ -6,7 +6,8 @@
 // N bytes N and 12; a line its bytes, of which a page's digits are two a byte; the frame that
 // erases a page 7, and 9 where the chip's code is 44.
 use crate::stopped_runs::Part::{Add, Line, Open};
-use crate::stopped_runs::{Between, Case, Change, Part, Parts, first_failure};
+use crate::stopped_runs::{Case, Change, Part, Parts};
+use crate::sweeps::{Between, all_come_back};
 use std::test::Fail;
 
 /// A page of 1,024 bytes is kept and written: its line, `erase`, the frame, `program`, and four
@@ -48,20 +49,12 @@ const OVER_AN_EDGE: Case = Case {
 
 #[test]
 fn a_write_over_an_edge_comes_back_alone(rt: HostRuntime) -> Result<(), Fail> {
-    assert_eq!(rt;
-        first_failure(&rt, &OVER_AN_EDGE, Between::Nothing, 1, 3, 127)?,
-        None
-    );
-    Ok(())
+    all_come_back(&rt, &OVER_AN_EDGE, Between::Nothing, 1, 3, 127)
 }
 
 #[test]
 fn a_write_over_an_edge_comes_back_with_all_before_it(rt: HostRuntime) -> Result<(), Fail> {
-    assert_eq!(rt;
-        first_failure(&rt, &OVER_AN_EDGE, Between::Nothing, 0, 1, 131)?,
-        None
-    );
-    Ok(())
+    all_come_back(&rt, &OVER_AN_EDGE, Between::Nothing, 0, 1, 131)
 }
 
 /// Chip 0A03, whose erased byte is 00, with a flash of FF.
@@ -107,26 +100,30 @@ const ZEROS: [(Change, Parts); 2] = [
     ),
 ];
 
-#[test]
-fn a_flash_that_erases_to_zeros_comes_back(rt: HostRuntime) -> Result<(), Fail> {
+/// Both come back.
+fn zeros_come_back(
+    rt: &HostRuntime,
+    between: Between,
+    count: u32,
+    near: u64,
+    stride: u64,
+) -> Result<(), Fail> {
     for (change, parts) in ZEROS {
-        let case = zeros(change, parts);
-        assert_eq!(rt; first_failure(&rt, &case, Between::Nothing, 1, 5, 7)?, None);
+        all_come_back(rt, &zeros(change, parts), between, count, near, stride)?;
     }
     Ok(())
+}
+
+#[test]
+fn a_flash_that_erases_to_zeros_comes_back(rt: HostRuntime) -> Result<(), Fail> {
+    zeros_come_back(&rt, Between::Nothing, 1, 5, 7)
 }
 
 // Of the bytes that the device owes at the stop the next session gets none, or not the first ones.
 #[test]
 fn lost_replies_do_no_harm(rt: HostRuntime) -> Result<(), Fail> {
     for lost in [1, 7, 4096] {
-        for (change, parts) in ZEROS {
-            let case = zeros(change, parts);
-            assert_eq!(rt;
-                first_failure(&rt, &case, Between::Lost(lost), 0, 3, 31)?,
-                None
-            );
-        }
+        zeros_come_back(&rt, Between::Lost(lost), 0, 3, 31)?;
     }
     Ok(())
 }
@@ -136,10 +133,7 @@ fn lost_replies_do_no_harm(rt: HostRuntime) -> Result<(), Fail> {
 #[test]
 fn pages_that_lost_their_power_come_back(rt: HostRuntime) -> Result<(), Fail> {
     for between in [Between::Power(0xA5, false), Between::Power(0x5A, true)] {
-        for (change, parts) in ZEROS {
-            let case = zeros(change, parts);
-            assert_eq!(rt; first_failure(&rt, &case, between, 0, 1, 31)?, None);
-        }
+        zeros_come_back(&rt, between, 0, 1, 31)?;
     }
     Ok(())
 }
@@ -147,6 +141,5 @@ fn pages_that_lost_their_power_come_back(rt: HostRuntime) -> Result<(), Fail> {
 #[test]
 fn a_write_without_power_comes_back_alone(rt: HostRuntime) -> Result<(), Fail> {
     let between = Between::Power(0x3C, true);
-    assert_eq!(rt; first_failure(&rt, &OVER_AN_EDGE, between, 1, 0, 0)?, None);
-    Ok(())
+    all_come_back(&rt, &OVER_AN_EDGE, between, 1, 0, 0)
 }

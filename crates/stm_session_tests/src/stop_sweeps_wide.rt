@@ -4,7 +4,8 @@
 // those of docs/SESSIONS.md, as in `stop_sweeps`.
 use crate::stop_sweeps::BEGINNING;
 use crate::stopped_runs::Part::{Add, Line};
-use crate::stopped_runs::{Between, Case, Change, Part, Parts, first_failure};
+use crate::stopped_runs::{Case, Change, Part, Parts};
+use crate::sweeps::{Between, all_come_back};
 use std::test::Fail;
 
 /// A page is kept and erased: page 0, page 1, with page 257, which is read and kept too, and one
@@ -79,51 +80,42 @@ const LAST_PAGE: Page = [
     (Change::Write(130_817, BYTES), WRITE),
 ];
 
-/// The first of these changes that has a stop after which it isn't taken back, and that stop.
-fn first_stop(rt: &HostRuntime, rows: &Page) -> Result<Option<(usize, u64)>, Fail> {
-    for (place, (change, parts)) in rows.iter().enumerate() {
-        let case = wide(*change, parts);
-        if let Some(steps) = first_failure(rt, &case, Between::Nothing, 0, 5, 61)? {
-            return Ok(Some((place, steps)));
-        }
+/// Each of these changes is taken back after its stops.
+fn both_come_back(rt: &HostRuntime, rows: &Page) -> Result<(), Fail> {
+    for (change, parts) in rows {
+        all_come_back(rt, &wide(*change, parts), Between::Nothing, 0, 5, 61)?;
     }
-    Ok(None)
+    Ok(())
 }
 
 #[test]
 fn page_0_comes_back(rt: HostRuntime) -> Result<(), Fail> {
-    assert_eq!(rt; first_stop(&rt, &FIRST_PAGE)?, None);
-    Ok(())
+    both_come_back(&rt, &FIRST_PAGE)
 }
 
 #[test]
 fn page_1_comes_back(rt: HostRuntime) -> Result<(), Fail> {
-    assert_eq!(rt; first_stop(&rt, &PAGE_WITH_COMPANION)?, None);
-    Ok(())
+    both_come_back(&rt, &PAGE_WITH_COMPANION)
 }
 
 #[test]
 fn page_255_comes_back(rt: HostRuntime) -> Result<(), Fail> {
-    assert_eq!(rt; first_stop(&rt, &PAGE_255)?, None);
-    Ok(())
+    both_come_back(&rt, &PAGE_255)
 }
 
 #[test]
 fn page_256_comes_back(rt: HostRuntime) -> Result<(), Fail> {
-    assert_eq!(rt; first_stop(&rt, &PAGE_256)?, None);
-    Ok(())
+    both_come_back(&rt, &PAGE_256)
 }
 
 #[test]
 fn page_257_comes_back(rt: HostRuntime) -> Result<(), Fail> {
-    assert_eq!(rt; first_stop(&rt, &PAGE_257)?, None);
-    Ok(())
+    both_come_back(&rt, &PAGE_257)
 }
 
 #[test]
 fn page_511_comes_back(rt: HostRuntime) -> Result<(), Fail> {
-    assert_eq!(rt; first_stop(&rt, &LAST_PAGE)?, None);
-    Ok(())
+    both_come_back(&rt, &LAST_PAGE)
 }
 
 /// What befalls a device of 512 pages before the undo, and how near to the turns the stops are, and
@@ -139,9 +131,9 @@ const BEFALLS: [(Between, u64, u64); 4] = [
 fn lost_replies_and_resets_do_no_harm(rt: HostRuntime) -> Result<(), Fail> {
     for (between, near, stride) in BEFALLS {
         let case = wide(Change::Write(257, BYTES), WRITE_1);
-        assert_eq!(rt; first_failure(&rt, &case, between, 0, near, stride)?, None);
+        all_come_back(&rt, &case, between, 0, near, stride)?;
         let case = wide(Change::Erase(&[256]), ERASE);
-        assert_eq!(rt; first_failure(&rt, &case, between, 0, near, stride)?, None);
+        all_come_back(&rt, &case, between, 0, near, stride)?;
     }
     Ok(())
 }

@@ -1,13 +1,33 @@
 // Three stops in a row: of a write, of its undo, and of the next undo; then an undo that ends. A
 // row has the step behind which the write is stopped, that of its undo, and how many steps the next
 // undo takes, as the model of tools/soak counts them.
-use crate::devices::{is_same, table};
+use crate::devices::table;
 use crate::every_stop::is_counted;
 use crate::stop_sweeps_wide::wide;
-use crate::stopped_runs::{Case, Change, Start, start_of, stopped_run};
+use crate::stopped_runs::{Case, Change, Start, is_as_before, start_of, stopped_run};
 use std::test::Fail;
 use stm_chip::Table;
 use stm_session::undo;
+use stm_wire::MemoryRig;
+
+/// What two undos answer behind the one that is stopped after `first` steps: the next, stopped
+/// after `second`, and the last; and whether those that fail are stopped.
+fn thrice_undone(
+    rt: &HostRuntime,
+    table: &Table,
+    rig: &mut MemoryRig,
+    first: u64,
+    second: u64,
+) -> (Option<u32>, Option<u32>, bool) {
+    rig.stop_after(first);
+    let taken = undo(rt.alloc(), rig, table, 0).err();
+    rig.stop_after(second);
+    let next = undo(rt.alloc(), rig, table, 0);
+    rig.stop_after(u64::MAX);
+    let last = undo(rt.alloc(), rig, table, 0).ok();
+    let stopped = is_counted(taken) && (next.is_ok() || is_counted(next.err()));
+    (next.ok(), last, stopped)
+}
 
 /// What two undos answer behind the one that is stopped after so many steps: the next, stopped too,
 /// and the last; and whether the flash is as it was before the run.
@@ -20,48 +40,60 @@ fn thrice_stopped(
 ) -> Result<(Option<u32>, Option<u32>, bool), Fail> {
     let (write, first, second) = stops;
     let (fault, mut rig) = stopped_run(rt, table, case, start, write)?;
-    rig.stop_after(first);
-    let taken = undo(rt.alloc(), &mut rig, table, 0).err();
-    rig.stop_after(second);
-    let next = undo(rt.alloc(), &mut rig, table, 0);
-    rig.stop_after(u64::MAX);
-    let last = undo(rt.alloc(), &mut rig, table, 0).ok();
-    let is_back = match start.flashes.last() {
-        Some(flash) => is_same(rig.flash(), flash),
-        None => false,
-    };
-    let stopped = is_counted(fault)
-        && is_counted(taken)
-        && (next.is_ok() || is_counted(next.err()));
-    Ok((next.ok(), last, stopped && is_back))
+    let (next, last, stopped) = thrice_undone(rt, table, &mut rig, first, second);
+    let is_right = is_counted(fault) && stopped && is_as_before(start, rig.flash());
+    Ok((next, last, is_right))
 }
 
-/// The first stops of a run, its undo and the next one, of each `stride`th of the last, that don't
-/// come back. A row has a stop of the run, one of its undo, and how many steps the next one takes.
-fn first_third(
+/// The stops of a row come back: a stop of the run, one of its undo, and each `stride`th of the
+/// next one, of which the row has how many steps it takes.
+fn row_comes_back(
+    rt: &HostRuntime,
+    table: &Table,
+    case: &Case,
+    start: &Start,
+    row: (u64, u64, u64),
+    stride: u64,
+) -> Result<(), Fail> {
+    let (write, first, size) = row;
+    for second in 0..=size {
+        if second.checked_rem(stride) == Some(0) || second.saturating_add(1) >= size {
+            let due = if second < size {
+                (None, Some(1), true)
+            } else {
+                (Some(1), Some(0), true)
+            };
+            if thrice_stopped(rt, table, case, start, (write, first, second))? != due {
+                return Err(Fail::new(format_args!("stops {write}, {first}, {second}")));
+            }
+        }
+    }
+    Ok(())
+}
+
+fn rows_come_back(
+    rt: &HostRuntime,
+    table: &Table,
+    case: &Case,
+    start: &Start,
+    rows: &[(u64, u64, u64)],
+    stride: u64,
+) -> Result<(), Fail> {
+    for row in rows {
+        row_comes_back(rt, table, case, start, *row, stride)?;
+    }
+    Ok(())
+}
+
+/// All rows come back; the test fails at the first other stops.
+fn all_come_back(
     rt: &HostRuntime,
     case: &Case,
     rows: &[(u64, u64, u64)],
     stride: u64,
-) -> Result<Option<(u64, u64, u64)>, Fail> {
+) -> Result<(), Fail> {
     let table = table(rt)?;
-    let start = start_of(rt, &table, case)?;
-    for (write, first, size) in rows {
-        for second in 0..=*size {
-            if second.checked_rem(stride) == Some(0) || second.saturating_add(1) >= *size {
-                let stops = (*write, *first, second);
-                let due = if second < *size {
-                    (None, Some(1), true)
-                } else {
-                    (Some(1), Some(0), true)
-                };
-                if thrice_stopped(rt, &table, case, &start, stops)? != due {
-                    return Ok(Some(stops));
-                }
-            }
-        }
-    }
-    Ok(None)
+    rows_come_back(rt, &table, case, &start_of(rt, &table, case)?, rows, stride)
 }
 
 /// Chip 0A03 with a flash of AA, of which page 2 is written. The stops of the write are behind its
@@ -112,8 +144,7 @@ fn three_stops_of_a_flash_that_erases_to_zeros(rt: HostRuntime) -> Result<(), Fa
         change: Change::Write(513, &[0xB1, 0xB2]),
         parts: &[],
     };
-    assert_eq!(rt; first_third(&rt, &case, &ZEROS, 29)?, None);
-    Ok(())
+    all_come_back(&rt, &case, &ZEROS, 29)
 }
 
 /// Chip 0A02 with a flash of 00, of which page 1 is written: behind four bytes of its erase frame,
@@ -141,7 +172,7 @@ const PAGE_256: [(u64, u64, u64); 6] = [
 fn three_stops_of_a_chip_of_512_pages(rt: HostRuntime) -> Result<(), Fail> {
     for (place, rows) in [(257, &PAGE_1), (65_537, &PAGE_256)] {
         let case = wide(Change::Write(place, &[0x01, 0x02, 0x03]), &[]);
-        assert_eq!(rt; first_third(&rt, &case, rows, 127)?, None, "place {place}");
+        all_come_back(&rt, &case, rows, 127)?;
     }
     Ok(())
 }

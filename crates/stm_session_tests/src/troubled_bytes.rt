@@ -2,7 +2,7 @@
 // the last to come: on a good line the flash then comes back. Hours of
 // `rt try`, and seconds once built.
 use crate::stopped_runs::{Case, Change};
-use crate::troubled_runs::{TROUBLES, Troubled, first_failure};
+use crate::troubled_runs::{Troubled, are_harmless};
 use std::test::Fail;
 
 /// The write of four bytes at the base of chip 0A01, which takes 1,141 steps.
@@ -51,72 +51,40 @@ const ZEROS: Case = Case {
 
 #[test]
 fn each_byte_of_a_write_may_be_bad(rt: HostRuntime) -> Result<(), Fail> {
-    assert_eq!(rt;
-        first_failure(&rt, &SMALL, Troubled::Run, &TROUBLES, 1)?,
-        None
-    );
-    Ok(())
+    are_harmless(&rt, &SMALL, Troubled::Run, 1)
 }
 
 #[test]
 fn each_byte_of_an_undo_may_be_bad(rt: HostRuntime) -> Result<(), Fail> {
-    assert_eq!(rt;
-        first_failure(&rt, &SMALL, Troubled::Undo, &TROUBLES, 1)?,
-        None
-    );
-    Ok(())
+    are_harmless(&rt, &SMALL, Troubled::Undo, 1)
 }
 
 #[test]
 fn bytes_over_an_edge_may_be_bad(rt: HostRuntime) -> Result<(), Fail> {
-    assert_eq!(rt;
-        first_failure(&rt, &OVER_AN_EDGE, Troubled::Run, &TROUBLES, 7)?,
-        None
-    );
-    Ok(())
+    are_harmless(&rt, &OVER_AN_EDGE, Troubled::Run, 7)
 }
 
 #[test]
 fn bytes_of_an_undo_over_an_edge_may_be_bad(rt: HostRuntime) -> Result<(), Fail> {
-    assert_eq!(rt;
-        first_failure(&rt, &OVER_AN_EDGE, Troubled::Undo, &TROUBLES, 7)?,
-        None
-    );
-    Ok(())
+    are_harmless(&rt, &OVER_AN_EDGE, Troubled::Undo, 7)
 }
 
 #[test]
 fn bytes_of_two_companions_may_be_bad(rt: HostRuntime) -> Result<(), Fail> {
-    assert_eq!(rt;
-        first_failure(&rt, &COMPANIONS, Troubled::Run, &TROUBLES, 1)?,
-        None
-    );
-    Ok(())
+    are_harmless(&rt, &COMPANIONS, Troubled::Run, 1)
 }
 
 #[test]
 fn bytes_of_their_undo_may_be_bad(rt: HostRuntime) -> Result<(), Fail> {
-    assert_eq!(rt;
-        first_failure(&rt, &COMPANIONS, Troubled::Undo, &TROUBLES, 1)?,
-        None
-    );
-    Ok(())
+    are_harmless(&rt, &COMPANIONS, Troubled::Undo, 1)
 }
 
 #[test]
 fn bytes_of_a_flash_that_erases_to_zeros_may_be_bad(rt: HostRuntime) -> Result<(), Fail> {
-    assert_eq!(rt;
-        first_failure(&rt, &ZEROS, Troubled::Run, &TROUBLES, 1)?,
-        None
-    );
-    Ok(())
+    are_harmless(&rt, &ZEROS, Troubled::Run, 1)
 }
 
 #[test]
 fn bytes_of_its_undo_may_be_bad(rt: HostRuntime) -> Result<(), Fail> {
-    assert_eq!(rt;
-        first_failure(&rt, &ZEROS, Troubled::Undo, &TROUBLES, 1)?,
-        None
-    );
-    Ok(())
+    are_harmless(&rt, &ZEROS, Troubled::Undo, 1)
 }

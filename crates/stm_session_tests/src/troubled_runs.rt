@@ -4,8 +4,8 @@
 // A byte among the data of a read has no check (AN3155, 3.4): where it comes as another, the
 // journal keeps that one, so what is due is what was kept, and a page that wasn't kept as it was.
 use crate::bad_line_rig::{BadLine, Trouble};
-use crate::devices::{is_same, rig_of, table};
-use crate::stopped_runs::{Case, Start, command_of, start_of};
+use crate::devices::{is_same, table};
+use crate::stopped_runs::{Case, Start, command_of, rig_before, run_change, start_of};
 use std::test::Fail;
 use stm_chip::Table;
 use stm_journal::Journal;
@@ -14,7 +14,7 @@ use stm_wire::MemoryRig;
 
 /// What a byte may become, or whether it gets lost, or whether nothing comes any more: a
 /// complement, a refusal, an acknowledgement, nothing but zeros.
-pub const TROUBLES: [Trouble; 6] = [
+const TROUBLES: [Trouble; 6] = [
     Trouble::Complemented,
     Trouble::Becomes(0x1F),
     Trouble::Becomes(0x79),
@@ -40,15 +40,10 @@ fn before(
     start: &Start,
     troubled: Troubled,
 ) -> Result<MemoryRig, Fail> {
-    let last = start.flashes.last().ok_or("no flash")?;
-    let flash = Vec::from_slice(rt.alloc(), last)?;
-    let journal = Vec::from_slice(rt.alloc(), &start.journal)?;
-    let mut rig = rig_of(rt, table, case.id, flash, journal)?;
+    let mut rig = rig_before(rt, table, case, start)?;
     match troubled {
         Troubled::Run => {}
-        Troubled::Undo => {
-            run(rt.alloc(), &mut rig, table, &command_of(rt, case.change)?)?;
-        }
+        Troubled::Undo => run_change(rt, table, &mut rig, case.change)?,
     }
     Ok(rig)
 }
@@ -70,31 +65,45 @@ fn do_troubled(
     })
 }
 
-/// Lays the pages that this segment of the journal keeps over a flash of pages of one size.
+/// Lays these bytes over a flash, from a place on.
+fn lay(bytes: &[u8], first: usize, flash: &mut [u8]) {
+    for (at, byte) in bytes.iter().enumerate() {
+        if let Some(cell) = flash.get_mut(first.saturating_add(at)) {
+            *cell = *byte;
+        }
+    }
+}
+
+/// Lays the page that stands in this place of the journal over a flash of pages of one size.
+fn lay_page(
+    rt: &HostRuntime,
+    rig: &mut MemoryRig,
+    journal: &Journal,
+    (segment, i): (u32, usize),
+    page: usize,
+    flash: &mut [u8],
+) -> Result<(), Fail> {
+    let place = journal.kept_place(segment, i).ok_or("no place")?;
+    let (n, _) = journal.kept(segment, i).ok_or("no page")?;
+    let mut held = vec![in rt.alloc(); 0_u8; place.length as usize]?;
+    if journal.fetch_page(rig, place, &mut held).is_err() {
+        return Err(Fail::new("no digits"));
+    }
+    lay(&held, page.saturating_mul(usize::from(n)), flash);
+    Ok(())
+}
+
+/// Lays each segment's pages over a flash, the oldest ones last.
 fn lay_kept(
     rt: &HostRuntime,
     rig: &mut MemoryRig,
     journal: &Journal,
-    segment: u32,
     page: usize,
-    flash: &mut Vec<u8>,
+    flash: &mut [u8],
 ) -> Result<(), Fail> {
-    for i in 0..journal.kept_count(segment) {
-        let Some(place) = journal.kept_place(segment, i) else {
-            return Err(Fail::new("no place"));
-        };
-        let Some((n, _)) = journal.kept(segment, i) else {
-            return Err(Fail::new("no page"));
-        };
-        let mut held = vec![in rt.alloc(); 0_u8; place.length as usize]?;
-        if journal.fetch_page(rig, place, &mut held).is_err() {
-            return Err(Fail::new("no digits"));
-        }
-        let first = page.saturating_mul(usize::from(n));
-        for (at, byte) in held.iter().enumerate() {
-            if let Some(cell) = flash.get_mut(first.saturating_add(at)) {
-                *cell = *byte;
-            }
+    for segment in (1..=journal.depth()).rev() {
+        for i in 0..journal.kept_count(segment) {
+            lay_page(rt, rig, journal, (segment, i), page, flash)?;
         }
     }
     Ok(())
@@ -109,11 +118,9 @@ fn due_flash(
     flash: &[u8],
 ) -> Result<Vec<u8>, Fail> {
     let mut due = Vec::from_slice(rt.alloc(), flash)?;
-    let Ok(journal) = Journal::load(rt.alloc(), rig) else {
-        return Err(Fail::new("a bad journal"));
-    };
-    for segment in (1..=journal.depth()).rev() {
-        lay_kept(rt, rig, &journal, segment, page, &mut due)?;
+    match Journal::load(rt.alloc(), rig) {
+        Ok(journal) => lay_kept(rt, rig, &journal, page, &mut due)?,
+        Err(_) => return Err(Fail::new("a bad journal")),
     }
     Ok(due)
 }
@@ -139,18 +146,9 @@ fn is_kept_well(trouble: Trouble, flash: &[u8], due: &[u8]) -> bool {
 }
 
 /// Takes all back on a good line, and answers whether the flash is as it was due.
-fn comes_back(
-    rt: &HostRuntime,
-    table: &Table,
-    rig: &mut MemoryRig,
-    due: &[u8],
-) -> Result<bool, Fail> {
-    for _again in 0..2 {
-        if undo(rt.alloc(), rig, table, 0).is_ok() {
-            return Ok(is_same(rig.flash(), due));
-        }
-    }
-    Ok(false)
+fn comes_back(rt: &HostRuntime, table: &Table, rig: &mut MemoryRig, due: &[u8]) -> bool {
+    let is_taken = undo(rt.alloc(), rig, table, 0).is_ok();
+    (is_taken || undo(rt.alloc(), rig, table, 0).is_ok()) && is_same(rig.flash(), due)
 }
 
 /// How many bytes come while the call meets a good line.
@@ -169,32 +167,60 @@ fn count(
     }
 }
 
-/// The first byte that comes, of those that `stride` divides, after whose trouble the flash doesn't
-/// come back.
-fn first_failure_of(
-    rt: &HostRuntime,
-    case: &Case,
+/// A byte that comes during a call, what befalls it, and whether a reset follows.
+#[derive(Clone, Copy)]
+struct Bad {
     troubled: Troubled,
     trouble: Trouble,
+    due: u64,
     is_reset: bool,
+}
+
+/// The device behind the call.
+fn behind(
+    rt: &HostRuntime,
+    table: &Table,
+    case: &Case,
+    start: &Start,
+    bad: Bad,
+) -> Result<MemoryRig, Fail> {
+    let rig = before(rt, table, case, start, bad.troubled)?;
+    let mut line = BadLine::new(rig, bad.trouble, bad.due);
+    let _fault = do_troubled(rt, table, case, &mut line, bad.troubled)?;
+    Ok(line.into_inner())
+}
+
+/// Whether the flash comes back, and was kept well.
+fn is_harmless(
+    rt: &HostRuntime,
+    table: &Table,
+    case: &Case,
+    start: &Start,
+    bad: Bad,
+) -> Result<bool, Fail> {
+    let first = start.flashes.first().ok_or("no flash")?;
+    let mut rig = behind(rt, table, case, start, bad)?;
+    if bad.is_reset {
+        rig.reset();
+    }
+    let kept = due_flash(rt, &mut rig, case.page, first)?;
+    let is_well = is_kept_well(bad.trouble, first, &kept);
+    Ok(is_well && comes_back(rt, table, &mut rig, &kept))
+}
+
+/// The first byte that comes, of those that `stride` divides, after whose trouble the flash doesn't
+/// come back.
+fn first_failure(
+    rt: &HostRuntime,
+    table: &Table,
+    case: &Case,
+    start: &Start,
+    bad: Bad,
     stride: u64,
 ) -> Result<Option<u64>, Fail> {
-    let table = table(rt)?;
-    let start = start_of(rt, &table, case)?;
-    let first = start.flashes.first().ok_or("no flash")?;
-    let most = count(rt, &table, case, &start, troubled)?;
-    for due in 1..=most {
+    for due in 1..=count(rt, table, case, start, bad.troubled)? {
         if due.checked_rem(stride) == Some(0) {
-            let rig = before(rt, &table, case, &start, troubled)?;
-            let mut line = BadLine::new(rig, trouble, due);
-            let _fault = do_troubled(rt, &table, case, &mut line, troubled)?;
-            let mut rig = line.into_inner();
-            if is_reset {
-                rig.reset();
-            }
-            let kept = due_flash(rt, &mut rig, case.page, first)?;
-            let is_well = is_kept_well(trouble, first, &kept);
-            if !is_well || !comes_back(rt, &table, &mut rig, &kept)? {
+            if !is_harmless(rt, table, case, start, Bad { due, ..bad })? {
                 return Ok(Some(due));
             }
         }
@@ -202,21 +228,39 @@ fn first_failure_of(
     Ok(None)
 }
 
-/// The first trouble, and the byte that it befell, after which the flash doesn't come back, behind
-/// a reset and without.
-pub fn first_failure(
+fn troubles_are_harmless(
     rt: &HostRuntime,
+    table: &Table,
     case: &Case,
+    start: &Start,
     troubled: Troubled,
-    troubles: &[Trouble],
     stride: u64,
-) -> Result<Option<(usize, u64)>, Fail> {
-    for (place, trouble) in troubles.iter().enumerate() {
+) -> Result<(), Fail> {
+    for (place, trouble) in TROUBLES.iter().enumerate() {
         for is_reset in [false, true] {
-            if let Some(due) = first_failure_of(rt, case, troubled, *trouble, is_reset, stride)? {
-                return Ok(Some((place, due)));
+            let bad = Bad {
+                troubled,
+                trouble: *trouble,
+                due: 0,
+                is_reset,
+            };
+            if let Some(due) = first_failure(rt, table, case, start, bad, stride)? {
+                return Err(Fail::new(format_args!("trouble {place} of byte {due}")));
             }
         }
     }
-    Ok(None)
+    Ok(())
+}
+
+/// After each trouble of each byte that `stride` divides the flash comes back, behind a reset and
+/// without; the test fails at the first other one.
+pub fn are_harmless(
+    rt: &HostRuntime,
+    case: &Case,
+    troubled: Troubled,
+    stride: u64,
+) -> Result<(), Fail> {
+    let table = table(rt)?;
+    let start = start_of(rt, &table, case)?;
+    troubles_are_harmless(rt, &table, case, &start, troubled, stride)
 }

@@ -1,0 +1,209 @@
+// Sweeps over the stops of a run: behind each something befalls the device, and then all is taken
+// back.
+use crate::devices::{failed_at, is_same, table};
+use crate::lost_power::lose_power;
+use crate::stopped_runs::{Case, Part, Parts, Start, start_of, stopped_run};
+use std::test::Fail;
+use stm_chip::Table;
+use stm_session::{Fault, undo};
+use stm_wire::{MemoryRig, Patience, Rig};
+
+/// What befalls the device between the stop and the undo.
+#[derive(Clone, Copy)]
+pub enum Between {
+    Nothing,
+    /// So many of the bytes that it owes are lost, or all where it owes fewer.
+    Lost(u32),
+    Reset,
+    /// Its power: every page that the unfinished newest segment keeps, or just that of the
+    /// intent, holds this byte then.
+    Power(u8, bool),
+}
+
+/// What a run answers that is stopped after so many steps, and how many segments it has begun.
+fn due(parts: Parts, steps: u64) -> (Option<Fault>, u32) {
+    let mut left = steps;
+    let mut begun = 0_u32;
+    for list in parts {
+        for part in *list {
+            let (size, fault) = match part {
+                Part::Line(size) => (*size, Fault::Line),
+                Part::Open(size) | Part::Add(size) => (*size, Fault::Journal),
+            };
+            if left < size {
+                return (Some(fault), begun);
+            }
+            left = left.saturating_sub(size);
+            if let Part::Open(_) = part {
+                begun = begun.saturating_add(1);
+            }
+        }
+    }
+    (None, begun)
+}
+
+fn size_of(part: Part) -> u64 {
+    match part {
+        Part::Line(size) | Part::Open(size) | Part::Add(size) => size,
+    }
+}
+
+/// How many steps a run of these parts takes.
+fn total(parts: Parts) -> u64 {
+    let mut steps = 0_u64;
+    for list in parts {
+        for part in *list {
+            steps = steps.saturating_add(size_of(*part));
+        }
+    }
+    steps
+}
+
+/// Whether a part begins or ends near this step.
+fn is_near_a_turn(parts: Parts, steps: u64, near: u64) -> bool {
+    let mut turn = 0_u64;
+    for list in parts {
+        for part in *list {
+            if turn.abs_diff(steps) <= near {
+                return true;
+            }
+            turn = turn.saturating_add(size_of(*part));
+        }
+    }
+    turn.abs_diff(steps) <= near
+}
+
+fn befall(rt: &HostRuntime, rig: &mut MemoryRig, between: Between) -> Result<(), Fail> {
+    match between {
+        Between::Nothing => {}
+        Between::Lost(count) => {
+            for _i in 0..count {
+                if rig.get(Patience::Brief)?.is_none() {
+                    return Ok(());
+                }
+            }
+        }
+        Between::Reset => rig.reset(),
+        Between::Power(byte, all) => lose_power(rt, rig, byte, all)?,
+    }
+    Ok(())
+}
+
+/// Whether an undo takes back as many of these segments as it was asked for, all of them where that
+/// is 0 or more than there are, and leaves the flash as it was before the oldest.
+fn takes_back(
+    rt: &HostRuntime,
+    table: &Table,
+    rig: &mut MemoryRig,
+    flashes: &[Vec<u8>],
+    count: u32,
+    depth: u32,
+) -> bool {
+    let left = left_of(depth, count);
+    let taken = depth.saturating_sub(left);
+    let Some(flash) = flashes.get(left as usize) else {
+        return false;
+    };
+    undo(rt.alloc(), rig, table, count) == Ok(taken) && is_same(rig.flash(), flash)
+}
+
+/// How many segments there are: those before the run, and so many that it has begun.
+fn depth_of(case: &Case, begun: u32) -> u32 {
+    let mut depth = begun;
+    for _change in case.before {
+        depth = depth.saturating_add(1);
+    }
+    depth
+}
+
+/// How many of the segments stand behind an undo of so many.
+fn left_of(depth: u32, count: u32) -> u32 {
+    if count == 0 {
+        0
+    } else {
+        depth.saturating_sub(count)
+    }
+}
+
+/// Whether an undo of so many of these segments, and the next one of all, each bring the flash
+/// back.
+fn are_taken_back(
+    rt: &HostRuntime,
+    table: &Table,
+    rig: &mut MemoryRig,
+    flashes: &[Vec<u8>],
+    count: u32,
+    depth: u32,
+) -> bool {
+    takes_back(rt, table, rig, flashes, count, depth)
+        && takes_back(rt, table, rig, flashes, 0, left_of(depth, count))
+}
+
+/// What befalls the device behind each stop, of how many segments the first undo is, and which
+/// stops there are: those at most `near` steps from a turn, and those that `stride` divides (0:
+/// none).
+#[derive(Clone, Copy)]
+struct Sweep {
+    between: Between,
+    count: u32,
+    near: u64,
+    stride: u64,
+}
+
+/// Whether the run that is stopped after so many steps answers the fault that is due, and comes
+/// back.
+fn comes_back(
+    rt: &HostRuntime,
+    table: &Table,
+    case: &Case,
+    start: &Start,
+    sweep: Sweep,
+    steps: u64,
+) -> Result<bool, Fail> {
+    let (due, begun) = due(case.parts, steps);
+    let depth = depth_of(case, begun);
+    let (fault, mut rig) = stopped_run(rt, table, case, start, steps)?;
+    befall(rt, &mut rig, sweep.between)?;
+    let is_back = are_taken_back(rt, table, &mut rig, &start.flashes, sweep.count, depth);
+    Ok(fault == due && is_back)
+}
+
+fn sweep_from(
+    rt: &HostRuntime,
+    table: &Table,
+    case: &Case,
+    start: &Start,
+    sweep: Sweep,
+) -> Result<(), Fail> {
+    for steps in 0..=total(case.parts) {
+        if is_near_a_turn(case.parts, steps, sweep.near)
+            || steps.checked_rem(sweep.stride) == Some(0)
+        {
+            if !comes_back(rt, table, case, start, sweep, steps)? {
+                return Err(failed_at(steps));
+            }
+        }
+    }
+    Ok(())
+}
+
+/// At each stop of the run, of those at most `near` steps from a turn and those that `stride`
+/// divides (0: none), it answers the fault that is due, and an undo of so many segments, and the
+/// next one of all, bring the flash back; the test fails at the first other one.
+pub fn all_come_back(
+    rt: &HostRuntime,
+    case: &Case,
+    between: Between,
+    count: u32,
+    near: u64,
+    stride: u64,
+) -> Result<(), Fail> {
+    let table = table(rt)?;
+    let sweep = Sweep {
+        between,
+        count,
+        near,
+        stride,
+    };
+    sweep_from(rt, &table, case, &start_of(rt, &table, case)?, sweep)
+}
