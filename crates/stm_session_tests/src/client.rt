@@ -1,6 +1,7 @@
 // A caller that knows public contracts alone: sessions that only read, one after another, and after
 // a stop and a reset; a write; and commands that are stopped and taken back.
-use crate::devices::{changed, counting, image, is_all, is_counting};
+use crate::devices::{answers, changed, counting, failed_at, image, is_all, is_counting, rig_of};
+use crate::every_stop::stop;
 use crate::stories::{Ask, commands_of};
 use std::test::Fail;
 use stm_chip::{Table, read_table};
@@ -8,7 +9,7 @@ use stm_client::{
     change_kept, lose_power, read, read_again, read_flash, read_new, read_twice, take_back_kept,
     take_back_stopped, take_back_unpowered, tell, write_whole,
 };
-use stm_session::{Command, Outcome, Report, run};
+use stm_session::{Command, Fault, Outcome, Report};
 use stm_wire::MemoryRig;
 
 /// A table of chip 0412.
@@ -24,14 +25,23 @@ fn table(rt: &HostRuntime) -> Result<Table, Fail> {
 
 /// A simulator that has just been made, after its flash was read.
 fn device(rt: &HostRuntime, table: &Table) -> Result<MemoryRig, Fail> {
+    let flash = counting(rt, 4096)?;
     let chip = table.find(0x0412).ok_or("no chip")?;
     let chip = chip.clone()?;
-    let flash = counting(rt, 4096)?;
     let (rig, answer) = read_new(rt.alloc(), chip, flash, table).ok_or("no rig")?;
-    if !is_part(rig.flash(), &answer?, 0, 4096) {
-        return Err(Fail::new("another flash"));
+    if is_whole(rig.flash(), answer) {
+        Ok(rig)
+    } else {
+        Err(Fail::new("another flash"))
     }
-    Ok(rig)
+}
+
+/// Whether a reading answers a whole flash.
+fn is_whole(flash: &[u8], answer: Result<Report, Fault>) -> bool {
+    match answer {
+        Ok(report) => is_part(flash, &report, 0, 4096),
+        Err(_) => false,
+    }
 }
 
 /// Whether the outcome is so many bytes of a flash, from a place on.
@@ -77,19 +87,23 @@ fn is_read_whole(rt: &HostRuntime, rig: &mut MemoryRig, table: &Table) -> Result
     Ok(is_part(rig.flash(), &report, 0, 4096))
 }
 
-/// Whether four sessions each answer what is due, and the flash is as it was.
-fn follow_one_another(rt: &HostRuntime) -> Result<bool, Fail> {
-    let table = table(rt)?;
-    let mut rig = device(rt, &table)?;
-    let first = is_told(rt, &mut rig, &table)? && is_read(rt, &mut rig, &table)?;
-    let second = are_read(rt, &mut rig, &table)? && is_read_whole(rt, &mut rig, &table)?;
-    Ok(first && second && is_counting(rig.flash()))
+/// Four sessions each answer what is due, and the flash is as it was.
+fn follow(rt: &HostRuntime, rig: &mut MemoryRig, table: &Table) -> Result<(), Fail> {
+    let told = is_told(rt, rig, table)?;
+    let read = is_read(rt, rig, table)?;
+    let twice = are_read(rt, rig, table)?;
+    let whole = is_read_whole(rt, rig, table)?;
+    let stays = is_counting(rig.flash());
+    answers(
+        (told, read, twice, whole, stays),
+        (true, true, true, true, true),
+    )
 }
 
 #[test]
 fn sessions_follow_one_another(rt: HostRuntime) -> Result<(), Fail> {
-    assert!(rt; follow_one_another(&rt)?);
-    Ok(())
+    let table = table(&rt)?;
+    follow(&rt, &mut device(&rt, &table)?, &table)
 }
 
 /// Whether the flash is read whole behind a session that was stopped after so many steps, and a
@@ -104,147 +118,157 @@ fn is_read_again(
     Ok(is_part(rig.flash(), &report, 0, 4096) && is_counting(rig.flash()))
 }
 
-/// The first stop of one device behind which the flash isn't read whole.
-fn first_unread(rt: &HostRuntime, stops: &[u64]) -> Result<Option<u64>, Fail> {
-    let table = table(rt)?;
-    let mut rig = device(rt, &table)?;
+/// The flash of one device is read whole behind each of these stops; the test fails at the first
+/// where it isn't.
+fn is_always_read(
+    rt: &HostRuntime,
+    rig: &mut MemoryRig,
+    table: &Table,
+    stops: &[u64],
+) -> Result<(), Fail> {
     for steps in stops {
-        if !is_read_again(rt, &mut rig, &table, *steps)? {
-            return Ok(Some(*steps));
+        if !is_read_again(rt, rig, table, *steps)? {
+            return Err(failed_at(*steps));
         }
     }
-    Ok(None)
+    Ok(())
 }
 
 #[test]
 fn a_session_follows_one_that_was_stopped(rt: HostRuntime) -> Result<(), Fail> {
-    assert_eq!(rt; first_unread(&rt, &[0, 1, 4, 9, 30, 700, 100_000])?, None);
-    Ok(())
+    let table = table(&rt)?;
+    let stops = [0, 1, 4, 9, 30, 700, 100_000];
+    is_always_read(&rt, &mut device(&rt, &table)?, &table, &stops)
 }
 
 /// A simulator of the table's chip, on which nothing was begun.
 fn fresh_device(rt: &HostRuntime, table: &Table) -> Result<MemoryRig, Fail> {
-    let chip = table.find(0x0412).ok_or("no chip")?;
-    let chip = chip.clone()?;
-    let flash = counting(rt, 4096)?;
-    Ok(MemoryRig::new(rt.alloc(), chip, flash, Vec::new(rt.alloc())).ok_or("no rig")?)
+    rig_of(rt, table, 0x0412, counting(rt, 4096)?, Vec::new(rt.alloc()))
 }
 
-/// The flash with A5 5A at the edge of pages 0 and 1.
-fn written(rt: &HostRuntime) -> Result<Vec<u8>, Fail> {
-    let mut flash = Vec::new(rt.alloc());
-    for (place, byte) in counting(rt, 4096)?.iter().enumerate() {
-        let byte = match place {
+/// Whether this is the flash with A5 5A at the edge of pages 0 and 1.
+fn is_written(flash: &[u8]) -> bool {
+    let mut place = 0_u32;
+    for byte in flash {
+        let due = match place {
             0x03FF => 0xA5,
             0x0400 => 0x5A,
-            _ => *byte,
+            _ => (place % 251) as u8,
         };
-        flash.push(byte)?;
+        if *byte != due {
+            return false;
+        }
+        place = place.saturating_add(1);
     }
-    Ok(flash)
+    place == 4096
 }
 
-/// What a write of two bytes answers, and whether they alone are others than before.
-fn write_two(rt: &HostRuntime) -> Result<(Option<(u32, u32)>, bool), Fail> {
-    let table = table(rt)?;
-    let mut rig = fresh_device(rt, &table)?;
+/// What the only outcome tells.
+fn told_of(report: Report) -> Option<(u32, u32)> {
+    match report.outcomes.as_slice() {
+        [outcome] => changed(Some(outcome)),
+        _ => None,
+    }
+}
+
+/// What a write of two bytes answers.
+fn write_two(
+    rt: &HostRuntime,
+    rig: &mut MemoryRig,
+    table: &Table,
+) -> Result<Option<(u32, u32)>, Fail> {
     let image = image(rt, &[0xA5, 0x5A], 0x0800_03FF)?;
-    let report = write_whole(rt.alloc(), &mut rig, &table, image)?;
-    let is_right = rig.flash() == written(rt)?.as_slice() && report.outcomes.len() == 1;
-    Ok((changed(report.outcomes.first()), is_right))
+    Ok(told_of(write_whole(rt.alloc(), rig, table, image)?))
 }
 
 #[test]
 fn a_write_leaves_every_other_byte(rt: HostRuntime) -> Result<(), Fail> {
-    assert_eq!(rt; write_two(&rt)?, (Some((1, 2)), true));
-    Ok(())
+    let table = table(&rt)?;
+    let mut rig = fresh_device(&rt, &table)?;
+    let told = write_two(&rt, &mut rig, &table)?;
+    answers((told, is_written(rig.flash())), (Some((1, 2)), true))
 }
 
-/// Whether a write of two bytes leaves these, and how many segments an undo then takes back, and
-/// whether the flash is back.
-fn kept(rt: &HostRuntime) -> Result<(bool, u32, bool), Fail> {
-    let table = table(rt)?;
-    let mut rig = fresh_device(rt, &table)?;
+/// A write of two bytes tells of one segment and two pages, leaves these, and is taken back.
+fn is_kept(rt: &HostRuntime, rig: &mut MemoryRig, table: &Table) -> Result<(), Fail> {
     let commands = commands_of(rt, &[Ask::Write(0x0800_03FF, &[0xA5, 0x5A])])?;
-    let _report = change_kept(rt.alloc(), &mut rig, &table, &commands)?;
-    let is_written = rig.flash() == written(rt)?.as_slice();
-    let taken = take_back_kept(rt.alloc(), &mut rig, &table, 0)?;
-    Ok((is_written, taken, is_counting(rig.flash())))
+    let told = told_of(change_kept(rt.alloc(), rig, table, &commands)?);
+    let is_there = is_written(rig.flash());
+    let taken = take_back_kept(rt.alloc(), rig, table, 0)?;
+    let found = (told, is_there, taken, is_counting(rig.flash()));
+    answers(found, (Some((1, 2)), true, 1, true))
 }
 
 #[test]
 fn a_kept_change_is_taken_back(rt: HostRuntime) -> Result<(), Fail> {
-    assert_eq!(rt; kept(&rt)?, (true, 1, true));
-    Ok(())
+    let table = table(&rt)?;
+    is_kept(&rt, &mut fresh_device(&rt, &table)?, &table)
 }
 
-/// How many segments are taken back after a write and an erase that were stopped after so many
-/// steps, and whether the flash is back.
-fn taken_back(rt: &HostRuntime, steps: u64) -> Result<(u32, bool), Fail> {
-    let table = table(rt)?;
-    let mut rig = fresh_device(rt, &table)?;
-    let commands = commands_of(
-        rt,
-        &[Ask::Write(0x0800_03FF, &[0xA5, 0x5A]), Ask::Erase(&[1, 3])],
-    )?;
-    let taken = take_back_stopped(rt.alloc(), &mut rig, &table, &commands, steps)?;
+/// A write and an erase.
+const BOTH: &[Ask] = &[Ask::Write(0x0800_03FF, &[0xA5, 0x5A]), Ask::Erase(&[1, 3])];
+
+/// How many segments are taken back after both that were stopped after so many steps, and whether
+/// the flash is back.
+fn taken_back(rt: &HostRuntime, table: &Table, steps: u64) -> Result<(u32, bool), Fail> {
+    let commands = commands_of(rt, BOTH)?;
+    let mut rig = fresh_device(rt, table)?;
+    let taken = take_back_stopped(rt.alloc(), &mut rig, table, &commands, steps)?;
     Ok((taken, is_counting(rig.flash())))
+}
+
+/// The stops of both, and how many segments are then taken back.
+const STOPS: [(u64, u32); 5] = [(10, 0), (4_000, 1), (8_000, 1), (12_000, 2), (1_000_000, 2)];
+
+fn all_are_taken_back(rt: &HostRuntime, table: &Table) -> Result<(), Fail> {
+    for (steps, taken) in STOPS {
+        let (count, is_back) = taken_back(rt, table, steps)?;
+        answers((steps, count, is_back), (steps, taken, true))?;
+    }
+    Ok(())
 }
 
 #[test]
 fn commands_that_are_stopped_are_taken_back(rt: HostRuntime) -> Result<(), Fail> {
-    let rows = [(10, 0), (4_000, 1), (8_000, 1), (12_000, 2), (1_000_000, 2)];
-    for (steps, taken) in rows {
-        assert_eq!(rt; taken_back(&rt, steps)?, (taken, true), "{steps} steps");
-    }
-    Ok(())
+    all_are_taken_back(&rt, &table(&rt)?)
 }
 
 /// The same where the device loses its power behind the stop, after which the page of the command
-/// at work holds other bytes; and whether that page was spoilt.
-fn taken_back_unpowered(rt: &HostRuntime, steps: u64) -> Result<(u32, bool), Fail> {
-    let table = table(rt)?;
-    let mut rig = fresh_device(rt, &table)?;
-    let commands = commands_of(
-        rt,
-        &[Ask::Write(0x0800_03FF, &[0xA5, 0x5A]), Ask::Erase(&[1, 3])],
-    )?;
+/// at work holds other bytes.
+fn taken_back_unpowered(rt: &HostRuntime, table: &Table, steps: u64) -> Result<(u32, bool), Fail> {
+    let commands = commands_of(rt, BOTH)?;
+    let mut rig = fresh_device(rt, table)?;
     let page = [0x6B; 1024];
-    let taken = take_back_unpowered(rt.alloc(), &mut rig, &table, &commands, steps, &page)?;
+    let taken = take_back_unpowered(rt.alloc(), &mut rig, table, &commands, steps, &page)?;
     Ok((taken, is_counting(rig.flash())))
+}
+
+fn all_are_taken_back_unpowered(rt: &HostRuntime, table: &Table) -> Result<(), Fail> {
+    for (steps, taken) in STOPS {
+        let (count, is_back) = taken_back_unpowered(rt, table, steps)?;
+        answers((steps, count, is_back), (steps, taken, true))?;
+    }
+    Ok(())
 }
 
 #[test]
 fn commands_that_lost_their_power_are_taken_back(rt: HostRuntime) -> Result<(), Fail> {
-    let rows = [(10, 0), (4_000, 1), (8_000, 1), (12_000, 2), (1_000_000, 2)];
-    for (steps, taken) in rows {
-        assert_eq!(rt;
-            taken_back_unpowered(&rt, steps)?,
-            (taken, true),
-            "{steps} steps"
-        );
-    }
-    Ok(())
+    all_are_taken_back_unpowered(&rt, &table(&rt)?)
 }
 
 /// Whether a loss of power behind so many steps leaves other bytes in a page.
-fn is_spoilt(rt: &HostRuntime, steps: u64) -> Result<bool, Fail> {
-    let table = table(rt)?;
-    let mut rig = fresh_device(rt, &table)?;
+fn is_spoilt(rt: &HostRuntime, table: &Table, steps: u64) -> Result<bool, Fail> {
     let commands = commands_of(rt, &[Ask::Erase(&[1, 3])])?;
-    rig.stop_after(steps);
-    let stopped = run(rt.alloc(), &mut rig, &table, &commands);
-    rig.stop_after(u64::MAX);
+    let mut rig = fresh_device(rt, table)?;
+    let stopped = stop(rt, table, &mut rig, &commands, steps);
     lose_power(rt.alloc(), &mut rig, &[0x6B; 1024])?;
     let page = rig.flash().get(1024..2048).unwrap_or(&[]);
-    Ok(stopped.is_err() && is_all(page, 0x6B))
+    Ok(stopped.is_some() && is_all(page, 0x6B))
 }
 
 #[test]
 fn a_loss_of_power_leaves_other_bytes_in_the_page_at_work(rt: HostRuntime) -> Result<(), Fail> {
-    assert_eq!(rt;
-        (is_spoilt(&rt, 10)?, is_spoilt(&rt, 4_000)?),
-        (false, true)
-    );
-    Ok(())
+    let table = table(&rt)?;
+    let early = is_spoilt(&rt, &table, 10)?;
+    answers((early, is_spoilt(&rt, &table, 4_000)?), (false, true))
 }
