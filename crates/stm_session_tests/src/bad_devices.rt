@@ -3,7 +3,7 @@
 ghost use Rattle.std.specs.Prelude.{◌^◌, ◌-◌};
 ghost use Rattle.stm_wire.specs.Unmodelled.{unmodelled};
 
-use crate::devices::{device, kept, table};
+use crate::devices::{answers, device, kept, table};
 use crate::every_stop::small_write;
 use std::test::Fail;
 use stm_chip::Table;
@@ -100,78 +100,92 @@ fn bad_line(
     })
 }
 
-/// What a write answers, how many bytes it puts, and whether the journal stays empty.
-fn written(rt: &HostRuntime, says: Says) -> Result<(Option<Fault>, u32, bool), Fail> {
+/// A call of a session.
+#[derive(Clone, Copy)]
+enum Call {
+    Write,
+    Info,
+    Go,
+    Undo,
+}
+
+/// The journal before it: an undo has a segment to take back, and the others have none.
+fn journal_of(rt: &HostRuntime, call: Call) -> Result<Vec<u8>, Fail> {
+    match call {
+        Call::Undo => {
+            let head = b"stmjournal 2 0A01\nopen 1\npage 5 ";
+            kept(rt, head, 256, b"\nerase 5\n")
+        }
+        _ => Ok(Vec::new(rt.alloc())),
+    }
+}
+
+fn answer_of(
+    rt: &HostRuntime,
+    table: &Table,
+    line: &mut BadLine,
+    call: Call,
+) -> Result<Option<Fault>, Fail> {
+    Ok(match call {
+        Call::Write => run(rt.alloc(), line, table, &small_write(rt)?).err(),
+        Call::Info => info(rt.alloc(), line, table).err(),
+        Call::Go => go(rt.alloc(), line, 0x0800_0000).err(),
+        Call::Undo => undo(rt.alloc(), line, table, 0).err(),
+    })
+}
+
+/// What a call answers, how many bytes it puts and awaits, and whether the journal stays as long.
+type Ended = (Option<Fault>, u32, u32, bool);
+
+fn ended(rt: &HostRuntime, says: Says, call: Call) -> Result<Ended, Fail> {
     let table = table(rt)?;
-    let mut line = bad_line(rt, &table, says, Vec::new(rt.alloc()))?;
-    let command = small_write(rt)?;
-    let answer = run(rt.alloc(), &mut line, &table, &command).err();
-    Ok((answer, line.puts, line.memory.journal().is_empty()))
+    let journal = journal_of(rt, call)?;
+    let size = journal.len();
+    let mut line = bad_line(rt, &table, says, journal)?;
+    let answer = answer_of(rt, &table, &mut line, call)?;
+    let is_kept = line.memory.journal().len() == size;
+    Ok((answer, line.puts, line.gets, is_kept))
+}
+
+/// The call ends with each of the devices, after so many bytes; the test fails with the first where
+/// it doesn't.
+fn ends(rt: &HostRuntime, call: Call) -> Result<(), Fail> {
+    for (place, (says, puts, undo)) in ENDS.iter().enumerate() {
+        let due = match call {
+            Call::Undo => *undo,
+            _ => *puts,
+        };
+        let (answer, put, _gets, is_kept) = ended(rt, *says, call)?;
+        let found = (place, answer, put, is_kept);
+        answers(found, (place, Some(Fault::Device), due, true))?;
+    }
+    Ok(())
 }
 
 #[test]
 fn a_write_ends(rt: HostRuntime) -> Result<(), Fail> {
-    for (says, puts, _undo) in ENDS {
-        assert_eq!(rt; written(&rt, says)?, (Some(Fault::Device), puts, true));
-    }
-    Ok(())
-}
-
-/// What `info` answers, and how many bytes are put and awaited.
-fn asked(rt: &HostRuntime, says: Says) -> Result<(Option<Fault>, u32, u32), Fail> {
-    let table = table(rt)?;
-    let mut line = bad_line(rt, &table, says, Vec::new(rt.alloc()))?;
-    let answer = info(rt.alloc(), &mut line, &table).err();
-    Ok((answer, line.puts, line.gets))
+    ends(&rt, Call::Write)
 }
 
 #[test]
 fn questions_end(rt: HostRuntime) -> Result<(), Fail> {
-    for (says, puts, _undo) in ENDS {
-        let (answer, put, _gets) = asked(&rt, says)?;
-        assert_eq!(rt; (answer, put), (Some(Fault::Device), puts));
-    }
-    Ok(())
-}
-
-/// What `go` answers, and how many bytes are put.
-fn left(rt: &HostRuntime, says: Says) -> Result<(Option<Fault>, u32), Fail> {
-    let mut line = bad_line(rt, &table(rt)?, says, Vec::new(rt.alloc()))?;
-    let answer = go(rt.alloc(), &mut line, 0x0800_0000).err();
-    Ok((answer, line.puts))
+    ends(&rt, Call::Info)
 }
 
 // The refusal comes to the code of Go, as to that of Get.
 #[test]
 fn leaving_ends(rt: HostRuntime) -> Result<(), Fail> {
-    for (says, puts, _undo) in ENDS {
-        assert_eq!(rt; left(&rt, says)?, (Some(Fault::Device), puts));
-    }
-    Ok(())
-}
-
-/// What an undo answers, how many bytes it puts, and whether the journal stays as long.
-fn undone(rt: &HostRuntime, says: Says) -> Result<(Option<Fault>, u32, bool), Fail> {
-    let table = table(rt)?;
-    let head = b"stmjournal 2 0A01\nopen 1\npage 5 ";
-    let journal = kept(rt, head, 256, b"\nerase 5\n")?;
-    let size = journal.len();
-    let mut line = bad_line(rt, &table, says, journal)?;
-    let answer = undo(rt.alloc(), &mut line, &table, 0).err();
-    Ok((answer, line.puts, line.memory.journal().len() == size))
+    ends(&rt, Call::Go)
 }
 
 #[test]
 fn an_undo_ends(rt: HostRuntime) -> Result<(), Fail> {
-    for (says, _run, puts) in ENDS {
-        assert_eq!(rt; undone(&rt, says)?, (Some(Fault::Device), puts, true));
-    }
-    Ok(())
+    ends(&rt, Call::Undo)
 }
 
 // A draining takes 4,096 bytes; one more ends the session.
 #[test]
 fn a_talking_device_is_left(rt: HostRuntime) -> Result<(), Fail> {
-    assert_eq!(rt; asked(&rt, Says::Chatter)?, (Some(Fault::Device), 0, 4097));
-    Ok(())
+    let due = (Some(Fault::Device), 0, 4097, true);
+    answers(ended(&rt, Says::Chatter, Call::Info)?, due)
 }
