@@ -7,9 +7,13 @@ use stm_journal::JournalFault;
 use stm_session::Fault;
 use stm_wire::{RigFault, WireFault};
 
-fn says<F: Display + Drop>(rt: &HostRuntime, fault: F, want: &str) -> Result<bool, Fail> {
+fn says<F: Display + Drop>(rt: &HostRuntime, fault: F, want: &str) -> Result<(), Fail> {
     let text = format!(in rt.alloc(); "{fault}")?;
-    Ok(text.as_str() == want)
+    if text.as_str() == want {
+        Ok(())
+    } else {
+        Err(Fail::new(format_args!("{text}, where {want} is due")))
+    }
 }
 
 #[test]
@@ -26,14 +30,14 @@ fn texts_of_images(rt: HostRuntime) -> Result<(), Fail> {
         (HexFault::Memory(7), "out of memory"),
     ];
     for (fault, want) in rows {
-        assert!(rt; says(&rt, fault, want)?, "{want}");
+        says(&rt, fault, want)?;
     }
     let rows = [
         (RawFault::PastEnd, "image past the end"),
         (RawFault::Memory, "out of memory"),
     ];
     for (fault, want) in rows {
-        assert!(rt; says(&rt, fault, want)?, "{want}");
+        says(&rt, fault, want)?;
     }
     Ok(())
 }
@@ -46,7 +50,7 @@ fn texts_of_lines(rt: HostRuntime) -> Result<(), Fail> {
         (RigFault::Stopped, "stopped"),
     ];
     for (fault, want) in rows {
-        assert!(rt; says(&rt, fault, want)?, "{want}");
+        says(&rt, fault, want)?;
     }
     let rows = [
         (WireFault::Line, "line failed"),
@@ -55,7 +59,7 @@ fn texts_of_lines(rt: HostRuntime) -> Result<(), Fail> {
         (WireFault::Garbled, "unexpected answer"),
     ];
     for (fault, want) in rows {
-        assert!(rt; says(&rt, fault, want)?, "{want}");
+        says(&rt, fault, want)?;
     }
     Ok(())
 }
@@ -70,14 +74,14 @@ fn texts_of_tables_and_plans(rt: HostRuntime) -> Result<(), Fail> {
         (TableFault::Memory, "out of memory"),
     ];
     for (fault, want) in rows {
-        assert!(rt; says(&rt, fault, want)?, "{want}");
+        says(&rt, fault, want)?;
     }
     let rows = [
         (PlanFault::OutOfFlash, "address outside the flash"),
         (PlanFault::Memory, "out of memory"),
     ];
     for (fault, want) in rows {
-        assert!(rt; says(&rt, fault, want)?, "{want}");
+        says(&rt, fault, want)?;
     }
     Ok(())
 }
@@ -91,7 +95,7 @@ fn texts_of_journals_and_sessions(rt: HostRuntime) -> Result<(), Fail> {
         (JournalFault::Memory, "out of memory"),
     ];
     for (fault, want) in rows {
-        assert!(rt; says(&rt, fault, want)?, "{want}");
+        says(&rt, fault, want)?;
     }
     let rows = [
         (Fault::Line, "line failed"),
@@ -109,7 +113,7 @@ fn texts_of_journals_and_sessions(rt: HostRuntime) -> Result<(), Fail> {
         (Fault::Full, "journal is full"),
     ];
     for (fault, want) in rows {
-        assert!(rt; says(&rt, fault, want)?, "{want}");
+        says(&rt, fault, want)?;
     }
     Ok(())
 }

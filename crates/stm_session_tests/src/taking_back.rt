@@ -1,6 +1,6 @@
 // Undoing what a journal keeps: one segment after another, all at once, after stops, and what is
 // refused.
-use crate::devices::only_fetched;
+use crate::devices::{add_digits, answers, failed_at, only_fetched};
 use std::test::Fail;
 use stm_chip::{Table, read_table};
 use stm_session::{Fault, undo};
@@ -54,23 +54,23 @@ fn is_flash(bytes: &[u8], page: u8) -> bool {
 /// Two segments that keep page 5, once of bytes 0A and then of bytes 0B; and these lines.
 fn journal(rt: &HostRuntime, more: &[u8]) -> Result<Vec<u8>, Fail> {
     let mut text = Vec::from_slice(rt.alloc(), b"stmjournal 1 0412\nopen 1\npage 5 ")?;
-    for _i in 0..256 {
-        text.extend_from_slice(b"0A")?;
-    }
+    add_digits(&mut text, b"0A", 256)?;
     text.extend_from_slice(b"\nend 1\nopen 2\npage 5 ")?;
-    for _i in 0..256 {
-        text.extend_from_slice(b"0B")?;
-    }
+    add_digits(&mut text, b"0B", 256)?;
     text.extend_from_slice(more)?;
     Ok(text)
 }
 
+/// A chip of eight pages, with this id.
+fn chip(rt: &HostRuntime, id: u16) -> Result<Chip, Fail> {
+    let sizes = vec![in rt.alloc(); 256; 8]?;
+    Ok(Chip::new(id, 0x0800_0000, sizes, EraseKind::Page, 0xFF).ok_or("no chip")?)
+}
+
 /// A fresh device with this id, and page 5 of bytes FF.
 fn device(rt: &HostRuntime, id: u16, journal: Vec<u8>) -> Result<MemoryRig, Fail> {
-    let sizes = vec![in rt.alloc(); 256; 8]?;
-    let chip = Chip::new(id, 0x0800_0000, sizes, EraseKind::Page, 0xFF).ok_or("no chip")?;
     let flash = flash(rt, 0xFF)?;
-    Ok(MemoryRig::new(rt.alloc(), chip, flash, journal).ok_or("no rig")?)
+    Ok(MemoryRig::new(rt.alloc(), chip(rt, id)?, flash, journal).ok_or("no rig")?)
 }
 
 /// Whether undo takes so many segments back, leaves this flash, and the journal ends with these
@@ -88,21 +88,26 @@ fn goes_back(
         && rig.journal().ends_with(end)
 }
 
-/// The first undo, of these counts, on a device with these lines behind two segments, that doesn't
-/// answer or leave what is due.
+/// The first of these undoes that doesn't answer or leave what is due.
 fn first_other(
     rt: &HostRuntime,
-    more: &[u8],
+    table: &Table,
+    rig: &mut MemoryRig,
     undoes: &[(u32, (u32, u8, &[u8]))],
-) -> Result<Option<usize>, Fail> {
-    let table = table(rt)?;
-    let mut rig = device(rt, 0x0412, journal(rt, more)?)?;
+) -> Option<usize> {
     for (place, (count, due)) in undoes.iter().enumerate() {
-        if !goes_back(rt, &table, &mut rig, *count, *due) {
-            return Ok(Some(place));
+        if !goes_back(rt, table, rig, *count, *due) {
+            return Some(place);
         }
     }
-    Ok(None)
+    None
+}
+
+/// Undoes of these counts, on a device with these lines behind two segments, each answer and leave
+/// what is due; the test fails with the place of the first that doesn't.
+fn go_back(rt: &HostRuntime, more: &[u8], undoes: &[(u32, (u32, u8, &[u8]))]) -> Result<(), Fail> {
+    let mut rig = device(rt, 0x0412, journal(rt, more)?)?;
+    answers(first_other(rt, &table(rt)?, &mut rig, undoes), None)
 }
 
 #[test]
@@ -114,15 +119,13 @@ fn takes_back_one_after_another(rt: HostRuntime) -> Result<(), Fail> {
         (0, (1, 0x0A, oldest)),
         (0, (0, 0x0A, oldest)),
     ];
-    assert_eq!(rt; first_other(&rt, b"\nerase 5\n", &undoes)?, None);
-    Ok(())
+    go_back(&rt, b"\nerase 5\n", &undoes)
 }
 
 #[test]
 fn takes_all_back(rt: HostRuntime) -> Result<(), Fail> {
     let undoes = [(7, (2, 0x0A, b"\nundone 1\n".as_slice()))];
-    assert_eq!(rt; first_other(&rt, b"\nend 2\n", &undoes)?, None);
-    Ok(())
+    go_back(&rt, b"\nend 2\n", &undoes)
 }
 
 /// Whether an undo of all that is stopped after so many steps fails, and the next one brings the
@@ -136,21 +139,19 @@ fn goes_on_after(rt: &HostRuntime, table: &Table, steps: u64) -> Result<bool, Fa
     Ok(stopped && taken && is_flash(rig.flash(), 0x0A))
 }
 
-/// The first of the stops behind which it doesn't go on.
-fn first_stuck(rt: &HostRuntime) -> Result<Option<u64>, Fail> {
-    let table = table(rt)?;
+/// It goes on behind each of the stops; the test fails at the first where it doesn't.
+fn goes_on(rt: &HostRuntime, table: &Table) -> Result<(), Fail> {
     for steps in STOPS {
-        if !goes_on_after(rt, &table, steps)? {
-            return Ok(Some(steps));
+        if !goes_on_after(rt, table, steps)? {
+            return Err(failed_at(steps));
         }
     }
-    Ok(None)
+    Ok(())
 }
 
 #[test]
 fn goes_on_wherever_it_was_stopped(rt: HostRuntime) -> Result<(), Fail> {
-    assert_eq!(rt; first_stuck(&rt)?, None);
-    Ok(())
+    goes_on(&rt, &table(&rt)?)
 }
 
 /// What undo answers of a device with this id and journal, and whether the flash stays.
@@ -180,7 +181,5 @@ fn is_unknown(rt: &HostRuntime) -> Result<bool, Fail> {
 
 #[test]
 fn refuses_what_is_not_the_journals(rt: HostRuntime) -> Result<(), Fail> {
-    assert!(rt; is_another(&rt)?);
-    assert!(rt; is_unknown(&rt)?);
-    Ok(())
+    answers((is_another(&rt)?, is_unknown(&rt)?), (true, true))
 }
