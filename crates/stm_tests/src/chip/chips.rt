@@ -25,7 +25,7 @@ fn is_chip(alloc: Global, base: u32, count: u16, size: u32) -> Result<bool, Allo
 }
 
 /// The base, how many pages, the size of a page, and whether that is a chip.
-const LIMITS: [(u32, u16, u32, bool); 18] = [
+const LIMITS: &[(u32, u16, u32, bool)] = &[
     (0x0800_0000, 128, 1024, true),
     (0x0800_0000, 0, 1024, false),
     (0x0800_0000, 1, 256, true),
@@ -73,7 +73,7 @@ fn one_page_of_another_size_is_refused(rt: HostRuntime) -> Result<(), Fail> {
 
 /// How it erases, how many pages of 256 bytes, what an erased place holds, and whether that is a
 /// chip.
-const KINDS: [(EraseKind, u16, u8, bool); 7] = [
+const KINDS: &[(EraseKind, u16, u8, bool)] = &[
     (EraseKind::Page, 256, 0xFF, true),
     (EraseKind::Page, 257, 0xFF, false),
     (EraseKind::Extended, 512, 0xFF, true),
@@ -83,29 +83,25 @@ const KINDS: [(EraseKind, u16, u8, bool); 7] = [
     (EraseKind::Extended, 4, 0xFE, false),
 ];
 
-/// How many pages such a chip has, and what an erased place of it holds.
-fn told(
+/// Whether such a chip is one as `is_chip` says, with so many pages and this erased byte.
+fn is_kind(
     alloc: Global,
     kind: EraseKind,
     count: u16,
     erased: u8,
-) -> Result<Option<(u16, u8)>, AllocError> {
+    is_chip: bool,
+) -> Result<bool, AllocError> {
     let sizes = pages(alloc, count, 256)?;
     Ok(match Chip::new(0xA02, 0x0800_0000, sizes, kind, erased) {
-        Some(chip) => Some((chip.pages(), chip.erased())),
-        None => None,
+        Some(chip) => is_chip && chip.pages() == count && chip.erased() == erased,
+        None => !is_chip,
     })
 }
 
 /// The first row of `KINDS` that is something else.
 fn first_kind(alloc: Global) -> Result<Option<usize>, AllocError> {
     for (place, (kind, count, erased, is_chip)) in KINDS.iter().enumerate() {
-        let due = if *is_chip {
-            Some((*count, *erased))
-        } else {
-            None
-        };
-        if told(alloc, *kind, *count, *erased)? != due {
+        if !is_kind(alloc, *kind, *count, *erased, *is_chip)? {
             return Ok(Some(place));
         }
     }
@@ -125,42 +121,49 @@ fn mixed(alloc: Global) -> Result<Chip, Fail> {
     Ok(Chip::new(0x413, 0x0800_0000, sizes, EraseKind::Extended, 0xFF).ok_or("no chip")?)
 }
 
-#[test]
-fn reads_its_values(rt: HostRuntime) -> Result<(), Fail> {
-    let chip = mixed(rt.alloc())?;
-    let found = (chip.id(), chip.kind(), chip.flash_size());
-    let ends = (chip.base(), chip.end());
-    assert!(rt;
-        found == (0x413, EraseKind::Extended, 0x2_0000) && ends == (0x0800_0000, 0x0802_0000)
-    );
-    Ok(())
+/// Whether the chip of mixed pages has its values.
+fn has_values(chip: &Chip) -> bool {
+    chip.id() == 0x413
+        && chip.kind() == EraseKind::Extended
+        && chip.flash_size() == 0x2_0000
+        && chip.base() == 0x0800_0000
+        && chip.end() == 0x0802_0000
+        && chip.pages() == 5
 }
 
 /// Where a page begins, and its size.
-fn page_of(chip: &Chip, n: u16) -> Option<(u32, u32)> {
-    if n < chip.pages() {
-        Some((chip.page_start(n), chip.page_size(n)))
-    } else {
-        None
+const PAGES: &[(u16, u32, u32)] = &[
+    (0, 0x0800_0000, 0x4000),
+    (3, 0x0800_C000, 0x4000),
+    (4, 0x0801_0000, 0x1_0000),
+];
+
+/// Whether there is such a page, which begins there and has this size.
+fn is_page(chip: &Chip, n: u16, start: u32, size: u32) -> bool {
+    n < chip.pages() && chip.page_start(n) == start && chip.page_size(n) == size
+}
+
+/// The first row of `PAGES` that is something else.
+fn first_page(chip: &Chip) -> Option<usize> {
+    for (place, (n, start, size)) in PAGES.iter().enumerate() {
+        if !is_page(chip, *n, *start, *size) {
+            return Some(place);
+        }
     }
+    None
+}
+
+/// What is read of a chip and of its copy: whether the values are there, and the first page that
+/// is another one.
+fn copied(alloc: Global) -> Result<(bool, bool, Option<usize>), Fail> {
+    let chip = mixed(alloc)?;
+    let copy = chip.clone()?;
+    copy.keeps_limits();
+    Ok((has_values(&chip), has_values(&copy), first_page(&copy)))
 }
 
 #[test]
-fn a_copy_reads_its_pages(rt: HostRuntime) -> Result<(), Fail> {
-    let chip = mixed(rt.alloc())?.clone()?;
-    chip.keeps_limits();
-    let pages = [
-        page_of(&chip, 0),
-        page_of(&chip, 3),
-        page_of(&chip, 4),
-        page_of(&chip, 5),
-    ];
-    let due = [
-        Some((0x0800_0000, 0x4000)),
-        Some((0x0800_C000, 0x4000)),
-        Some((0x0801_0000, 0x1_0000)),
-        None,
-    ];
-    assert_eq!(rt; (chip.pages(), pages), (5, due));
+fn a_chip_and_its_copy_read_their_values_and_pages(rt: HostRuntime) -> Result<(), Fail> {
+    assert_eq!(rt; copied(rt.alloc())?, (true, true, None));
     Ok(())
 }

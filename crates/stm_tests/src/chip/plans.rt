@@ -3,10 +3,17 @@ use std::alloc::{AllocError, Global};
 use std::test::Fail;
 use stm_chip::{Frame, PagePlan, page_plan};
 
-/// A page of 256 bytes: these, and then FF.
-fn page(alloc: Global, first: &[u8]) -> Result<Vec<u8>, AllocError> {
-    let mut bytes = Vec::from_slice(alloc, first)?;
-    bytes.resize(256, 0xFF)?;
+/// A page: how many bytes, what each holds, and the places that hold another byte.
+type Page = (usize, u8, &'static [(usize, u8)]);
+
+/// The bytes of a page.
+fn bytes_of(alloc: Global, page: Page) -> Result<Vec<u8>, AllocError> {
+    let mut bytes = vec![in alloc; page.1; page.0]?;
+    for (place, byte) in page.2 {
+        if let Some(there) = bytes.get_mut(*place) {
+            *there = *byte;
+        }
+    }
     Ok(bytes)
 }
 
@@ -38,7 +45,7 @@ fn are_frames(frames: &[Frame], due: &[(u32, u16)]) -> bool {
 
 /// Whether the plan from one page to another has the frames with these offsets and lengths; None
 /// for the same page.
-pub(super) fn is_planned_as(
+fn is_planned_as(
     alloc: Global,
     old: &[u8],
     new: &[u8],
@@ -52,83 +59,112 @@ pub(super) fn is_planned_as(
     })
 }
 
-/// The first bytes of a page of FF, and its frames.
-const FIRST_BYTES: &[(&[u8], &[(u32, u16)])] = &[
-    (&[1, 2, 3, 4, 5], &[(0, 8)]),
-    (&[1], &[(0, 4)]),
-    (&[1, 2, 3, 4], &[(0, 4)]),
-    (&[0xFF, 0xFF, 0xFF, 0xFF, 0], &[(0, 8)]),
-    (&[0xFF], &[]),
+/// A page, the one that follows it, what an erased place holds, and the offsets and lengths of the
+/// frames; None for the same page.
+type Plan = (Page, Page, u8, Option<&'static [(u32, u16)]>);
+
+const ZEROS: Page = (256, 0, &[]);
+
+const ONES: Page = (256, 0xFF, &[]);
+
+/// Five bytes, and zeros.
+const FIVE: Page = (256, 0, &[(0, 1), (1, 2), (2, 3), (3, 4), (4, 5)]);
+
+const ONE_BLOCK: &[Plan] = &[
+    // Pages of FF with a few bytes at their beginning.
+    (
+        ZEROS,
+        (256, 0xFF, &[(0, 1), (1, 2), (2, 3), (3, 4), (4, 5)]),
+        0xFF,
+        Some(&[(0, 8)]),
+    ),
+    (ZEROS, (256, 0xFF, &[(0, 1)]), 0xFF, Some(&[(0, 4)])),
+    (
+        ZEROS,
+        (256, 0xFF, &[(0, 1), (1, 2), (2, 3), (3, 4)]),
+        0xFF,
+        Some(&[(0, 4)]),
+    ),
+    (ZEROS, (256, 0xFF, &[(4, 0)]), 0xFF, Some(&[(0, 8)])),
+    (ZEROS, ONES, 0xFF, Some(&[])),
+    // Where an erased place holds 00, blocks of 00 are left out and blocks of FF are written.
+    (ONES, ZEROS, 0x00, Some(&[])),
+    (ONES, FIVE, 0x00, Some(&[(0, 8)])),
+    (FIVE, ONES, 0x00, Some(&[(0, 256)])),
 ];
 
-/// The first row of `FIRST_BYTES` that has other frames, where the page was one of 00.
-fn first_other(alloc: Global) -> Result<Option<usize>, Fail> {
-    let old = vec![in alloc; 0u8; 256]?;
-    for (place, (first, due)) in FIRST_BYTES.iter().enumerate() {
-        let new = page(alloc, first)?;
-        if !is_planned_as(alloc, &old, &new, 0xFF, Some(due))? {
+const FOUR_BLOCKS: Page = (1024, 0xFF, &[]);
+
+/// Four blocks of FF but for the first byte of the first, the last of the second, and the second of
+/// the last.
+const THREE_WRITTEN: Page = (1024, 0xFF, &[(0, 0), (511, 0), (769, 0)]);
+
+/// Block n gets so many bytes that its frame has 4 times n + 4.
+const EIGHT_WRITTEN: Page = (
+    2048,
+    0xFF,
+    &[
+        (0, 0),
+        (260, 0),
+        (520, 0),
+        (780, 0),
+        (1040, 0),
+        (1300, 0),
+        (1560, 0),
+        (1820, 0),
+    ],
+);
+
+const EIGHT_FRAMES: &[(u32, u16)] = &[
+    (0, 4),
+    (256, 8),
+    (512, 12),
+    (768, 16),
+    (1024, 20),
+    (1280, 24),
+    (1536, 28),
+    (1792, 32),
+];
+
+const BLOCKS: &[Plan] = &[
+    (
+        FOUR_BLOCKS,
+        THREE_WRITTEN,
+        0xFF,
+        Some(&[(0, 4), (256, 256), (768, 4)]),
+    ),
+    // The way back erases and writes nothing.
+    (THREE_WRITTEN, FOUR_BLOCKS, 0xFF, Some(&[])),
+    ((2048, 0xFF, &[]), EIGHT_WRITTEN, 0xFF, Some(EIGHT_FRAMES)),
+    // The same page, and none.
+    (FOUR_BLOCKS, FOUR_BLOCKS, 0xFF, None),
+    ((0, 0, &[]), (0, 0, &[]), 0xFF, None),
+];
+
+/// Whether a page follows another by the frames of this row.
+fn is_plan(alloc: Global, plan: &Plan) -> Result<bool, Fail> {
+    let old = bytes_of(alloc, plan.0)?;
+    let new = bytes_of(alloc, plan.1)?;
+    is_planned_as(alloc, &old, &new, plan.2, plan.3)
+}
+
+/// The first of these rows that has other frames.
+fn first_other(alloc: Global, plans: &[Plan]) -> Result<Option<usize>, Fail> {
+    for (place, plan) in plans.iter().enumerate() {
+        if !is_plan(alloc, plan)? {
             return Ok(Some(place));
         }
     }
     Ok(None)
 }
 
-#[test]
-fn plans_a_block(rt: HostRuntime) -> Result<(), Fail> {
-    assert_eq!(rt; first_other(rt.alloc())?, None);
-    Ok(())
-}
-
-/// Where an erased place holds 00, blocks of 00 are left out and blocks of FF are written: whether
-/// a page of 00 follows one of FF, one that begins otherwise follows that, and the way back.
-fn are_planned_for_zeros(alloc: Global) -> Result<(bool, bool, bool), Fail> {
-    let old = vec![in alloc; 0xFFu8; 256]?;
-    let mut new = vec![in alloc; 0u8; 256]?;
-    let zeros = is_planned_as(alloc, &old, &new, 0x00, Some(&[]))?;
-    new.truncate(0);
-    new.extend_from_slice(&[1, 2, 3, 4, 5])?;
-    new.resize(256, 0)?;
-    let there = is_planned_as(alloc, &old, &new, 0x00, Some(&[(0, 8)]))?;
-    let back = is_planned_as(alloc, &new, &old, 0x00, Some(&[(0, 256)]))?;
-    Ok((zeros, there, back))
+/// The first row of `ONE_BLOCK`, and of `BLOCKS`, that has other frames.
+fn others(alloc: Global) -> Result<(Option<usize>, Option<usize>), Fail> {
+    Ok((first_other(alloc, ONE_BLOCK)?, first_other(alloc, BLOCKS)?))
 }
 
 #[test]
-fn plans_for_another_erased_byte(rt: HostRuntime) -> Result<(), Fail> {
-    assert_eq!(rt; are_planned_for_zeros(rt.alloc())?, (true, true, true));
-    Ok(())
-}
-
-/// Four blocks of FF but for the first byte of the first, the last of the second, and the second of
-/// the last.
-fn three_written(alloc: Global) -> Result<Vec<u8>, Fail> {
-    let mut bytes = vec![in alloc; 0xFFu8; 1024]?;
-    for place in [0, 511, 769_usize] {
-        if let Some(byte) = bytes.get_mut(place) {
-            *byte = 0;
-        }
-    }
-    Ok(bytes)
-}
-
-const THREE_FRAMES: &[(u32, u16)] = &[(0, 4), (256, 256), (768, 4)];
-
-#[test]
-fn plans_blocks(rt: HostRuntime) -> Result<(), Fail> {
-    let old = vec![in rt.alloc(); 0xFFu8; 1024]?;
-    let new = three_written(rt.alloc())?;
-    let there = is_planned_as(rt.alloc(), &old, &new, 0xFF, Some(THREE_FRAMES))?;
-    // The way back erases and writes nothing.
-    let back = is_planned_as(rt.alloc(), &new, &old, 0xFF, Some(&[]))?;
-    assert!(rt; there && back);
-    Ok(())
-}
-
-#[test]
-fn plans_nothing_for_the_same_page(rt: HostRuntime) -> Result<(), Fail> {
-    let page = vec![in rt.alloc(); 0xFFu8; 1024]?;
-    let same = is_planned_as(rt.alloc(), &page, &page, 0xFF, None)?;
-    let none = is_planned_as(rt.alloc(), &[], &[], 0xFF, None)?;
-    assert!(rt; same && none);
+fn plans_a_block_and_blocks(rt: HostRuntime) -> Result<(), Fail> {
+    assert_eq!(rt; others(rt.alloc())?, (None, None));
     Ok(())
 }

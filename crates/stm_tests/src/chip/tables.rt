@@ -24,7 +24,7 @@ fn chip_with(alloc: Global, id: &str, pages: &str, erase: &str) -> Result<String
 }
 
 /// Id, pages, bytes of the flash, and how it erases.
-const SAMPLE: [(u16, u16, u32, EraseKind); 5] = [
+const SAMPLE: &[(u16, u16, u32, EraseKind)] = &[
     (0x410, 128, 131_072, EraseKind::Page),
     (0x412, 32, 32_768, EraseKind::Page),
     (0x414, 256, 524_288, EraseKind::Page),
@@ -59,34 +59,59 @@ fn first_other(table: &Table) -> Option<usize> {
     None
 }
 
+/// The first row of `SAMPLE` that is another chip in its table, and whether a chip is there that
+/// has no row.
+fn sample_read(alloc: Global) -> Result<(Option<usize>, bool), Fail> {
+    let text = sample_with(alloc, SECOND)?;
+    let table = read_table(alloc, text.as_bytes())?;
+    Ok((first_other(&table), table.find(0x411).is_some()))
+}
+
 #[test]
 fn reads_the_sample(rt: HostRuntime) -> Result<(), Fail> {
-    let text = sample_with(rt.alloc(), SECOND)?;
-    let table = read_table(rt.alloc(), text.as_bytes())?;
-    let found = (first_other(&table), table.find(0x411).is_some());
-    assert_eq!(rt; found, (None, false));
+    assert_eq!(rt; sample_read(rt.alloc())?, (None, false));
     Ok(())
 }
 
-/// What an erased place holds of a chip with this value of `erase` and the keys behind it.
-fn erased_with(alloc: Global, erase: &str) -> Result<u8, Fail> {
+/// The value of `erase` and the keys behind it, and what an erased place holds then.
+const ERASED: &[(&str, u8)] = &[
+    ("\"page\"", 0xFF),
+    ("\"page\"\nerased = 255", 0xFF),
+    ("\"page\"\nerased = 0", 0x00),
+];
+
+/// The table of a chip with this value of `erase`.
+fn erased_with(alloc: Global, erase: &str) -> Result<Table, Fail> {
     let text = chip_with(alloc, "0xA03", "[[4, 256]]", erase)?;
-    let table = read_table(alloc, text.as_bytes())?;
-    let chip = table.find(0xA03).ok_or("no chip")?;
-    Ok(chip.erased())
+    Ok(read_table(alloc, text.as_bytes())?)
+}
+
+/// Whether that chip is in the table, and an erased place of it holds this.
+fn holds_erased(table: &Table, due: u8) -> bool {
+    match table.find(0xA03) {
+        Some(chip) => chip.erased() == due,
+        None => false,
+    }
+}
+
+/// The first row of `ERASED` that is something else.
+fn first_erased(alloc: Global) -> Result<Option<usize>, Fail> {
+    for (place, (erase, due)) in ERASED.iter().enumerate() {
+        if !holds_erased(&erased_with(alloc, erase)?, *due) {
+            return Ok(Some(place));
+        }
+    }
+    Ok(None)
 }
 
 #[test]
 fn reads_what_an_erased_place_holds(rt: HostRuntime) -> Result<(), Fail> {
-    let none = erased_with(rt.alloc(), "\"page\"")?;
-    let ones = erased_with(rt.alloc(), "\"page\"\nerased = 255")?;
-    let zeros = erased_with(rt.alloc(), "\"page\"\nerased = 0")?;
-    assert_eq!(rt; (none, ones, zeros), (0xFF, 0xFF, 0x00));
+    assert_eq!(rt; first_erased(rt.alloc())?, None);
     Ok(())
 }
 
 /// Texts, and their faults.
-const DOCUMENTS: [(&[u8], Option<TableFault>); 6] = [
+const DOCUMENTS: &[(&[u8], Option<TableFault>)] = &[
     (b"", Some(TableFault::Missing(0))),
     (b"chip = []", None),
     (b"chip = 3", Some(TableFault::Missing(0))),
@@ -112,7 +137,7 @@ fn refuses_documents(rt: HostRuntime) {
 
 /// A table's second chip, and the fault of the table. In one entry a broken limit comes before an
 /// id that was there; the first faulty entry decides.
-const SECOND_CHIPS: [(&str, TableFault); 3] = [
+const SECOND_CHIPS: &[(&str, TableFault)] = &[
     (
         "[[chip]]\nid = 0x412\nbase = 0x08000000\npages = [[32, 100]]\nerase = \"page\"\n",
         TableFault::Limit(2),
@@ -127,11 +152,16 @@ const SECOND_CHIPS: [(&str, TableFault); 3] = [
     ),
 ];
 
+/// The fault of a table with this second chip.
+fn fault_with(alloc: Global, second: &str) -> Result<Option<TableFault>, AllocError> {
+    let text = sample_with(alloc, second)?;
+    Ok(read_table(alloc, text.as_bytes()).err())
+}
+
 /// The first of these chips whose table has another fault.
 fn first_second_chip(alloc: Global) -> Result<Option<usize>, AllocError> {
     for (place, (second, due)) in SECOND_CHIPS.iter().enumerate() {
-        let text = sample_with(alloc, second)?;
-        if read_table(alloc, text.as_bytes()).err() != Some(*due) {
+        if fault_with(alloc, second)? != Some(*due) {
             return Ok(Some(place));
         }
     }
@@ -145,7 +175,7 @@ fn refuses_a_second_chip(rt: HostRuntime) -> Result<(), Fail> {
 }
 
 /// Id, pages, `erase` and the keys behind it, and the fault.
-const VALUES: [(&str, &str, &str, Option<TableFault>); 21] = [
+const VALUES: &[(&str, &str, &str, Option<TableFault>)] = &[
     ("1", "[[1, 256]]", "\"page\"\nmaker = \"any\"", None),
     ("65535", "[[1, 256]]", "\"page\"", None),
     (
@@ -254,11 +284,16 @@ fn beginnings(alloc: Global, bytes: &[u8]) -> (u32, u32, u32) {
     (read, empty, others)
 }
 
+/// What the beginnings of the sample are read as.
+fn beginnings_read(alloc: Global) -> Result<(u32, u32, u32), AllocError> {
+    let text = sample_with(alloc, SECOND)?;
+    Ok(beginnings(alloc, text.as_bytes()))
+}
+
 // A chip ends at its last quotation mark, at the end of that line and, but for the last chip, at
 // the blank line.
 #[test]
 fn reads_each_beginning(rt: HostRuntime) -> Result<(), Fail> {
-    let text = sample_with(rt.alloc(), SECOND)?;
-    assert_eq!(rt; beginnings(rt.alloc(), text.as_bytes()), (14, 1, 0));
+    assert_eq!(rt; beginnings_read(rt.alloc())?, (14, 1, 0));
     Ok(())
 }

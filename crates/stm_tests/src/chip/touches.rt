@@ -3,7 +3,7 @@ use crate::chip::chips::pages;
 use std::alloc::Global;
 use std::test::Fail;
 use stm_chip::{PlanFault, is_inside_flash, touched};
-use stm_image::read_raw;
+use stm_image::{Image, read_raw};
 use stm_wire::{Chip, EraseKind};
 
 /// A chip of 128 pages of 1024 bytes.
@@ -12,89 +12,68 @@ fn chip(alloc: Global) -> Result<Chip, Fail> {
     Ok(Chip::new(0x410, 0x0800_0000, sizes, EraseKind::Page, 0xFF).ok_or("no chip")?)
 }
 
-/// Whether an image of `count` bytes from `start` on lies inside that chip's flash.
-fn is_inside(alloc: Global, start: u32, count: usize) -> Result<bool, Fail> {
-    let bytes = vec![in alloc; 0u8; count]?;
-    let image = read_raw(alloc, &bytes, start).map_err(|_| "no image")?;
-    Ok(is_inside_flash(&chip(alloc)?, &image))
+/// An image of `count` bytes from `start` on.
+fn image_of(alloc: Global, start: u32, count: usize) -> Result<Image, Fail> {
+    let bytes = vec![in alloc; 0xAAu8; count]?;
+    Ok(read_raw(alloc, &bytes, start)?)
+}
+
+/// Whether an image of `count` bytes from the first one on lies inside that chip's flash.
+fn is_inside(alloc: Global, count: usize) -> Result<bool, Fail> {
+    Ok(is_inside_flash(&chip(alloc)?, &image_of(alloc, 0x0800_0000, count)?))
+}
+
+/// Whether images that end with the flash, and one past it, lie inside.
+fn ends_inside(alloc: Global) -> Result<(bool, bool), Fail> {
+    Ok((is_inside(alloc, 131_072)?, is_inside(alloc, 131_073)?))
 }
 
 #[test]
-fn knows_an_image_of_the_whole_flash(rt: HostRuntime) -> Result<(), Fail> {
-    assert!(rt; is_inside(rt.alloc(), 0x0800_0000, 131_072)?);
+fn knows_images_that_end_with_the_flash_and_one_past_it(rt: HostRuntime) -> Result<(), Fail> {
+    assert_eq!(rt; ends_inside(rt.alloc())?, (true, false));
     Ok(())
 }
 
-#[test]
-fn knows_an_image_that_ends_one_past_the_flash(rt: HostRuntime) -> Result<(), Fail> {
-    assert!(rt; !is_inside(rt.alloc(), 0x0800_0000, 131_073)?);
-    Ok(())
-}
+/// Where an image begins, how many bytes it has, and the pages that it touches; None where it lies
+/// beyond the flash.
+type Touch = (u32, usize, Option<&'static [u16]>);
 
-/// The pages of a chip that bytes from `start` on touch; None where they lie beyond its flash.
-fn touched_by(
-    alloc: Global,
-    chip: &Chip,
-    bytes: &[u8],
-    start: u32,
-) -> Result<Option<Vec<u16>>, Fail> {
-    let image = read_raw(alloc, bytes, start).map_err(|_| "no image")?;
-    match touched(alloc, chip, &image) {
-        Ok(pages) => Ok(Some(pages)),
-        Err(PlanFault::OutOfFlash) => Ok(None),
-        Err(_) => Err(Fail::new("no memory")),
-    }
-}
-
-/// Whether such bytes touch just these pages, or lie beyond the flash.
+/// Whether an image touches just these pages, or lies beyond the flash.
 fn is_touched_as(
     alloc: Global,
     chip: &Chip,
-    bytes: &[u8],
-    start: u32,
+    image: &Image,
     due: Option<&[u16]>,
 ) -> Result<bool, Fail> {
-    Ok(match (touched_by(alloc, chip, bytes, start)?, due) {
-        (Some(pages), Some(due)) => pages.as_slice() == due,
-        (None, None) => true,
-        _ => false,
+    Ok(match (touched(alloc, chip, image), due) {
+        (Ok(pages), Some(due)) => pages.as_slice() == due,
+        (Err(PlanFault::OutOfFlash), due) => due.is_none(),
+        (Ok(_), None) => false,
+        (Err(_), _) => return Err(Fail::new("no memory")),
     })
 }
 
-/// Where three bytes lie, and the pages that they touch.
-const TOUCHES: &[(u32, Option<&[u16]>)] = &[
-    (0x0800_03FF, Some(&[0, 1])),
-    (0x0800_0000, Some(&[0])),
-    (0x0801_FFFD, Some(&[127])),
-    (0x0801_FFFE, None),
-    (0x0802_0000, None),
-    (0x07FF_FFFF, None),
-    (0, None),
-    (0xFFFF_FFFD, None),
+const TOUCHES: &[Touch] = &[
+    (0x0800_03FF, 3, Some(&[0, 1])),
+    (0x0800_0000, 3, Some(&[0])),
+    (0x0801_FFFD, 3, Some(&[127])),
+    (0x0801_FFFE, 3, None),
+    (0x0802_0000, 3, None),
+    (0x07FF_FFFF, 3, None),
+    (0, 3, None),
+    (0xFFFF_FFFD, 3, None),
+    // An empty image touches no page.
+    (0, 0, Some(&[])),
 ];
 
-/// The first row of `TOUCHES` that touches other pages.
-fn first_other(alloc: Global) -> Result<Option<usize>, Fail> {
-    let chip = chip(alloc)?;
-    for (place, (start, due)) in TOUCHES.iter().enumerate() {
-        if !is_touched_as(alloc, &chip, &[0xAA, 0xBB, 0xCC], *start, *due)? {
+/// The first of these rows that touches other pages of a chip.
+fn first_other(alloc: Global, chip: &Chip, rows: &[Touch]) -> Result<Option<usize>, Fail> {
+    for (place, (start, count, due)) in rows.iter().enumerate() {
+        if !is_touched_as(alloc, chip, &image_of(alloc, *start, *count)?, *due)? {
             return Ok(Some(place));
         }
     }
     Ok(None)
-}
-
-#[test]
-fn touches_pages(rt: HostRuntime) -> Result<(), Fail> {
-    assert_eq!(rt; first_other(rt.alloc())?, None);
-    Ok(())
-}
-
-#[test]
-fn an_empty_image_touches_no_page(rt: HostRuntime) -> Result<(), Fail> {
-    let chip = chip(rt.alloc())?;
-    assert!(rt; is_touched_as(rt.alloc(), &chip, &[], 0, Some(&[]))?);
-    Ok(())
 }
 
 /// A chip of four pages of 256 bytes that ends at the last address.
@@ -103,12 +82,22 @@ fn last_chip(alloc: Global) -> Result<Chip, Fail> {
     Ok(Chip::new(1, 0xFFFF_FC00, sizes, EraseKind::Page, 0xFF).ok_or("no chip")?)
 }
 
+/// Images that touch pages of that chip.
+const LAST_TOUCHES: &[Touch] = &[
+    (0xFFFF_FFFE, 2, Some(&[3])),
+    (0xFFFF_FCFF, 513, Some(&[0, 1, 2])),
+];
+
+/// The first row of `TOUCHES`, and of `LAST_TOUCHES`, that touches other pages.
+fn others(alloc: Global) -> Result<(Option<usize>, Option<usize>), Fail> {
+    Ok((
+        first_other(alloc, &chip(alloc)?, TOUCHES)?,
+        first_other(alloc, &last_chip(alloc)?, LAST_TOUCHES)?,
+    ))
+}
+
 #[test]
 fn touches_pages_up_to_the_end_of_all(rt: HostRuntime) -> Result<(), Fail> {
-    let chip = last_chip(rt.alloc())?;
-    let last = is_touched_as(rt.alloc(), &chip, &[1, 2], 0xFFFF_FFFE, Some(&[3]))?;
-    let bytes = vec![in rt.alloc(); 0u8; 513]?;
-    let first = is_touched_as(rt.alloc(), &chip, &bytes, 0xFFFF_FCFF, Some(&[0, 1, 2]))?;
-    assert!(rt; last && first);
+    assert_eq!(rt; others(rt.alloc())?, (None, None));
     Ok(())
 }
