@@ -1,6 +1,6 @@
 //! Worked examples, and texts that other tools made.
 mod faults;
-mod large;
+pub(crate) mod large;
 mod runs;
 
 use std::alloc::Global;
@@ -133,9 +133,14 @@ const SETS: &[Row] = &[
     ),
 ];
 
+/// The first row of `SETS` that is read as something else.
+fn first_set(alloc: Global) -> Option<usize> {
+    first_other(alloc, SETS)
+}
+
 #[test]
 fn texts_mean_their_sets(rt: HostRuntime) {
-    assert_eq!(rt; first_other(rt.alloc(), SETS), None);
+    assert_eq!(rt; first_set(rt.alloc()), None);
 }
 
 const FAULTS: &[Row] = &[
@@ -168,9 +173,14 @@ const FAULTS: &[Row] = &[
     ),
 ];
 
+/// The first row of `FAULTS` that is read as something else.
+fn first_fault(alloc: Global) -> Option<usize> {
+    first_other(alloc, FAULTS)
+}
+
 #[test]
 fn faults_stand_in_their_texts(rt: HostRuntime) {
-    assert_eq!(rt; first_other(rt.alloc(), FAULTS), None);
+    assert_eq!(rt; first_fault(rt.alloc()), None);
 }
 
 /// What is written of the set that a text means.
@@ -188,12 +198,7 @@ fn is_rewritten_as(alloc: Global, text: &[u8], due: &[u8]) -> Result<bool, Fail>
     Ok(rewritten(alloc, text)?.as_slice() == due)
 }
 
-#[test]
-fn images_are_written(rt: HostRuntime) -> Result<(), Fail> {
-    let due = b":020000040800F2\n:0400000001020304F2\n:00000001FF\n";
-    assert!(rt; is_rewritten_as(rt.alloc(), FOUR, due)?);
-    Ok(())
-}
+const FOUR_WRITTEN: &[u8] = b":020000040800F2\n:0400000001020304F2\n:00000001FF\n";
 
 /// Bytes, the place of the first one, and what is written of them.
 const WRITTEN: &[(&[u8], u32, &[u8])] = &[
@@ -205,10 +210,15 @@ const WRITTEN: &[(&[u8], u32, &[u8])] = &[
     (&[], 7, b":00000001FF\n"),
 ];
 
+/// Whether just this is written of bytes from a start on.
+fn is_written_as(alloc: Global, bytes: &[u8], start: u32, due: &[u8]) -> Result<bool, Fail> {
+    Ok(written(alloc, bytes, start)?.as_slice() == due)
+}
+
 /// The first of these rows of which something else is written.
 fn first_written(alloc: Global) -> Result<Option<usize>, Fail> {
     for (place, (bytes, start, due)) in WRITTEN.iter().enumerate() {
-        if written(alloc, bytes, *start)?.as_slice() != *due {
+        if !is_written_as(alloc, bytes, *start, due)? {
             return Ok(Some(place));
         }
     }
@@ -228,31 +238,40 @@ fn is_written_alike(alloc: Global, text: &[u8], bytes: &[u8], start: u32) -> Res
     Ok(is_rewritten_as(alloc, text, &raw)? && means_raw(alloc, &raw, bytes, start))
 }
 
+/// Whether an image is written, and another alike of both its forms.
+fn are_written(alloc: Global) -> Result<(bool, bool), Fail> {
+    Ok((
+        is_rewritten_as(alloc, FOUR, FOUR_WRITTEN)?,
+        is_written_alike(alloc, SREC_CAT, RAW, 0x0800_FFF0)?,
+    ))
+}
+
 #[test]
-fn one_set_is_written_alike(rt: HostRuntime) -> Result<(), Fail> {
-    assert!(rt; is_written_alike(rt.alloc(), SREC_CAT, RAW, 0x0800_FFF0)?);
+fn images_are_written_and_one_set_alike(rt: HostRuntime) -> Result<(), Fail> {
+    assert_eq!(rt; are_written(rt.alloc())?, (true, true));
     Ok(())
 }
 
-/// Whether bytes from a start on are just these pairs; or their fault.
-fn is_raw_as(alloc: Global, bytes: &[u8], start: u32, due: Result<&[(u32, u8)], RawFault>) -> bool {
-    match (read_raw(alloc, bytes, start), due) {
-        (Ok(image), Ok(pairs)) => has(&image, pairs),
-        (Err(fault), Err(due)) => fault == due,
-        _ => false,
+/// Whether the last two bytes end at the last address.
+fn ends_at_last(alloc: Global) -> bool {
+    match read_raw(alloc, &[1, 2], 0xFFFF_FFFE) {
+        Ok(image) => has(&image, &[(0xFFFF_FFFE, 1), (0xFFFF_FFFF, 2)]),
+        Err(_) => false,
     }
+}
+
+/// Whether bytes that end past the last address are told so.
+fn ends_past(alloc: Global) -> bool {
+    read_raw(alloc, &[1, 2], 0xFFFF_FFFF).err() == Some(RawFault::PastEnd)
 }
 
 #[test]
 fn raw_bytes_end_by_the_last_address(rt: HostRuntime) {
-    let pairs = [(0xFFFF_FFFE, 1), (0xFFFF_FFFF, 2)];
-    let last = is_raw_as(rt.alloc(), &[1, 2], 0xFFFF_FFFE, Ok(&pairs));
-    let past = is_raw_as(rt.alloc(), &[1, 2], 0xFFFF_FFFF, Err(RawFault::PastEnd));
-    assert!(rt; last && past);
+    assert!(rt; ends_at_last(rt.alloc()) && ends_past(rt.alloc()));
 }
 
 /// Texts that other tools made of the same bytes, and where these lie.
-const OF_OTHER_TOOLS: [(&[u8], u32); 3] = [
+const OF_OTHER_TOOLS: &[(&[u8], u32)] = &[
     (OBJCOPY_LINEAR, 0x0800_FFF0),
     (OBJCOPY_SEGMENT, 0x0002_FFF0),
     (SREC_CAT, 0x0800_FFF0),

@@ -75,7 +75,12 @@ const CONFLICTS: &[Row] = &[
     ),
 ];
 
+/// The first row of `CONFLICTS` that is read as something else.
+fn first_conflict(alloc: Global) -> Option<usize> {
+    first_other(alloc, CONFLICTS)
+}
+
 #[test]
 fn the_first_record_that_disagrees_is_told(rt: HostRuntime) {
-    assert_eq!(rt; first_other(rt.alloc(), CONFLICTS), None);
+    assert_eq!(rt; first_conflict(rt.alloc()), None);
 }

@@ -66,10 +66,20 @@ fn digit(value: u8) -> u8 {
     first.wrapping_add(value)
 }
 
-fn put_digits(text: &mut Vec<u8>, byte: u8) -> Result<(), AllocError> {
+pub(crate) fn put_digits(text: &mut Vec<u8>, byte: u8) -> Result<(), AllocError> {
     text.push(digit(byte / 16))?;
     text.push(digit(byte % 16))?;
     Ok(())
+}
+
+/// Adds the digits of these bytes, and answers their sum.
+fn put_bytes(text: &mut Vec<u8>, bytes: &[u8]) -> Result<u8, AllocError> {
+    let mut sum = 0u8;
+    for byte in bytes {
+        sum = sum.wrapping_add(*byte);
+        put_digits(text, *byte)?;
+    }
+    Ok(sum)
 }
 
 /// Adds a record of fewer than 256 bytes of data.
@@ -77,11 +87,8 @@ fn put_record(text: &mut Vec<u8>, offset: u16, kind: u8, data: &[u8]) -> Result<
     let [high, low] = offset.to_be_bytes();
     let count = (data.len() % 256) as u8;
     text.push(b':')?;
-    let mut sum = 0u8;
-    for byte in [count, high, low, kind].iter().chain(data.iter()) {
-        sum = sum.wrapping_add(*byte);
-        put_digits(text, *byte)?;
-    }
+    let front = put_bytes(text, &[count, high, low, kind])?;
+    let sum = front.wrapping_add(put_bytes(text, data)?);
     put_digits(text, 0u8.wrapping_sub(sum))?;
     text.push(b'\n')?;
     Ok(())
@@ -142,59 +149,105 @@ fn has(image: &Image, bytes: &[u8]) -> bool {
     image.len() == bytes.len()
 }
 
-#[test]
-fn texts_in_four_orders(rt: HostRuntime) -> Result<(), Fail> {
-    let alloc = rt.alloc();
+/// Whether the image has just these bytes, and just this text is written of it.
+fn is_image_of(
+    alloc: Global,
+    image: &Image,
+    bytes: &[u8],
+    canonical: &[u8],
+) -> Result<bool, AllocError> {
+    Ok(has(image, bytes) && write_hex(alloc, image)?.as_slice() == canonical)
+}
+
+/// Whether the text in an order means these bytes, of which this text is written.
+fn is_order_of(alloc: Global, order: Order, bytes: &[u8], canonical: &[u8]) -> Result<bool, Fail> {
+    let image = read_hex(alloc, &text_of(alloc, order)?)?;
+    Ok(is_image_of(alloc, &image, bytes, canonical)?)
+}
+
+const ORDERS: &[Order] = &[IN_ORDER, REVERSED, SHUFFLED, TWICE];
+
+/// The first order whose text means other bytes than these, or of which another text is written.
+fn first_order(alloc: Global, bytes: &[u8], canonical: &[u8]) -> Result<Option<usize>, Fail> {
+    for (place, order) in ORDERS.iter().enumerate() {
+        if !is_order_of(alloc, *order, bytes, canonical)? {
+            return Ok(Some(place));
+        }
+    }
+    Ok(None)
+}
+
+/// The first order that means something else, and whether the raw bytes mean themselves.
+fn orders_and_raw(alloc: Global) -> Result<(Option<usize>, bool), Fail> {
     let bytes = bytes_of(alloc, BYTES)?;
     let canonical = text_of(alloc, IN_ORDER)?;
-    for order in [IN_ORDER, REVERSED, SHUFFLED, TWICE] {
-        let image = read_hex(alloc, &text_of(alloc, order)?)?;
-        assert!(rt; has(&image, &bytes));
-        assert!(rt; write_hex(alloc, &image)?.as_slice() == canonical.as_slice());
-    }
+    let image = read_raw(alloc, &bytes, START)?;
+    Ok((
+        first_order(alloc, &bytes, &canonical)?,
+        is_image_of(alloc, &image, &bytes, &canonical)?,
+    ))
+}
+
+#[test]
+fn texts_in_four_orders_and_raw_bytes(rt: HostRuntime) -> Result<(), Fail> {
+    assert_eq!(rt; orders_and_raw(rt.alloc())?, (None, true));
     Ok(())
+}
+
+/// The text of the records in order, and then another byte in the first place.
+fn conflicting(alloc: Global) -> Result<Vec<u8>, AllocError> {
+    let mut text = open_text(alloc, IN_ORDER)?;
+    put_data(&mut text, START, &[!byte_of(0)])?;
+    put_record(&mut text.bytes, 0, 1, &[])?;
+    Ok(text.bytes)
+}
+
+/// The fault of that text.
+fn conflict(alloc: Global) -> Result<Option<HexFault>, AllocError> {
+    Ok(read_hex(alloc, &conflicting(alloc)?).err())
 }
 
 #[test]
 fn a_conflict_at_the_end(rt: HostRuntime) -> Result<(), Fail> {
-    let alloc = rt.alloc();
-    let mut text = open_text(alloc, IN_ORDER)?;
-    put_data(&mut text, START, &[!byte_of(0)])?;
-    put_record(&mut text.bytes, 0, 1, &[])?;
     // Before the last record of data stand three for upper halves.
-    assert_eq!(rt;
-        read_hex(alloc, &text.bytes).err(),
-        Some(HexFault::Conflict(4379))
-    );
+    assert_eq!(rt; conflict(rt.alloc())?, Some(HexFault::Conflict(4379)));
     Ok(())
 }
 
-#[test]
-fn raw_bytes(rt: HostRuntime) -> Result<(), Fail> {
-    let alloc = rt.alloc();
+/// Whether the image lays these bytes, and changes none behind them.
+fn is_laid(image: &Image, bytes: &[u8], flash: &mut [u8]) -> bool {
+    if flash.len() != 131_072 {
+        return false;
+    }
+    image.lay(START, flash);
+    flash.starts_with(bytes) && flash.iter().skip(BYTES).all(|byte| *byte == 0xA5)
+}
+
+/// Whether the image differs in no place, and behind a change of its last byte there.
+fn is_compared(image: &Image, flash: &mut [u8]) -> bool {
+    if image.first_difference(START, flash).is_some() {
+        return false;
+    }
+    if let Some(last) = flash.get_mut(69_999) {
+        *last = !*last;
+    }
+    image.first_difference(START, flash) == Some(0x0801_116F)
+}
+
+/// Whether a copy of the image is laid, and then compared.
+fn laid_and_compared(alloc: Global) -> Result<(usize, bool, bool), Fail> {
     let bytes = bytes_of(alloc, BYTES)?;
-    let image = read_raw(alloc, &bytes, START)?;
-    assert!(rt; has(&image, &bytes));
-    let canonical = text_of(alloc, IN_ORDER)?;
-    assert!(rt; write_hex(alloc, &image)?.as_slice() == canonical.as_slice());
-    Ok(())
+    let image = read_raw(alloc, &bytes, START)?.clone()?;
+    let mut flash = vec![in alloc; 0xA5u8; 131_072]?;
+    Ok((
+        flash.len(),
+        is_laid(&image, &bytes, &mut flash),
+        is_compared(&image, &mut flash),
+    ))
 }
 
 #[test]
 fn an_image_is_laid_and_compared(rt: HostRuntime) -> Result<(), Fail> {
-    let alloc = rt.alloc();
-    let bytes = bytes_of(alloc, BYTES)?;
-    let image = read_raw(alloc, &bytes, START)?.clone()?;
-    let mut flash = vec![in alloc; 0xA5u8; 131_072]?;
-    assert_eq!(rt; flash.len(), 131_072);
-    image.lay(START, &mut flash);
-    assert!(rt; flash.iter().take(BYTES).eq(bytes.iter()));
-    assert!(rt; flash.iter().skip(BYTES).all(|byte| *byte == 0xA5));
-    assert_eq!(rt; image.first_difference(START, &flash), None);
-    match flash.get_mut(69_999) {
-        Some(last) => *last = !*last,
-        None => assert!(rt; false),
-    }
-    assert_eq!(rt; image.first_difference(START, &flash), Some(0x0801_116F));
+    assert_eq!(rt; laid_and_compared(rt.alloc())?, (131_072, true, true));
     Ok(())
 }

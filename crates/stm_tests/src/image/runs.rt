@@ -34,28 +34,6 @@ const OF_SCATTERED: &[Compared] = &[
     (6, &[0, 0], None),
 ];
 
-#[test]
-fn images_are_laid_and_compared(rt: HostRuntime) -> Result<(), Fail> {
-    let image = read_hex(rt.alloc(), SCATTERED)?;
-    image.rises();
-    let other = first_compared(&image, OF_SCATTERED);
-    assert_eq!(rt; (laid(&image), other), ([2, 9, 9, 3, 4], None));
-    Ok(())
-}
-
-/// What the image of a text is laid as when it's copied, and what is written of it.
-fn copied(alloc: Global, text: &[u8]) -> Result<([u8; 5], Vec<u8>), Fail> {
-    let copy = read_hex(alloc, text)?.clone()?;
-    Ok((laid(&copy), write_hex(alloc, &copy)?))
-}
-
-#[test]
-fn an_image_is_copied(rt: HostRuntime) -> Result<(), Fail> {
-    let (bytes, text) = copied(rt.alloc(), SCATTERED)?;
-    assert!(rt; bytes == [2, 9, 9, 3, 4] && text.as_slice() == SCATTERED);
-    Ok(())
-}
-
 /// Two bytes that end at the last address.
 fn last_two(alloc: Global) -> Result<Image, Fail> {
     Ok(read_raw(alloc, &[1, 2], 0xFFFF_FFFE)?)
@@ -66,13 +44,53 @@ const OF_LAST_TWO: &[Compared] = &[
     (0xFFFF_FFFF, &[3, 5, 6], Some(0xFFFF_FFFF)),
 ];
 
-#[test]
-fn the_last_address_is_laid_and_compared(rt: HostRuntime) -> Result<(), Fail> {
-    let image = last_two(rt.alloc())?;
+/// Whether the last two bytes are laid.
+fn are_last_laid(image: &Image) -> bool {
     let mut bytes = [0u8; 3];
     image.lay(0xFFFF_FFFD, &mut bytes);
-    let other = first_compared(&image, OF_LAST_TWO);
-    assert_eq!(rt; (bytes, other), ([0, 1, 2], None));
+    bytes == [0, 1, 2]
+}
+
+/// Whether scattered bytes are laid; they rise.
+fn are_scattered_laid(image: &Image) -> bool {
+    image.rises();
+    laid(image) == [2, 9, 9, 3, 4]
+}
+
+/// Whether an image is laid, and the first row of those that it is compared with.
+type Laid = (bool, Option<usize>);
+
+/// How scattered bytes, and the last two, are laid and compared.
+fn laid_and_compared(alloc: Global) -> Result<(Laid, Laid), Fail> {
+    let scattered = read_hex(alloc, SCATTERED)?;
+    let last = last_two(alloc)?;
+    Ok((
+        (
+            are_scattered_laid(&scattered),
+            first_compared(&scattered, OF_SCATTERED),
+        ),
+        (are_last_laid(&last), first_compared(&last, OF_LAST_TWO)),
+    ))
+}
+
+#[test]
+fn images_up_to_the_last_address_are_laid_and_compared(rt: HostRuntime) -> Result<(), Fail> {
+    assert_eq!(rt;
+        laid_and_compared(rt.alloc())?,
+        ((true, None), (true, None))
+    );
+    Ok(())
+}
+
+/// Whether a copy of the scattered bytes is laid, and written as they are.
+fn is_copied(alloc: Global) -> Result<bool, Fail> {
+    let copy = read_hex(alloc, SCATTERED)?.clone()?;
+    Ok(laid(&copy) == [2, 9, 9, 3, 4] && write_hex(alloc, &copy)?.as_slice() == SCATTERED)
+}
+
+#[test]
+fn an_image_is_copied(rt: HostRuntime) -> Result<(), Fail> {
+    assert!(rt; is_copied(rt.alloc())?);
     Ok(())
 }
 
@@ -105,11 +123,6 @@ const TEN: &[(u32, u8)] = &[
     (9, 9),
 ];
 
-#[test]
-fn records_that_overlap_are_one_set(rt: HostRuntime) {
-    assert_eq!(rt; first_other(rt.alloc(), OVERLAPS), None);
-}
-
 const CONFLICTS: &[Row] = &[
     (
         b":020008000809E5\n:020000000001FD\n:080001000102030405060709D2\n:00000001FF\n",
@@ -128,11 +141,6 @@ const CONFLICTS: &[Row] = &[
         Err(HexFault::Conflict(4)),
     ),
 ];
-
-#[test]
-fn records_that_overlap_may_conflict(rt: HostRuntime) {
-    assert_eq!(rt; first_other(rt.alloc(), CONFLICTS), None);
-}
 
 const RUNS: &[Row] = &[
     (
@@ -161,7 +169,16 @@ const RUNS: &[Row] = &[
     ),
 ];
 
+/// The first row of each table that is read as something else.
+fn others(alloc: Global) -> (Option<usize>, Option<usize>, Option<usize>) {
+    (
+        first_other(alloc, OVERLAPS),
+        first_other(alloc, CONFLICTS),
+        first_other(alloc, RUNS),
+    )
+}
+
 #[test]
-fn runs_go_on_over_64_kib_and_end_at_the_last_address(rt: HostRuntime) {
-    assert_eq!(rt; first_other(rt.alloc(), RUNS), None);
+fn overlaps_are_one_set_or_conflict_and_runs_go_on_over_64_kib(rt: HostRuntime) {
+    assert_eq!(rt; others(rt.alloc()), (None, None, None));
 }
