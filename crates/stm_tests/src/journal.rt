@@ -1,8 +1,6 @@
 // Journals written and loaded, over a Rig in memory.
-ghost use Rattle.std.specs.Prelude.{◌≡◌, ◌<◌, length, false, IfOk};
-ghost use Rattle.stm_journal.specs.States.{is_unfinished};
-
 mod call_order;
+mod calls;
 mod large;
 mod places;
 
@@ -11,13 +9,17 @@ use std::test::Fail;
 use stm_journal::{Intent, Journal, JournalFault, PagePlace};
 use stm_wire::{Chip, EraseKind, MemoryRig};
 
+/// A chip of one page.
+fn one_page(alloc: Global) -> Result<Chip, Fail> {
+    let sizes = vec![in alloc; 256; 1]?;
+    Ok(Chip::new(0x0412, 0x0800_0000, sizes, EraseKind::Page, 0xFF).ok_or("limits")?)
+}
+
 /// A Rig with one page of flash, and this journal.
 pub(crate) fn rig_with(alloc: Global, bytes: &[u8]) -> Result<MemoryRig, Fail> {
-    let sizes = vec![in alloc; 256; 1]?;
     let flash = vec![in alloc; 0xFF; 256]?;
     let journal = Vec::from_slice(alloc, bytes)?;
-    let chip = Chip::new(0x0412, 0x0800_0000, sizes, EraseKind::Page, 0xFF).ok_or("limits")?;
-    Ok(MemoryRig::new(alloc, chip, flash, journal).ok_or("length")?)
+    Ok(MemoryRig::new(alloc, one_page(alloc)?, flash, journal).ok_or("length")?)
 }
 
 /// The journal that these bytes are.
@@ -47,18 +49,10 @@ pub(crate) fn first_beginning(
     Ok(None)
 }
 
-/// The journal that these bytes are, in which a command can begin, and its Rig.
-pub(crate) fn opened(alloc: Global, bytes: &[u8]) -> Result<(Journal, MemoryRig), Fail>
-    ensures room { IfOk result (λ found. length found.0.state.stack < 65535) }
-    ensures finished { IfOk result (λ found. is_unfinished found.0.state ≡ false) }
-{
+/// The journal that these bytes are, and its Rig.
+pub(crate) fn opened(alloc: Global, bytes: &[u8]) -> Result<(Journal, MemoryRig), Fail> {
     let mut rig = rig_with(alloc, bytes)?;
     let journal = Journal::load(alloc, &mut rig)?;
-    let depth = journal.depth();
-    let unfinished = journal.is_unfinished();
-    if depth >= 65535 || unfinished {
-        return Err(Fail::from("no command can begin"));
-    }
     Ok((journal, rig))
 }
 
@@ -69,29 +63,65 @@ const TWO: &[u8] =
     b"x!\nstmjournal 1 0412\nopen 1\npage 0 FFFF\nerase 0\nprogram 0\npage 300 00AB\nerase 300\nend 1\nopen 2\npage 7 01\nerase 7\nend 2\nprogram 7\n";
 
 /// The header's device, how many segments there are, and the newest one's intent.
-fn told(journal: &Journal) -> (Option<u16>, u32, Option<Intent>) {
+type Told = (Option<u16>, u32, Option<Intent>);
+
+fn told(journal: &Journal) -> Told {
     (journal.id(), journal.depth(), journal.last_intent())
 }
 
-#[test]
-fn an_empty_journal(rt: HostRuntime) -> Result<(), Fail> {
-    let journal = loaded(rt.alloc(), b"")?;
-    let stage = (journal.is_open(), journal.is_unfinished());
-    assert_eq!(rt; (told(&journal), stage), ((None, 0, None), (false, false)));
-    Ok(())
+/// A journal, what it tells, its header, whether it has a segment, and whether the newest one is
+/// unfinished.
+type Loaded = (&'static [u8], Told, Option<(u8, u64)>, bool, bool);
+
+const LOADED: &[Loaded] = &[
+    // An empty one.
+    (b"", (None, 0, None), None, false, false),
+    // Two segments.
+    (
+        TWO,
+        (Some(0x412), 2, Some(Intent::Program(7))),
+        Some((1, 2)),
+        true,
+        true,
+    ),
+    // Version 2.
+    (
+        b"x!\nstmjournal 2 0412\nopen 1\nend 1\n",
+        (Some(0x412), 1, None),
+        Some((2, 2)),
+        true,
+        false,
+    ),
+];
+
+/// Whether a journal is as in its row.
+fn is_loaded_as(journal: &Journal, row: &Loaded) -> bool {
+    told(journal) == row.1
+        && journal.header() == row.2
+        && journal.is_open() == row.3
+        && journal.is_unfinished() == row.4
+}
+
+/// The first row of `LOADED` that is loaded as something else.
+fn first_loaded(alloc: Global) -> Result<Option<usize>, Fail> {
+    for (place, row) in LOADED.iter().enumerate() {
+        if !is_loaded_as(&loaded(alloc, row.0)?, row) {
+            return Ok(Some(place));
+        }
+    }
+    Ok(None)
 }
 
 #[test]
-fn two_segments(rt: HostRuntime) -> Result<(), Fail> {
-    let journal = loaded(rt.alloc(), TWO)?;
-    let found = (told(&journal), journal.header(), journal.is_unfinished());
-    let due = (Some(0x412), 2, Some(Intent::Program(7)));
-    assert_eq!(rt; found, (due, Some((1, 2)), true));
+fn journals_are_loaded(rt: HostRuntime) -> Result<(), Fail> {
+    assert_eq!(rt; first_loaded(rt.alloc())?, None);
     Ok(())
 }
 
-/// Pages and their lines, by segment and place.
-const KEPT: [(u32, usize, Option<(u16, u64)>); 5] = [
+/// A segment and a place, and the page there with its line.
+pub(crate) type KeptRow = (u32, usize, Option<(u16, u64)>);
+
+const KEPT: &[KeptRow] = &[
     (1, 0, Some((0, 4))),
     (1, 1, Some((300, 7))),
     (1, 2, None),
@@ -99,9 +129,9 @@ const KEPT: [(u32, usize, Option<(u16, u64)>); 5] = [
     (0, 0, None),
 ];
 
-/// The first row of `KEPT` that is another page.
-fn first_kept(journal: &Journal) -> Option<usize> {
-    for (row, (segment, place, due)) in KEPT.iter().enumerate() {
+/// The first of these rows that is another page.
+pub(crate) fn first_kept(journal: &Journal, rows: &[KeptRow]) -> Option<usize> {
+    for (row, (segment, place, due)) in rows.iter().enumerate() {
         if journal.kept(*segment, *place) != *due {
             return Some(row);
         }
@@ -109,49 +139,56 @@ fn first_kept(journal: &Journal) -> Option<usize> {
     None
 }
 
-#[test]
-fn pages_of_two_segments(rt: HostRuntime) -> Result<(), Fail> {
-    let journal = loaded(rt.alloc(), TWO)?;
-    let counts = (
-        journal.kept_count(1),
-        journal.kept_count(3),
-        journal.entries(),
-    );
-    assert_eq!(rt; (first_kept(&journal), counts), (None, (2, 0, 3)));
-    Ok(())
+/// Whether the journal counts the pages of `TWO`.
+fn counts_two(journal: &Journal) -> bool {
+    journal.kept_count(1) == 2 && journal.kept_count(3) == 0 && journal.entries() == 3
 }
 
-#[test]
-fn places_of_two_segments(rt: HostRuntime) -> Result<(), Fail> {
-    let journal = loaded(rt.alloc(), TWO)?;
-    let place = PagePlace {
+/// Whether the journal places the second page of `TWO`, and none that isn't there.
+fn places_two(journal: &Journal) -> bool {
+    let place = Some(PagePlace {
         at: 67,
         length: 2,
         line: 7,
-    };
-    let found = (journal.page(1, 300), journal.kept_place(1, 1));
-    let missing = (
-        journal.kept_place(1, 2),
-        journal.page(2, 300),
-        journal.page(3, 7),
-    );
-    assert_eq!(rt;
-        (found, missing),
-        ((Some(place), Some(place)), (None, None, None))
-    );
+    });
+    journal.page(1, 300) == place
+        && journal.kept_place(1, 1) == place
+        && journal.kept_place(1, 2).is_none()
+        && journal.page(2, 300).is_none()
+        && journal.page(3, 7).is_none()
+}
+
+/// The first row of `KEPT` that is another page, and whether the pages are counted and placed.
+fn pages_of_two(alloc: Global) -> Result<(Option<usize>, bool, bool), Fail> {
+    let journal = loaded(alloc, TWO)?;
+    Ok((
+        first_kept(&journal, KEPT),
+        counts_two(&journal),
+        places_two(&journal),
+    ))
+}
+
+#[test]
+fn pages_and_places_of_two_segments(rt: HostRuntime) -> Result<(), Fail> {
+    assert_eq!(rt; pages_of_two(rt.alloc())?, (None, true, true));
     Ok(())
+}
+
+/// The first beginning of `TWO` that doesn't load.
+fn first_of_two(alloc: Global) -> Result<Option<usize>, Fail> {
+    first_beginning(alloc, TWO, 1)
 }
 
 #[test]
 fn every_beginning_loads(rt: HostRuntime) -> Result<(), Fail> {
-    assert_eq!(rt; first_beginning(rt.alloc(), TWO, 1)?, None);
+    assert_eq!(rt; first_of_two(rt.alloc())?, None);
     Ok(())
 }
 
 /// Lines behind others, and the number of the bad one.
 type Bad = (&'static [u8], u64);
 
-const BAD_LINES: [Bad; 10] = [
+const BAD_LINES: &[Bad] = &[
     (b"erase 0\n", 3),
     (b"page 00 FF\n", 3),
     (b"page 0 ff\n", 3),
@@ -164,7 +201,7 @@ const BAD_LINES: [Bad; 10] = [
     (b"stmjournal 1 0412\n", 3),
 ];
 
-const BAD_HEADERS: [Bad; 6] = [
+const BAD_HEADERS: &[Bad] = &[
     (b"stmjournal 3 0412\n", 1),
     (b"stmjournal 0 0412\n", 1),
     (b"stmjournal 02 0412\n", 1),
@@ -173,142 +210,33 @@ const BAD_HEADERS: [Bad; 6] = [
     (b"stmjournal 2 041a\n", 1),
 ];
 
+/// Why a journal of these two parts is none.
+fn fault_behind(alloc: Global, front: &[u8], rest: &[u8]) -> Result<Option<JournalFault>, Fail> {
+    let mut bytes = Vec::from_slice(alloc, front)?;
+    bytes.extend_from_slice(rest)?;
+    fault_of(alloc, &bytes)
+}
+
 /// The first of these rows, behind these lines, with another fault.
 fn first_other(alloc: Global, front: &[u8], rows: &[Bad]) -> Result<Option<usize>, Fail> {
     for (place, (lines, bad)) in rows.iter().enumerate() {
-        let mut bytes = Vec::from_slice(alloc, front)?;
-        bytes.extend_from_slice(lines)?;
-        if fault_of(alloc, &bytes)? != Some(JournalFault::Bad(*bad)) {
+        if fault_behind(alloc, front, lines)? != Some(JournalFault::Bad(*bad)) {
             return Ok(Some(place));
         }
     }
     Ok(None)
 }
 
-#[test]
-fn bad_lines(rt: HostRuntime) -> Result<(), Fail> {
-    assert_eq!(rt; first_other(rt.alloc(), BEGUN, &BAD_LINES)?, None);
-    Ok(())
+/// The first of the bad lines, and of the bad headers, with another fault.
+fn others(alloc: Global) -> Result<(Option<usize>, Option<usize>), Fail> {
+    Ok((
+        first_other(alloc, BEGUN, BAD_LINES)?,
+        first_other(alloc, b"", BAD_HEADERS)?,
+    ))
 }
 
 #[test]
-fn bad_headers(rt: HostRuntime) -> Result<(), Fail> {
-    assert_eq!(rt; first_other(rt.alloc(), b"", &BAD_HEADERS)?, None);
-    Ok(())
-}
-
-#[test]
-fn a_journal_of_version_2(rt: HostRuntime) -> Result<(), Fail> {
-    let journal = loaded(rt.alloc(), b"x!\nstmjournal 2 0412\nopen 1\nend 1\n")?;
-    let found = (journal.header(), told(&journal));
-    assert_eq!(rt; found, (Some((2, 2)), (Some(0x412), 1, None)));
-    Ok(())
-}
-
-#[test]
-fn a_page_is_kept(rt: HostRuntime) -> Result<(), Fail> {
-    let (mut journal, mut rig) = opened(rt.alloc(), b"")?;
-    let segment = journal.begin(&mut rig, 0x412)?;
-    journal.keep_page(&mut rig, 5, &[0xFF, 0x0A])?;
-    journal.intend_erase(&mut rig, 5)?;
-    let is_so = rig.journal() == b"stmjournal 2 0412\nopen 1\npage 5 FF0A\nerase 5\n".as_slice();
-    assert_eq!(rt; (segment, is_so, journal.header()), (1, true, Some((2, 1))));
-    Ok(())
-}
-
-#[test]
-fn a_page_is_written(rt: HostRuntime) -> Result<(), Fail> {
-    let (mut journal, mut rig) = opened(rt.alloc(), b"stmjournal 1 0412\n")?;
-    let segment = journal.begin(&mut rig, 0x412)?;
-    journal.keep_page(&mut rig, 65535, &[0x00])?;
-    journal.intend_program(&mut rig, 65535)?;
-    let is_so = rig.journal().ends_with(b"page 65535 00\nprogram 65535\n");
-    assert_eq!(rt; (segment, is_so), (1, true));
-    Ok(())
-}
-
-#[test]
-fn a_segment_is_ended(rt: HostRuntime) -> Result<(), Fail> {
-    let (mut journal, mut rig) = opened(rt.alloc(), b"stmjournal 1 0412\n")?;
-    let segment = journal.begin(&mut rig, 0x412)?;
-    journal.end(&mut rig)?;
-    let is_so = rig.journal() == b"stmjournal 1 0412\nopen 1\nend 1\n".as_slice();
-    let stage = (journal.is_open(), journal.is_unfinished());
-    assert_eq!(rt; (segment, is_so, stage), (1, true, (true, false)));
-    Ok(())
-}
-
-/// What the newest segment of this journal, taken back, leaves, and whether there is one then.
-fn taken_back(alloc: Global, bytes: &[u8]) -> Result<(MemoryRig, bool), Fail> {
-    let mut rig = rig_with(alloc, bytes)?;
-    let mut journal = Journal::load(alloc, &mut rig)?;
-    if journal.depth() == 0 {
-        return Err(Fail::new("no segment"));
-    }
-    journal.undone(&mut rig)?;
-    let is_open = journal.is_open();
-    Ok((rig, is_open))
-}
-
-#[test]
-fn a_torn_tail(rt: HostRuntime) -> Result<(), Fail> {
-    let torn = b"stmjournal 1 0412\nopen 1\nend 1\npage 0 FFFF";
-    let (rig, is_open) = taken_back(rt.alloc(), torn)?;
-    let due = b"stmjournal 1 0412\nopen 1\nend 1\npage 0 FFFF!\nundone 1\n";
-    assert!(rt; rig.journal() == due.as_slice() && !is_open);
-    Ok(())
-}
-
-/// What a journal's Rig does with an append: it takes it, fails, or stops behind so many steps.
-#[derive(Clone, Copy)]
-enum Append {
-    Takes,
-    Fails,
-    StopsAfter(u64),
-}
-
-/// Why no segment begins in the journal of these bytes, and the Rig behind it, which takes appends.
-fn unbegun(
-    alloc: Global,
-    bytes: &[u8],
-    id: u16,
-    append: Append,
-) -> Result<(Option<JournalFault>, MemoryRig), Fail> {
-    let (mut journal, mut rig) = opened(alloc, bytes)?;
-    match append {
-        Append::Takes => {}
-        Append::Fails => rig.fail_append(1),
-        Append::StopsAfter(steps) => rig.stop_after(steps),
-    }
-    let fault = journal.begin(&mut rig, id).err();
-    rig.stop_after(u64::MAX);
-    Ok((fault, rig))
-}
-
-#[test]
-fn another_device(rt: HostRuntime) -> Result<(), Fail> {
-    let (fault, _rig) = unbegun(rt.alloc(), b"stmjournal 1 0412\n", 0x410, Append::Takes)?;
-    assert_eq!(rt; fault, Some(JournalFault::OtherDevice));
-    Ok(())
-}
-
-#[test]
-fn an_append_that_fails(rt: HostRuntime) -> Result<(), Fail> {
-    let (fault, rig) = unbegun(rt.alloc(), b"stmjournal 1 0412\n", 0x412, Append::Fails)?;
-    let is_same = rig.journal() == b"stmjournal 1 0412\n".as_slice();
-    assert_eq!(rt; (fault, is_same), (Some(JournalFault::File), true));
-    Ok(())
-}
-
-#[test]
-fn an_append_that_stops(rt: HostRuntime) -> Result<(), Fail> {
-    let (fault, mut rig) = unbegun(rt.alloc(), b"", 0x412, Append::StopsAfter(22))?;
-    let is_so = rig.journal() == b"stmjournal 2 0412\nopen".as_slice();
-    let journal = Journal::load(rt.alloc(), &mut rig)?;
-    let found = (fault, is_so, told(&journal));
-    assert_eq!(rt;
-        found,
-        (Some(JournalFault::File), true, (Some(0x412), 0, None))
-    );
+fn bad_lines_and_bad_headers(rt: HostRuntime) -> Result<(), Fail> {
+    assert_eq!(rt; others(rt.alloc())?, (None, None));
     Ok(())
 }

@@ -66,37 +66,31 @@ fn take_back<R: Rig>(journal: &mut Journal, rig: &mut R) -> Result<(), JournalFa
     journal.undone(rig)
 }
 
-/// The journal's bytes behind a command that wrote these pages; and the Rig behind its undo, and
-/// whether there is a segment then.
-fn undone(
-    alloc: Global,
-    lines: &[u8],
-    pages: &[u16],
-    held: &[u8],
-) -> Result<(Vec<u8>, MemoryRig, bool), Fail>
-    requires rising { AllPairs (λ m n. m < n) pages.now }
-    requires some { 0 < length held.now }
-{
-    let (mut journal, mut rig) = opened(alloc, lines)?;
-    write_pages(&mut journal, &mut rig, pages, held)?;
-    let written = Vec::from_slice(alloc, rig.journal())?;
-    if journal.depth() == 0 {
-        return Err(Fail::from("no command"));
+/// Whether a command that writes two pages, and then its undo, leave their lines, and no segment.
+fn is_written_and_undone(journal: &mut Journal, rig: &mut MemoryRig) -> bool {
+    if journal.depth() >= 65535 || journal.is_unfinished() {
+        return false;
     }
-    take_back(&mut journal, &mut rig)?;
-    let is_open = journal.is_open();
-    Ok((written, rig, is_open))
+    let is_written = write_pages(journal, rig, &[2, 5], &[0xFF]) == Ok(())
+        && rig.journal().ends_with(
+            b"\nopen 1\npage 2 FF\nerase 2\nprogram 2\npage 5 FF\nerase 5\nprogram 5\nend 1\n",
+        );
+    if !is_written || journal.depth() == 0 {
+        return false;
+    }
+    take_back(journal, rig) == Ok(())
+        && rig.journal().ends_with(b"\nend 1\nerase 2\nprogram 2\nerase 5\nprogram 5\nundone 1\n")
+        && !journal.is_open()
+}
+
+/// Whether a command and its undo leave their lines behind a header.
+fn is_undone(alloc: Global) -> Result<bool, Fail> {
+    let (mut journal, mut rig) = opened(alloc, b"stmjournal 1 0412\n")?;
+    Ok(is_written_and_undone(&mut journal, &mut rig))
 }
 
 #[test]
 fn a_command_and_its_undo(rt: HostRuntime) -> Result<(), Fail> {
-    let (written, rig, is_open) = undone(rt.alloc(), b"stmjournal 1 0412\n", &[2, 5], &[0xFF])?;
-    let is_written = written.ends_with(
-        b"\nopen 1\npage 2 FF\nerase 2\nprogram 2\npage 5 FF\nerase 5\nprogram 5\nend 1\n",
-    );
-    let is_undone = rig.journal().ends_with(
-        b"\nend 1\nerase 2\nprogram 2\nerase 5\nprogram 5\nundone 1\n",
-    );
-    assert_eq!(rt; (is_written, is_undone, is_open), (true, true, false));
+    assert!(rt; is_undone(rt.alloc())?);
     Ok(())
 }

@@ -1,8 +1,9 @@
 // Journals of real size: longer than a loader reads at once, and with the longest page.
 ghost use Rattle.std.specs.Prelude.{◌<◌, length, AllPairs};
 
+use crate::image::large::put_digits;
 use crate::journal::call_order::write_pages;
-use crate::journal::{fault_of, loaded, opened};
+use crate::journal::{KeptRow, fault_of, first_kept, rig_with};
 use std::alloc::{AllocError, Global};
 use std::test::Fail;
 use stm_journal::{Journal, JournalFault};
@@ -21,94 +22,141 @@ fn page(alloc: Global, count: u32) -> Result<Vec<u8>, AllocError> {
 
 /// The two digits of each byte.
 fn digits_of(alloc: Global, bytes: &[u8]) -> Result<Vec<u8>, AllocError> {
-    let digits = b"0123456789ABCDEF";
     let mut text = Vec::new(alloc);
     for byte in bytes {
-        text.push(digits[usize::from(byte / 16)])?;
-        text.push(digits[usize::from(byte % 16)])?;
+        put_digits(&mut text, *byte)?;
     }
     Ok(text)
 }
 
-/// A Rig with this journal, behind which a command has written these pages.
-fn written(rt: &HostRuntime, lines: &[u8], pages: &[u16], held: &[u8]) -> Result<MemoryRig, Fail>
+/// What a journal tells: how many segments there are, whether the newest is unfinished, and pages.
+type Large = (u32, bool, &'static [KeptRow]);
+
+/// Whether a Rig's journal is loaded so.
+fn is_loaded_as(alloc: Global, rig: &mut MemoryRig, due: Large) -> bool {
+    match Journal::load(alloc, rig) {
+        Ok(journal) => {
+            journal.depth() == due.0
+                && journal.is_unfinished() == due.1
+                && first_kept(&journal, due.2).is_none()
+        }
+        Err(_) => false,
+    }
+}
+
+/// Writes these pages by a command; no fault where none can begin.
+fn command(
+    journal: &mut Journal,
+    rig: &mut MemoryRig,
+    pages: &[u16],
+    held: &[u8],
+) -> Result<(), JournalFault>
     requires rising { AllPairs (λ m n. m < n) pages.now }
     requires some { 0 < length held.now }
 {
-    let (mut journal, mut rig) = opened(rt.alloc(), lines)?;
-    write_pages(&mut journal, &mut rig, pages, held)?;
-    Ok(rig)
+    if journal.depth() >= 65535 || journal.is_unfinished() {
+        return Ok(());
+    }
+    write_pages(journal, rig, pages, held)
+}
+
+/// Writes these pages by a command behind a Rig's journal.
+fn write(alloc: Global, rig: &mut MemoryRig, pages: &[u16], held: &[u8]) -> Result<(), JournalFault>
+    requires rising { AllPairs (λ m n. m < n) pages.now }
+    requires some { 0 < length held.now }
+{
+    let mut journal = Journal::load(alloc, rig)?;
+    command(&mut journal, rig, pages, held)
+}
+
+const TWO_PAGES: Large = (1, false, &[(1, 0, Some((0, 3))), (1, 1, Some((1, 6)))]);
+
+/// Whether two pages of these bytes are loaded as they were written.
+fn are_loaded(alloc: Global, rig: &mut MemoryRig, held: &[u8]) -> bool
+    requires some { 0 < length held.now }
+{
+    write(alloc, rig, &[0, 1], held) == Ok(())
+        && rig.journal().len() == 4179
+        && is_loaded_as(alloc, rig, TWO_PAGES)
+}
+
+/// Whether two pages of 1,024 bytes are loaded as they were written.
+fn are_two_pages_loaded(alloc: Global) -> Result<bool, Fail> {
+    let held = page(alloc, 1024)?;
+    let mut rig = rig_with(alloc, b"")?;
+    Ok(held.len() == 1024 && are_loaded(alloc, &mut rig, &held))
 }
 
 #[test]
 fn two_pages_of_1024_bytes(rt: HostRuntime) -> Result<(), Fail> {
-    let held = page(rt.alloc(), 1024)?;
-    assert_eq!(rt; held.len(), 1024);
-    let mut rig = written(&rt, b"", &[0, 1], &held)?;
-    let length = rig.journal().len();
-    let journal = Journal::load(rt.alloc(), &mut rig)?;
-    let found = (length, journal.depth(), journal.is_unfinished());
-    let kept = (journal.kept(1, 0), journal.kept(1, 1));
-    assert_eq!(rt;
-        (found, kept),
-        ((4179, 1, false), (Some((0, 3)), Some((1, 6))))
-    );
+    assert!(rt; are_two_pages_loaded(rt.alloc())?);
     Ok(())
+}
+
+const LONGEST_PAGE: Large = (1, false, &[(1, 0, Some((5, 3)))]);
+
+/// The journal of a command that wrote these bytes as page 5.
+fn text_of(alloc: Global, held: &[u8]) -> Result<Vec<u8>, AllocError> {
+    let mut text = Vec::from_slice(alloc, b"stmjournal 1 0412\nopen 1\npage 5 ")?;
+    text.extend_from_slice(&digits_of(alloc, held)?)?;
+    text.extend_from_slice(b"\nerase 5\nprogram 5\nend 1\n")?;
+    Ok(text)
+}
+
+/// Whether a page of these bytes is written as this text, and loaded as it was written.
+fn is_loaded(alloc: Global, rig: &mut MemoryRig, held: &[u8], text: &[u8]) -> bool
+    requires some { 0 < length held.now }
+{
+    write(alloc, rig, &[5], held) == Ok(())
+        && rig.journal() == text
+        && is_loaded_as(alloc, rig, LONGEST_PAGE)
+}
+
+/// Whether the longest page is written, and loaded as it was written.
+fn is_longest_page_loaded(alloc: Global) -> Result<bool, Fail> {
+    let held = page(alloc, 131_072)?;
+    let text = text_of(alloc, &held)?;
+    let mut rig = rig_with(alloc, b"stmjournal 1 0412\n")?;
+    Ok(held.len() == 131_072 && is_loaded(alloc, &mut rig, &held, &text))
 }
 
 #[test]
 fn a_page_of_131072_bytes(rt: HostRuntime) -> Result<(), Fail> {
-    let held = page(rt.alloc(), 131_072)?;
-    assert_eq!(rt; held.len(), 131_072);
-    let mut rig = written(&rt, b"stmjournal 1 0412\n", &[5], &held)?;
-    let mut text = Vec::from_slice(rt.alloc(), b"stmjournal 1 0412\nopen 1\npage 5 ")?;
-    text.extend_from_slice(&digits_of(rt.alloc(), &held)?)?;
-    text.extend_from_slice(b"\nerase 5\nprogram 5\nend 1\n")?;
-    let is_same = rig.journal() == text.as_slice();
-    let journal = Journal::load(rt.alloc(), &mut rig)?;
-    let found = (is_same, journal.is_unfinished(), journal.kept(1, 0));
-    assert_eq!(rt; found, (true, false, Some((5, 3))));
+    assert!(rt; is_longest_page_loaded(rt.alloc())?);
     Ok(())
 }
 
-/// Adds a line of a word, a number and what stands behind it.
-fn put_line(
-    alloc: Global,
-    text: &mut String,
-    word: &str,
-    number: u32,
-    rest: &str,
-) -> Result<(), AllocError> {
-    let digits = format!(in alloc; "{number}")?;
-    text.push_str(word)?;
-    text.push_str(&digits)?;
-    text.push_str(rest)
+/// A whole segment of one page.
+fn segment(alloc: Global, k: u32, n: u32) -> Result<String, AllocError> {
+    format!(in alloc; "open {k}\npage {n} 00FF5A\nerase {n}\nprogram {n}\nend {k}\n")
 }
 
 /// Whole segments of one page each, as many as are told, and a line.
 fn segments(alloc: Global, count: u32, last: &str) -> Result<String, AllocError> {
     let mut text = String::from_str(alloc, "stmjournal 1 0412\n")?;
     for k in 1..=count {
-        put_line(alloc, &mut text, "open ", k, "\n")?;
-        put_line(alloc, &mut text, "page ", k % 32, " 00FF5A\n")?;
-        put_line(alloc, &mut text, "erase ", k % 32, "\n")?;
-        put_line(alloc, &mut text, "program ", k % 32, "\n")?;
-        put_line(alloc, &mut text, "end ", k, "\n")?;
+        text.push_str(&segment(alloc, k, k % 32)?)?;
     }
     text.push_str(last)?;
     Ok(text)
 }
 
+const SEVERAL: Large = (
+    501,
+    true,
+    &[(1, 0, Some((1, 3))), (500, 0, Some((20, 2498)))],
+);
+
+/// Whether a journal of several buffers is loaded.
+fn are_several_loaded(alloc: Global) -> Result<bool, Fail> {
+    let text = segments(alloc, 500, "open 501\n")?;
+    let mut rig = rig_with(alloc, text.as_bytes())?;
+    Ok(is_loaded_as(alloc, &mut rig, SEVERAL))
+}
+
 #[test]
 fn a_journal_of_several_buffers(rt: HostRuntime) -> Result<(), Fail> {
-    let text = segments(rt.alloc(), 500, "open 501\n")?;
-    let journal = loaded(rt.alloc(), text.as_bytes())?;
-    let found = (journal.depth(), journal.is_unfinished());
-    let kept = (journal.kept(1, 0), journal.kept(500, 0));
-    assert_eq!(rt;
-        (found, kept),
-        ((501, true), (Some((1, 3)), Some((20, 2498))))
-    );
+    assert!(rt; are_several_loaded(rt.alloc())?);
     Ok(())
 }
 

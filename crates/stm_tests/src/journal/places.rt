@@ -4,8 +4,8 @@ ghost use Rattle.std.specs.Prelude.{◌≡◌, ◌^◌, ◌-◌};
 ghost use Rattle.stm_wire.specs.Unmodelled.{unmodelled};
 ghost use Rattle.stm_journal.specs.KeptPlaces.{IsPlaceIn};
 
-use crate::journal::{fault_of, first_beginning, loaded, rig_with};
-use std::alloc::AllocError;
+use crate::journal::{first_beginning, opened, rig_with};
+use std::alloc::{AllocError, Global};
 use std::test::Fail;
 use stm_journal::{Journal, JournalFault, PagePlace};
 use stm_wire::{MemoryRig, Patience, Rig, RigFault};
@@ -91,29 +91,36 @@ fn fetched(
     Ok(buf)
 }
 
-/// What a Rig brings that gives so many bytes at once: how many pages are kept, where that one
-/// stands, and its bytes.
-fn brought(rt: &HostRuntime, most: usize) -> Result<(usize, PagePlace, [u8; 3]), Fail> {
-    let (journal, mut rig) = by_pieces(rt, most)?;
+/// Where that page stands.
+const PAGE: PagePlace = PagePlace {
+    at: 32,
+    length: 3,
+    line: 3,
+};
+
+/// Whether the page is kept alone, stands in its place, and has its bytes.
+fn is_brought(journal: &Journal, rig: &mut Piecemeal) -> bool {
     let Some(place) = journal.page(1, 5) else {
-        return Err(Fail::from("lost"));
+        return false;
     };
     if place.length != 3 {
-        return Err(Fail::from("another length"));
+        return false;
     }
-    let bytes = fetched(&journal, &mut rig, place)?;
-    Ok((journal.entries(), place, bytes))
+    fetched(journal, rig, place) == Ok([0xFF, 0x0A, 0x07])
+        && place == PAGE
+        && journal.entries() == 1
+}
+
+/// Whether a Rig that gives so many bytes at once brings them.
+fn brings(rt: &HostRuntime, most: usize) -> Result<bool, Fail> {
+    let (journal, mut rig) = by_pieces(rt, most)?;
+    Ok(is_brought(&journal, &mut rig))
 }
 
 /// The first count of bytes at once of which something else is brought.
 fn first_other(rt: &HostRuntime) -> Result<Option<usize>, Fail> {
-    let place = PagePlace {
-        at: 32,
-        length: 3,
-        line: 3,
-    };
     for most in 1..8 {
-        if brought(rt, most)? != (1, place, [0xFF, 0x0A, 0x07]) {
+        if !brings(rt, most)? {
             return Ok(Some(most));
         }
     }
@@ -126,35 +133,37 @@ fn few_bytes_at_once_are_no_fault(rt: HostRuntime) -> Result<(), Fail> {
     Ok(())
 }
 
-/// What a page is fetched as from a Rig that lies, and then from it as it was before.
-type Answers = (Result<[u8; 3], JournalFault>, Result<[u8; 3], JournalFault>);
-
-fn answers_to(rt: &HostRuntime, lie: Lie) -> Result<Answers, Fail> {
-    let (journal, mut rig) = by_pieces(rt, 4)?;
+/// Whether a lie gives this fault, and the page is told as it was before then.
+fn is_answered(journal: &Journal, rig: &mut Piecemeal, lie: Lie, fault: JournalFault) -> bool {
     let Some(place) = journal.kept_place(1, 0) else {
-        return Err(Fail::from("lost"));
+        return false;
     };
     if place.length != 3 {
-        return Err(Fail::from("another length"));
+        return false;
     }
     rig.lie = lie;
-    let lied = fetched(&journal, &mut rig, place);
+    let lied = fetched(journal, rig, place);
     rig.lie = Lie::No;
-    let told = fetched(&journal, &mut rig, place);
-    Ok((lied, told))
+    lied == Err(fault) && fetched(journal, rig, place) == Ok([0xFF, 0x0A, 0x07])
 }
 
 /// Lies, and the fault that each gives.
-const LIES: [(Lie, JournalFault); 3] = [
+const LIES: &[(Lie, JournalFault)] = &[
     (Lie::LowerCase, JournalFault::Bad(3)),
     (Lie::Ends, JournalFault::Bad(3)),
     (Lie::Fails, JournalFault::File),
 ];
 
+/// Whether a Rig that lies gives this fault, and then the page.
+fn answers(rt: &HostRuntime, lie: Lie, fault: JournalFault) -> Result<bool, Fail> {
+    let (journal, mut rig) = by_pieces(rt, 4)?;
+    Ok(is_answered(&journal, &mut rig, lie, fault))
+}
+
 /// The first of `LIES` with other answers.
 fn first_lie(rt: &HostRuntime) -> Result<Option<usize>, Fail> {
     for (place, (lie, fault)) in LIES.iter().enumerate() {
-        if answers_to(rt, *lie)? != (Err(*fault), Ok([0xFF, 0x0A, 0x07])) {
+        if !answers(rt, *lie, *fault)? {
             return Ok(Some(place));
         }
     }
@@ -167,37 +176,32 @@ fn other_bytes_than_before_are_told(rt: HostRuntime) -> Result<(), Fail> {
     Ok(())
 }
 
-/// Adds the lines of a page of 1,024 bytes that was erased and written.
-fn add_page(text: &mut Vec<u8>, n: &[u8]) -> Result<(), AllocError> {
-    text.extend_from_slice(b"page ")?;
-    text.extend_from_slice(n)?;
-    text.push(b' ')?;
-    for _ in 0..2047 {
-        text.push(b'0')?;
+/// Adds these parts, one behind another.
+fn add_all(text: &mut Vec<u8>, parts: &[&[u8]]) -> Result<(), AllocError> {
+    for part in parts {
+        text.extend_from_slice(part)?;
     }
-    text.extend_from_slice(b"C\nerase ")?;
-    text.extend_from_slice(n)?;
-    text.extend_from_slice(b"\nprogram ")?;
-    text.extend_from_slice(n)?;
-    text.push(b'\n')?;
     Ok(())
 }
 
-/// The journal of a write of two pages.
-fn two_pages(rt: &HostRuntime) -> Result<Vec<u8>, AllocError> {
-    let mut text = Vec::from_slice(rt.alloc(), b"stmjournal 1 0410\nopen 1\n")?;
-    add_page(&mut text, b"0")?;
-    add_page(&mut text, b"1")?;
+/// Adds the lines of a page that was erased and written, whose last digit is C behind these.
+fn add_page(text: &mut Vec<u8>, n: &[u8], digits: &[u8]) -> Result<(), AllocError> {
+    add_all(text, &[b"page ", n, b" ", digits])?;
+    add_all(text, &[b"C\nerase ", n, b"\nprogram ", n, b"\n"])
+}
+
+/// The journal of a write of two pages of 1,024 bytes.
+fn two_pages(alloc: Global) -> Result<Vec<u8>, AllocError> {
+    let digits = vec![in alloc; b'0'; 2047]?;
+    let mut text = Vec::from_slice(alloc, b"stmjournal 1 0410\nopen 1\n")?;
+    add_page(&mut text, b"0", &digits)?;
+    add_page(&mut text, b"1", &digits)?;
     text.extend_from_slice(b"end 1\n")?;
     Ok(text)
 }
 
-#[test]
-fn two_written_pages(rt: HostRuntime) -> Result<(), Fail> {
-    let text = two_pages(&rt)?;
-    let journal = loaded(rt.alloc(), &text)?;
-    let found = (text.len(), journal.entries());
-    let places = (journal.page(1, 0), journal.page(1, 1));
+/// Whether the journal places both written pages, and no others.
+fn places_both(journal: &Journal) -> bool {
     let first = PagePlace {
         at: 32,
         length: 1024,
@@ -208,63 +212,84 @@ fn two_written_pages(rt: HostRuntime) -> Result<(), Fail> {
         length: 1024,
         line: 6,
     };
-    assert_eq!(rt; (found, places), ((4179, 2), (Some(first), Some(second))));
-    Ok(())
+    journal.entries() == 2
+        && journal.page(1, 0) == Some(first)
+        && journal.page(1, 1) == Some(second)
 }
 
-/// The second of two written pages, fetched.
-fn second_page(rt: &HostRuntime) -> Result<Vec<u8>, Fail> {
-    let mut rig = rig_with(rt.alloc(), &two_pages(rt)?)?;
-    let journal = Journal::load(rt.alloc(), &mut rig)?;
+/// Whether the second of two written pages is fetched into these bytes.
+fn is_fetched(journal: &Journal, rig: &mut MemoryRig, buf: &mut [u8]) -> bool {
     let Some(place) = journal.page(1, 1) else {
-        return Err(Fail::from("lost"));
+        return false;
     };
-    let mut buf = vec![in rt.alloc(); 0xFF; 1024]?;
     if place.length != 1024 || buf.len() != 1024 {
-        return Err(Fail::from("another length"));
+        return false;
     }
-    journal.fetch_page(&mut rig, place, &mut buf)?;
-    Ok(buf)
+    journal.fetch_page(rig, place, buf) == Ok(()) && buf.ends_with(&[0x00, 0x0C])
+}
+
+/// Whether the journal of these bytes places both written pages, and the second is fetched.
+fn are_found(alloc: Global, text: &[u8]) -> Result<(bool, bool), Fail> {
+    let mut buf = vec![in alloc; 0xFF; 1024]?;
+    let (journal, mut rig) = opened(alloc, text)?;
+    Ok((
+        places_both(&journal),
+        is_fetched(&journal, &mut rig, &mut buf),
+    ))
+}
+
+/// How many bytes the journal of two pages has, and how these are found.
+fn two_found(alloc: Global) -> Result<(usize, (bool, bool)), Fail> {
+    let text = two_pages(alloc)?;
+    Ok((text.len(), are_found(alloc, &text)?))
 }
 
 #[test]
-fn a_written_page_is_fetched(rt: HostRuntime) -> Result<(), Fail> {
-    let bytes = second_page(&rt)?;
-    assert!(rt; bytes.ends_with(&[0x00, 0x0C]) && bytes.len() == 1024);
+fn two_written_pages_are_placed_and_fetched(rt: HostRuntime) -> Result<(), Fail> {
+    assert_eq!(rt; two_found(rt.alloc())?, (4179, (true, true)));
     Ok(())
+}
+
+/// The first beginning of the journal of two pages that doesn't load.
+fn first_bad(alloc: Global) -> Result<Option<usize>, Fail> {
+    first_beginning(alloc, &two_pages(alloc)?, 37)
 }
 
 #[test]
 fn beginnings_are_never_bad(rt: HostRuntime) -> Result<(), Fail> {
-    let text = two_pages(&rt)?;
-    assert_eq!(rt; first_beginning(rt.alloc(), &text, 37)?, None);
+    assert_eq!(rt; first_bad(rt.alloc())?, None);
     Ok(())
 }
 
-/// How many pages the journal keeps that these bytes are, or its fault.
-fn kept_in(rt: &HostRuntime, bytes: &[u8]) -> Result<Result<usize, JournalFault>, Fail> {
-    let mut rig = rig_with(rt.alloc(), bytes)?;
-    Ok(match Journal::load(rt.alloc(), &mut rig) {
-        Ok(journal) => Ok(journal.entries()),
-        Err(fault) => Err(fault),
-    })
+/// How many pages are kept, and how many by the first segment; or the fault.
+type Kept = Result<(usize, usize), JournalFault>;
+
+/// What a Rig's journal keeps.
+fn kept_by(alloc: Global, rig: &mut MemoryRig) -> Kept {
+    let journal = Journal::load(alloc, rig)?;
+    Ok((journal.entries(), journal.kept_count(1)))
+}
+
+/// What the journal keeps that these bytes are.
+fn kept_in(alloc: Global, bytes: &[u8]) -> Result<Kept, Fail> {
+    let mut rig = rig_with(alloc, bytes)?;
+    Ok(kept_by(alloc, &mut rig))
 }
 
 /// A journal whose last line begins so and goes on with 1,500 of this byte, and ends with these.
-fn long_line(rt: &HostRuntime, front: &[u8], byte: u8, end: &[u8]) -> Result<Vec<u8>, AllocError> {
-    let mut bytes = Vec::from_slice(rt.alloc(), b"stmjournal 1 0412\nopen 1\n")?;
-    bytes.extend_from_slice(front)?;
-    for _place in 0..1500 {
-        bytes.push(byte)?;
-    }
-    bytes.extend_from_slice(end)?;
+fn long_line(alloc: Global, front: &[u8], byte: u8, end: &[u8]) -> Result<Vec<u8>, AllocError> {
+    let middle = vec![in alloc; byte; 1500]?;
+    let mut bytes = Vec::from_slice(alloc, b"stmjournal 1 0412\nopen 1\n")?;
+    add_all(&mut bytes, &[front, &middle, end])?;
     Ok(bytes)
 }
 
-/// Lines longer than what is kept of a line: how each begins, the byte that it goes on with, and
-/// how many pages are kept then. With a mark at its end it is void.
-const LONG_LINES: [(&[u8], u8, Result<usize, JournalFault>); 6] = [
-    (b"page 0 ", b'0', Ok(1)),
+/// How a line begins, the byte that it goes on with, and what is kept then.
+type LongLine = (&'static [u8], u8, Kept);
+
+/// Lines longer than what is kept of a line. With a mark at its end such a line is void.
+const LONG_LINES: &[LongLine] = &[
+    (b"page 0 ", b'0', Ok((1, 1))),
     (b"page 0 ", b'a', Err(JournalFault::Bad(3))),
     (b"page 65536 ", b'0', Err(JournalFault::Bad(3))),
     (b"open 1", b'0', Err(JournalFault::Bad(3))),
@@ -272,12 +297,17 @@ const LONG_LINES: [(&[u8], u8, Result<usize, JournalFault>); 6] = [
     (b"x", b'x', Err(JournalFault::Bad(3))),
 ];
 
+/// What is kept behind a long line of this row that ends so.
+fn kept_behind(alloc: Global, row: &LongLine, end: &[u8]) -> Result<Kept, Fail> {
+    kept_in(alloc, &long_line(alloc, row.0, row.1, end)?)
+}
+
 /// The first of `LONG_LINES` that is something else.
-fn first_long(rt: &HostRuntime) -> Result<Option<usize>, Fail> {
-    for (place, (front, byte, due)) in LONG_LINES.iter().enumerate() {
-        let whole = long_line(rt, front, *byte, b"\n")?;
-        let void = long_line(rt, front, *byte, b"!\n")?;
-        if kept_in(rt, &whole)? != *due || kept_in(rt, &void)? != Ok(0) {
+fn first_long(alloc: Global) -> Result<Option<usize>, Fail> {
+    for (place, row) in LONG_LINES.iter().enumerate() {
+        if kept_behind(alloc, row, b"\n")? != row.2
+            || kept_behind(alloc, row, b"!\n")? != Ok((0, 0))
+        {
             return Ok(Some(place));
         }
     }
@@ -286,39 +316,48 @@ fn first_long(rt: &HostRuntime) -> Result<Option<usize>, Fail> {
 
 #[test]
 fn long_lines(rt: HostRuntime) -> Result<(), Fail> {
-    assert_eq!(rt; first_long(&rt)?, None);
+    assert_eq!(rt; first_long(rt.alloc())?, None);
     Ok(())
 }
 
-/// A segment that keeps a hundred pages of one byte.
-fn hundred_pages(rt: &HostRuntime) -> Result<Vec<u8>, Fail> {
-    let mut bytes = Vec::from_slice(rt.alloc(), b"stmjournal 1 0412\nopen 1\n")?;
-    for n in 0..100 {
-        bytes.extend_from_slice(format!(in rt.alloc(); "page {n} FF\n")?.as_bytes())?;
+/// The journal of a segment that keeps a hundred pages of one byte, and these lines.
+fn behind(alloc: Global, lines: &str) -> Result<String, AllocError> {
+    let mut text = String::from_str(alloc, "stmjournal 1 0412\nopen 1\n")?;
+    for n in 0..100u8 {
+        text.push_str(&format!(in alloc; "page {n} FF\n")?)?;
     }
-    Ok(bytes)
+    text.push_str(lines)?;
+    Ok(text)
 }
 
-/// The journal of these lines behind a hundred pages.
-fn behind(rt: &HostRuntime, lines: &[u8]) -> Result<Vec<u8>, Fail> {
-    let mut bytes = hundred_pages(rt)?;
-    bytes.extend_from_slice(lines)?;
-    Ok(bytes)
+/// What is kept behind a hundred pages and these lines.
+fn kept_behind_many(alloc: Global, lines: &str) -> Result<Kept, Fail> {
+    kept_in(alloc, behind(alloc, lines)?.as_bytes())
 }
 
-#[test]
-fn many_pages(rt: HostRuntime) -> Result<(), Fail> {
-    let lines = b"erase 99\nend 1\nopen 2\npage 99 00\nundone 2\nerase 0\n";
-    let journal = loaded(rt.alloc(), &behind(&rt, lines)?)?;
-    assert_eq!(rt; (journal.entries(), journal.kept_count(1)), (100, 100));
-    Ok(())
+/// Lines behind a hundred pages, and what is kept then.
+const BEHIND_MANY: &[(&str, Kept)] = &[
+    (
+        "erase 99\nend 1\nopen 2\npage 99 00\nundone 2\nerase 0\n",
+        Ok((100, 100)),
+    ),
+    // A page that is missing, and one that is kept twice.
+    ("erase 99\nerase 100\n", Err(JournalFault::Bad(104))),
+    ("page 50 00\n", Err(JournalFault::Bad(103))),
+];
+
+/// The first row of `BEHIND_MANY` that is something else.
+fn first_behind(alloc: Global) -> Result<Option<usize>, Fail> {
+    for (place, (lines, due)) in BEHIND_MANY.iter().enumerate() {
+        if kept_behind_many(alloc, lines)? != *due {
+            return Ok(Some(place));
+        }
+    }
+    Ok(None)
 }
 
 #[test]
 fn of_many_pages_each_is_known(rt: HostRuntime) -> Result<(), Fail> {
-    let missing = fault_of(rt.alloc(), &behind(&rt, b"erase 99\nerase 100\n")?)?;
-    let twice = fault_of(rt.alloc(), &behind(&rt, b"page 50 00\n")?)?;
-    let due = (Some(JournalFault::Bad(104)), Some(JournalFault::Bad(103)));
-    assert_eq!(rt; (missing, twice), due);
+    assert_eq!(rt; first_behind(rt.alloc())?, None);
     Ok(())
 }

@@ -1,0 +1,246 @@
+// Segments begun, ended and taken back, with their pages, and what is refused.
+ghost use Rattle.std.specs.Prelude.{◌≡◌, ◌<◌, length, false};
+ghost use Rattle.stm_journal.specs.States.{is_unfinished};
+
+use crate::journal::opened;
+use std::alloc::Global;
+use std::test::Fail;
+use stm_journal::{Journal, JournalFault};
+use stm_wire::MemoryRig;
+
+/// A page is kept, and is to be erased.
+fn keep_and_erase(journal: &mut Journal, rig: &mut MemoryRig) -> Result<u32, JournalFault>
+    requires room { length journal.old.state.stack < 65535 }
+    requires finished { is_unfinished journal.old.state ≡ false }
+{
+    let segment = journal.begin(rig, 0x412)?;
+    journal.keep_page(rig, 5, &[0xFF, 0x0A])?;
+    journal.intend_erase(rig, 5)?;
+    Ok(segment)
+}
+
+/// The last page is kept, and is to be written.
+fn keep_and_program(journal: &mut Journal, rig: &mut MemoryRig) -> Result<u32, JournalFault>
+    requires room { length journal.old.state.stack < 65535 }
+    requires finished { is_unfinished journal.old.state ≡ false }
+{
+    let segment = journal.begin(rig, 0x412)?;
+    journal.keep_page(rig, 65535, &[0x00])?;
+    journal.intend_program(rig, 65535)?;
+    Ok(segment)
+}
+
+/// A segment is begun and ended.
+fn begin_and_end(journal: &mut Journal, rig: &mut MemoryRig) -> Result<u32, JournalFault>
+    requires room { length journal.old.state.stack < 65535 }
+    requires finished { is_unfinished journal.old.state ≡ false }
+{
+    let segment = journal.begin(rig, 0x412)?;
+    journal.end(rig)?;
+    Ok(segment)
+}
+
+#[derive(Clone, Copy)]
+enum Command {
+    KeepsAndErases,
+    KeepsAndPrograms,
+    Ends,
+}
+
+/// A journal, a command there, and the bytes, the header and whether the segment is unfinished
+/// behind it.
+type Commanded = (&'static [u8], Command, &'static [u8], (u8, u64), bool);
+
+const COMMANDS: &[Commanded] = &[
+    (
+        b"",
+        Command::KeepsAndErases,
+        b"stmjournal 2 0412\nopen 1\npage 5 FF0A\nerase 5\n",
+        (2, 1),
+        true,
+    ),
+    (
+        b"stmjournal 1 0412\n",
+        Command::KeepsAndPrograms,
+        b"stmjournal 1 0412\nopen 1\npage 65535 00\nprogram 65535\n",
+        (1, 1),
+        true,
+    ),
+    (
+        b"stmjournal 1 0412\n",
+        Command::Ends,
+        b"stmjournal 1 0412\nopen 1\nend 1\n",
+        (1, 1),
+        false,
+    ),
+];
+
+/// Whether a Rig's journal has just these bytes.
+fn holds(rig: &MemoryRig, bytes: &[u8]) -> bool {
+    rig.journal() == bytes
+}
+
+/// The segment of a command; none where no command can begin.
+fn commanded(journal: &mut Journal, rig: &mut MemoryRig, command: Command) -> Option<u32> {
+    if journal.depth() >= 65535 || journal.is_unfinished() {
+        return None;
+    }
+    let segment = match command {
+        Command::KeepsAndErases => keep_and_erase(journal, rig),
+        Command::KeepsAndPrograms => keep_and_program(journal, rig),
+        Command::Ends => begin_and_end(journal, rig),
+    };
+    segment.ok()
+}
+
+/// Whether the command of a row makes segment 1, and leaves what the row says.
+fn is_commanded_as(journal: &mut Journal, rig: &mut MemoryRig, row: &Commanded) -> bool {
+    commanded(journal, rig, row.1) == Some(1)
+        && holds(rig, row.2)
+        && journal.header() == Some(row.3)
+        && journal.is_open()
+        && journal.is_unfinished() == row.4
+}
+
+/// Whether the command of a row leaves in its journal what the row says.
+fn is_command(alloc: Global, row: &Commanded) -> Result<bool, Fail> {
+    let (mut journal, mut rig) = opened(alloc, row.0)?;
+    Ok(is_commanded_as(&mut journal, &mut rig, row))
+}
+
+/// The first row of `COMMANDS` that is something else.
+fn first_commanded(alloc: Global) -> Result<Option<usize>, Fail> {
+    for (place, row) in COMMANDS.iter().enumerate() {
+        if !is_command(alloc, row)? {
+            return Ok(Some(place));
+        }
+    }
+    Ok(None)
+}
+
+#[test]
+fn a_page_is_kept_or_written_or_a_segment_is_ended(rt: HostRuntime) -> Result<(), Fail> {
+    assert_eq!(rt; first_commanded(rt.alloc())?, None);
+    Ok(())
+}
+
+const TORN: &[u8] = b"stmjournal 1 0412\nopen 1\nend 1\npage 0 FFFF";
+
+/// Whether the segment of `TORN` is taken back behind a mark for its last line, and none is left.
+fn is_taken_back(journal: &mut Journal, rig: &mut MemoryRig) -> bool {
+    if journal.depth() == 0 {
+        return false;
+    }
+    journal.undone(rig) == Ok(())
+        && rig.journal() == b"stmjournal 1 0412\nopen 1\nend 1\npage 0 FFFF!\nundone 1\n".as_slice()
+        && !journal.is_open()
+}
+
+/// Whether a torn line is marked when its segment is taken back.
+fn is_torn_tail_marked(alloc: Global) -> Result<bool, Fail> {
+    let (mut journal, mut rig) = opened(alloc, TORN)?;
+    Ok(is_taken_back(&mut journal, &mut rig))
+}
+
+#[test]
+fn a_torn_tail(rt: HostRuntime) -> Result<(), Fail> {
+    assert!(rt; is_torn_tail_marked(rt.alloc())?);
+    Ok(())
+}
+
+/// What a journal's Rig does with an append: it takes it, fails, or stops behind so many steps.
+#[derive(Clone, Copy)]
+enum Append {
+    Takes,
+    Fails,
+    StopsAfter(u64),
+}
+
+/// A journal, what its Rig does, for which device a segment is to begin, why it doesn't, and the
+/// bytes behind that.
+type Unbegun = (&'static [u8], Append, u16, JournalFault, &'static [u8]);
+
+const UNBEGUN: &[Unbegun] = &[
+    // Another device.
+    (
+        b"stmjournal 1 0412\n",
+        Append::Takes,
+        0x410,
+        JournalFault::OtherDevice,
+        b"stmjournal 1 0412\n",
+    ),
+    // An append that fails.
+    (
+        b"stmjournal 1 0412\n",
+        Append::Fails,
+        0x412,
+        JournalFault::File,
+        b"stmjournal 1 0412\n",
+    ),
+    // An append that stops.
+    (
+        b"",
+        Append::StopsAfter(22),
+        0x412,
+        JournalFault::File,
+        b"stmjournal 2 0412\nopen",
+    ),
+];
+
+/// Why a segment doesn't begin over a Rig that acts so, which takes appends again then; none where
+/// it begins, or none can.
+fn unbegun(
+    journal: &mut Journal,
+    rig: &mut MemoryRig,
+    append: Append,
+    id: u16,
+) -> Option<JournalFault> {
+    if journal.depth() >= 65535 || journal.is_unfinished() {
+        return None;
+    }
+    match append {
+        Append::Takes => {}
+        Append::Fails => rig.fail_append(1),
+        Append::StopsAfter(steps) => rig.stop_after(steps),
+    }
+    let fault = journal.begin(rig, id).err();
+    rig.stop_after(u64::MAX);
+    fault
+}
+
+/// Whether a Rig's journal names the device 0x412, and has no segment.
+fn has_no_segment(alloc: Global, rig: &mut MemoryRig) -> bool {
+    match Journal::load(alloc, rig) {
+        Ok(journal) => {
+            journal.id() == Some(0x412) && journal.depth() == 0 && journal.last_intent().is_none()
+        }
+        Err(_) => false,
+    }
+}
+
+/// Whether a segment doesn't begin as a row says.
+fn is_unbegun(journal: &mut Journal, rig: &mut MemoryRig, row: &Unbegun) -> bool {
+    unbegun(journal, rig, row.1, row.2) == Some(row.3) && holds(rig, row.4)
+}
+
+/// Whether a segment doesn't begin in the journal of a row, and there is none then.
+fn is_refused(alloc: Global, row: &Unbegun) -> Result<bool, Fail> {
+    let (mut journal, mut rig) = opened(alloc, row.0)?;
+    Ok(is_unbegun(&mut journal, &mut rig, row) && has_no_segment(alloc, &mut rig))
+}
+
+/// The first row of `UNBEGUN` that is something else.
+fn first_begun(alloc: Global) -> Result<Option<usize>, Fail> {
+    for (place, row) in UNBEGUN.iter().enumerate() {
+        if !is_refused(alloc, row)? {
+            return Ok(Some(place));
+        }
+    }
+    Ok(None)
+}
+
+#[test]
+fn another_device_or_a_failed_append_begins_no_segment(rt: HostRuntime) -> Result<(), Fail> {
+    assert_eq!(rt; first_begun(rt.alloc())?, None);
+    Ok(())
+}
