@@ -1,6 +1,7 @@
 // Journals written and loaded, over a Rig in memory.
 mod call_order;
 mod calls;
+mod kept;
 mod large;
 mod places;
 
