@@ -67,27 +67,18 @@ impl Answer {
         match self {
             Answer::Told(info) => print_info(info, out),
             Answer::Identified(told) => print_told(told, out),
-            Answer::IdentifiedBeside { told, table } => {
-                print_told(told, out)?;
-                writeln!(out, "table {table}")
-            }
+            Answer::IdentifiedBeside { told, table } => print_beside(told, table.as_str(), out),
             Answer::Written { segment, pages } => print_written(*segment, *pages, out),
             Answer::WrittenAndVerified {
                 segment,
                 pages,
                 bytes,
-            } => {
-                print_written(*segment, *pages, out)?;
-                print_verified(*bytes, out)
-            }
+            } => print_written_and_verified(*segment, *pages, *bytes, out),
             Answer::Verified(bytes) => print_verified(*bytes, out),
-            Answer::Erased { segment, pages } => {
-                writeln!(out, "segment {segment}: {pages} pages erased")
-            }
-            Answer::Undone(count) => writeln!(out, "undone {count}"),
-            Answer::Logged(text) => out.write_all(text.as_slice()),
-            Answer::Kept(count) => writeln!(out, "kept {count}"),
-            Answer::Bytes(bytes) => out.write_all(bytes.as_slice()),
+            Answer::Erased { segment, pages } => print_erased(*segment, *pages, out),
+            Answer::Undone(count) => print_undone(*count, out),
+            Answer::Kept(count) => print_kept(*count, out),
+            Answer::Logged(bytes) | Answer::Bytes(bytes) => out.write_all(bytes.as_slice()),
             Answer::Nothing => Ok(()),
         }
     }
@@ -103,25 +94,67 @@ fn print_verified<O: Write>(bytes: usize, out: &mut O) -> io::Result<()> {
     writeln!(out, "verified {bytes} bytes")
 }
 
+/// Prints the lines of a write and of a verify.
+fn print_written_and_verified<O: Write>(
+    segment: u32,
+    pages: u32,
+    bytes: usize,
+    out: &mut O,
+) -> io::Result<()> {
+    print_written(segment, pages, out)?;
+    print_verified(bytes, out)
+}
+
+/// Prints the line of an erase.
+fn print_erased<O: Write>(segment: u32, pages: u32, out: &mut O) -> io::Result<()> {
+    writeln!(out, "segment {segment}: {pages} pages erased")
+}
+
+/// Prints the line of an undo.
+fn print_undone<O: Write>(count: u32, out: &mut O) -> io::Result<()> {
+    writeln!(out, "undone {count}")
+}
+
+/// Prints the line of what stays.
+fn print_kept<O: Write>(count: u32, out: &mut O) -> io::Result<()> {
+    writeln!(out, "kept {count}")
+}
+
 /// Prints what the device is, a line each.
 fn print_info<O: Write>(info: &Info, out: &mut O) -> io::Result<()> {
+    print_flash(info, out)?;
+    print_erase(info, out)?;
+    print_commands(&info.commands, out)
+}
+
+/// Prints the product id, and where the flash lies.
+fn print_flash<O: Write>(info: &Info, out: &mut O) -> io::Result<()> {
     writeln!(out, "id {:04X}", info.id)?;
     writeln!(out, "base {:08X}", info.base)?;
     writeln!(out, "pages {}", info.pages)?;
-    writeln!(out, "size {}", info.size)?;
+    writeln!(out, "size {}", info.size)
+}
+
+/// Prints the code of the command that erases, and what it leaves.
+fn print_erase<O: Write>(info: &Info, out: &mut O) -> io::Result<()> {
     let erase = match info.kind {
         EraseKind::Page => 0x43,
         EraseKind::Extended => 0x44,
     };
     writeln!(out, "erase {erase:02X}")?;
-    writeln!(out, "erased {:02X}", info.erased)?;
-    print_commands(&info.commands, out)
+    writeln!(out, "erased {:02X}", info.erased)
 }
 
 /// Prints what the device says itself, a line each.
 fn print_told<O: Write>(told: &Told, out: &mut O) -> io::Result<()> {
     writeln!(out, "id {:04X}", told.id)?;
     print_commands(&told.commands, out)
+}
+
+/// Prints the same, and the chip table's name.
+fn print_beside<O: Write>(told: &Told, table: &str, out: &mut O) -> io::Result<()> {
+    print_told(told, out)?;
+    writeln!(out, "table {table}")
 }
 
 /// Prints the bootloader's version and the codes of its commands.
