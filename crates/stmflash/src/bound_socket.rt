@@ -21,15 +21,8 @@ impl<'a> BoundSocket<'a> {
     /// Makes a socket at this path, with this mode: who may connect. One that is there and on which
     /// nobody listens is removed first.
     pub fn bind<R: Files + Net>(rt: &R, path: &'a str, mode: u32) -> io::Result<BoundSocket<'a>> {
-        let listener = match UnixListener::bind(rt, path) {
-            Err(e) if e.kind() == ErrorKind::AddrInUse && is_dead(rt, path) => {
-                fs::remove_file(rt, path)?;
-                UnixListener::bind(rt, path)?
-            }
-            bound => bound?,
-        };
-        fs::set_permissions(rt, path, Permissions::from_mode(mode))?;
-        let made = fs::symlink_metadata(rt, path)?;
+        let listener = listen(rt, path)?;
+        let made = restrict(rt, path, mode)?;
         Ok(BoundSocket {
             path,
             listener,
@@ -49,6 +42,23 @@ impl<'a> BoundSocket<'a> {
             }
         }
     }
+}
+
+/// Listens at this path, in the place of a socket on which nobody does.
+fn listen<R: Files + Net>(rt: &R, path: &str) -> io::Result<UnixListener> {
+    match UnixListener::bind(rt, path) {
+        Err(e) if e.kind() == ErrorKind::AddrInUse && is_dead(rt, path) => {
+            fs::remove_file(rt, path)?;
+            UnixListener::bind(rt, path)
+        }
+        bound => bound,
+    }
+}
+
+/// Gives a socket its mode, and tells what was made.
+fn restrict<R: Files>(rt: &R, path: &str, mode: u32) -> io::Result<Metadata> {
+    fs::set_permissions(rt, path, Permissions::from_mode(mode))?;
+    fs::symlink_metadata(rt, path)
 }
 
 /// Whether a path is that of a socket on which nobody listens.
