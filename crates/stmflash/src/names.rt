@@ -23,14 +23,20 @@ pub fn resolve<R: Files + AllocGlobal>(rt: &R, name: &str) -> io::Result<PathBuf
 fn follow<R: Files + AllocGlobal>(rt: &R, name: &str) -> io::Result<PathBuf> {
     let mut path = PathBuf::from_str(rt.alloc(), name)?;
     for _ in 0..LINKS {
-        match fs::read_link(rt, path.as_path()) {
-            Ok(target) => {
-                path = folder_of(path.as_path().as_str()).join(rt.alloc(), target.as_path())?;
-            }
-            Err(_) => return Ok(path),
+        match follow_one(rt, path.as_path())? {
+            Some(further) => path = further,
+            None => return Ok(path),
         }
     }
     Err(io::Error::from(ErrorKind::InvalidInput))
+}
+
+/// The path that the symbolic link of this one leads to; none where it is no link.
+fn follow_one<R: Files + AllocGlobal>(rt: &R, path: Path<'_>) -> io::Result<Option<PathBuf>> {
+    match fs::read_link(rt, path) {
+        Ok(target) => Ok(Some(folder_of(path.as_str()).join(rt.alloc(), target.as_path())?)),
+        Err(_) => Ok(None),
+    }
 }
 
 /// The folder that a file of this name is in.
@@ -71,7 +77,11 @@ pub fn is_same_file<R: Files + AllocGlobal>(rt: &R, one: &str, other: &str) -> b
 /// Whether two names are one: of files that are not there, whether they would be made as one.
 pub fn is_same_place<R: Files + AllocGlobal>(rt: &R, one: &str, other: &str) -> io::Result<bool> {
     let (first, second) = (follow(rt, one)?, follow(rt, other)?);
-    let (first, second) = (first.as_path(), second.as_path());
+    is_same_path(rt, first.as_path(), second.as_path())
+}
+
+/// Whether two paths of files that are not there are one: the folders are, and the names in them.
+fn is_same_path<R: Files>(rt: &R, first: Path<'_>, second: Path<'_>) -> io::Result<bool> {
     if first.file_name() != second.file_name() {
         return Ok(false);
     }
