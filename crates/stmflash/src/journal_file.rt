@@ -105,28 +105,51 @@ impl<'a, R: Locks + AllocGlobal> JournalFile<'a, R> {
         ensures failed { self.new.has_failed ≡ self.old.has_failed }
     {
         let target = resolve(self.rt, self.name)?;
-        let path = target.as_path().as_str();
-        let mut options = OpenOptions::new();
-        options.append(true);
-        if self.reading.is_none() {
-            options.create_new(true);
-        }
-        let file = match options.open(self.rt, path) {
-            Ok(file) => file,
+        self.begin_at(target.as_path().as_str())
+    }
+
+    /// The same, at the path behind the name's symbolic links.
+    fn begin_at(&mut self, path: &str) -> io::Result<R::File>
+        ensures known { self.new.known ≡ self.old.known }
+        ensures failed { self.new.has_failed ≡ self.old.has_failed }
+    {
+        let file = self.open_to_add(path)?;
+        self.settle(path, &file)?;
+        Ok(file)
+    }
+
+    /// Opens the file to add at its end, and makes it where it is not there.
+    fn open_to_add(&mut self, path: &str) -> io::Result<R::File>
+        ensures { self.new ≡ self.old }
+    {
+        match open_end(self.rt, path, self.reading.is_none()) {
+            Ok(file) => Ok(file),
             Err(e) => {
                 self.is_in_use = e.kind() == ErrorKind::AlreadyExists;
-                return Err(e);
+                Err(e)
             }
-        };
+        }
+    }
+
+    /// Sees that the file that is open to add to it is the one that is read, which is opened where
+    /// it was just made. Its name is on the disk then.
+    fn settle(&mut self, path: &str, file: &R::File) -> io::Result<()>
+        ensures known { self.new.known ≡ self.old.known }
+        ensures failed { self.new.has_failed ≡ self.old.has_failed }
+    {
         if self.reading.is_none() {
             self.reading = Some(self.lock_new(path)?);
         }
+        self.check_read(file)?;
+        sync_folder(self.rt, path)
+    }
+
+    /// Refuses a file that isn't the one that is read.
+    fn check_read(&self, file: &R::File) -> io::Result<()> {
         match &self.reading {
-            Some(read) if is_one(&read.metadata()?, &file.metadata()?) => {}
-            _ => return Err(io::Error::from(ErrorKind::Other)),
+            Some(read) if is_one(&read.metadata()?, &file.metadata()?) => Ok(()),
+            _ => Err(io::Error::from(ErrorKind::Other)),
         }
-        sync_folder(self.rt, path)?;
-        Ok(file)
     }
 
     /// Opens a file that was just made, to read it, and locks it.
@@ -219,6 +242,16 @@ impl<'a, R: Files> JournalFile<'a, R> {
     {
         matches!(self.writing, Writing::Failed)
     }
+}
+
+/// Opens a file to add at its end. Where it is to be new, it is made, and no other file opened.
+fn open_end<R: Files>(rt: &R, path: &str, is_new: bool) -> io::Result<R::File> {
+    let mut options = OpenOptions::new();
+    options.append(true);
+    if is_new {
+        options.create_new(true);
+    }
+    options.open(rt, path)
 }
 
 /// Reads from a place on. A signal that comes while it is read is no end of it.
