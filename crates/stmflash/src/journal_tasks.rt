@@ -9,6 +9,7 @@ use crate::keeping::count_kept;
 use crate::locks::Locks;
 use crate::logging::log_lines;
 use crate::names::{is_one, is_same_place};
+use std::alloc::Global;
 use std::fs::{Files, Metadata};
 use std::io::ErrorKind;
 use std::os::unix::fs::MetadataExt;
@@ -37,14 +38,28 @@ fn load<'a, 'b, R: Locks + AllocGlobal>(
 /// Tells what the journal in a file says.
 pub fn log<'a, R: Locks + AllocGlobal>(rt: &R, name: &'a str) -> Result<Answer, Failure<'a>> {
     let (journal, _locked) = load(rt, name, JournalFile::open_shared(rt, name))?;
-    Ok(Answer::Logged(log_lines(rt.alloc(), &journal)?))
+    tell(rt.alloc(), &journal)
+}
+
+/// What a journal says.
+fn tell<'a>(alloc: Global, journal: &Journal) -> Result<Answer, Failure<'a>> {
+    Ok(Answer::Logged(log_lines(alloc, journal)?))
 }
 
 /// Lets the writes and erases of a journal stay: the journal is removed, or renamed to a name that
 /// isn't there. It is locked until then.
 pub fn keep<'a, R: Locks + AllocGlobal>(rt: &R, kept: &Kept<'a>) -> Result<Answer, Failure<'a>> {
     let (journal, _locked) = load(rt, kept.journal, JournalFile::open(rt, kept.journal))?;
-    let count = count_kept(&journal)?;
+    keep_loaded(rt, &journal, kept)
+}
+
+/// The same, of a journal that was read.
+fn keep_loaded<'a, R: Files + AllocGlobal>(
+    rt: &R,
+    journal: &Journal,
+    kept: &Kept<'a>,
+) -> Result<Answer, Failure<'a>> {
+    let count = count_kept(journal)?;
     match kept.to {
         Some(to) => rename(rt, kept.journal, to)?,
         None => remove(rt, kept.journal)?,
@@ -86,23 +101,31 @@ fn rename<'a, R: Files + AllocGlobal>(
 /// The same, with the system's fault.
 fn rename_unless_there<R: Files + AllocGlobal>(rt: &R, name: &str, to: &str) -> io::Result<()> {
     match fs::symlink_metadata(rt, to) {
-        Ok(told) => return end_renaming(rt, name, to, &told),
-        Err(e) if e.kind() == ErrorKind::NotFound => {}
-        Err(e) => return Err(e),
+        Ok(told) => end_renaming(rt, name, to, &told),
+        Err(e) if e.kind() == ErrorKind::NotFound => begin_renaming(rt, name, to),
+        Err(e) => Err(e),
     }
-    let path = match fs::canonicalize(rt, name) {
-        Ok(path) => path,
-        Err(e) if e.kind() == ErrorKind::NotFound => return Ok(()),
-        Err(e) => return Err(e),
-    };
-    match fs::hard_link(rt, path.as_str(), to) {
-        Ok(()) => take_name(rt, path.as_str(), to),
+}
+
+/// Renames a file, where it is there, to a name that wasn't.
+fn begin_renaming<R: Files + AllocGlobal>(rt: &R, name: &str, to: &str) -> io::Result<()> {
+    match fs::canonicalize(rt, name) {
+        Ok(path) => give_name(rt, path.as_str(), to),
+        Err(e) if e.kind() == ErrorKind::NotFound => Ok(()),
+        Err(e) => Err(e),
+    }
+}
+
+/// Gives a file a new name, and takes the old one from it.
+fn give_name<R: Files>(rt: &R, path: &str, to: &str) -> io::Result<()> {
+    match fs::hard_link(rt, path, to) {
+        Ok(()) => take_name(rt, path, to),
         Err(e) if e.kind() == ErrorKind::AlreadyExists => Err(e),
         // a file system without hard links
         Err(_) => {
-            fs::rename(rt, path.as_str(), to)?;
+            fs::rename(rt, path, to)?;
             sync_folder(rt, to)?;
-            sync_folder(rt, path.as_str())
+            sync_folder(rt, path)
         }
     }
 }
@@ -127,10 +150,20 @@ fn end_renaming<R: Files + AllocGlobal>(
     told: &Metadata,
 ) -> io::Result<()> {
     let path = fs::canonicalize(rt, name)?;
-    let named = fs::symlink_metadata(rt, path.as_str())?;
+    end_renaming_at(rt, path.as_str(), to, told)
+}
+
+/// The same, at the path behind the name's symbolic links.
+fn end_renaming_at<R: Files + AllocGlobal>(
+    rt: &R,
+    path: &str,
+    to: &str,
+    told: &Metadata,
+) -> io::Result<()> {
+    let named = fs::symlink_metadata(rt, path)?;
     let has_both = is_one(&named, told) && told.nlink() > 1;
-    if !has_both || is_same_place(rt, path.as_str(), to)? {
+    if !has_both || is_same_place(rt, path, to)? {
         return Err(io::Error::from(ErrorKind::AlreadyExists));
     }
-    take_name(rt, path.as_str(), to)
+    take_name(rt, path, to)
 }
