@@ -63,38 +63,40 @@ impl<R: Files + AllocGlobal> Replacement<R> {
 
     /// Takes the place, also on the disk, and answers the file, open.
     pub fn place(self, rt: &R) -> io::Result<R::File> {
-        let Replacement {
-            target,
-            beside,
-            file,
-        } = self;
-        if let Err(e) = fs::rename(rt, beside.as_str(), target.as_path()) {
-            let _ = fs::remove_file(rt, beside.as_str());
+        self.take_place(rt)?;
+        Ok(self.file)
+    }
+
+    fn take_place(&self, rt: &R) -> io::Result<()> {
+        if let Err(e) = fs::rename(rt, self.beside.as_str(), self.target.as_path()) {
+            let _ = fs::remove_file(rt, self.beside.as_str());
             return Err(e);
         }
-        sync_folder(rt, target.as_path().as_str())?;
-        Ok(file)
+        sync_folder(rt, self.target())
     }
 
     /// Takes the place where no file is, and answers the file, open; none where one was
     /// made there in the meantime.
     pub fn place_new(self, rt: &R) -> io::Result<Option<R::File>> {
-        let Replacement {
-            target,
-            beside,
-            file,
-        } = self;
-        let made = fs::hard_link(rt, beside.as_str(), target.as_path().as_str());
-        let done = match made {
-            Ok(()) => Ok(Some(file)),
-            Err(e) if e.kind() == ErrorKind::AlreadyExists => Ok(None),
+        Ok(if self.take_new_place(rt)? {
+            Some(self.file)
+        } else {
+            None
+        })
+    }
+
+    /// Whether it took the place; false where a file was made there in the meantime.
+    fn take_new_place(&self, rt: &R) -> io::Result<bool> {
+        let done = match fs::hard_link(rt, self.beside.as_str(), self.target()) {
+            Ok(()) => Ok(true),
+            Err(e) if e.kind() == ErrorKind::AlreadyExists => Ok(false),
             // a file system without hard links
-            Err(_) => match fs::rename(rt, beside.as_str(), target.as_path().as_str()) {
-                Ok(()) => return Ok(Some(file)),
+            Err(_) => match fs::rename(rt, self.beside.as_str(), self.target()) {
+                Ok(()) => return Ok(true),
                 Err(e) => Err(e),
             },
         };
-        let _ = fs::remove_file(rt, beside.as_str());
+        let _ = fs::remove_file(rt, self.beside.as_str());
         done
     }
 
