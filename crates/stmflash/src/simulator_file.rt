@@ -12,14 +12,10 @@ use crate::locks::Locks;
 use crate::names::{is_named, is_same_file};
 use crate::replacement::Replacement;
 use crate::restoring::stand;
-use crate::standing::{Standing, line_of};
+use crate::standing::{Standing, line_of, read_standing};
 use std::alloc::{AllocError, Global};
 use std::fs::Files;
 use stm_wire::{Chip, MemoryRig};
-
-/// How many bytes the file that tells where a simulator stands is read to: more than any line has,
-/// whose longest has two digits for each byte of a list of 65,520 pages.
-const LINE: u64 = 524_288;
 
 /// The name of the file that tells where a simulator stands.
 pub fn line_name(alloc: Global, file: &str) -> Result<String, AllocError> {
@@ -139,20 +135,9 @@ impl<'r, 'a, R: Locks + AllocGlobal> SimulatorFiles<'r, 'a, R> {
     /// The simulator that the two files hold. A flash that isn't there is erased, and without the
     /// other file the device is fresh.
     pub fn load(&mut self, chip: Chip) -> Result<StoredSimulator, Failure<'a>> {
-        let alloc = self.rt.alloc();
-        let size = chip.flash_size() as usize;
-        // one more than it is to have
-        let room = u64::from(chip.flash_size()) + 1;
-        let flash = match &mut self.flash {
-            Some(file) => match read_up_to(alloc, file, room) {
-                Ok(flash) => flash,
-                Err(e) => return Err(Failure::of_file(&e, Failure::CannotRead(self.file))),
-            },
-            None => vec![in alloc; chip.erased(); size]?,
-        };
-        let standing = self.load_standing()?;
-        match standing {
-            Some(standing) if flash.len() == size => Ok(StoredSimulator {
+        let flash = self.load_flash(&chip)?;
+        match self.load_standing()? {
+            Some(standing) if flash.len() == chip.flash_size() as usize => Ok(StoredSimulator {
                 chip,
                 flash,
                 standing,
@@ -161,15 +146,23 @@ impl<'r, 'a, R: Locks + AllocGlobal> SimulatorFiles<'r, 'a, R> {
         }
     }
 
+    /// The flash's bytes, up to one more than the chip has.
+    fn load_flash(&mut self, chip: &Chip) -> Result<Vec<u8>, Failure<'a>> {
+        let alloc = self.rt.alloc();
+        let size = chip.flash_size();
+        match &mut self.flash {
+            Some(file) => match read_up_to(alloc, file, u64::from(size) + 1) {
+                Ok(flash) => Ok(flash),
+                Err(e) => Err(Failure::of_file(&e, Failure::CannotRead(self.file))),
+            },
+            None => Ok(vec![in alloc; chip.erased(); size as usize]?),
+        }
+    }
+
     /// Where the simulator stands; none where the line's file has another form.
-    fn load_standing(&mut self) -> Result<Option<Standing>, Failure<'a>> {
-        let line = match open_if_there(self.rt, self.line.as_str()) {
-            Ok(Some(line)) => line,
-            Ok(None) => return Ok(Some(Standing::Fresh)),
-            Err(e) => return Err(Failure::of_file(&e, Failure::CannotReadLine(self.file))),
-        };
-        match read_up_to(self.rt.alloc(), line, LINE) {
-            Ok(line) => Ok(Standing::parse(self.rt.alloc(), line.as_slice())?),
+    fn load_standing(&self) -> Result<Option<Standing>, Failure<'a>> {
+        match read_standing(self.rt, self.line.as_str()) {
+            Ok(standing) => Ok(standing),
             Err(e) => Err(Failure::of_file(&e, Failure::CannotReadLine(self.file))),
         }
     }
@@ -202,17 +195,24 @@ impl<'r, 'a, R: Locks + AllocGlobal> SimulatorFiles<'r, 'a, R> {
         if self.flash.is_some() {
             return Ok(());
         }
-        let beside = match Replacement::prepare(self.rt, self.file, flash) {
-            Ok(beside) => beside,
-            Err(e) => return Err(Failure::of_file(&e, Failure::CannotWrite(self.file))),
-        };
-        let _ = self.rt.lock(beside.file());
+        let beside = self.prepare(flash)?;
         match beside.place_new(self.rt) {
             Ok(Some(file)) => {
                 self.flash = Some(file);
                 Ok(())
             }
             Ok(None) => Err(Failure::SimulatorInUse),
+            Err(e) => Err(Failure::of_file(&e, Failure::CannotWrite(self.file))),
+        }
+    }
+
+    /// The flash, beside its file, so that no other program has it once it takes the place.
+    fn prepare(&self, flash: &[u8]) -> Result<Replacement<R>, Failure<'a>> {
+        match Replacement::prepare(self.rt, self.file, flash) {
+            Ok(beside) => {
+                let _ = self.rt.lock(beside.file());
+                Ok(beside)
+            }
             Err(e) => Err(Failure::of_file(&e, Failure::CannotWrite(self.file))),
         }
     }
@@ -228,28 +228,39 @@ impl<'r, 'a, R: Locks + AllocGlobal> SimulatorFiles<'r, 'a, R> {
     /// program that was killed in between, no line stands beside a flash that it isn't of, and a
     /// device without a line is fresh.
     pub fn store(&mut self, flash: &[u8], line: &[u8]) -> Result<(), Failure<'a>> {
-        let flash = match Replacement::prepare(self.rt, self.file, flash) {
-            Ok(beside) => beside,
-            Err(e) => return Err(Failure::of_file(&e, Failure::CannotWrite(self.file))),
-        };
-        let _ = self.rt.lock(flash.file());
-        let line = match Replacement::prepare(self.rt, self.line.as_str(), line) {
-            Ok(beside) => beside,
+        let flash = self.prepare(flash)?;
+        match Replacement::prepare(self.rt, self.line.as_str(), line) {
+            Ok(line) => self.replace(flash, line),
             Err(e) => {
                 flash.discard(self.rt);
-                return Err(Failure::of_file(&e, Failure::CannotWriteLine(self.file)));
+                Err(Failure::of_file(&e, Failure::CannotWriteLine(self.file)))
             }
-        };
-        if let Err(failure) = self.check(flash.target(), line.target()) {
-            flash.discard(self.rt);
-            line.discard(self.rt);
-            return Err(failure);
         }
-        if let Err(e) = remove_if_there(self.rt, line.target()) {
-            flash.discard(self.rt);
-            line.discard(self.rt);
-            return Err(Failure::of_file(&e, Failure::CannotWriteLine(self.file)));
+    }
+
+    /// Puts in their places what stands beside both files.
+    fn replace(&mut self, flash: Replacement<R>, line: Replacement<R>) -> Result<(), Failure<'a>> {
+        match self.remove_line(flash.target(), line.target()) {
+            Ok(()) => self.place(flash, line),
+            Err(failure) => {
+                flash.discard(self.rt);
+                line.discard(self.rt);
+                Err(failure)
+            }
         }
+    }
+
+    /// Removes the line's file, unless a place is the journal's.
+    fn remove_line(&self, flash: &str, line: &str) -> Result<(), Failure<'a>> {
+        self.check(flash, line)?;
+        match remove_if_there(self.rt, line) {
+            Ok(()) => Ok(()),
+            Err(e) => Err(Failure::of_file(&e, Failure::CannotWriteLine(self.file))),
+        }
+    }
+
+    /// Puts the flash in its place, and then the line.
+    fn place(&mut self, flash: Replacement<R>, line: Replacement<R>) -> Result<(), Failure<'a>> {
         match flash.place(self.rt) {
             Ok(file) => self.flash = Some(file),
             Err(e) => {

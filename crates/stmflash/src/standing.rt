@@ -7,8 +7,11 @@ ghost use Rattle.hex.specs.Hex.{decode_of, encode_upper};
 ghost use Rattle.stmflash.specs.Standing.{are_upper_digits, is_upper_digit, line_of, phase_from};
 ghost use Rattle.stmflash.specs.Standing.{phase_of, rest_of_digits, standing_of};
 
+use crate::files::{open_if_there, read_up_to};
 use hex::FromHexError;
 use std::alloc::{AllocError, Global};
+use std::fs::Files;
+use std::io;
 
 /// The line of a device that waits for 7F.
 const FRESH: &[u8] = b"fresh\n";
@@ -18,6 +21,10 @@ const IDLE: &[u8] = b"idle\n";
 
 /// The line of one that left the bootloader.
 const GONE: &[u8] = b"gone\n";
+
+/// How many bytes the file that tells where a simulator stands is read to: more than any line has,
+/// whose longest has two digits for each byte of a list of 65,520 pages.
+const LINE: u64 = 524_288;
 
 /// Where a simulator stands between two runs. Bytes that it owes are lost.
 #[derive(Drop)]
@@ -85,6 +92,16 @@ impl Standing {
             None => Ok(None),
         }
     }
+}
+
+/// Where a simulator stands by the file of its line; none where that has another form. Without the
+/// file the device is fresh.
+pub fn read_standing<R: Files + AllocGlobal>(rt: &R, name: &str) -> io::Result<Option<Standing>> {
+    let Some(file) = open_if_there(rt, name)? else {
+        return Ok(Some(Standing::Fresh));
+    };
+    let line = read_up_to(rt.alloc(), file, LINE)?;
+    Ok(Standing::parse(rt.alloc(), line.as_slice())?)
 }
 
 /// The line of a device that is gone, or else connected with this rest, or else fresh.
