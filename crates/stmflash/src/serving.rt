@@ -14,10 +14,10 @@ use crate::standing::line_of;
 use std::fs::Files;
 use std::io::{ErrorKind, Read, Write};
 use std::net::Net;
-use std::os::unix::net::UnixListener;
+use std::os::unix::net::{UnixListener, UnixStream};
 use std::time::Duration;
 use stm_session::Fault;
-use stm_wire::Simulator;
+use stm_wire::{Chip, Simulator};
 use stm_words::Served;
 
 /// How long a client may take no reply, in seconds.
@@ -107,27 +107,53 @@ pub fn serve<'a, R: Locks + Net + AllocGlobal>(
     served: &Served<'a>,
 ) -> Result<Answer, Failure<'a>> {
     let table = read_chips(rt, served.table)?;
-    let Some(chip) = table.find(served.id) else {
-        return Err(Failure::Session(Fault::UnknownChip(served.id)));
-    };
+    match table.find(served.id) {
+        Some(chip) => serve_chip(rt, chip, served),
+        None => Err(Failure::Session(Fault::UnknownChip(served.id))),
+    }
+}
+
+/// The same, of a simulator of this chip.
+fn serve_chip<'a, R: Locks + Net + AllocGlobal>(
+    rt: &R,
+    chip: &Chip,
+    served: &Served<'a>,
+) -> Result<Answer, Failure<'a>> {
     check(rt, served)?;
     let mut files = SimulatorFiles::open(rt, served.flash)?;
+    let mut sim = load(rt, chip, &mut files)?;
+    serve_socket(rt, &mut sim, &mut files, served)?;
+    Ok(Answer::Nothing)
+}
+
+/// The simulator that the files hold.
+fn load<'a, R: Locks + AllocGlobal>(
+    rt: &R,
+    chip: &Chip,
+    files: &mut SimulatorFiles<'_, 'a, R>,
+) -> Result<Simulator, Failure<'a>> {
     let loaded = files.load(chip.clone()?)?;
     let memory = files.start(loaded, Vec::new(rt.alloc()))?;
+    Ok(memory.into_simulator())
+}
+
+/// Makes the socket, serves the clients, and removes the socket, whatever came of it.
+fn serve_socket<'a, R: Locks + Net + AllocGlobal>(
+    rt: &R,
+    sim: &mut Simulator,
+    files: &mut SimulatorFiles<'_, 'a, R>,
+    served: &Served<'a>,
+) -> Result<(), Failure<'a>> {
     let socket = match BoundSocket::bind(rt, served.socket, served.mode) {
         Ok(socket) => socket,
-        Err(e) => {
-            return Err(Failure::of_file(&e, Failure::CannotConnect(served.socket)));
-        }
+        Err(e) => return Err(Failure::of_file(&e, Failure::CannotConnect(served.socket))),
     };
-    let mut sim = memory.into_simulator();
     let done = match files.make(sim.flash()) {
-        Ok(()) => serve_clients(rt, &mut sim, socket.listener(), &mut files, served),
+        Ok(()) => serve_clients(rt, sim, socket.listener(), files, served),
         Err(failure) => Err(failure),
     };
     socket.remove(rt);
-    done?;
-    Ok(Answer::Nothing)
+    done
 }
 
 /// Refuses a socket that is one of the simulator's files, and files of which one
@@ -160,21 +186,32 @@ fn serve_clients<'a, R: Locks + AllocGlobal>(
     served: &Served<'a>,
 ) -> Result<(), Failure<'a>> {
     for _ in 0..served.clients {
-        // a signal that comes meanwhile is no end: `accept` goes on by itself
-        let stream = match listener.accept() {
-            Ok((stream, _)) => stream,
-            Err(e) => {
-                return Err(Failure::of_file(&e, Failure::CannotConnect(served.socket)));
-            }
-        };
+        let stream = accept(listener, served.socket)?;
         let _ = stream.set_write_timeout(Some(Duration::from_secs(SLOW)));
         for _ in 0..u64::MAX {
             if !serve_bytes(sim, &mut &stream, &mut &stream) {
                 break;
             }
         }
-        let line = line_of(rt.alloc(), sim.is_gone(), sim.rest())?;
-        files.store(sim.flash(), line.as_slice())?;
+        store(rt, sim, files)?;
     }
     Ok(())
+}
+
+/// The next client. A signal that comes meanwhile is no end: the system's call goes on by itself.
+fn accept<'a>(listener: &UnixListener, socket: &'a str) -> Result<UnixStream, Failure<'a>> {
+    match listener.accept() {
+        Ok((stream, _)) => Ok(stream),
+        Err(e) => Err(Failure::of_file(&e, Failure::CannotConnect(socket))),
+    }
+}
+
+/// Writes the simulator's files.
+fn store<'a, R: Locks + AllocGlobal>(
+    rt: &R,
+    sim: &Simulator,
+    files: &mut SimulatorFiles<'_, 'a, R>,
+) -> Result<(), Failure<'a>> {
+    let line = line_of(rt.alloc(), sim.is_gone(), sim.rest())?;
+    files.store(sim.flash(), line.as_slice())
 }
