@@ -48,17 +48,23 @@ impl<'a> NamedFiles<'a> {
             return Err(Failure::CannotWrite(self.journal));
         }
         if let Some(out) = self.out {
-            if is_same_file(rt, out, self.journal)
-                || self.is_read(rt, out)
-                || self.is_devices(rt, out)?
-            {
-                return Err(Failure::CannotWrite(out));
-            }
+            self.check_out(rt, out)?;
         }
         match self.device {
             Device::Simulator { file, .. } => self.check_simulator(rt, file),
             Device::Socket(_) => Ok(()),
         }
+    }
+
+    /// Refuses an OUT that is one of the others.
+    fn check_out<R: Files + AllocGlobal>(&self, rt: &R, out: &'a str) -> Result<(), Failure<'a>> {
+        if is_same_file(rt, out, self.journal)
+            || self.is_read(rt, out)
+            || self.is_devices(rt, out)?
+        {
+            return Err(Failure::CannotWrite(out));
+        }
+        Ok(())
     }
 
     /// Refuses a simulator's files of which one is a file that is read, or the other.

@@ -38,16 +38,8 @@ impl<'a, R: Files + AllocGlobal> Output<'a, R> {
     }
 
     fn try_open(rt: &R, name: &'a str, files: NamedFiles<'a>) -> io::Result<Output<'a, R>> {
-        let told = match fs::metadata(rt, name) {
-            Ok(told) => Some(told),
-            Err(e) if e.kind() == ErrorKind::NotFound => None,
-            Err(e) => return Err(e),
-        };
-        if let Some(told) = told {
-            let file = OpenOptions::new().write(true).open(rt, name)?;
-            if !told.is_file() {
-                return Ok(Output::Straight { name, file });
-            }
+        if let Some(file) = open_straight(rt, name)? {
+            return Ok(Output::Straight { name, file });
         }
         try_beside(rt, name)?;
         Ok(Output::Whole { name, files })
@@ -67,6 +59,17 @@ impl<'a, R: Files + AllocGlobal> Output<'a, R> {
             },
         }
     }
+}
+
+/// Opens what is there to write it, and answers a pipe or a device. A file stays as it is.
+fn open_straight<R: Files>(rt: &R, name: &str) -> io::Result<Option<R::File>> {
+    let told = match fs::metadata(rt, name) {
+        Ok(told) => told,
+        Err(e) if e.kind() == ErrorKind::NotFound => return Ok(None),
+        Err(e) => return Err(e),
+    };
+    let file = OpenOptions::new().write(true).open(rt, name)?;
+    Ok(if told.is_file() { None } else { Some(file) })
 }
 
 /// Puts bytes in a file, in place of what it held: all of them, or, where this fails or
