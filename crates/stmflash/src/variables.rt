@@ -27,12 +27,12 @@ impl Variables {
         let table = variable(rt, "STMFLASH_TABLE")?;
         let device = variable(rt, "STMFLASH_DEVICE")?;
         let journal = variable(rt, "STMFLASH_JOURNAL")?;
-        let fresh = variable(rt, "STMFLASH_FRESH")?;
+        let is_fresh = is_one(rt, "STMFLASH_FRESH")?;
         Ok(Variables {
             table,
             device,
             journal,
-            is_fresh: matches!(text_of(&fresh), Some("1")),
+            is_fresh,
         })
     }
 
@@ -71,6 +71,12 @@ fn variable<'a, R: Env + AllocGlobal>(
         Err(VarError::NotUnicode) => Err(Failure::Usage(UsageFault::NotText(name))),
         Err(VarError::OutOfMemory) => Err(Failure::Memory),
     }
+}
+
+/// Whether a variable is set to 1.
+fn is_one<'a, R: Env + AllocGlobal>(rt: &R, name: &'static str) -> Result<bool, Failure<'a>> {
+    let text = variable(rt, name)?;
+    Ok(matches!(text_of(&text), Some("1")))
 }
 
 /// The installed chip table.
