@@ -107,7 +107,13 @@ cmp "$room/flash" "$room/before" || fail "with standard output closed the flash 
 serve 2
 "$program" info --table "$top/chips.toml" --device "$room/board" --journal "$room/journal" --wait 3000 2> "$room/said" &
 asking=$!
-sleep 0.5
+# once it has its end of the line, which takes longer on a machine with other work
+tries=0
+until ls -l "/proc/$asking/fd" 2> /dev/null | grep -q socket: || [ "$tries" -ge 100 ]; do
+    sleep 0.1
+    tries=$((tries + 1))
+done
+sleep 0.2
 kill "$sim"
 wait "$sim" 2> /dev/null || true
 sim=
