@@ -35,12 +35,13 @@ fn table_of(rt: &HostRuntime, name: &str) -> io::Result<Option<Table>> {
     Ok(None)
 }
 
-// A copy of the table's chip with this number, or `None` once it is told that there is none.
-fn chip_of(rt: &HostRuntime, table: &Table, id: &str) -> io::Result<Option<Chip>> {
+// A copy of the chip with this number in the table of this file, or `None` once it is told that
+// there is none.
+fn chip_of(rt: &HostRuntime, name: &str, table: &Table, id: &str) -> io::Result<Option<Chip>> {
     if let Some(chip) = table.find(id.parse::<u16>().unwrap_or(0)) {
         return Ok(Some(chip.clone()?));
     }
-    println!(rt; "no chip {id}")?;
+    println!(rt; "{name}: no chip {id}")?;
     Ok(None)
 }
 
@@ -67,7 +68,7 @@ fn bench_of(rt: &HostRuntime, name: &str, id: &str, raw: &str) -> io::Result<Opt
     let Some(table) = table_of(rt, name)? else {
         return Ok(None);
     };
-    let Some(chip) = chip_of(rt, &table, id)? else {
+    let Some(chip) = chip_of(rt, name, &table, id)? else {
         return Ok(None);
     };
     let base = chip.base();
