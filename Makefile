@@ -36,6 +36,8 @@ JOBS ?= $(shell nproc)
 # number it reckons with far more, and lets the largest crates wait, on which the others wait
 CHECKS ?= $(shell awk -v most=$(JOBS) '/^MemAvailable/ { n = int($$2 / 5000000) } END { print n < 1 ? 1 : n < most ? n : most }' \
     /proc/meminfo)
+# what of Debian's packages the tests may do without, by name, as `make test WITHOUT="fish zsh"`: what else they leave out fails
+WITHOUT ?=
 SOAKED = $(if $(wildcard bin/stmflash),bin/stmflash,bin/stmflash-unproved)
 
 .PHONY: all demo tests test wrong-bodies soak install deb pictures bench beside clean
@@ -55,7 +57,7 @@ demo:
 
 tests:
 	@test -x bin/stmflash-unproved || sh tools/demo.sh
-	python3 tests/run bin/stmflash-unproved
+	python3 tests/run bin/stmflash-unproved --without $(WITHOUT)
 
 # `rt ci` leaves the program that it proved at crates/stmflash/out/, as each of two compilers built it: stmflash by LLVM,
 # stmflash.by-rattle by Rattle's own.
@@ -69,7 +71,8 @@ test:
 	python3 tools/take-back-stored
 	sh packaging/try-deb crates/stmflash/out/stmflash
 	sh tools/demo.sh
-	python3 tests/run crates/stmflash/out/stmflash --brief crates/stmflash/out/stmflash.by-rattle bin/stmflash-unproved
+	python3 tests/run crates/stmflash/out/stmflash --brief crates/stmflash/out/stmflash.by-rattle bin/stmflash-unproved \
+	    --without $(WITHOUT)
 	sh tools/socket.sh bin/stmflash-unproved
 	python3 tools/kills bin/stmflash-unproved 60
 	python3 tools/soak bin/stmflash-unproved --sessions 300 --jobs $(JOBS)

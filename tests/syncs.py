@@ -12,6 +12,7 @@ import select
 import socket
 import struct
 import subprocess
+import unittest
 
 from place import PATIENCE, Said, program
 
@@ -28,14 +29,22 @@ HELD, REPLY = struct.Struct("=QIIiIQQ40x"), struct.Struct("=QqiI")
 RECEIVE, SEND, GO_ON = 0xC0502100, 0xC0182101, 1
 
 
+class CannotHold(unittest.SkipTest):
+    """This system lets no call of a program be held: the test that wants it is left out."""
+
+
 def call(folder, words, fails=None, at=lambda number, process: None, held=FSYNC, error=errno.EIO):
     """Runs the program in a folder, with its sync of this number, counted from 0, failing. Answers what was said, and the names
     of what was synced: files of the folder, or `.` for itself. Before each, `at` is called with its number and the process.
-    Other calls can be held, and fail with another error. Raises `subprocess.SubprocessError` where no call can be held."""
+    Other calls can be held, and fail with another error. Raises `CannotHold` where no call can be held. A program that hangs is
+    no such case: it raises `subprocess.TimeoutExpired`, and the test fails."""
     ours, theirs = socket.socketpair()
     with ours, theirs:
-        started = subprocess.Popen(["stmflash", *words], executable=program(), cwd=folder, env={}, stdin=subprocess.DEVNULL,
-                                   stdout=subprocess.PIPE, stderr=subprocess.PIPE, preexec_fn=lambda: listen(theirs, held))
+        try:
+            started = subprocess.Popen(["stmflash", *words], executable=program(), cwd=folder, env={}, stdin=subprocess.DEVNULL,
+                                       stdout=subprocess.PIPE, stderr=subprocess.PIPE, preexec_fn=lambda: listen(theirs, held))
+        except subprocess.SubprocessError as e:
+            raise CannotHold("this system lets no call of a program be held") from e
         _, (listener,), _, _ = socket.recv_fds(ours, 1, 1)
     try:
         synced = reply_to_all(listener, folder, fails, at, error)

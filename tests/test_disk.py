@@ -3,7 +3,6 @@
 import os
 import resource
 import signal
-import subprocess
 
 import syncs
 from place import COUNTING, PATIENCE, ZEROS, Place, Said, with_page
@@ -181,10 +180,7 @@ class Disk(Place):
         """Uses the program with its sync of this number failing, and answers what was said and which files were synced."""
         name, *words = words
         files = ("--table", "table", "--device", "sim:0412:flash", "--journal", journal)
-        try:
-            return syncs.call(self.folder, (name, *files, *words), fails)
-        except subprocess.SubprocessError:
-            return self.skipTest("this system lets no call of a program be held")
+        return syncs.call(self.folder, (name, *files, *words), fails)
 
     def test_what_is_not_on_the_disk_is_not_answered(self):
         """Each sync of a write fails, one after the other. A line that was written, and of which it isn't known that it is on
@@ -363,10 +359,7 @@ class OverSocket(Served):
         files = ("--table", "table", "--device", "board", "--journal", "journal", "--wait", WAIT)
         for fails, added in enumerate((b"", OPENED, KEPT, ERASING, PROGRAMMING, ENDED, None)):
             with self.subTest(fails=fails):
-                try:
-                    said, synced = syncs.call(self.folder, ("write", *files, "image"), fails)
-                except subprocess.SubprocessError:
-                    self.skipTest("this system lets no call of a program be held")
+                said, synced = syncs.call(self.folder, ("write", *files, "image"), fails)
                 self.assertEqual(synced, journal[:fails + 1])
                 if added is None:
                     self.assertTold(said, "segment 1: 1 pages written\n")

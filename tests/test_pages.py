@@ -64,6 +64,10 @@ class Pages(Place):
             missing += [f"{name} {option}" for option in told if option not in page]
         self.assertEqual(missing, [])
 
+    def test_the_statement_is_what_the_headline_rests_on(self):
+        ran = subprocess.run([os.path.join(TOP, "tools", "statement"), "--check"], capture_output=True, text=True)
+        self.assertEqual((ran.returncode, ran.stderr), (0, ""))
+
     def test_the_walk_names_code_that_is_there(self):
         """Each file and each function that INSIDE names; a file without a folder is in that of the one before it."""
         code = subprocess.run(["grep", "-rhoE", r"\bfn \w+|\b[A-Z]\w+\b", "--include=*.rt", os.path.join(TOP, "crates")],
