@@ -64,6 +64,24 @@ class Pages(Place):
             missing += [f"{name} {option}" for option in told if option not in page]
         self.assertEqual(missing, [])
 
+    def test_the_map_names_each_file(self):
+        """Each file of code and definitions in the section of its crate; of tests, tools and the rest its name, or its folder's."""
+        page = held("docs", "MAP.md")
+        sections = page.split("\n## ")
+        missing = []
+        for path in subprocess.run(["git", "ls-files"], cwd=TOP, capture_output=True, text=True, check=True).stdout.splitlines():
+            top, name = path.split("/")[0], os.path.basename(path)
+            if top == "crates" and re.search("/(src|specs)/", path) and name not in ("lib.rt", "Lib.antt"):
+                own = "\n".join(it for it in sections if path.split("/")[1] in it.split("\n")[0])
+                names = [name.removesuffix(".antt")]
+            elif top in ("tests", "tools", "bench", "line", "packaging"):
+                own, names = page, [name, *[os.path.dirname(path) + "/"] * path.count("/", len(top) + 1)]
+            else:
+                continue
+            if not any(re.search(rf"(?<!\w){re.escape(it)}(?!\w)", own or page) for it in names):
+                missing.append(path)
+        self.assertEqual(missing, [])
+
     def test_the_statement_is_what_the_headline_rests_on(self):
         ran = subprocess.run([os.path.join(TOP, "tools", "statement"), "--check"], capture_output=True, text=True)
         self.assertEqual((ran.returncode, ran.stderr), (0, ""))
