@@ -29,6 +29,8 @@ fi
 rm -f "$program"
 cp "$made" "$program"
 chmod 755 "$program"
+mkdir -p "$top/bin/unproved"
+ln -sf ../stmflash-unproved "$top/bin/unproved/stmflash"
 cat "$top/chips.toml" >&3
 exec 3>&-
 wait
@@ -78,5 +80,5 @@ cmp flash.bin before.bin
 echo
 echo "The flash is what it was before, byte for byte, both times."
 echo
-echo "The program stays at bin/stmflash-unproved, for trying things out: it is built from the same code, and nothing"
+echo "The program stays in bin/unproved, for trying things out: it is built from the same code, and nothing"
 echo "about it was proved. \`make\` proves the code and builds bin/stmflash."
