@@ -35,12 +35,3 @@ def commands_of(turns):
 def place_of(command):
     """The address that a read or a write names."""
     return int.from_bytes(command.sent[1][:4], "big")
-
-
-def spaced(data):
-    return data.hex(" ").upper()
-
-
-def shortened(data, most):
-    """Some of the first bytes."""
-    return spaced(data[:most]) + (" .." if len(data) > most else "")
