@@ -16,9 +16,10 @@ use Rattle.stm_wire.specs.Harmless.{Harmless}
 use Rattle.stm_wire.specs.Intents.{settling_byte}
 use Rattle.stm_wire.specs.SentList.{IsSettlingRun}
 use Rattle.stm_wire.specs.Settling.{IsSettling, PutsPart, SettlesWithin, bytes_awaited, most_awaited}
+use Rattle.stm_wire.specs.SettlingCalls.{EndsUnder}
 use Rattle.stm_wire.specs.Rig.{RigState}
 use Rattle.stm_journal.specs.States.{intent_of}
-use Rattle.stm_session.specs.Fresh.{Connects, Settles, settling_limit, undo_way}
+use Rattle.stm_session.specs.Fresh.{Connects, EndsWell, byte_of, limit_of, settling_limit, settling_way, undo_way}
 use Rattle.stm_session.specs.StepLaws.{StepLaws}
 use Rattle.stm_session.specs.Undoable.{state_at}
 use Rattle.stm_session.specs.Undoes.{IsWithinLimit, byte_at_journal}
@@ -32,7 +33,17 @@ pub said_fresh : (f : Bool) (o : Option Intent) → (f && is_some o) ≡ true �
 said_fresh true o h = refl
 said_fresh false o h = absurd (false≢true h)
 
-pub plain_way : (f : Bool) (kind : EraseKind) (o : Option Intent) → (f && is_some o) ≡ false → Settles (settling_byte o) (settling_limit kind o) ≡ undo_way f kind o
+-- what is sent, and how it ends, is said of the way
+pub way_sends : (kind : EraseKind) (o : Option Intent) (a b : Option (List Call)) → GoesOn (SettlesWithin (settling_byte o) (settling_limit kind o)) a b
+    → GoesOn (SettlesWithin (byte_of (settling_way kind o)) (limit_of (settling_way kind o))) a b
+way_sends kind None a b p = p
+way_sends kind (Some i) a b p = p
+
+pub way_ends : (kind : EraseKind) (o : Option Intent) (a b : Option (List Call)) → GoesOn (EndsUnder o (settling_limit kind o)) a b → GoesOn (EndsWell (settling_way kind o)) a b
+way_ends kind None a b p = p
+way_ends kind (Some i) a b p = p
+
+pub plain_way : (f : Bool) (kind : EraseKind) (o : Option Intent) → (f && is_some o) ≡ false → settling_way kind o ≡ undo_way f kind o
 plain_way true kind None h = refl
 plain_way true kind (Some i) h = absurd (false≢true (sym h))
 plain_way false kind o h = refl
@@ -58,9 +69,9 @@ connect_run : (n : ℕ) → IsSettlingRun 0x7F 0 (take n (0x7F ∷ []))
 connect_run zero = (0, refl)
 connect_run (suc n) = (1, ap (λ (xs : List ℕ). 0x7F ∷ xs) (take-nil n))
 
-pub connect_settles : (a b : Option (List Call)) → GoesOn (PutsPart (0x7F ∷ []) 2) a b → GoesOn (SettlesWithin 0x7F 0) a b
+pub connect_settles : (a b : Option (List Call)) → GoesOn (PutsPart (0x7F ∷ []) 4099) a b → GoesOn (SettlesWithin 0x7F 0) a b
 connect_settles a b p =
-    GoesOn-weaker (PutsPart (0x7F ∷ []) 2) (SettlesWithin 0x7F 0) a b p
+    GoesOn-weaker (PutsPart (0x7F ∷ []) 4099) (SettlesWithin 0x7F 0) a b p
     (λ xs t. record { line = t.line; puts = subst (IsSettlingRun 0x7F 0) (sym t.puts.1) (connect_run t.puts.0); few = omega (arith, t.few) })
 
 -- the start of a settling

@@ -4,11 +4,10 @@ use Rattle.std.specs.Prelude.{◌≡◌, ℕ, Bool, true, false, List, [], ◌�
 use Rattle.stm_wire.specs.declared.chip.EraseKind.{EraseKind}
 use Rattle.stm_wire.specs.declared.chip.EraseKind.TheVariants.{Page, Extended}
 use Rattle.stm_wire.specs.declared.intent.Intent.{Intent}
-use Rattle.stm_wire.specs.Call.{Call, Put, Get}
+use Rattle.stm_wire.specs.Call.{Call}
 use Rattle.stm_wire.specs.Device.{Device, Fresh}
 use Rattle.stm_wire.specs.Intents.{settling_byte}
-use Rattle.stm_wire.specs.Reply.{ack}
-use Rattle.stm_wire.specs.SettlingCalls.{EndsSettled}
+use Rattle.stm_wire.specs.SettlingCalls.{EndsInBatches, EndsSettled, IsConnected}
 
 -- it waits for 7F and owes nothing
 pub record IsReset (d : Device) : Type 0 where
@@ -19,25 +18,30 @@ pub record IsReset (d : Device) : Type 0 where
 abbrev pub IsAsSaid : Bool → Device → Type 0
 IsAsSaid is_fresh d = IsTrue is_fresh → IsReset d
 
--- with this byte until it is refused, so often at most; or it is connected, with 7F once
+-- with this byte until it is refused, so often at most: 7F byte by byte and others in batches, or
+-- whatever the byte in batches; or it is connected, with 7F once
 pub data Way : Type 0 where
   Settles : ℕ → ℕ → Way
+  SettlesInBatches : ℕ → ℕ → Way
   Connects : Way
 
 -- the byte that is put
 abbrev pub byte_of : Way → ℕ
 byte_of (Settles byte limit) = byte
+byte_of (SettlesInBatches byte limit) = byte
 byte_of Connects = 0x7F
 
 -- and how often at most, before 7F connects a device that has refused none
 abbrev pub limit_of : Way → ℕ
 limit_of (Settles byte limit) = limit
+limit_of (SettlesInBatches byte limit) = limit
 limit_of Connects = 0
 
 -- how that ends where the device is settled
 abbrev pub EndsWell : Way → List Call → Type 0
 EndsWell (Settles byte limit) calls = EndsSettled byte limit calls
-EndsWell Connects calls = calls ≡ Put 0x7F ∷ Get (Some ack) ∷ []
+EndsWell (SettlesInBatches byte limit) calls = EndsInBatches byte limit calls
+EndsWell Connects calls = IsConnected calls
 
 -- How often an undo sends its settling byte at most, by the kind of the journal's chip and the
 -- journal's intent: more often than any such device awaits it. Two batches are enough where a list
@@ -47,9 +51,16 @@ settling_limit kind None = 131072
 settling_limit Page (Some intent) = 512
 settling_limit Extended (Some intent) = 131072
 
+-- with the byte of the journal's intent: under one it goes in batches, also where the byte is 7F,
+-- for an erase of page 127 may have begun a list of more than a hundred pages
+abbrev pub settling_way : EraseKind → Option Intent → Way
+settling_way kind None = Settles 0x7F (settling_limit kind None)
+settling_way kind (Some intent) =
+    SettlesInBatches (settling_byte (Some intent)) (settling_limit kind (Some intent))
+
 -- how an undo settles its device: one that is said to be fresh is connected,
 -- unless 7F is the byte anyway
 abbrev pub undo_way : Bool → EraseKind → Option Intent → Way
-undo_way false kind intent = Settles (settling_byte intent) (settling_limit kind intent)
-undo_way true kind None = Settles 0x7F (settling_limit kind None)
+undo_way false kind intent = settling_way kind intent
+undo_way true kind None = settling_way kind None
 undo_way true kind (Some intent) = Connects

@@ -16,7 +16,7 @@ ghost use Rattle.stm_session.specs.Undoes.{IsWithinLimit, byte_at_journal, riske
 use crate::Fault;
 use crate::laws_of_steps::step_laws;
 use stm_journal::Journal;
-use stm_wire::{Chip, EraseKind, Rig, connect, settle, settling_byte};
+use stm_wire::{Chip, EraseKind, Rig, connect, settle_under};
 
 /// How often the settling byte is sent at most: more often than any device awaits it.
 const SETTLING_LIMIT: u32 = 131_072;
@@ -47,7 +47,8 @@ fn connects(journal: &Journal, is_fresh: bool) -> bool
 }
 
 /// Settles a device by the intent of the journal that was loaded, from wherever a session was
-/// stopped; one that is said to be fresh from reset with 7F alone. The journal is one of this chip.
+/// stopped: in batches where there is one. A device that is said to be fresh from reset is sent 7F
+/// alone. The journal is one of this chip.
 pub fn settle_intended<R: Rig>(
     rig: &mut R,
     journal: &Journal,
@@ -76,8 +77,7 @@ pub fn settle_intended<R: Rig>(
         connect(rig)?;
         return Ok(());
     }
-    let byte = settling_byte(journal.last_intent());
     let limit = settling_limit(journal, chip);
-    settle(rig, byte, limit)?;
+    settle_under(rig, journal.last_intent(), limit)?;
     Ok(())
 }

@@ -1,6 +1,6 @@
 -- The loop of settling: what holds before each byte, and what the byte leaves.
-use Rattle.std.proofs.Common.{lit≤, ◌≡◌, ◌≢◌, ℕ, suc, ◌+◌, ◌<◌, ◌≤◌, ◌⊎◌, inl, inr, ⊎_elim, Bool, true, false, cond, eqb, List, [], ◌∷◌, ◌++◌, length, drop, refl, sym, ap, ◌∙◌, subst, arith, Some}
-use Rattle.std.proofs.lemmas.Bool.{cond_both, eq-eqb, eqb-true, ne_eqb}
+use Rattle.std.proofs.Common.{lit≤, ◌≡◌, ℕ, suc, ◌+◌, ◌<◌, ◌≤◌, ◌⊎◌, inl, inr, ⊎_elim, Bool, true, false, cond, eqb, List, [], ◌∷◌, ◌++◌, length, drop, refl, sym, ap, ◌∙◌, subst, arith, Some}
+use Rattle.std.proofs.lemmas.Bool.{cond_both, eq-eqb, eqb-true}
 use Rattle.std.proofs.lemmas.List.{length-drop, length-append, drop_all}
 use Rattle.stm_wire.specs.Chip.{ChipData}
 use Rattle.stm_wire.specs.declared.verdict.Verdict.TheVariants.{Refused}
@@ -200,21 +200,31 @@ pub record InBatch (byte : ℕ) (pages : List ℕ) (start : Device) (left n : �
   pub within : IsWithin start.codes byte left d.phase
   pub owes : length d.owed + due_at byte d.phase ≤ n
 
-pub batch_step : (byte : ℕ) (pages : List ℕ) (start : Device) (left n : ℕ) (d new : Device) → IsDevice d → byte < 256 → byte ≢ 0x7F → 2 ≤ left → n < 4096 →
+pub batch_step : (byte : ℕ) (pages : List ℕ) (start : Device) (left n : ℕ) (d new : Device) → IsDevice d → byte < 256 → 2 ≤ left → n < 4096 →
     InBatch byte pages start (suc left) n d → Feeds byte d new → InBatch byte pages start left (suc n) new
-batch_step byte pages start left n d new is small not_connect two room b f = go d.phase refl b.within b.owes
+batch_step byte pages start left n d new is small two room b f = go d.phase refl b.within b.owes
   where
     go : (p : Phase) → d.phase ≡ p → IsWithin start.codes byte (suc left) p → length d.owed + due_at byte p ≤ n → InBatch byte pages start left (suc n) new
-    go Fresh at w o =
-        let r : Receives d Fresh byte new = subst (λ (p : Phase). Receives d p byte new) at f.receives in
-        let t = ne_eqb byte 0x7F not_connect in
-        let same : new ≡ d = rw t at r in
-        let few : length new.owed ≤ n = rw same (omega arith) in
-        record {
-          settling = settling_fed byte pages start d new b.settling f (omega arith);
-          within = subst (IsWithin start.codes byte left) (sym (ap (λ (x : Device). x.phase) same ∙ at)) (λ e. absurd (not_connect e));
-          owes = rw (same, at) (omega arith);
-        }
+    go Fresh at w o = by_cases (eqb byte 0x7F) refl (subst (λ (p : Phase). Receives d p byte new) at f.receives)
+      where
+        -- 7F connects it, and what it owes then is no more than one for the byte
+        by_cases : (t : Bool) → eqb byte 0x7F ≡ t → new ≡ cond t (record d { owed = d.owed ++ ack ∷ []; phase = Connected [] }) d → InBatch byte pages start left (suc n) new
+        by_cases true t e =
+            let more = ap (λ (x : Device). length x.owed) e in
+            let one = length-append d.owed (ack ∷ []) in
+            let phase : new.phase ≡ Connected [] = ap (λ (x : Device). x.phase) e in
+            record {
+              settling = settling_fed byte pages start d new b.settling f (omega arith);
+              within = subst (IsWithin start.codes byte left) (sym phase) two;
+              owes = rw phase (omega arith);
+            }
+        by_cases false t e =
+            let few : length new.owed ≤ n = rw e (omega arith) in
+            record {
+              settling = settling_fed byte pages start d new b.settling f (omega arith);
+              within = subst (IsWithin start.codes byte left) (sym (ap (λ (x : Device). x.phase) e ∙ at)) (λ same. absurd (let h = sym (eq-eqb byte 0x7F same) ∙ t in cc));
+              owes = rw (e, at) (omega arith);
+            }
     go (Connected rest) at w o = ⊎_elim over on (fed byte pages rest d new is at small b.settling.harmless f)
       where
         over : Refuses d new → InBatch byte pages start left (suc n) new

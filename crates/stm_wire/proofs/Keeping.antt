@@ -1,5 +1,5 @@
 -- What settling keeps, from call to call.
-use Rattle.std.proofs.Common.{eqb, inl, inr, ◌≡◌, ◌≢◌, ⊎_elim, ℕ, suc, ◌+◌, ◌-◌, ◌<◌, ◌≤◌, List, [], ◌∷◌, ◌++◌, length, drop, Option, Some, None, Result, Ok, Err, refl, sym, ◌∙◌, ap, subst, arith}
+use Rattle.std.proofs.Common.{eqb, inl, inr, ◌≡◌, ⊎_elim, ℕ, suc, ◌+◌, ◌-◌, ◌<◌, ◌≤◌, List, [], ◌∷◌, ◌++◌, length, drop, Option, Some, None, Result, Ok, Err, refl, sym, ◌∙◌, ap, subst, arith}
 use Rattle.std.proofs.lemmas.List.{drop-drop, length-drop}
 use Rattle.stm_wire.specs.declared.fault.RigFault.{RigFault}
 use Rattle.stm_wire.specs.Device.{Device, Feeds, LosesOwed, IsSettled, Fresh, Connected}
@@ -172,10 +172,10 @@ going_drained byte limit pages d new many h few e =
     subst P (sym e) (going byte pages d limit many h few)
 
 -- a byte of a batch, put
-pub batch_put : {T : Type 0} (byte : ℕ) (pages : List ℕ) (start : Device) (left n : ℕ) (result : Result T RigFault) (a b : RigState) → IsModel a → byte < 256 → byte ≢ 0x7F → 2 ≤ left → n < 4096 →
+pub batch_put : {T : Type 0} (byte : ℕ) (pages : List ℕ) (start : Device) (left n : ℕ) (result : Result T RigFault) (a b : RigState) → IsModel a → byte < 256 → 2 ≤ left → n < 4096 →
     InBatch byte pages start (suc left) n a.device → PutsHonestly byte result a b → KeepsSettling byte pages start a b
-batch_put byte pages start left n result a b model small other two room g p =
-    keeps_put byte byte pages start result a b model g.settling (λ d f. (batch_step byte pages start left n a.device d model.device small other two room g f).settling) p
+batch_put byte pages start left n result a b model small two room g p =
+    keeps_put byte byte pages start result a b model g.settling (λ d f. (batch_step byte pages start left n a.device d model.device small two room g f).settling) p
 
 pub batch_next : (byte : ℕ) (pages : List ℕ) (start : Device) (left count sent : ℕ) (d : Device) → sent < count → InBatch byte pages start (left + (count - sent)) (259 + sent) d → InBatch byte pages start (suc (left + (count - (sent + 1)))) (259 + sent) d
 batch_next byte pages start left count sent d lt g =

@@ -1,12 +1,12 @@
 -- How the calls of settling join, on any line.
-use Rattle.std.proofs.Common.{◌≡◌, ◌≢◌, ℕ, suc, ◌+◌, ◌-◌, ◌<◌, ◌≤◌, min, Bool, true, false, ◌||◌, List, [], ◌∷◌, ◌++◌, length, replicate, Option, Some, None, Ok, refl, sym, ◌∙◌, ap, subst, eqb, eqb-true, arith}
+use Rattle.std.proofs.Common.{◌≡◌, ◌≢◌, ℕ, suc, ◌+◌, ◌-◌, ◌<◌, ◌≤◌, min, Bool, true, false, ◌||◌, List, [], ◌∷◌, ◌++◌, length, replicate, Option, Some, None, Ok, refl, sym, ◌∙◌, ap, subst, eqb, eqb-true, arith, append_assoc}
 use Rattle.std.proofs.lemmas.Bool.{eqb-false}
 use Rattle.std.specs.Prelude.{MatchBool}
 use Rattle.stm_wire.specs.Call.{Call, Put, Get, Append, Fetch}
 use Rattle.stm_wire.specs.Reply.{nack}
 use Rattle.stm_wire.specs.Rig.{Records}
 use Rattle.stm_wire.specs.Dialogue.{Adds, GoesOn, puts_of}
-use Rattle.stm_wire.specs.SettlingCalls.{taken, has_nack, IsDrained, IsBatch, AreBatches, none, more, HearsNoNack, IsUnrefused, AreUnrefused, IsRefused, reconnecting, EndsSingly, refused, reconnected, IsBatched, singly, answered, used_up, EndsSettled}
+use Rattle.stm_wire.specs.SettlingCalls.{taken, has_nack, IsDrained, IsBatch, AreBatches, none, more, HearsNoNack, IsUnrefused, AreUnrefused, IsRefused, IsConnected, IsReconnected, EndsSingly, refused, reconnected, IsBatched, answered, used_up, EndsInBatches, EndsByteByByte, EndsSettled, singly, batched}
 use Rattle.stm_wire.proofs.Turns.{Adds-append, Adds-GoesOn, GoesOn-append, GoesOn-weaker}
 use Rattle.stm_wire.proofs.Talking.{puts_of-append, goes_nowhere, replicate-more}
 
@@ -100,17 +100,13 @@ pub batches_more : (byte limit left count : ℕ) (seen : Bool) (a b c : Option (
 batches_more byte limit left count seen a b c some is p q = GoesOn-append (AreBatches byte limit left false) (IsBatch byte count seen) (AreBatches byte limit (left - count) seen) a b c p q
     (λ us vs u v. more left count seen us vs u some is v)
 
--- so batches end: there is none of 7F,
-pub batches_nothing : (byte limit : ℕ) (o : Option (List Call)) → byte ≡ 0x7F → GoesOn (IsBatched byte limit limit) o o
-batches_nothing byte limit o e = goes_nowhere (IsBatched byte limit limit) o (singly e refl refl)
-
--- the last brought a NACK,
-pub batches_answered : (byte limit left : ℕ) (a b : Option (List Call)) → byte ≢ 0x7F → GoesOn (AreBatches byte limit left true) a b → GoesOn (IsBatched byte limit left) a b
-batches_answered byte limit left a b other p = GoesOn-weaker (AreBatches byte limit left true) (IsBatched byte limit left) a b p (λ us u. answered other u)
+-- so batches end: the last brought a NACK,
+pub batches_answered : (byte limit left : ℕ) (a b : Option (List Call)) → GoesOn (AreBatches byte limit left true) a b → GoesOn (IsBatched byte limit left) a b
+batches_answered byte limit left a b p = GoesOn-weaker (AreBatches byte limit left true) (IsBatched byte limit left) a b p (λ us u. answered u)
 
 -- or two bytes are left
-pub batches_used_up : (byte limit left : ℕ) (a b : Option (List Call)) → byte ≢ 0x7F → left ≤ 2 → GoesOn (AreBatches byte limit left false) a b → GoesOn (IsBatched byte limit left) a b
-batches_used_up byte limit left a b other few p = GoesOn-weaker (AreBatches byte limit left false) (IsBatched byte limit left) a b p (λ us u. used_up other few u)
+pub batches_used_up : (byte limit left : ℕ) (a b : Option (List Call)) → left ≤ 2 → GoesOn (AreBatches byte limit left false) a b → GoesOn (IsBatched byte limit left) a b
+batches_used_up byte limit left a b few p = GoesOn-weaker (AreBatches byte limit left false) (IsBatched byte limit left) a b p (λ us u. used_up few u)
 
 -- Single bytes:
 
@@ -167,13 +163,44 @@ singly_refused byte limit sent a b c lt p q = GoesOn-append (AreUnrefused byte s
     (λ us vs u v. refused sent us vs lt u v refl)
 
 -- or none
-pub singly_reconnected : (byte limit sent : ℕ) (a b c : Option (List Call)) → sent ≡ limit → GoesOn (AreUnrefused byte sent) a b → Adds (reconnecting byte) b c → GoesOn (EndsSingly byte limit) a c
-singly_reconnected byte limit sent a b c e p q = GoesOn-append (AreUnrefused byte sent) (λ zs. zs ≡ reconnecting byte) (EndsSingly byte limit) a b c p (adds_goes (reconnecting byte) b c q)
-    (λ us vs u v. reconnected us (subst (λ n. AreUnrefused byte n us) e u) (ap (λ z. us ++ z) v))
+pub singly_reconnected : (byte limit sent : ℕ) (a b c : Option (List Call)) → sent ≡ limit → GoesOn (AreUnrefused byte sent) a b → GoesOn (IsReconnected byte) b c → GoesOn (EndsSingly byte limit) a c
+singly_reconnected byte limit sent a b c e p q = GoesOn-append (AreUnrefused byte sent) (IsReconnected byte) (EndsSingly byte limit) a b c p q
+    (λ us vs u v. reconnected us vs (subst (λ n. AreUnrefused byte n us) e u) v refl)
 
--- draining, batches and single bytes
-pub settled_calls : (byte limit left : ℕ) (seen : Bool) (a b c d : Option (List Call)) → GoesOn (IsDrained seen) a b → GoesOn (IsBatched byte limit left) b c → GoesOn (EndsSingly byte left) c d → GoesOn (EndsSettled byte limit) a d
-settled_calls byte limit left seen a b c d p q r =
+-- connected, and then the byte was put and stayed without an answer
+pub record IsProbed (byte : ℕ) (calls : List Call) : Type 0 where
+  pub connecting : List Call
+  pub is_connected : IsConnected connecting
+  pub is : calls ≡ connecting ++ Put byte ∷ Get None ∷ []
+
+pub probed : (byte : ℕ) (a b c : Option (List Call)) → GoesOn IsConnected a b → Adds (Put byte ∷ Get None ∷ []) b c → GoesOn (IsProbed byte) a c
+probed byte a b c p q =
+    let two = Put byte ∷ Get None ∷ [] in
+    GoesOn-append IsConnected (λ zs. zs ≡ two) (IsProbed byte) a b c p (adds_goes two b c q)
+    (λ us vs u v. record { connecting = us; is_connected = u; is = ap (λ z. us ++ z) v })
+
+pub reconnects : (byte : ℕ) (a b c : Option (List Call)) → GoesOn (IsProbed byte) a b → Adds (Put byte ∷ Get (Some nack) ∷ Get None ∷ []) b c → GoesOn (IsReconnected byte) a c
+reconnects byte a b c p q =
+    let two = Put byte ∷ Get None ∷ [] in
+    let last = Put byte ∷ Get (Some nack) ∷ Get None ∷ [] in
+    GoesOn-append (IsProbed byte) (λ zs. zs ≡ last) (IsReconnected byte) a b c p (adds_goes last b c q)
+    (λ us vs u v. record { connecting = u.connecting; is_connected = u.is_connected; is = ap (λ z. z ++ vs) u.is ∙ ap (λ z. (u.connecting ++ two) ++ z) v ∙ append_assoc u.connecting two last })
+
+-- draining and single bytes
+pub single_calls : (byte limit : ℕ) (seen : Bool) (a b c : Option (List Call)) → GoesOn (IsDrained seen) a b → GoesOn (EndsSingly byte limit) b c → GoesOn (EndsByteByByte byte limit) a c
+single_calls byte limit seen a b c p q = GoesOn-append (IsDrained seen) (EndsSingly byte limit) (EndsByteByByte byte limit) a b c p q
+    (λ us vs u v. record { seen = seen; drained = us; singles = vs; is = refl; is_drained = u; end_singly = v })
+
+-- or with batches between
+pub batched_calls : (byte limit left : ℕ) (seen : Bool) (a b c d : Option (List Call)) → GoesOn (IsDrained seen) a b → GoesOn (IsBatched byte limit left) b c → GoesOn (EndsSingly byte left) c d → GoesOn (EndsInBatches byte limit) a d
+batched_calls byte limit left seen a b c d p q r =
     let P : List Call → Type 0 = λ zs. (xs : List Call) × (ys : List Call) × (zs ≡ xs ++ ys) × IsDrained seen xs × IsBatched byte limit left ys in
-    GoesOn-append P (EndsSingly byte left) (EndsSettled byte limit) a c d (GoesOn-append (IsDrained seen) (IsBatched byte limit left) P a b c p q (λ us vs u v. (us, vs, refl, u, v))) r
+    GoesOn-append P (EndsSingly byte left) (EndsInBatches byte limit) a c d (GoesOn-append (IsDrained seen) (IsBatched byte limit left) P a b c p q (λ us vs u v. (us, vs, refl, u, v))) r
     (λ us vs u v. record { seen = seen; left = left; drained = u.0; batches = u.1; singles = vs; is = ap (λ z. z ++ vs) u.2; is_drained = u.3; are_batched = u.4; end_singly = v })
+
+-- so a settling ends
+pub settled_singly : (byte limit : ℕ) (a b : Option (List Call)) → byte ≡ 0x7F → GoesOn (EndsByteByByte byte limit) a b → GoesOn (EndsSettled byte limit) a b
+settled_singly byte limit a b same p = GoesOn-weaker (EndsByteByByte byte limit) (EndsSettled byte limit) a b p (λ us u. singly same u)
+
+pub settled_batched : (byte limit : ℕ) (a b : Option (List Call)) → byte ≢ 0x7F → GoesOn (EndsInBatches byte limit) a b → GoesOn (EndsSettled byte limit) a b
+settled_batched byte limit a b other p = GoesOn-weaker (EndsInBatches byte limit) (EndsSettled byte limit) a b p (λ us u. batched other u)

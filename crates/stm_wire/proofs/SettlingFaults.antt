@@ -1,16 +1,15 @@
 -- How the calls of settling end at a fault, on any line.
-use Rattle.std.proofs.Common.{◌≡◌, inl, inr, ⊎_elim, ℕ, ◌+◌, List, [], ◌∷◌, ◌++◌, replicate, Bool, Option, Some, None, Result, Ok, Err, IfErr, IsErrAnd, refl, sym, ◌∙◌, ap, subst, append_assoc}
+use Rattle.std.proofs.Common.{◌≡◌, inl, inr, ⊎_elim, ℕ, ◌+◌, List, [], ◌∷◌, ◌++◌, replicate, Bool, Option, None, Result, Ok, Err, IfErr, IsErrAnd, refl, sym, ◌∙◌, ap, subst, append_assoc}
 use Rattle.stm_wire.specs.Call.{Call, Put, Get}
 use Rattle.stm_wire.specs.declared.fault.WireFault.{WireFault}
 use Rattle.stm_wire.specs.declared.fault.WireFault.TheVariants.{Quiet, Garbled}
-use Rattle.stm_wire.specs.Reply.{ack}
 use Rattle.stm_wire.specs.Dialogue.{Adds, GoesOn, puts_of}
 use Rattle.stm_wire.specs.Settling.{PutsAll}
-use Rattle.stm_wire.specs.SettlingCalls.{taken, Floods, IsAnswerTo, IsNoAck, IsUnconfirmed, IsGarbled, unacknowledged, answered_once, unconfirmed, IsPast, EndsGarbled, Never, FailsAs}
+use Rattle.stm_wire.specs.SettlingCalls.{taken, Floods, IsConnected, IsUnconnected, IsAnswerTo, IsNoAck, IsUnconfirmed, IsGarbled, IsUnended, unacknowledged, answered_once, unconfirmed, IsPast, EndsGarbled, Never, FailsAs}
 use Rattle.stm_wire.proofs.Turns.{GoesOn-append, GoesOn-weaker}
 use Rattle.stm_wire.proofs.Holding.{if_err_weaker}
 use Rattle.stm_wire.proofs.Talking.{puts_of-append, replicate-add}
-use Rattle.stm_wire.proofs.SettlingCalls.{TookSoFar, adds_goes}
+use Rattle.stm_wire.proofs.SettlingCalls.{IsProbed, TookSoFar, adds_goes}
 
 pub fails_garbled : (quiet garbled : List Call → Type 0) (a b : Option (List Call)) → GoesOn garbled a b → FailsAs quiet garbled a b Garbled
 fails_garbled quiet garbled a b p = record { named = λ n. cc; quiet_end = λ n. absurd (let h : Garbled ≡ Quiet = n in cc); garbled_end = λ _. p }
@@ -75,26 +74,24 @@ past_now byte limit most P a b c p q = GoesOn-append (PutsAll (replicate limit b
 pub garbled_flood : (byte limit : ℕ) (a b : Option (List Call)) → GoesOn Floods a b → GoesOn (EndsGarbled byte limit) a b
 garbled_flood byte limit a b p = GoesOn-weaker Floods (EndsGarbled byte limit) a b p (λ us u. inl u)
 
-pub garbled_past : (byte limit : ℕ) (a b : Option (List Call)) → GoesOn (IsPast byte limit (IsGarbled byte)) a b → GoesOn (EndsGarbled byte limit) a b
-garbled_past byte limit a b p = GoesOn-weaker (IsPast byte limit (IsGarbled byte)) (EndsGarbled byte limit) a b p (λ us u. inr u)
+pub garbled_past : (byte limit most : ℕ) (a b c : Option (List Call)) → GoesOn (PutsAll (replicate limit byte) most) a b → GoesOn (IsUnended byte) b c → GoesOn (EndsGarbled byte limit) a c
+garbled_past byte limit most a b c p q = GoesOn-append (PutsAll (replicate limit byte) most) (IsUnended byte) (EndsGarbled byte limit) a b c p q
+    (λ us vs u v. ⊎_elim (λ (f : Floods vs). inl (floods_before us vs f)) (λ (f : IsGarbled byte vs). inr (record { before = us; last = vs; is = refl; puts = u.puts; has = f })) v)
 
 -- Connecting:
 
--- another byte than ACK came for 7F,
-pub garbled_first : (byte : ℕ) (a b : Option (List Call)) → GoesOn IsNoAck a b → GoesOn (IsGarbled byte) a b
-garbled_first byte a b p = GoesOn-weaker IsNoAck (IsGarbled byte) a b p (λ us u. unacknowledged u)
+-- another byte than ACK came for 7F, or too many after it,
+pub garbled_first : (byte : ℕ) (a b : Option (List Call)) → GoesOn IsUnconnected a b → GoesOn (IsUnended byte) a b
+garbled_first byte a b p = GoesOn-weaker IsUnconnected (IsUnended byte) a b p (λ us u. ⊎_elim (λ (f : Floods us). inl f) (λ (f : IsNoAck us). inr (unacknowledged f)) u)
 
 -- or one for the byte after it,
-pub garbled_second : (byte : ℕ) (a b c : Option (List Call)) → Adds (Put 0x7F ∷ Get (Some ack) ∷ []) a b → GoesOn (IsAnswerTo byte) b c → GoesOn (IsGarbled byte) a c
-garbled_second byte a b c p q =
-    let head = Put 0x7F ∷ Get (Some ack) ∷ [] in
-    GoesOn-append (λ zs. zs ≡ head) (IsAnswerTo byte) (IsGarbled byte) a b c (adds_goes head a b p) q (λ us vs u v. answered_once vs v (ap (λ z. z ++ vs) u))
+pub garbled_second : (byte : ℕ) (a b c : Option (List Call)) → GoesOn IsConnected a b → GoesOn (IsAnswerTo byte) b c → GoesOn (IsUnended byte) a c
+garbled_second byte a b c p q = GoesOn-append IsConnected (IsAnswerTo byte) (IsUnended byte) a b c p q (λ us vs u v. inr (answered_once us vs u v refl))
 
 -- or for the next one not NACK alone
-pub garbled_third : (byte : ℕ) (a b c : Option (List Call)) → Adds (Put 0x7F ∷ Get (Some ack) ∷ Put byte ∷ Get None ∷ []) a b → GoesOn (IsUnconfirmed byte) b c → GoesOn (IsGarbled byte) a c
-garbled_third byte a b c p q =
-    let head = Put 0x7F ∷ Get (Some ack) ∷ Put byte ∷ Get None ∷ [] in
-    GoesOn-append (λ zs. zs ≡ head) (IsUnconfirmed byte) (IsGarbled byte) a b c (adds_goes head a b p) q (λ us vs u v. unconfirmed vs v (ap (λ z. z ++ vs) u))
+pub garbled_third : (byte : ℕ) (a b c : Option (List Call)) → GoesOn (IsProbed byte) a b → GoesOn (IsUnconfirmed byte) b c → GoesOn (IsUnended byte) a c
+garbled_third byte a b c p q = GoesOn-append (IsProbed byte) (IsUnconfirmed byte) (IsUnended byte) a b c p q
+    (λ us vs u v. inr (unconfirmed u.connecting vs u.is_connected v (ap (λ z. z ++ vs) u.is ∙ append_assoc u.connecting (Put byte ∷ Get None ∷ []) vs)))
 
 -- these calls before the others
 pub adds_before : (calls : List Call) (P Q : List Call → Type 0) (a b c : Option (List Call)) → Adds calls a b → GoesOn P b c → ((vs : List Call) → P vs → Q (calls ++ vs)) → GoesOn Q a c

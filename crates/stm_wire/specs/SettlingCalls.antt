@@ -4,9 +4,11 @@ use Rattle.std.specs.Prelude.{◌≡◌, ◌≢◌, ◌⊎◌, ℕ, ◌-◌, ◌
 use Rattle.std.specs.Prelude.{◌++◌, length, replicate, Bool, true, false, Option, Some, None}
 use Rattle.stm_wire.specs.declared.fault.WireFault.{WireFault}
 use Rattle.stm_wire.specs.declared.fault.WireFault.TheVariants.{Nack, Quiet, Garbled}
+use Rattle.stm_wire.specs.declared.intent.Intent.{Intent}
 use Rattle.stm_wire.specs.Call.{Call, Put, Get, Append, Fetch}
 use Rattle.stm_wire.specs.Reply.{ack, nack}
 use Rattle.stm_wire.specs.Dialogue.{GoesOn, puts_of}
+use Rattle.stm_wire.specs.Intents.{settling_byte}
 
 -- Draining:
 
@@ -50,13 +52,10 @@ pub data AreBatches (byte limit : ℕ) : ℕ → Bool → List Call → Type 0 w
       → 2 < left → count ≡ min (left - 2) 256 → IsBatch byte count seen batch
       → AreBatches byte limit (left - count) seen (calls ++ batch)
 
--- all batches that are sent: none of 7F, and of another byte until one brought a NACK or two bytes
--- are left
+-- all batches that are sent: until one brought a NACK, or two bytes are left
 pub data IsBatched (byte limit left : ℕ) (calls : List Call) : Type 0 where
-  singly : byte ≡ 0x7F → left ≡ limit → calls ≡ [] → IsBatched byte limit left calls
-  answered : byte ≢ 0x7F → AreBatches byte limit left true calls → IsBatched byte limit left calls
-  used_up : byte ≢ 0x7F → left ≤ 2 → AreBatches byte limit left false calls
-      → IsBatched byte limit left calls
+  answered : AreBatches byte limit left true calls → IsBatched byte limit left calls
+  used_up : left ≤ 2 → AreBatches byte limit left false calls → IsBatched byte limit left calls
 
 -- Single bytes:
 
@@ -88,10 +87,22 @@ pub record IsRefused (byte : ℕ) (calls : List Call) : Type 0 where
   pub is : calls ≡ Put byte ∷ Get (Some nack) ∷ drained
   pub is_drained : IsDrained seen drained
 
--- a fresh device is connected, and what the byte then begins is ended
-abbrev pub reconnecting : ℕ → List Call
-reconnecting byte =
-    Put 0x7F ∷ Get (Some ack) ∷ Put byte ∷ Get None ∷ Put byte ∷ Get (Some nack) ∷ Get None ∷ []
+-- 7F was answered by ACK, and what came after that was taken
+pub record IsConnected (calls : List Call) : Type 0 where
+  pub seen : Bool
+  pub drained : List Call
+  pub is : calls ≡ Put 0x7F ∷ Get (Some ack) ∷ drained
+  pub is_drained : IsDrained seen drained
+
+-- on a connected device the byte begins a pair, and once more it is refused
+abbrev pub ending : ℕ → List Call
+ending byte = Put byte ∷ Get None ∷ Put byte ∷ Get (Some nack) ∷ Get None ∷ []
+
+-- a fresh device was connected, and what the byte then begins is ended
+pub record IsReconnected (byte : ℕ) (calls : List Call) : Type 0 where
+  pub connecting : List Call
+  pub is_connected : IsConnected connecting
+  pub is : calls ≡ connecting ++ ending byte
 
 -- a byte came
 abbrev pub IsAnswer : List Call → Type 0
@@ -109,6 +120,10 @@ IsUnanswered calls = calls ≡ Put 0x7F ∷ Get None ∷ []
 abbrev pub IsNoAck : List Call → Type 0
 IsNoAck calls = (x : ℕ) × (x ≢ ack) × (calls ≡ Put 0x7F ∷ Get (Some x) ∷ [])
 
+-- or more bytes came than a draining takes
+abbrev pub IsUnconnected : List Call → Type 0
+IsUnconnected calls = Floods calls ⊎ IsNoAck calls
+
 -- the byte was not refused as it should be: by NACK, and then nothing
 pub data IsUnconfirmed (byte : ℕ) (calls : List Call) : Type 0 where
   unrefused : (answer : Option ℕ) → answer ≢ Some nack → calls ≡ Put byte ∷ Get answer ∷ []
@@ -119,22 +134,24 @@ pub data IsUnconfirmed (byte : ℕ) (calls : List Call) : Type 0 where
 -- another byte came in it than is due
 pub data IsGarbled (byte : ℕ) (calls : List Call) : Type 0 where
   unacknowledged : IsNoAck calls → IsGarbled byte calls
-  answered_once : (last : List Call) → IsAnswerTo byte last
-      → calls ≡ Put 0x7F ∷ Get (Some ack) ∷ last
-      → IsGarbled byte calls
-  unconfirmed : (last : List Call) → IsUnconfirmed byte last
-      → calls ≡ Put 0x7F ∷ Get (Some ack) ∷ Put byte ∷ Get None ∷ last → IsGarbled byte calls
+  answered_once : (connecting last : List Call) → IsConnected connecting → IsAnswerTo byte last
+      → calls ≡ connecting ++ last → IsGarbled byte calls
+  unconfirmed : (connecting last : List Call) → IsConnected connecting → IsUnconfirmed byte last
+      → calls ≡ connecting ++ Put byte ∷ Get None ∷ last → IsGarbled byte calls
+
+-- so a connection fails, or one behind it
+abbrev pub IsUnended : ℕ → List Call → Type 0
+IsUnended byte calls = Floods calls ⊎ IsGarbled byte calls
 
 -- single bytes at Ok: one of them was refused, or none, and the device was fresh
 pub data EndsSingly (byte limit : ℕ) (calls : List Call) : Type 0 where
   refused : (sent : ℕ) (before last : List Call) → sent < limit → AreUnrefused byte sent before
       → IsRefused byte last → calls ≡ before ++ last → EndsSingly byte limit calls
-  reconnected : (before : List Call) → AreUnrefused byte limit before
-      → calls ≡ before ++ reconnecting byte
-      → EndsSingly byte limit calls
+  reconnected : (before last : List Call) → AreUnrefused byte limit before
+      → IsReconnected byte last → calls ≡ before ++ last → EndsSingly byte limit calls
 
--- settling at Ok: what was owed is taken, batches are sent, then single bytes
-pub record EndsSettled (byte limit : ℕ) (calls : List Call) : Type 0 where
+-- settling in batches at Ok: what was owed is taken, batches are sent, then single bytes
+pub record EndsInBatches (byte limit : ℕ) (calls : List Call) : Type 0 where
   pub seen : Bool
   pub left : ℕ
   pub drained : List Call
@@ -144,6 +161,26 @@ pub record EndsSettled (byte limit : ℕ) (calls : List Call) : Type 0 where
   pub is_drained : IsDrained seen drained
   pub are_batched : IsBatched byte limit left batches
   pub end_singly : EndsSingly byte left singles
+
+-- settling byte by byte at Ok: there are no batches
+pub record EndsByteByByte (byte limit : ℕ) (calls : List Call) : Type 0 where
+  pub seen : Bool
+  pub drained : List Call
+  pub singles : List Call
+  pub is : calls ≡ drained ++ singles
+  pub is_drained : IsDrained seen drained
+  pub end_singly : EndsSingly byte limit singles
+
+-- settling at Ok: with 7F it goes byte by byte, with any other byte in batches
+pub data EndsSettled (byte limit : ℕ) (calls : List Call) : Type 0 where
+  singly : byte ≡ 0x7F → EndsByteByByte byte limit calls → EndsSettled byte limit calls
+  batched : byte ≢ 0x7F → EndsInBatches byte limit calls → EndsSettled byte limit calls
+
+-- settling at Ok by what the stopped host was about to do: under an intent it goes in batches,
+-- whatever the byte
+abbrev pub EndsUnder : Option Intent → ℕ → List Call → Type 0
+EndsUnder None limit calls = EndsSettled 0x7F limit calls
+EndsUnder (Some intent) limit calls = EndsInBatches (settling_byte (Some intent)) limit calls
 
 -- Faults:
 

@@ -1,5 +1,5 @@
 // Settling bytes in batches: a host waits once for many bytes.
-ghost use Rattle.std.specs.Prelude.{◌≡◌, ◌≢◌, ◌≤◌, ◌+◌, ℕ, List, IfOk, IfErr, replicate};
+ghost use Rattle.std.specs.Prelude.{◌≡◌, ◌≤◌, ◌+◌, ℕ, List, IfOk, IfErr, replicate};
 ghost use Rattle.stm_wire.specs.Device.{Device};
 ghost use Rattle.stm_wire.specs.Dialogue.{GoesOn};
 ghost use Rattle.stm_wire.specs.Settling.{IsGoing, Speaks, SpeaksBatches, SendsBatch, SendsBatches};
@@ -7,9 +7,6 @@ ghost use Rattle.stm_wire.specs.SettlingCalls.{IsBatch, IsBatched, Floods, Never
 
 use crate::draining::drain;
 use crate::{Rig, WireFault};
-
-/// The byte that a device fresh from reset waits for (AN3155, section 2).
-pub const CONNECT: u8 = 0x7F;
 
 /// How many bytes a batch has at most. Their replies, and what a completed command sends, are fewer
 /// bytes than one draining takes.
@@ -29,7 +26,7 @@ fn send_batch<R: Rig>(rig: &mut R, byte: u8, count: u32) -> Result<bool, WireFau
         (λ seen. GoesOn (IsBatch byte count seen) (R.view rig.old).calls (R.view rig.new).calls) }
     ensures fails { IfErr result
         (FailsAs Never Floods (R.view rig.old).calls (R.view rig.new).calls) }
-    ensures honest { (R.view rig.old).is_honest → byte ≢ 0x7F
+    ensures honest { (R.view rig.old).is_honest
         → (pages : List ℕ) (start : Device) (left : ℕ) → 2 ≤ left
         → IsGoing byte pages start (left + count) (R.view rig.old).device
         → SendsBatch byte pages start left result (R.view rig.old) (R.view rig.new) }
@@ -40,8 +37,8 @@ fn send_batch<R: Rig>(rig: &mut R, byte: u8, count: u32) -> Result<bool, WireFau
     drain(rig)
 }
 
-/// Sends batches of the byte, unless it is the one that connects, until NACK is among the replies
-/// or all bytes of the limit were sent but those that are kept back; answers how many are left.
+/// Sends batches of the byte until NACK is among the replies, or all bytes of the limit were sent
+/// but those that are kept back; answers how many are left.
 pub fn send_batches<R: Rig>(rig: &mut R, byte: u8, limit: u32) -> Result<u32, WireFault>
     ensures speaks { SpeaksBatches byte limit result (R.view rig.old) (R.view rig.new) }
     ensures brief { (R.view rig.new).long_gets ≡ (R.view rig.old).long_gets }
@@ -54,9 +51,6 @@ pub fn send_batches<R: Rig>(rig: &mut R, byte: u8, limit: u32) -> Result<u32, Wi
         → IsGoing byte pages start limit (R.view rig.old).device
         → SendsBatches byte pages start result (R.view rig.old) (R.view rig.new) }
 {
-    if byte == CONNECT {
-        return Ok(limit);
-    }
     let mut left = limit;
     while left > KEPT_BACK {
         let count = (left - KEPT_BACK).min(BATCH);

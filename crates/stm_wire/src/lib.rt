@@ -47,7 +47,7 @@ pub use plan::{Plan, Stop};
 pub use protection::{Protection, protect};
 pub use read_memory::read;
 pub use rig::{Patience, Rig, RigCall};
-pub use settling::{connect, settle};
+pub use settling::{connect, settle, settle_under};
 pub use simulator::{Simulator, Stage};
 pub use verdict::Verdict;
 pub use write_memory::program;

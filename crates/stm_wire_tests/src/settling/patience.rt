@@ -107,8 +107,8 @@ fn first_wrong(alloc: Global, waits: &[Waits]) -> Result<Option<Other>, Fail> {
 
 const SETTLING: &[Waits] = &[
     // The device is fresh and ignores the byte: a draining, a batch of fourteen bytes, two
-    // bytes, 7F, the byte twice.
-    (&[Settle(0x05, 16, Ok(()))], (Some(7), 1, 1)),
+    // bytes, 7F and a draining, the byte twice.
+    (&[Settle(0x05, 16, Ok(()))], (Some(8), 1, 1)),
     // Now it is settled, and refuses in the first batch.
     (&[Settle(0x05, 16, Ok(()))], (None, 0, 0)),
 ];

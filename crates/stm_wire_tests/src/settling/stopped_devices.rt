@@ -2,7 +2,7 @@
 use crate::rigs::{EXTENDED, LOW_DENSITY, Make, Runs, are_runs, rig_of};
 use std::alloc::Global;
 use std::test::Fail;
-use stm_wire::{EraseKind, Intent, MemoryRig, Rig, RigCall, WireFault, settle, settling_byte};
+use stm_wire::{EraseKind, Intent, MemoryRig, Rig, RigCall, WireFault, settle_under};
 
 /// 128 pages of 1,024 bytes.
 const MEDIUM_DENSITY: Make = Make {
@@ -102,7 +102,7 @@ fn ends_so(rig: &mut MemoryRig, stop: &Stop) -> bool {
         rig.reset();
     }
     let before = rig.calls().len();
-    let answer = settle(rig, settling_byte(stop.intent), 131_072);
+    let answer = settle_under(rig, stop.intent, 131_072);
     let counts = puts_with_replies(rig.calls(), before, stop.replies);
     (answer, counts) == stop.ending && are_runs(rig.flash(), stop.flash)
 }
@@ -177,6 +177,17 @@ const COMPLETED: &[Stop] = &[
         replies: &[(256, 0x79, 1), (256, 0x1F, 127), (257, 0x1F, 1)],
         ending: (Ok(()), Some((257, 1))),
         flash: &[(0x00, 259 * 256), (0xFF, 256), (0x00, 252 * 256)],
+    },
+    // 7F is the count of 128 pages, each of them 127, and their check: in batches like any other.
+    Stop {
+        make: MEDIUM_DENSITY,
+        fill: 0x00,
+        came: &[0x43, 0xBC],
+        is_reset: false,
+        intent: Some(Intent::Erase(127)),
+        replies: &[(256, 0x79, 1), (256, 0x1F, 63), (258, 0x1F, 1)],
+        ending: (Ok(()), Some((258, 1))),
+        flash: &[(0x00, 127 * 1_024), (0xFF, 1_024)],
     },
 ];
 
@@ -304,6 +315,17 @@ const OTHERS: &[Stop] = &[
         replies: &[(131_073, 0x79, 1), (131_075, 0x1F, 1)],
         ending: (Ok(()), Some((131_075, 512))),
         flash: &[(0x00, 32 * 1_024)],
+    },
+    // And this one is connected by the first byte of the batch.
+    Stop {
+        make: MEDIUM_DENSITY,
+        fill: 0x00,
+        came: &[0x43, 0xBC],
+        is_reset: true,
+        intent: Some(Intent::Erase(127)),
+        replies: &[(256, 0x79, 1), (256, 0x1F, 127), (257, 0x1F, 1)],
+        ending: (Ok(()), Some((257, 1))),
+        flash: &[(0x00, 128 * 1_024)],
     },
 ];
 

@@ -4,7 +4,7 @@ ghost use Rattle.stm_wire.specs.Unmodelled.{unmodelled};
 
 use std::alloc::Global;
 use std::test::Fail;
-use stm_wire::{ListRig, Patience, Rig, RigCall, RigFault, WireFault, settle};
+use stm_wire::{ListRig, Patience, Rig, RigCall, RigFault, WireFault, connect, settle};
 
 /// How settling ended, and how many puts and gets it took.
 type Ending = (Result<(), WireFault>, usize, usize);
@@ -73,7 +73,7 @@ fn a_line_that_is_always_quiet_is_quiet(rt: HostRuntime) {
 
 // Sixteen acknowledgements refuse nothing, and the one of 7F is due; but then the byte has to be
 // quiet. The gets: one at first, fifteen for a batch of fourteen bytes, two for each of the two
-// bytes left, one for 7F and one for the last byte.
+// bytes left, two for 7F and one for the last byte.
 #[test]
 fn acknowledgements_end_nothing(rt: HostRuntime) {
     let mut line = Acknowledging {
@@ -84,6 +84,28 @@ fn acknowledgements_end_nothing(rt: HostRuntime) {
     let answer = settle(&mut line, 0x05, 16);
     assert_eq!(rt;
         (answer, line.puts, line.gets),
-        (Err(WireFault::Garbled), 18, 22)
+        (Err(WireFault::Garbled), 18, 23)
     );
+}
+
+// Some bootloaders acknowledge 7F twice: what comes behind the first is taken, so that the session
+// goes on.
+#[test]
+fn a_second_acknowledgement_of_7f_is_taken(rt: HostRuntime) -> Result<(), Fail> {
+    let replies = vec![in rt.alloc(); Some(0x79); 2]?;
+    let mut line = ListRig::new(rt.alloc(), replies);
+    assert_eq!(rt; connect(&mut line), Ok(()));
+    assert_eq!(rt; line.get(Patience::Brief)?, None);
+    assert_eq!(rt; line.calls().len(), 5);
+    Ok(())
+}
+
+// Too many are garbled.
+#[test]
+fn more_bytes_behind_7f_than_are_taken_are_garbled(rt: HostRuntime) -> Result<(), Fail> {
+    let replies = vec![in rt.alloc(); Some(0x79); 4_098]?;
+    let mut line = ListRig::new(rt.alloc(), replies);
+    assert_eq!(rt; connect(&mut line), Err(WireFault::Garbled));
+    assert_eq!(rt; line.calls().len(), 4_099);
+    Ok(())
 }

@@ -1,22 +1,23 @@
-use Rattle.std.proofs.Common.{◌≡◌, ◌≤◌, ◌∙◌, ℕ, [], length, Result, refl, sym, ap, ap₂, subst}
+use Rattle.std.proofs.Common.{◌≡◌, ◌≤◌, ◌∙◌, ℕ, [], length, Option, Result, sym, ap, subst}
 use Rattle.stm_wire.specs.declared.fault.WireFault.{WireFault}
+use Rattle.stm_wire.specs.declared.intent.Intent.{Intent}
 use Rattle.stm_wire.specs.Command.{with_rest}
 use Rattle.stm_wire.specs.Dialogue.{GoesOn}
-use Rattle.stm_wire.specs.DialogueLaws.{GoesOn-adds}
 use Rattle.stm_wire.specs.Harmless.{Harmless}
 use Rattle.stm_wire.specs.Intents.{settling_byte}
 use Rattle.stm_wire.specs.Settling as wire
 use Rattle.stm_wire.specs.Settling.{LeadsTo, SettlesWithin}
+use Rattle.stm_wire.specs.SettlingCalls.{EndsUnder}
 use Rattle.stm_journal.specs.Journals.{IsLoaded}
 use Rattle.stm_journal.specs.States.{intent_of}
-use Rattle.stm_session.specs.Fresh.{Connects, EndsWell, IsAsSaid, Settles, Way, byte_of, limit_of}
-use Rattle.stm_session.specs.Fresh.{undo_way}
+use Rattle.stm_session.specs.Fresh.{Connects, EndsWell, IsAsSaid, Way, byte_of, limit_of}
+use Rattle.stm_session.specs.Fresh.{settling_limit, settling_way, undo_way}
 use Rattle.stm_session.specs.Undoes.{IsWithinLimit, byte_at_journal, risked_at}
-use Rattle.stm_session.proofs.Freshness.{connect_settles, connected_is_settled, fresh_way, own_within, plain_way, said_fresh, settling_starts}
+use Rattle.stm_session.proofs.Freshness.{connect_settles, connected_is_settled, fresh_way, own_within, plain_way, said_fresh, settling_starts, way_ends, way_sends}
 use Rattle.stm_session.proofs.Settlings.{enough_sent, intent_text, settled_goes, settling_failed}
 use Rattle.stm_session.proofs.Straying.{strays_settled, strays_stopped}
 use Rattle.stm_session.proofs.settling.settle_intended.Given.{Over}
-use Rattle.stm_session.proofs.settling.settle_intended.Goals.{After-connect, After-settle}
+use Rattle.stm_session.proofs.settling.settle_intended.Goals.{After-connect, After-settle_under}
 use Rattle.stm_session.proofs.settling.settle_intended.Goals as goal
 
 -- 7F alone is sent, to a device that is fresh
@@ -41,29 +42,28 @@ connected g c made was h said harmless owed =
     (settling_starts byte risked a.device harmless owed) is.phase is.owed)
 
 -- the byte of the journal's intent is sent, as often as the device may await it
-settled : (g : Over) (c : After-settle g) (made : Result (Unit {0}) WireFault)
-    → c.settle.result ≡ made → (g.R.Rig.view c.args.rig.now).is_honest
+settled : (g : Over) (c : After-settle_under g) (made : Result (Unit {0}) WireFault)
+    → c.settle_under.result ≡ made → (g.R.Rig.view c.args.rig.now).is_honest
     → let a = g.R.Rig.view c.args.rig.now in IsLoaded c.args.journal.now a.journal
     → Harmless a.device (byte_at_journal a.journal) (risked_at a.journal)
     → length a.device.owed ≤ 4096
     → IsWithinLimit c.args.chip.now a
     → wire.Settles (byte_at_journal a.journal) (risked_at a.journal) a.device made a
-    (g.R.Rig.view c.settle.new.rig)
+    (g.R.Rig.view c.settle_under.new.rig)
 settled g c made was h loaded harmless owed within =
     let a = g.R.Rig.view c.args.rig.now in
-    let b = g.R.Rig.view c.settle.new.rig in
+    let b = g.R.Rig.view c.settle_under.new.rig in
     let l = c.args.journal.now in
     let risked = risked_at a.journal in
-    let byte = c.settling_byte-byte.ensures
-    ∙ ap settling_byte (c.last_intent.ensures ∙ intent_text l a.journal loaded) in
+    let byte = ap settling_byte (c.last_intent.ensures ∙ intent_text l a.journal loaded) in
     let H : ℕ → Type 0 = λ x. Harmless a.device x risked in
     let S : ℕ → Type 0 = λ x. wire.Settles x risked a.device made a b in
     let enough = enough_sent c.args.chip.now a l loaded _ _ byte c.settling_limit-limit.ensures
     within in
     let R : Result (Unit {0}) WireFault → Type 0 =
-    λ r. wire.Settles c.settling_byte-byte.result risked a.device r a b in
+    λ r. wire.Settles (settling_byte c.last_intent.result) risked a.device r a b in
     subst S byte
-    (subst R was (c.settle.ensures.awaited h enough risked (subst H (sym byte) harmless) owed))
+    (subst R was (c.settle_under.ensures.awaited h enough risked (subst H (sym byte) harmless) owed))
 
 pub returns-in_err-connect-clause-honest : goal.returns-in_err-connect-clause-honest
 returns-in_err-connect-clause-honest g c h said flashes loaded undoable chip =
@@ -112,14 +112,24 @@ way_there g c =
     sym (fresh_way c.args.is_fresh c.args.chip.now.kind (intent_of c.args.journal.now.state)
     (sym c.connects.ensures ∙ c.if-connects.true))
 
-way_settled : (g : Over) (c : After-settle g)
-    → Settles c.settling_byte-byte.result c.settling_limit-limit.result
-    ≡ undo_way c.args.is_fresh c.args.chip.now.kind (intent_of c.args.journal.now.state)
-way_settled g c =
-    let byte = c.settling_byte-byte.ensures ∙ ap settling_byte c.last_intent.ensures in
-    ap₂ (λ (b l : ℕ). Settles b l) byte c.settling_limit-limit.ensures
-    ∙ plain_way c.args.is_fresh c.args.chip.now.kind (intent_of c.args.journal.now.state)
-    (sym c.connects.ensures ∙ c.if-connects.false)
+-- what holds of the intent and limit that were handed on holds of the journal's
+at_journal : (g : Over) (c : After-settle_under g) (P : Option Intent → ℕ → Type 0)
+    → P c.last_intent.result c.settling_limit-limit.result
+    → let intent = intent_of c.args.journal.now.state in
+    P intent (settling_limit c.args.chip.now.kind intent)
+at_journal g c P p =
+    let intent = intent_of c.args.journal.now.state in
+    let limit = settling_limit c.args.chip.now.kind intent in
+    subst (λ (o : Option Intent). P o limit) c.last_intent.ensures
+    (subst (P c.last_intent.result) c.settling_limit-limit.ensures p)
+
+at_way : (g : Over) (c : After-settle_under g) (P : Way → Type 0)
+    → P (settling_way c.args.chip.now.kind (intent_of c.args.journal.now.state))
+    → P (undo_way c.args.is_fresh c.args.chip.now.kind (intent_of c.args.journal.now.state))
+at_way g c P p =
+    subst P
+    (plain_way c.args.is_fresh c.args.chip.now.kind (intent_of c.args.journal.now.state)
+    (sym c.connects.ensures ∙ c.if-connects.false)) p
 
 -- and what was sent
 sent_there : (g : Over) (c : After-connect g)
@@ -133,17 +143,21 @@ sent_there g c =
     let P : Way → Type 0 = λ w. GoesOn (SettlesWithin (byte_of w) (limit_of w)) a b in
     subst P (way_there g c) (connect_settles a b c.connect.ensures.speaks.part)
 
-sent_settling : (g : Over) (c : After-settle g)
+sent_settling : (g : Over) (c : After-settle_under g)
     → let way = undo_way c.args.is_fresh c.args.chip.now.kind
     (intent_of c.args.journal.now.state) in
     GoesOn (SettlesWithin (byte_of way) (limit_of way)) (g.R.Rig.view c.args.rig.now).calls
-    (g.R.Rig.view c.settle.new.rig).calls
+    (g.R.Rig.view c.settle_under.new.rig).calls
 sent_settling g c =
     let V = g.R.Rig.view in
-    let P : Way → Type 0 =
-    λ w. GoesOn (SettlesWithin (byte_of w) (limit_of w)) (V c.args.rig.now).calls
-    (V c.settle.new.rig).calls in
-    subst P (way_settled g c) c.settle.ensures.calls
+    let a = (V c.args.rig.now).calls in
+    let b = (V c.settle_under.new.rig).calls in
+    let I : Option Intent → ℕ → Type 0 =
+    λ o limit. GoesOn (SettlesWithin (settling_byte o) limit) a b in
+    let P : Way → Type 0 = λ w. GoesOn (SettlesWithin (byte_of w) (limit_of w)) a b in
+    at_way g c P
+    (way_sends c.args.chip.now.kind (intent_of c.args.journal.now.state) a b
+    (at_journal g c I c.settle_under.ensures.calls))
 
 pub returns-in_err-connect-clause-calls : goal.returns-in_err-connect-clause-calls
 returns-in_err-connect-clause-calls g c =
@@ -153,54 +167,54 @@ pub returns-then-connects-clause-calls : goal.returns-then-connects-clause-calls
 returns-then-connects-clause-calls g c =
     sent_there g (goal.at.returns-then-connects-clause-calls g c).After-connect
 
-pub returns-in_err-settle-clause-honest : goal.returns-in_err-settle-clause-honest
-returns-in_err-settle-clause-honest g c h said flashes loaded undoable chip =
+pub returns-in_err-settle_under-clause-honest : goal.returns-in_err-settle_under-clause-honest
+returns-in_err-settle_under-clause-honest g c h said flashes loaded undoable chip =
     let V = g.R.Rig.view in
     let model = g.met.R.Rig.model c.args.rig.now h in
     let within = own_within c.step_laws.ensures c.args.chip.now (V c.args.rig.now) model.device chip in
-    let at = (goal.at.returns-in_err-settle-clause-honest g c).After-settle in
-    let settles = settled g at _ c.in_err-settle.was h loaded undoable.harmless undoable.owed
+    let at = (goal.at.returns-in_err-settle_under-clause-honest g c).After-settle_under in
+    let settles = settled g at _ c.in_err-settle_under.was h loaded undoable.harmless undoable.owed
     within in
     settling_failed c.step_laws.ensures flashes c.args.journal.now (V c.args.rig.now)
-    (V c.settle.new.rig) model loaded undoable c.from_residual-in_err-settle.result settles.keeps
-    settles.fails c.from_residual-in_err-settle.ensures.1
+    (V c.settle_under.new.rig) model loaded undoable c.from_residual-in_err-settle_under.result settles.keeps
+    settles.fails c.from_residual-in_err-settle_under.ensures.1
 
 pub returns-clause-honest : goal.returns-clause-honest
 returns-clause-honest g c h said flashes loaded undoable chip =
     let V = g.R.Rig.view in
     let model = g.met.R.Rig.model c.args.rig.now h in
     let within = own_within c.step_laws.ensures c.args.chip.now (V c.args.rig.now) model.device chip in
-    let at = (goal.at.returns-clause-honest g c).After-settle in
-    let settles = settled g at _ c.in_ok-settle.was h loaded undoable.harmless undoable.owed
+    let at = (goal.at.returns-clause-honest g c).After-settle_under in
+    let settles = settled g at _ c.in_ok-settle_under.was h loaded undoable.harmless undoable.owed
     within in
     settled_goes c.step_laws.ensures flashes c.args.journal.now (V c.args.rig.now)
-    (V c.settle.new.rig)
+    (V c.settle_under.new.rig)
     model loaded undoable (tt {0}) settles.keeps
-    (g.met.R.Rig.model c.settle.new.rig settles.keeps.honest) settles.ok
+    (g.met.R.Rig.model c.settle_under.new.rig settles.keeps.honest) settles.ok
 
-pub returns-in_err-settle-clause-strays : goal.returns-in_err-settle-clause-strays
-returns-in_err-settle-clause-strays g c h said loaded harmless owed within =
+pub returns-in_err-settle_under-clause-strays : goal.returns-in_err-settle_under-clause-strays
+returns-in_err-settle_under-clause-strays g c h said loaded harmless owed within =
     let V = g.R.Rig.view in
-    let at = (goal.at.returns-in_err-settle-clause-strays g c).After-settle in
-    let settles = settled g at _ c.in_err-settle.was h loaded harmless owed within in
-    strays_stopped (V c.args.rig.now) (V c.settle.new.rig) settles.keeps
-    (g.met.R.Rig.model c.settle.new.rig settles.keeps.honest) c.from_residual-in_err-settle.result
-    settles.fails c.from_residual-in_err-settle.ensures.1
+    let at = (goal.at.returns-in_err-settle_under-clause-strays g c).After-settle_under in
+    let settles = settled g at _ c.in_err-settle_under.was h loaded harmless owed within in
+    strays_stopped (V c.args.rig.now) (V c.settle_under.new.rig) settles.keeps
+    (g.met.R.Rig.model c.settle_under.new.rig settles.keeps.honest) c.from_residual-in_err-settle_under.result
+    settles.fails c.from_residual-in_err-settle_under.ensures.1
 
 pub returns-clause-strays : goal.returns-clause-strays
 returns-clause-strays g c h said loaded harmless owed within =
     let V = g.R.Rig.view in
-    let at = (goal.at.returns-clause-strays g c).After-settle in
-    let settles = settled g at _ c.in_ok-settle.was h loaded harmless owed within in
-    strays_settled (V c.args.rig.now) (V c.settle.new.rig) settles.keeps
-    (g.met.R.Rig.model c.settle.new.rig settles.keeps.honest) (tt {0}) settles.ok
+    let at = (goal.at.returns-clause-strays g c).After-settle_under in
+    let settles = settled g at _ c.in_ok-settle_under.was h loaded harmless owed within in
+    strays_settled (V c.args.rig.now) (V c.settle_under.new.rig) settles.keeps
+    (g.met.R.Rig.model c.settle_under.new.rig settles.keeps.honest) (tt {0}) settles.ok
 
-pub returns-in_err-settle-clause-calls : goal.returns-in_err-settle-clause-calls
-returns-in_err-settle-clause-calls g c =
-    sent_settling g (goal.at.returns-in_err-settle-clause-calls g c).After-settle
+pub returns-in_err-settle_under-clause-calls : goal.returns-in_err-settle_under-clause-calls
+returns-in_err-settle_under-clause-calls g c =
+    sent_settling g (goal.at.returns-in_err-settle_under-clause-calls g c).After-settle_under
 
 pub returns-clause-calls : goal.returns-clause-calls
-returns-clause-calls g c = sent_settling g (goal.at.returns-clause-calls g c).After-settle
+returns-clause-calls g c = sent_settling g (goal.at.returns-clause-calls g c).After-settle_under
 
 pub returns-then-connects-clause-settled : goal.returns-then-connects-clause-settled
 returns-then-connects-clause-settled g c =
@@ -209,12 +223,16 @@ returns-then-connects-clause-settled g c =
     let b = (V c.connect.new.rig).calls in
     let P : Way → Type 0 = λ w. GoesOn (EndsWell w) a b in
     subst P (way_there g (goal.at.returns-then-connects-clause-settled g c).After-connect)
-    (GoesOn-adds (EndsWell Connects) _ a b c.in_ok-connect.ensures.answered refl)
+    c.in_ok-connect.ensures.answered
 
 pub returns-clause-settled : goal.returns-clause-settled
 returns-clause-settled g c =
     let V = g.R.Rig.view in
-    let P : Way → Type 0 =
-    λ w. GoesOn (EndsWell w) (V c.args.rig.now).calls (V c.settle.new.rig).calls in
-    subst P (way_settled g (goal.at.returns-clause-settled g c).After-settle)
-    c.in_ok-settle.ensures.settled
+    let a = (V c.args.rig.now).calls in
+    let b = (V c.settle_under.new.rig).calls in
+    let at = (goal.at.returns-clause-settled g c).After-settle_under in
+    let I : Option Intent → ℕ → Type 0 = λ o limit. GoesOn (EndsUnder o limit) a b in
+    let P : Way → Type 0 = λ w. GoesOn (EndsWell w) a b in
+    at_way g at P
+    (way_ends c.args.chip.now.kind (intent_of c.args.journal.now.state) a b
+    (at_journal g at I c.in_ok-settle_under.ensures.settled))

@@ -18,7 +18,7 @@ loop-sent-init g c =
       went = went_nowhere (V c.args.rig.now);
       brief = refl;
       copies = goes_nowhere (λ zs. zs ≡ []) (V c.args.rig.now).calls refl;
-      honest = λ h other pages start left two going.
+      honest = λ h pages start left two going.
           (keeps_start c.args.byte pages start (V c.args.rig.now) (g.met.R.Rig.model c.args.rig.now h) h going.settling, batch_first c.args.byte pages start left c.args.count (V c.args.rig.now).device going);
     }
 
@@ -36,37 +36,37 @@ loop-sent-preserved g c =
           let b = (V c.loop-sent.rig).calls in
           let d = (V c.put.new.self).calls in
           copies_more c.args.byte c.loop-sent._sent (V c.args.rig.now).calls b d c.loop-sent.invariant.copies (adds_one (Put c.args.byte) u b d c.in_ok-put.ensures.recorded));
-      honest = λ h other pages start left two going.
+      honest = λ h pages start left two going.
           let V = g.R.Rig.view in
           let a = V c.args.rig.now in
           let b = V c.loop-sent.rig in
-          let i = c.loop-sent.invariant.honest h other pages start left two going in
+          let i = c.loop-sent.invariant.honest h pages start left two going in
           let mb = g.met.R.Rig.model c.loop-sent.rig i.0.honest in
           let small = c.ranges.byte.fits in
           let room = c.requires in
           let rest = left + (c.args.count - (c.loop-sent._sent + 1)) in
           let next = batch_next c.args.byte pages start left c.args.count c.loop-sent._sent b.device c.loop-sent-test.true i.1 in
           let d = V c.put.new.self in
-          let one = batch_put c.args.byte pages start rest (259 + c.loop-sent._sent) c.put.result b d mb small other (omega arith) (omega (arith, c.loop-sent-test.true)) next (c.put.ensures.honest i.0.honest) in (
+          let one = batch_put c.args.byte pages start rest (259 + c.loop-sent._sent) c.put.result b d mb small (omega arith) (omega (arith, c.loop-sent-test.true)) next (c.put.ensures.honest i.0.honest) in (
             keeps_then c.args.byte pages start a b d mb i.0 one,
             batch_count c.args.byte pages start rest c.loop-sent._sent d.device
-                (batch_step c.args.byte pages start rest (259 + c.loop-sent._sent) b.device d.device mb.device small other (omega arith) (omega (arith, c.loop-sent-test.true)) next ((c.in_ok-put.ensures.honest i.0.honest).ok.0)),
+                (batch_step c.args.byte pages start rest (259 + c.loop-sent._sent) b.device d.device mb.device small (omega arith) (omega (arith, c.loop-sent-test.true)) next ((c.in_ok-put.ensures.honest i.0.honest).ok.0)),
           );
     }
 
 pub returns-in_err-put-clause-honest : goal.returns-in_err-put-clause-honest
-returns-in_err-put-clause-honest g c h other pages start left two going =
+returns-in_err-put-clause-honest g c h pages start left two going =
     let V = g.R.Rig.view in
     let a = V c.args.rig.now in
     let b = V c.loop-sent.rig in
-    let i = c.loop-sent.invariant.honest h other pages start left two going in
+    let i = c.loop-sent.invariant.honest h pages start left two going in
     let mb = g.met.R.Rig.model c.loop-sent.rig i.0.honest in
     let small = c.ranges.byte.fits in
     let room = c.requires in
     let rest = left + (c.args.count - (c.loop-sent._sent + 1)) in
     let next = batch_next c.args.byte pages start left c.args.count c.loop-sent._sent b.device c.loop-sent-test.true i.1 in
     let d = V c.put.new.self in
-    let one = batch_put c.args.byte pages start rest (259 + c.loop-sent._sent) c.put.result b d mb small other (omega arith) (omega (arith, c.loop-sent-test.true)) next (c.put.ensures.honest i.0.honest) in
+    let one = batch_put c.args.byte pages start rest (259 + c.loop-sent._sent) c.put.result b d mb small (omega arith) (omega (arith, c.loop-sent-test.true)) next (c.put.ensures.honest i.0.honest) in
     let both = keeps_then c.args.byte pages start a b d mb i.0 one in
     record { keeps = both; ok = search rules; fails = search rules }
 
@@ -105,11 +105,11 @@ returns-clause-fails g c =
     (λ p. never_after before Never a b d c.loop-sent.invariant.went.all p) (λ p. floods_after before a b d c.loop-sent.invariant.went.all p) c.drain.ensures.fails
 
 pub returns-clause-honest : goal.returns-clause-honest
-returns-clause-honest g c h other pages start left two going =
+returns-clause-honest g c h pages start left two going =
     let V = g.R.Rig.view in
     let a = V c.args.rig.now in
     let b = V c.loop-sent.rig in
-    let i = c.loop-sent.invariant.honest h other pages start left two going in
+    let i = c.loop-sent.invariant.honest h pages start left two going in
     let mb = g.met.R.Rig.model c.loop-sent.rig i.0.honest in
     let e = V c.drain.new.rig in
     let s = i.1.settling in

@@ -3,27 +3,10 @@ use Rattle.stm_wire.specs.Dialogue.{GoesOn}
 use Rattle.stm_wire.specs.Settling.{PutsAll}
 use Rattle.stm_wire.specs.SettlingCalls.{IsBatch, Floods, Never}
 use Rattle.stm_wire.proofs.Keeping.{keeps_start, keeps_then, going_split}
-use Rattle.stm_wire.proofs.SettlingCalls.{no_batches, batches_more, batches_nothing, batches_answered, batches_used_up}
+use Rattle.stm_wire.proofs.SettlingCalls.{no_batches, batches_more, batches_answered, batches_used_up}
 use Rattle.stm_wire.proofs.SettlingFaults.{fails_on, never_after, floods_after}
 use Rattle.stm_wire.proofs.Talking.{batches_nowhere, batches_went_on, batches_ok, batches_fault, speaks_went}
 use Rattle.stm_wire.proofs.batch.send_batches.Goals as goal
-
-pub returns-then-byte-eq-CONNECT-clause-speaks : goal.returns-then-byte-eq-CONNECT-clause-speaks
-returns-then-byte-eq-CONNECT-clause-speaks g c =
-    let V = g.R.Rig.view in
-    batches_ok c.args.byte c.args.limit c.args.limit (V c.args.rig.now) (V c.args.rig.now) (omega arith) (batches_nowhere c.args.byte c.args.limit (V c.args.rig.now))
-
-pub returns-then-byte-eq-CONNECT-clause-batches : goal.returns-then-byte-eq-CONNECT-clause-batches
-returns-then-byte-eq-CONNECT-clause-batches g c = batches_nothing c.args.byte c.args.limit (g.R.Rig.view c.args.rig.now).calls c.if-byte-eq-CONNECT.true
-
-pub returns-then-byte-eq-CONNECT-clause-honest : goal.returns-then-byte-eq-CONNECT-clause-honest
-returns-then-byte-eq-CONNECT-clause-honest g c h pages start going =
-    let V = g.R.Rig.view in
-    record {
-      keeps = keeps_start c.args.byte pages start (V c.args.rig.now) (g.met.R.Rig.model c.args.rig.now h) h going.settling;
-      ok = going;
-      fails = search rules;
-    }
 
 pub loop-left-init : goal.loop-left-init
 loop-left-init g c =
@@ -60,7 +43,7 @@ loop-left-preserved g c =
           let k = i.honest h pages start going in
           let mb = g.met.R.Rig.model c.loop-left.rig k.0.honest in
           let split = going_split c.args.byte left count pages start b.device (omega arith) k.1 in
-          let l = e.honest k.0.honest c.if-byte-eq-CONNECT.false pages start (left - count) (omega arith) split in
+          let l = e.honest k.0.honest pages start (left - count) (omega arith) split in
           (keeps_then c.args.byte pages start a b d mb k.0 l.keeps, l.ok);
     }
 
@@ -99,7 +82,7 @@ returns-in_err-send_batch-clause-honest g c h pages start going =
     let k = c.loop-left.invariant.honest h pages start going in
     let mb = g.met.R.Rig.model c.loop-left.rig k.0.honest in
     let split = going_split c.args.byte left count pages start b.device (omega arith) k.1 in
-    let l = c.in_err-send_batch.ensures.honest k.0.honest c.if-byte-eq-CONNECT.false pages start (left - count) (omega arith) split in
+    let l = c.in_err-send_batch.ensures.honest k.0.honest pages start (left - count) (omega arith) split in
     let line = l.fails in
     record { keeps = keeps_then c.args.byte pages start a b d mb k.0 l.keeps; ok = search rules; fails = search (rules, line) }
 
@@ -126,7 +109,7 @@ returns-then-branch-clause-batches g c =
     let left = c.loop-left.left in
     let count = c.min-count.result in
     let some = subst (λ (t : Bool). GoesOn (IsBatch c.args.byte count t) b d) c.if-branch.true c.in_ok-send_batch.ensures.batch in
-    batches_answered c.args.byte c.args.limit (left - count) a d c.if-byte-eq-CONNECT.false
+    batches_answered c.args.byte c.args.limit (left - count) a d
     (batches_more c.args.byte c.args.limit left count true a b d c.loop-left-test.true c.min-count.ensures c.loop-left.invariant.batches some)
 
 pub returns-then-branch-clause-honest : goal.returns-then-branch-clause-honest
@@ -142,7 +125,7 @@ returns-then-branch-clause-honest g c h pages start going =
     let k = c.loop-left.invariant.honest h pages start going in
     let mb = g.met.R.Rig.model c.loop-left.rig k.0.honest in
     let split = going_split c.args.byte left count pages start b.device (omega arith) k.1 in
-    let l = c.in_ok-send_batch.ensures.honest k.0.honest c.if-byte-eq-CONNECT.false pages start (left - count) (omega arith) split in
+    let l = c.in_ok-send_batch.ensures.honest k.0.honest pages start (left - count) (omega arith) split in
     record { keeps = keeps_then c.args.byte pages start a b d mb k.0 l.keeps; ok = l.ok; fails = search rules }
 
 pub returns-clause-speaks : goal.returns-clause-speaks
@@ -153,7 +136,7 @@ returns-clause-speaks g c =
 pub returns-clause-batches : goal.returns-clause-batches
 returns-clause-batches g c =
     let V = g.R.Rig.view in
-    batches_used_up c.args.byte c.args.limit c.loop-left.left (V c.args.rig.now).calls (V c.loop-left.rig).calls c.if-byte-eq-CONNECT.false c.loop-left-test.false c.loop-left.invariant.batches
+    batches_used_up c.args.byte c.args.limit c.loop-left.left (V c.args.rig.now).calls (V c.loop-left.rig).calls c.loop-left-test.false c.loop-left.invariant.batches
 
 pub returns-clause-honest : goal.returns-clause-honest
 returns-clause-honest g c h pages start going =

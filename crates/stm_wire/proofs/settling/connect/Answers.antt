@@ -1,123 +1,100 @@
-use Rattle.std.proofs.Common.{rules, ℕ, refl, ◌∙◌, ap, subst, Option, Some, None, [], ◌∷◌, lit≤}
-use Rattle.stm_wire.specs.Rig.{GetsFirst}
-use Rattle.stm_wire.specs.Reply.{ack}
-use Rattle.stm_wire.specs.Device.{Device}
-use Rattle.stm_wire.specs.Settling.{with_nothing_owed}
-use Rattle.stm_wire.proofs.Keeping.{keeps_get, keeps_then, keeps_put, here, taken_one, connected}
-use Rattle.stm_wire.proofs.Going.{settling_connects}
-use Rattle.stm_wire.specs.declared.fault.WireFault.TheVariants.{Garbled, Quiet}
-use Rattle.stm_wire.proofs.Talking.{went_put, failed_put, failed_then, failed_get, speaks_ok, speaks_line, speaks_other, went_both}
-use Rattle.stm_wire.specs.SettlingCalls.{IsUnanswered, IsNoAck}
+use Rattle.std.proofs.Common.{rules, refl, ◌∙◌, ap, Bool, Result, Err, Some, [], ◌∷◌, lit≤, inl, inr}
+use Rattle.stm_wire.specs.declared.fault.WireFault.{WireFault}
 use Rattle.stm_wire.specs.Call.{Put, Get}
-use Rattle.stm_wire.proofs.SettlingCalls.{adds_both}
-use Rattle.stm_wire.proofs.SettlingFaults.{fails_quiet, fails_garbled}
-use Rattle.stm_wire.proofs.Turns.{Adds-GoesOn}
+use Rattle.stm_wire.specs.Reply.{ack}
+use Rattle.stm_wire.specs.Settling.{with_nothing_owed}
+use Rattle.stm_wire.specs.SettlingCalls.{Floods, IsConnected, IsDrained, IsNoAck, IsUnanswered, IsUnconnected, Never}
+use Rattle.stm_wire.proofs.Keeping.{keeps_then, here}
+use Rattle.stm_wire.proofs.SettlingFaults.{adds_before, fails_on, floods_before}
+use Rattle.stm_wire.proofs.Talking.{went_then, speaks_fault, speaks_ok, speaks_then, speaks_went}
+use Rattle.stm_wire.proofs.Turns.{GoesOn-weaker}
 use Rattle.stm_wire.proofs.settling.connect.Goals as goal
 
-pub returns-in_err-put-clause-honest : goal.returns-in_err-put-clause-honest
-returns-in_err-put-clause-honest g c h byte pages start s at quiet =
+pub returns-in_err-send_connect-clause-honest : goal.returns-in_err-send_connect-clause-honest
+returns-in_err-send_connect-clause-honest g c h byte pages start s at quiet =
+    let l = c.in_err-send_connect.ensures.honest h byte pages start s at quiet in
+    let line = l.fails in
+    record { keeps = l.keeps; ok = search rules; fails = search (rules, line) }
+
+pub returns-in_err-drain-clause-honest : goal.returns-in_err-drain-clause-honest
+returns-in_err-drain-clause-honest g c h byte pages start s at quiet =
     let V = g.R.Rig.view in
     let a = V c.args.rig.now in
-    let b = V c.put.new.self in
-    let ma = g.met.R.Rig.model c.args.rig.now h in
-    let one = keeps_put byte 0x7F pages start c.put.result a b ma s (λ d f. settling_connects byte pages start a.device d ma.device s at quiet f) (c.put.ensures.honest h) in
-    record { keeps = one; ok = search rules; fails = search rules }
+    let b = V c.send_connect.new.rig in
+    let d = V c.drain.new.rig in
+    let k = c.in_ok-send_connect.ensures.honest h byte pages start s at quiet in
+    let mb = g.met.R.Rig.model c.send_connect.new.rig k.keeps.honest in
+    let sb = (here byte pages start a b mb k.keeps).1 in
+    let line = c.in_err-drain.ensures.line k.keeps.honest sb.owed in
+    record { keeps = keeps_then byte pages start a b d mb k.keeps (c.drain.ensures.keeps k.keeps.honest byte pages start sb); ok = search rules; fails = search (rules, line) }
 
-pub returns-in_err-get-clause-honest : goal.returns-in_err-get-clause-honest
-returns-in_err-get-clause-honest g c h byte pages start s at quiet =
+pub returns-clause-honest : goal.returns-clause-honest
+returns-clause-honest g c h byte pages start s at quiet =
     let V = g.R.Rig.view in
     let a = V c.args.rig.now in
-    let b = V c.put.new.self in
-    let ma = g.met.R.Rig.model c.args.rig.now h in
-    let one = keeps_put byte 0x7F pages start c.put.result a b ma s (λ d f. settling_connects byte pages start a.device d ma.device s at quiet f) (c.put.ensures.honest h) in
-    let is = connected a.device b.device at quiet ((c.in_ok-put.ensures.honest h).ok.0) in
-    let mb = g.met.R.Rig.model c.put.new.self one.honest in
-    let sb = (here byte pages start a b mb one).1 in
-    let d = V c.get.new.self in
-    let two = keeps_then byte pages start a b d mb one (keeps_get byte pages start c.get.result b d mb sb (c.get.ensures.honest one.honest)) in
-    record { keeps = two; ok = search rules; fails = search rules }
+    let b = V c.send_connect.new.rig in
+    let d = V c.drain.new.rig in
+    let k = c.in_ok-send_connect.ensures.honest h byte pages start s at quiet in
+    let mb = g.met.R.Rig.model c.send_connect.new.rig k.keeps.honest in
+    let sb = (here byte pages start a b mb k.keeps).1 in
+    record {
+      keeps = keeps_then byte pages start a b d mb k.keeps (c.drain.ensures.keeps k.keeps.honest byte pages start sb);
+      ok = c.in_ok-drain.ensures.empty k.keeps.honest ∙ ap with_nothing_owed k.ok;
+      fails = search rules;
+    }
 
-pub returns-in-Some-eq121-clause-honest : goal.returns-in-Some-eq121-clause-honest
-returns-in-Some-eq121-clause-honest g c h byte pages start s at quiet =
+pub returns-in_err-send_connect-clause-speaks : goal.returns-in_err-send_connect-clause-speaks
+returns-in_err-send_connect-clause-speaks g c =
     let V = g.R.Rig.view in
-    let a = V c.args.rig.now in
-    let b = V c.put.new.self in
-    let ma = g.met.R.Rig.model c.args.rig.now h in
-    let one = keeps_put byte 0x7F pages start c.put.result a b ma s (λ d f. settling_connects byte pages start a.device d ma.device s at quiet f) (c.put.ensures.honest h) in
-    let is = connected a.device b.device at quiet ((c.in_ok-put.ensures.honest h).ok.0) in
-    let mb = g.met.R.Rig.model c.put.new.self one.honest in
-    let sb = (here byte pages start a b mb one).1 in
-    let d = V c.get.new.self in
-    let two = keeps_then byte pages start a b d mb one (keeps_get byte pages start c.get.result b d mb sb (c.get.ensures.honest one.honest)) in
-    let got = taken_one ack b.device d.device (ap (λ (x : Device). x.owed) is) c.in-Some-eq121.field-0 (subst (λ (o : Option ℕ). GetsFirst o b.device d.device) c.in-Some-eq121.is (c.in_ok-get.ensures.honest one.honest).ok) in
-    record { keeps = two; ok = got.1 ∙ ap with_nothing_owed is; fails = search rules }
+    speaks_fault (0x7F ∷ []) [] 2 4099 c.in_err-send_connect.field-0.0 c.from_residual.result (V c.args.rig.now) (V c.send_connect.new.rig) (lit≤ tt) c.from_residual.ensures.1 c.in_err-send_connect.ensures.speaks
 
-pub returns-in_err-put-clause-speaks : goal.returns-in_err-put-clause-speaks
-returns-in_err-put-clause-speaks g c =
+pub returns-in_err-drain-clause-speaks : goal.returns-in_err-drain-clause-speaks
+returns-in_err-drain-clause-speaks g c =
     let V = g.R.Rig.view in
-    let e = c.in_err-put.ensures in
-    speaks_line (0x7F ∷ []) [] 1 2 c.from_residual.result (V c.args.rig.now) (V c.put.new.self) (lit≤ tt) (failed_put (Unit {0}) 0x7F c.in_err-put.field-0.0 (V c.args.rig.now) (V c.put.new.self) e.cause e.journal_count e.recorded e.honest) c.from_residual.ensures.1
-
-pub returns-in_err-get-clause-speaks : goal.returns-in_err-get-clause-speaks
-returns-in_err-get-clause-speaks g c =
-    let V = g.R.Rig.view in
-    let e = c.in_ok-put.ensures in
-    let f = c.in_err-get.ensures in
     let u : Unit {0} = tt in
     let a = V c.args.rig.now in
-    let b = V c.put.new.self in
-    let d = V c.get.new.self in
-    speaks_line (0x7F ∷ []) [] 2 2 c.from_residual-in_err-get.result a d (lit≤ tt)
-    (failed_then (0x7F ∷ []) [] 1 1 a b d (went_put 0x7F u a b e.cause e.journal_count e.recorded e.honest) (failed_get c.in_err-get.field-0.0 b d f.cause f.journal_count f.recorded f.honest)) c.from_residual-in_err-get.ensures.1
+    let b = V c.send_connect.new.rig in
+    let d = V c.drain.new.rig in
+    let fault = c.in_err-drain.field-0.0 in
+    let failed : Result Bool WireFault = Err fault in
+    speaks_fault (0x7F ∷ []) [] 4099 4099 fault c.from_residual-in_err-drain.result a d (lit≤ tt) c.from_residual-in_err-drain.ensures.1
+    (speaks_then (0x7F ∷ []) [] 2 4097 failed a b d (speaks_went (0x7F ∷ []) 2 u a b c.in_ok-send_connect.ensures.speaks) c.in_err-drain.ensures.speaks)
 
-pub returns-in-Some-eq121-clause-speaks : goal.returns-in-Some-eq121-clause-speaks
-returns-in-Some-eq121-clause-speaks g c =
-    let V = g.R.Rig.view in
-    let e = c.in_ok-put.ensures in
-    let f = c.in_ok-get.ensures in
-    let u : Unit {0} = tt in
-    speaks_ok (0x7F ∷ []) 2 u (V c.args.rig.now) (V c.get.new.self)
-    (went_both 0x7F u c.in_ok-get.field-0 (V c.args.rig.now) (V c.put.new.self) (V c.get.new.self) e.cause e.journal_count e.recorded f.cause f.journal_count f.recorded e.honest f.honest)
-
-pub returns-in-Some-clause-speaks : goal.returns-in-Some-clause-speaks
-returns-in-Some-clause-speaks g c =
-    let V = g.R.Rig.view in
-    let e = c.in_ok-put.ensures in
-    let f = c.in_ok-get.ensures in
-    let u : Unit {0} = tt in
-    speaks_other (0x7F ∷ []) [] 2 2 Garbled (V c.args.rig.now) (V c.get.new.self) (lit≤ tt) (λ same. cc)
-    (went_both 0x7F u c.in_ok-get.field-0 (V c.args.rig.now) (V c.put.new.self) (V c.get.new.self) e.cause e.journal_count e.recorded f.cause f.journal_count f.recorded e.honest f.honest)
-
-pub returns-in-None-clause-speaks : goal.returns-in-None-clause-speaks
-returns-in-None-clause-speaks g c =
-    let V = g.R.Rig.view in
-    let e = c.in_ok-put.ensures in
-    let f = c.in_ok-get.ensures in
-    let u : Unit {0} = tt in
-    speaks_other (0x7F ∷ []) [] 2 2 Quiet (V c.args.rig.now) (V c.get.new.self) (lit≤ tt) (λ same. cc)
-    (went_both 0x7F u c.in_ok-get.field-0 (V c.args.rig.now) (V c.put.new.self) (V c.get.new.self) e.cause e.journal_count e.recorded f.cause f.journal_count f.recorded e.honest f.honest)
-
-pub returns-in-Some-eq121-clause-answered : goal.returns-in-Some-eq121-clause-answered
-returns-in-Some-eq121-clause-answered g c =
+pub returns-clause-speaks : goal.returns-clause-speaks
+returns-clause-speaks g c =
     let V = g.R.Rig.view in
     let u : Unit {0} = tt in
-    adds_both 0x7F u c.in_ok-get.field-0 (Some ack) (V c.args.rig.now).calls (V c.put.new.self).calls (V c.get.new.self).calls (c.in-Some-eq121.is ∙ ap (λ n. Some n) c.in-Some-eq121.field-0-test) c.in_ok-put.ensures.recorded c.in_ok-get.ensures.recorded
+    let a = V c.args.rig.now in
+    let b = V c.send_connect.new.rig in
+    let d = V c.drain.new.rig in
+    speaks_ok (0x7F ∷ []) 4099 u a d
+    (went_then (0x7F ∷ []) [] 2 4097 a b d (speaks_went (0x7F ∷ []) 2 u a b c.in_ok-send_connect.ensures.speaks) (speaks_went [] 4097 c.in_ok-drain.field-0 b d c.in_ok-drain.ensures.speaks))
 
-pub returns-in-Some-clause-fails : goal.returns-in-Some-clause-fails
-returns-in-Some-clause-fails g c =
+pub returns-clause-answered : goal.returns-clause-answered
+returns-clause-answered g c =
     let V = g.R.Rig.view in
-    let u : Unit {0} = tt in
+    let seen = c.in_ok-drain.field-0 in
+    adds_before (Put 0x7F ∷ Get (Some ack) ∷ []) (IsDrained seen) IsConnected (V c.args.rig.now).calls (V c.send_connect.new.rig).calls (V c.drain.new.rig).calls
+    c.in_ok-send_connect.ensures.answered c.in_ok-drain.ensures.drained (λ vs v. record { seen = seen; drained = vs; is = refl; is_drained = v })
+
+pub returns-in_err-send_connect-clause-fails : goal.returns-in_err-send_connect-clause-fails
+returns-in_err-send_connect-clause-fails g c =
+    let V = g.R.Rig.view in
     let a = (V c.args.rig.now).calls in
-    let d = (V c.get.new.self).calls in
-    let x = c.in-Some.field-0 in
-    let both = adds_both 0x7F u c.in_ok-get.field-0 (Some x) a (V c.put.new.self).calls d c.in-Some.is c.in_ok-put.ensures.recorded c.in_ok-get.ensures.recorded in
-    fails_garbled IsUnanswered IsNoAck a d (Adds-GoesOn IsNoAck (Put 0x7F ∷ Get (Some x) ∷ []) a d both (x, c.in-Some.field-0-test.1, refl))
+    let b = (V c.send_connect.new.rig).calls in
+    fails_on IsUnanswered IsNoAck IsUnanswered IsUnconnected a b a b c.in_err-send_connect.field-0.0 c.from_residual.result
+    (λ p. p) (λ p. GoesOn-weaker IsNoAck IsUnconnected a b p (λ us u. inr u))
+    c.in_err-send_connect.ensures.fails c.from_residual.ensures.1
 
-pub returns-in-None-clause-fails : goal.returns-in-None-clause-fails
-returns-in-None-clause-fails g c =
+pub returns-in_err-drain-clause-fails : goal.returns-in_err-drain-clause-fails
+returns-in_err-drain-clause-fails g c =
     let V = g.R.Rig.view in
-    let u : Unit {0} = tt in
     let a = (V c.args.rig.now).calls in
-    let d = (V c.get.new.self).calls in
-    let both = adds_both 0x7F u c.in_ok-get.field-0 None a (V c.put.new.self).calls d c.in-None.is c.in_ok-put.ensures.recorded c.in_ok-get.ensures.recorded in
-    fails_quiet IsUnanswered IsNoAck a d (Adds-GoesOn IsUnanswered (Put 0x7F ∷ Get None ∷ []) a d both refl)
+    let b = (V c.send_connect.new.rig).calls in
+    let d = (V c.drain.new.rig).calls in
+    let head = Put 0x7F ∷ Get (Some ack) ∷ [] in
+    let answered = c.in_ok-send_connect.ensures.answered in
+    fails_on Never Floods IsUnanswered IsUnconnected b d a d c.in_err-drain.field-0.0 c.from_residual-in_err-drain.result
+    (λ p. adds_before head Never IsUnanswered a b d answered p (λ vs v. absurd v))
+    (λ p. adds_before head Floods IsUnconnected a b d answered p (λ vs v. inl (floods_before head vs v)))
+    c.in_err-drain.ensures.fails c.from_residual-in_err-drain.ensures.1

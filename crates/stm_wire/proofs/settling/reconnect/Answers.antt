@@ -1,10 +1,8 @@
-use Rattle.std.proofs.Common.{rules, Result, Err, Some, None, [], ◌∷◌, ◌∙◌, ap, lit≤}
+use Rattle.std.proofs.Common.{rules, Result, Err, [], ◌∷◌, ◌∙◌, ap, lit≤}
 use Rattle.stm_wire.specs.declared.fault.WireFault.{WireFault}
-use Rattle.stm_wire.specs.Call.{Put, Get}
-use Rattle.stm_wire.specs.Reply.{ack, nack}
-use Rattle.stm_wire.specs.SettlingCalls.{Never, IsAnswerTo, IsUnanswered, IsNoAck, IsUnconfirmed, IsGarbled}
-use Rattle.stm_wire.proofs.SettlingFaults.{fails_on, fails_all_weaker, adds_before, garbled_first, garbled_second, garbled_third}
-use Rattle.stm_wire.proofs.Turns.{Adds-append}
+use Rattle.stm_wire.specs.SettlingCalls.{Never, IsAnswerTo, IsConnected, IsUnanswered, IsUnconnected, IsUnconfirmed, IsUnended}
+use Rattle.stm_wire.proofs.SettlingCalls.{IsProbed, probed, reconnects}
+use Rattle.stm_wire.proofs.SettlingFaults.{fails_on, fails_all_weaker, never_after, garbled_first, garbled_second, garbled_third}
 use Rattle.std.proofs.lemmas.Result.{on_ok_weaker}
 use Rattle.stm_wire.specs.Device.{Device}
 use Rattle.stm_wire.specs.Command.{with_rest}
@@ -60,7 +58,7 @@ pub returns-in_err-connect-clause-speaks : goal.returns-in_err-connect-clause-sp
 returns-in_err-connect-clause-speaks g c =
     let V = g.R.Rig.view in
     let byte = c.args.byte in
-    speaks_fault (0x7F ∷ []) (byte ∷ byte ∷ []) 2 7 c.in_err-connect.field-0.0 c.from_residual.result (V c.args.rig.now) (V c.connect.new.rig) (lit≤ tt) c.from_residual.ensures.1 c.in_err-connect.ensures.speaks
+    speaks_fault (0x7F ∷ []) (byte ∷ byte ∷ []) 4099 4104 c.in_err-connect.field-0.0 c.from_residual.result (V c.args.rig.now) (V c.connect.new.rig) (lit≤ tt) c.from_residual.ensures.1 c.in_err-connect.ensures.speaks
 
 pub returns-in_err-probe-clause-speaks : goal.returns-in_err-probe-clause-speaks
 returns-in_err-probe-clause-speaks g c =
@@ -72,8 +70,8 @@ returns-in_err-probe-clause-speaks g c =
     let d = V c.probe.new.rig in
     let fault = c.in_err-probe.field-0.0 in
     let failed : Result (Unit {0}) WireFault = Err fault in
-    speaks_fault (0x7F ∷ byte ∷ []) (byte ∷ []) 4 7 fault c.from_residual-in_err-probe.result a d (lit≤ tt) c.from_residual-in_err-probe.ensures.1
-    (speaks_then (0x7F ∷ []) (byte ∷ []) 2 2 failed a b d (speaks_went (0x7F ∷ []) 2 u a b c.in_ok-connect.ensures.speaks) c.in_err-probe.ensures.speaks)
+    speaks_fault (0x7F ∷ byte ∷ []) (byte ∷ []) 4101 4104 fault c.from_residual-in_err-probe.result a d (lit≤ tt) c.from_residual-in_err-probe.ensures.1
+    (speaks_then (0x7F ∷ []) (byte ∷ []) 4099 2 failed a b d (speaks_went (0x7F ∷ []) 4099 u a b c.in_ok-connect.ensures.speaks) c.in_err-probe.ensures.speaks)
 
 pub returns-clause-speaks : goal.returns-clause-speaks
 returns-clause-speaks g c =
@@ -83,8 +81,8 @@ returns-clause-speaks g c =
     let a = V c.args.rig.now in
     let b = V c.connect.new.rig in
     let d = V c.probe.new.rig in
-    let two = went_then (0x7F ∷ []) (byte ∷ []) 2 2 a b d (speaks_went (0x7F ∷ []) 2 u a b c.in_ok-connect.ensures.speaks) (speaks_went (byte ∷ []) 2 u b d c.in_ok-probe.ensures.speaks) in
-    speaks_then (0x7F ∷ byte ∷ []) (byte ∷ []) 4 3 c.confirm.result a d (V c.confirm.new.rig) two c.confirm.ensures.speaks
+    let two = went_then (0x7F ∷ []) (byte ∷ []) 4099 2 a b d (speaks_went (0x7F ∷ []) 4099 u a b c.in_ok-connect.ensures.speaks) (speaks_went (byte ∷ []) 2 u b d c.in_ok-probe.ensures.speaks) in
+    speaks_then (0x7F ∷ byte ∷ []) (byte ∷ []) 4101 3 c.confirm.result a d (V c.confirm.new.rig) two c.confirm.ensures.speaks
 
 pub returns-in_err-connect-clause-fails : goal.returns-in_err-connect-clause-fails
 returns-in_err-connect-clause-fails g c =
@@ -92,7 +90,7 @@ returns-in_err-connect-clause-fails g c =
     let byte = c.args.byte in
     let a = (V c.args.rig.now).calls in
     let b = (V c.connect.new.rig).calls in
-    fails_on IsUnanswered IsNoAck IsUnanswered (IsGarbled byte) a b a b c.in_err-connect.field-0.0 c.from_residual.result (λ p. p) (λ p. garbled_first byte a b p)
+    fails_on IsUnanswered IsUnconnected IsUnanswered (IsUnended byte) a b a b c.in_err-connect.field-0.0 c.from_residual.result (λ p. p) (λ p. garbled_first byte a b p)
     c.in_err-connect.ensures.fails c.from_residual.ensures.1
 
 pub returns-in_err-probe-clause-fails : goal.returns-in_err-probe-clause-fails
@@ -102,9 +100,8 @@ returns-in_err-probe-clause-fails g c =
     let a = (V c.args.rig.now).calls in
     let b = (V c.connect.new.rig).calls in
     let d = (V c.probe.new.rig).calls in
-    let head = Put 0x7F ∷ Get (Some ack) ∷ [] in
-    fails_on Never (IsAnswerTo byte) IsUnanswered (IsGarbled byte) b d a d c.in_err-probe.field-0.0 c.from_residual-in_err-probe.result
-    (λ p. adds_before head Never IsUnanswered a b d c.in_ok-connect.ensures.answered p (λ vs v. absurd v))
+    fails_on Never (IsAnswerTo byte) IsUnanswered (IsUnended byte) b d a d c.in_err-probe.field-0.0 c.from_residual-in_err-probe.result
+    (λ p. never_after IsConnected IsUnanswered a b d c.in_ok-connect.ensures.answered p)
     (λ p. garbled_second byte a b d c.in_ok-connect.ensures.answered p)
     c.in_err-probe.ensures.fails c.from_residual-in_err-probe.ensures.1
 
@@ -116,10 +113,9 @@ returns-clause-fails g c =
     let b = (V c.connect.new.rig).calls in
     let d = (V c.probe.new.rig).calls in
     let e = (V c.confirm.new.rig).calls in
-    let head = Put 0x7F ∷ Get (Some ack) ∷ Put byte ∷ Get None ∷ [] in
-    let two = Adds-append (Put 0x7F ∷ Get (Some ack) ∷ []) (Put byte ∷ Get None ∷ []) a b d c.in_ok-connect.ensures.answered c.in_ok-probe.ensures.quiet in
-    fails_all_weaker Never (IsUnconfirmed byte) IsUnanswered (IsGarbled byte) d e a e c.confirm.result
-    (λ p. adds_before head Never IsUnanswered a d e two p (λ vs v. absurd v))
+    let two = probed byte a b d c.in_ok-connect.ensures.answered c.in_ok-probe.ensures.quiet in
+    fails_all_weaker Never (IsUnconfirmed byte) IsUnanswered (IsUnended byte) d e a e c.confirm.result
+    (λ p. never_after (IsProbed byte) IsUnanswered a d e two p)
     (λ p. garbled_third byte a d e two p)
     c.confirm.ensures.fails
 
@@ -131,6 +127,5 @@ returns-clause-settled g c =
     let b = (V c.connect.new.rig).calls in
     let d = (V c.probe.new.rig).calls in
     let e = (V c.confirm.new.rig).calls in
-    let head = Put 0x7F ∷ Get (Some ack) ∷ Put byte ∷ Get None ∷ [] in
-    let two = Adds-append (Put 0x7F ∷ Get (Some ack) ∷ []) (Put byte ∷ Get None ∷ []) a b d c.in_ok-connect.ensures.answered c.in_ok-probe.ensures.quiet in
-    on_ok_weaker c.confirm.result (λ w. Adds-append head (Put byte ∷ Get (Some nack) ∷ Get None ∷ []) a d e two w) c.confirm.ensures.refused
+    let two = probed byte a b d c.in_ok-connect.ensures.answered c.in_ok-probe.ensures.quiet in
+    on_ok_weaker c.confirm.result (λ w. reconnects byte a d e two w) c.confirm.ensures.refused

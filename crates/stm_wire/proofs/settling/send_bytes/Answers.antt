@@ -3,7 +3,7 @@ use Rattle.stm_wire.specs.declared.fault.WireFault.{WireFault}
 use Rattle.stm_wire.specs.Dialogue.{GoesOn}
 use Rattle.stm_wire.specs.SentList.{settling_run}
 use Rattle.stm_wire.specs.Settling.{PutsAll, PutsPart}
-use Rattle.stm_wire.specs.SettlingCalls.{AreUnrefused, IsRefused, IsUnanswered, IsGarbled, EndsQuiet, EndsGarbled, Floods, Never}
+use Rattle.stm_wire.specs.SettlingCalls.{AreUnrefused, IsRefused, IsUnanswered, IsUnended, EndsQuiet, EndsGarbled, Floods, Never}
 use Rattle.stm_wire.proofs.Talking.{went_nowhere, all_part, part_run, speaks_more, cause_fault}
 use Rattle.std.proofs.lemmas.Bool.{MatchBool-at_true, MatchBool-at_false}
 use Rattle.std.proofs.lemmas.Result.{on_ok_weaker}
@@ -119,7 +119,7 @@ returns-in_err-send_once-clause-calls g c =
     let fault = c.in_err-send_once.field-0.0 in
     let failed : Result Bool WireFault = Err fault in
     let s = speaks_more c.args.byte n failed (V c.args.rig.now) (V c.loop-sent.rig) (V c.send_once.new.rig) c.loop-sent.invariant.went c.in_err-send_once.ensures.speaks in
-    part_run c.args.byte c.args.limit (n + 1) (4099 * (n + 1)) (4099 * c.args.limit + 7) (V c.args.rig.now).calls (V c.send_once.new.rig).calls (omega (arith, c.loop-sent-test.true)) (omega (arith, c.loop-sent-test.true)) s.part
+    part_run c.args.byte c.args.limit (n + 1) (4099 * (n + 1)) (4099 * c.args.limit + 4104) (V c.args.rig.now).calls (V c.send_once.new.rig).calls (omega (arith, c.loop-sent-test.true)) (omega (arith, c.loop-sent-test.true)) s.part
 
 pub returns-then-branch-clause-cause : goal.returns-then-branch-clause-cause
 returns-then-branch-clause-cause g c =
@@ -136,22 +136,22 @@ returns-then-branch-clause-calls g c =
     let n = c.loop-sent._sent in
     let w = went_more c.args.byte n (V c.args.rig.now) (V c.loop-sent.rig) (V c.send_once.new.rig) c.loop-sent.invariant.went
     (speaks_went (c.args.byte ∷ []) 4099 c.in_ok-send_once.field-0 (V c.loop-sent.rig) (V c.send_once.new.rig) c.in_ok-send_once.ensures.speaks) in
-    part_run c.args.byte c.args.limit (n + 1) (4099 * (n + 1)) (4099 * c.args.limit + 7) (V c.args.rig.now).calls (V c.send_once.new.rig).calls (omega (arith, c.loop-sent-test.true)) (omega (arith, c.loop-sent-test.true))
+    part_run c.args.byte c.args.limit (n + 1) (4099 * (n + 1)) (4099 * c.args.limit + 4104) (V c.args.rig.now).calls (V c.send_once.new.rig).calls (omega (arith, c.loop-sent-test.true)) (omega (arith, c.loop-sent-test.true))
     (all_part (replicate (n + 1) c.args.byte) (4099 * (n + 1)) (V c.args.rig.now).calls (V c.send_once.new.rig).calls w.all)
 
 pub returns-clause-cause : goal.returns-clause-cause
 returns-clause-cause g c =
     let V = g.R.Rig.view in
     let n = c.loop-sent._sent in
-    (speaks_then (replicate n c.args.byte) (0x7F ∷ c.args.byte ∷ c.args.byte ∷ []) (4099 * n) 7 c.reconnect.result (V c.args.rig.now) (V c.loop-sent.rig) (V c.reconnect.new.rig) c.loop-sent.invariant.went c.reconnect.ensures.speaks).cause
+    (speaks_then (replicate n c.args.byte) (0x7F ∷ c.args.byte ∷ c.args.byte ∷ []) (4099 * n) 4104 c.reconnect.result (V c.args.rig.now) (V c.loop-sent.rig) (V c.reconnect.new.rig) c.loop-sent.invariant.went c.reconnect.ensures.speaks).cause
 
 pub returns-clause-calls : goal.returns-clause-calls
 returns-clause-calls g c =
     let V = g.R.Rig.view in
     let n = c.loop-sent._sent in
     let all : n ≡ c.args.limit = omega (arith, c.loop-sent-test.false, c.loop-sent.auto) in
-    let P : ℕ → Type 0 = λ k. GoesOn (PutsPart (settling_run c.args.byte k) (4099 * k + 7)) (V c.args.rig.now).calls (V c.reconnect.new.rig).calls in
-    subst P all (speaks_then (replicate n c.args.byte) (0x7F ∷ c.args.byte ∷ c.args.byte ∷ []) (4099 * n) 7 c.reconnect.result (V c.args.rig.now) (V c.loop-sent.rig) (V c.reconnect.new.rig) c.loop-sent.invariant.went c.reconnect.ensures.speaks).part
+    let P : ℕ → Type 0 = λ k. GoesOn (PutsPart (settling_run c.args.byte k) (4099 * k + 4104)) (V c.args.rig.now).calls (V c.reconnect.new.rig).calls in
+    subst P all (speaks_then (replicate n c.args.byte) (0x7F ∷ c.args.byte ∷ c.args.byte ∷ []) (4099 * n) 4104 c.reconnect.result (V c.args.rig.now) (V c.loop-sent.rig) (V c.reconnect.new.rig) c.loop-sent.invariant.went c.reconnect.ensures.speaks).part
 
 pub returns-then-branch-clause-settled : goal.returns-then-branch-clause-settled
 returns-then-branch-clause-settled g c =
@@ -195,7 +195,7 @@ returns-clause-fails g c =
     let d = (V c.reconnect.new.rig).calls in
     let all : n ≡ limit = omega (arith, c.loop-sent-test.false, c.loop-sent.auto) in
     let before = subst (λ (k : ℕ). GoesOn (PutsAll (replicate k byte) (4099 * k)) a b) all c.loop-sent.invariant.went.all in
-    fails_all_weaker IsUnanswered (IsGarbled byte) (EndsQuiet byte limit) (EndsGarbled byte limit) b d a d c.reconnect.result
+    fails_all_weaker IsUnanswered (IsUnended byte) (EndsQuiet byte limit) (EndsGarbled byte limit) b d a d c.reconnect.result
     (λ p. past_now byte limit (4099 * limit) IsUnanswered a b d before p)
-    (λ p. garbled_past byte limit a d (past_now byte limit (4099 * limit) (IsGarbled byte) a b d before p))
+    (λ p. garbled_past byte limit (4099 * limit) a b d before p)
     c.reconnect.ensures.fails
