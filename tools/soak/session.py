@@ -263,13 +263,13 @@ def undo(rig, table, count):
         return 0
     chip = find(table, journal.number)
     check_fits(journal, chip)
-    wire.settle(rig, settling_byte(journal.intent()), settling_limit(chip, journal.intent()))
+    work = journal.intent()
+    wire.settle(rig, settling_byte(work), settling_limit(chip, work), in_batches=work is not None)
     _, codes = wire.get_commands(rig)
     if chip.erase_code() not in codes:
         raise Fault(NO_ERASE)
     if wire.get_id(rig) != chip.number:
         raise Fault(OTHER_DEVICE)
-    work = journal.intent()
     if work is not None:
         kept = next(kept for kept in journal.stack[-1].kept if kept.page == work[1])
         rewrite(rig, journal, chip, kept.page, kept.held)

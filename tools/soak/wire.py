@@ -25,11 +25,11 @@ def drain(rig):
             raise WireFault()
 
 
-def settle(rig, byte, limit=LIMIT):
+def settle(rig, byte, limit=LIMIT, in_batches=False):
     rig.begin("settle")
     drain(rig)
     left = limit
-    if byte != CONNECT:
+    if in_batches or byte != CONNECT:
         left = settle_in_batches(rig, byte, left)
     while left > 0:
         rig.put(byte)
@@ -58,6 +58,7 @@ def connect(rig, byte):
     rig.put(CONNECT)
     if rig.get() != ACK:
         raise WireFault()
+    drain(rig)
     rig.put(byte)
     if rig.get() is not None:
         raise WireFault()
