@@ -29,7 +29,9 @@ pub mod Erasings
 pub mod Frames
 pub mod Programmings
 pub mod SentParts
+pub mod Tellings
 pub mod Orders
+pub mod ToldPages
 pub mod Causes
 pub mod CutShort
 pub mod AskingStops

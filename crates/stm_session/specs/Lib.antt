@@ -3,6 +3,7 @@ pub mod Sending
 pub mod Unwritten
 pub mod Fresh
 pub mod Order
+pub mod Told
 pub mod Undoable
 pub mod Moments
 pub mod PowerLoss
