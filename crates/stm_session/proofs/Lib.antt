@@ -72,6 +72,7 @@ pub mod RunLoop
 pub mod RunContracts
 pub mod ReadRuns
 pub mod OneCommands
+pub mod Arrivals
 pub mod RunOrders
 pub mod KeptSteps
 pub mod KeptRuns

@@ -35,5 +35,6 @@ pub mod Contents
 pub mod ChangeOrder
 pub mod Segments
 pub mod OneCommand
+pub mod Came
 pub mod RunOrder
 pub mod Kept
