@@ -1,5 +1,5 @@
 -- Comparing an image with the flash, block by block.
-use Rattle.std.proofs.Common.{◌≡◌, ℕ, zero, suc, ◌+◌, ◌-◌, ◌*◌, ◌<◌, ◌≤◌, Bool, true, false, IsTrue, List, [], ◌∷◌, length, take, drop, Option, Some, None, is_some, MatchOption, Result, Ok, refl, sym, ◌∙◌, ap, ap₂, arith, if◌then◌else◌}
+use Rattle.std.proofs.Common.{◌≡◌, ℕ, zero, suc, ◌+◌, ◌-◌, ◌*◌, ◌<◌, ◌≤◌, Bool, true, false, IsTrue, List, [], ◌∷◌, ◌++◌, length, take, drop, Option, Some, None, is_some, MatchOption, Result, Ok, refl, sym, ◌∙◌, ap, ap₂, subst, arith, if◌then◌else◌}
 use Rattle.std.specs.List.{AllByRecursion}
 use Rattle.std.proofs.lemmas.Bool.{true≢false}
 use Rattle.std.proofs.lemmas.List.{drop-drop, length-take}
@@ -8,6 +8,7 @@ use Rattle.stm_image.specs.Pairs.{Pairs, IsNext, byte_at}
 use Rattle.stm_wire.specs.Chip.{ChipData, flash_size, fits_inside}
 use Rattle.stm_wire.specs.Device.{IsSettled}
 use Rattle.stm_wire.specs.Dialogue.{GoesOn}
+use Rattle.stm_wire.specs.Frames.{read_turns}
 use Rattle.stm_wire.specs.Intents.{InPage}
 use Rattle.stm_wire.specs.Parts.{IsPart}
 use Rattle.stm_wire.specs.PartLaws.{part_longer, parts_join}
@@ -18,8 +19,10 @@ use Rattle.stm_session.specs.Answers.{first_difference, has_byte}
 use Rattle.stm_session.specs.Asking.{Asks}
 use Rattle.stm_session.specs.Reading.{IsNextBlock}
 use Rattle.stm_session.specs.Fault.{Cause}
-use Rattle.stm_session.specs.Order.{Begin, IsReadOf, ReadsBlock, StopsBy}
+use Rattle.stm_session.specs.Order.{Step, Begin, IsReadOf, ReadsBlock, Sends, StopsBy}
+use Rattle.stm_session.specs.Came.{AgreeInBlocks, CameFor, OneDiffers}
 use Rattle.stm_session.specs.RunOrder.{IsReading, OnlyReads}
+use Rattle.stm_session.proofs.Arrivals.{agree_more}
 use Rattle.stm_session.specs.Running.{bytes_at}
 use Rattle.stm_session.proofs.Asking.{asks_then, settled_still}
 use Rattle.stm_session.proofs.Differences.{first-difference-is-first, no-difference-agrees}
@@ -91,7 +94,7 @@ pub record IsComparedSoFar (chip : ChipData) (image : Pairs) (done : ℕ) (old n
   pub journal : new.journal_failures ≡ old.journal_failures
   pub stays : old.is_honest → new.is_honest
   pub parts : GoesOn (IsPart (Some chip) true (13 * done)) old.calls new.calls
-  pub reads : OnlyReads chip old new
+  pub reads : OnlyReads chip (AgreeInBlocks image chip.base (chip.base + done)) old new
   pub honest : old.is_honest → IsSettled old.device → old.device.chip ≡ chip
       → Asks {T = Unit {0}} old new (Ok tt) (λ x. first_difference image chip.base old.device.flash ≡ first_difference image (chip.base + done) (drop done old.device.flash))
 
@@ -120,11 +123,33 @@ module _ (chip : ChipData) (image : Pairs) (done : ℕ) (block : Block) (old mid
       part_longer (Some chip) whole (13 * done + (12 + block.size)) (13 * (offset + block.size)) old.calls new.calls (omega (arith, low, is.inside, is.size.cut, is.size.is_rest.some))
       (parts_join (Some chip) whole (13 * done) (12 + block.size) old.calls mid.calls new.calls so_far.parts (puts page within))
 
-  pub compared_reads : (answer : List ℕ) → ReadsBlock block.address block.size answer mid new → OnlyReads chip old new
-  compared_reads answer reads = block_read chip block.address (flash_size chip - offset) block.size answer old mid new (omega (arith, low, is.inside)) is.size so_far.reads reads
+  pub compared_reads : (Q : List Step → Type 0) (answer : List ℕ) → ReadsBlock block.address block.size answer mid new
+      → ((xs : List Step) → AgreeInBlocks image chip.base (chip.base + done) xs → Q (xs ++ Sends (read_turns block.address answer) ∷ [])) → OnlyReads chip Q old new
+  compared_reads Q answer reads longer =
+      block_read chip (AgreeInBlocks image chip.base (chip.base + done)) Q block.address (flash_size chip - offset) block.size answer old mid new longer (omega (arith, low, is.inside)) is.size so_far.reads reads
+
+  -- it agrees
+  pub reads_agree : (found : Option ℕ) (answer : List ℕ) (to : ℕ) → to ≡ chip.base + (offset + block.size) → is_some found ≡ false → found ≡ first_difference image block.address answer → ReadsBlock block.address block.size answer mid new
+      → OnlyReads chip (AgreeInBlocks image chip.base to) old new
+  reads_agree (Some place) answer to at none is_found reads = absurd (true≢false none)
+  reads_agree None answer to at none is_found reads =
+      let end : block.address + length answer ≡ to = omega (arith, at, low, reads.size) in
+      compared_reads (AgreeInBlocks image chip.base to) answer reads
+      (λ xs agree.
+      let own : List Step = Sends (read_turns block.address answer) ∷ [] in
+      let P : ℕ → Type 0 = λ m. AgreeInBlocks image chip.base m (xs ++ own) in
+      subst P end (agree_more image chip.base (chip.base + done) (block.address, is.byte) answer xs agree is.next (sym is_found)))
+
+  -- or it differs
+  pub reads_differ : (found : Option ℕ) (answer : List ℕ) → is_some found ≡ true → found ≡ first_difference image block.address answer → ReadsBlock block.address block.size answer mid new → OnlyReads chip (CameFor image chip.base found) old new
+  reads_differ None answer some is_found reads = absurd (true≢false (sym some))
+  reads_differ (Some place) answer some is_found reads =
+      compared_reads (OneDiffers image chip.base place) answer reads
+      (λ xs agree.
+      record { to = chip.base + done; before = xs; agree = agree; next = (block.address, is.byte); is_next = is.next; answer = answer; differs = sym is_found; is = refl })
 
   pub compared_stop : (cause : Cause) → ((torn : Bool) → StopsBy (Begin (IsReadOf block.address block.size)) cause torn mid new) → (torn : Bool) → StopsBy (AllByRecursion (IsReading chip)) cause torn old new
-  compared_stop cause stops = block_stop chip block.address (flash_size chip - offset) block.size cause old mid new (omega (arith, low, is.inside)) is.size so_far.reads stops
+  compared_stop cause stops = block_stop chip (AgreeInBlocks image chip.base (chip.base + done)) block.address (flash_size chip - offset) block.size cause old mid new (omega (arith, low, is.inside)) is.size so_far.reads stops
 
   module _ (law : AgreesBefore) (honest : old.is_honest) (settled : IsSettled old.device) (chip_is : old.device.chip ≡ chip) where
     past : Asks {T = Unit {0}} old mid (Ok tt) (λ x. first_difference image chip.base old.device.flash ≡ first_difference image (chip.base + done) (drop done old.device.flash))

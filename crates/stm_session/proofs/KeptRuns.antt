@@ -21,6 +21,7 @@ use Rattle.stm_session.specs.Fault.{Cause, cause_of}
 use Rattle.stm_session.specs.ChangeOrder.{AreTurned, none, more, IsChangedUnless, IsOneSegment, IsSaved, IsSavedWith, IsSegmentBegun, begins, turns, ends, IsTurnOf}
 use Rattle.stm_session.specs.Contents.{content}
 use Rattle.stm_session.specs.Fresh.{Settles, Way}
+use Rattle.stm_session.specs.Answers.{OutcomeData}
 use Rattle.stm_session.specs.Meaning.{CommandData, is_change}
 use Rattle.stm_session.specs.Order.{Step, Adds, AreCutShort, IsAfter, ReachesAndDoes, ReachesAndStops, Session, SettlesThen, asking_steps, page_reads, page_address}
 use Rattle.stm_session.specs.RunOrder.{AreBegun, AreDone, none as nothing_done, more as more_done, IsBegunIf, IsDoneIf, IsReading, RunsInOrder, RunStops}
@@ -209,28 +210,28 @@ module _ (lengths : (set : Pairs) (address : ℕ) (bytes : List ℕ) → length 
   done_by true chip c s steps (change, is, segment) = one_segment chip change s steps segment
   done_by false chip c s steps are = readings_lead chip None steps are
 
-  done_leads : (chip : ChipData) (commands : List CommandData) (s last : StateData) (steps : List Step) → AreDone chip commands s last steps → Leads chip None steps None
-  done_leads chip _ _ _ _ (nothing_done s) = leads_nothing chip None
-  done_leads chip _ _ _ _ (more_done commands c s mid last before own are is depth) =
-      leads_then chip None None None before own (done_leads chip commands s mid before are) (done_by (is_change c) chip c mid own is)
+  done_leads : (chip : ChipData) (commands : List CommandData) (outcomes : List OutcomeData) (s last : StateData) (steps : List Step) → AreDone chip commands outcomes s last steps → Leads chip None steps None
+  done_leads chip _ _ _ _ _ (nothing_done s) = leads_nothing chip None
+  done_leads chip _ _ _ _ _ (more_done commands c outcomes said s mid last before own are is depth) =
+      leads_then chip None None None before own (done_leads chip commands outcomes s mid before are) (done_by (is_change c) chip c mid own is.0)
 
   begun_by : (changes : Bool) (chip : ChipData) (c : CommandData) (s : StateData) (steps : List Step) → IsBegunIf changes chip c s steps → KeepsFirst chip None steps
   begun_by true chip c s steps (change, is, segment) = segment_begun chip change s steps segment
   begun_by false chip c s steps are = (readings_lead chip None steps are).keeps
 
-  begun_keep : (chip : ChipData) (commands : List CommandData) (s : StateData) (steps : List Step) → AreBegun chip commands s steps → KeepsFirst chip None steps
-  begun_keep chip commands s steps (inl is) = let P : List Step → Type 0 = λ xs. KeepsFirst chip None xs in subst P (sym is) tt
-  begun_keep chip commands s steps (inr begun) =
+  begun_keep : (fault : Fault) (chip : ChipData) (commands : List CommandData) (s : StateData) (steps : List Step) → AreBegun fault chip commands s steps → KeepsFirst chip None steps
+  begun_keep fault chip commands s steps (inl is) = let P : List Step → Type 0 = λ xs. KeepsFirst chip None xs in subst P (sym is) tt
+  begun_keep fault chip commands s steps (inr begun) =
       let P : List Step → Type 0 = λ xs. KeepsFirst chip None xs in
       let Q : Option (List ℕ) → Type 0 = λ kept. KeepsFirst chip kept begun.own in
-      let before = done_leads chip begun.earlier s begun.mid begun.before begun.are_done in
+      let before = done_leads chip begun.earlier begun.outcomes s begun.mid begun.before begun.are_done in
       subst P (sym begun.is) (keeps_then chip None begun.before begun.own before.keeps (subst Q (sym before.behind) (begun_by (is_change begun.command) chip begun.command begun.mid begun.own begun.is_begun)))
 
   -- runs
   pub run_keeps : (table : List ChipData) (commands : List CommandData) (old new : RigState) → RunsInOrder table commands old new → RunKeeps table old new
   run_keeps table commands old new =
-      as_session table old _ _ (λ chip l sound. does_as (Settles 0x7F 131072) chip.id l.is_torn _ _ old new (λ steps are. let leads = done_leads chip commands l.state are.0 steps are.1 in (leads.keeps, leads.behind)))
+      as_session table old _ _ (λ chip l sound. does_as (Settles 0x7F 131072) chip.id l.is_torn _ _ old new (λ steps are. let leads = done_leads chip commands are.0 l.state are.1 steps are.2 in (leads.keeps, leads.behind)))
 
   pub run_stops_kept : (table : List ChipData) (commands : List CommandData) (old new : RigState) (fault : Fault) → RunStops table commands old new fault → RunStopsKept table old new fault
   run_stops_kept table commands old new fault (inl unreached) = inl unreached
-  run_stops_kept table commands old new fault (inr cut) = inr (as_session table old _ _ (λ chip l sound. stops_as (Settles 0x7F 131072) chip.id l.is_torn _ _ (cause_of fault) old new (λ steps are. begun_keep chip commands l.state steps are)) cut)
+  run_stops_kept table commands old new fault (inr cut) = inr (as_session table old _ _ (λ chip l sound. stops_as (Settles 0x7F 131072) chip.id l.is_torn _ _ (cause_of fault) old new (λ steps are. begun_keep fault chip commands l.state steps are)) cut)

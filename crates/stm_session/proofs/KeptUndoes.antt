@@ -15,7 +15,7 @@ use Rattle.stm_session.specs.declared.fault.Fault.{Fault}
 use Rattle.stm_session.specs.Fault.{cause_of}
 use Rattle.stm_session.specs.Fresh.{undo_way}
 use Rattle.stm_session.specs.Kept.{IsOfNewest, PutsBack, PutsBackFrom, UndoPutsBack, UndoStopsBack, erases, erasing, programming, reads, undoing, writes}
-use Rattle.stm_session.specs.Order.{Step, Adds, Sends, AreAllTakenBack, AreReturned, AreTaken, AreTakenBack, BeginTaking, IsReturned, IsTakenBack, UndoStopsFrom, UndoesInOrderFrom, page_address, read_steps, restore_steps, rewrite_steps, write_steps}
+use Rattle.stm_session.specs.Order.{Step, Adds, Sends, Tells, AreAllTakenBack, AreReturned, AreTaken, AreTakenBack, BeginTaking, IsReturned, IsTakenBack, UndoStopsFrom, UndoesInOrderFrom, behind, page_address, read_steps, restore_steps, rewrite_steps, untold, write_steps}
 use Rattle.stm_session.proofs.Keeping.{newest-listed}
 use Rattle.stm_session.proofs.KeptRuns.{as_session, does_as, stops_as}
 use Rattle.stm_session.proofs.KeptSteps.{AreInside, bytes_inside, frames_inside, here, later as further}
@@ -70,49 +70,49 @@ module _ (chip : ChipData) (pages : List Kept) (below : List (List Kept)) where
       by_same true = λ ys p. p
       by_same false = rewrite_within n page is size
 
-  returned_within : (n : ℕ) (steps : List Step) → Contains (numbers pages) n → IsReturned chip n steps → Within chip (pages ∷ below) steps
-  returned_within n steps is returned =
+  returned_within : (Told : Tells) (n : ℕ) (steps : List Step) → Contains (numbers pages) n → IsReturned chip Told n steps → Within chip (pages ∷ below) steps
+  returned_within Told n steps is returned =
       let read = read_steps (page_address chip n) (page_size chip n / 256) returned.held in
       let restored = restore_steps chip n returned.held returned.page in
       within_as chip (pages ∷ below) (read ++ restored) steps returned.is
       (within_then chip (pages ∷ below) read restored (reads_within chip (pages ∷ below) (page_address chip n) (page_size chip n / 256) returned.held) (restore_within n returned.held returned.page is returned.size))
 
-  all_within : (kept : List Kept) (steps : List Step) → ((m : ℕ) → Contains (numbers kept) m → Contains (numbers pages) m) → AreReturned chip kept steps → Within chip (pages ∷ below) steps
-  all_within [] steps among is = within_as chip (pages ∷ below) [] steps is (λ ys p. p)
-  all_within (k ∷ kept) steps among (first, rest, is, one, others) =
+  all_within : (Told : Tells) (kept : List Kept) (steps : List Step) → ((m : ℕ) → Contains (numbers kept) m → Contains (numbers pages) m) → AreReturned chip Told kept steps → Within chip (pages ∷ below) steps
+  all_within Told [] steps among is = within_as chip (pages ∷ below) [] steps is (λ ys p. p)
+  all_within Told (k ∷ kept) steps among (first, rest, is, one, others) =
       within_as chip (pages ∷ below) (first ++ rest) steps is
-      (within_then chip (pages ∷ below) first rest (returned_within k.page first (among k.page (here k.page (numbers kept))) one) (all_within kept rest (λ m is_one. among m (further m k.page (numbers kept) is_one)) others))
+      (within_then chip (pages ∷ below) first rest (returned_within Told k.page first (among k.page (here k.page (numbers kept))) one) (all_within (behind first Told) kept rest (λ m is_one. among m (further m k.page (numbers kept) is_one)) others))
 
   -- the segment is taken back
-  taken_within : (steps : List Step) → IsTakenBack chip pages (length below + 1) steps → (ys : List Step) → PutsBack chip below ys → PutsBack chip (pages ∷ below) (steps ++ ys)
-  taken_within steps taken ys p =
+  taken_within : (Told : Tells) (steps : List Step) → IsTakenBack chip Told pages (length below + 1) steps → (ys : List Step) → PutsBack chip below ys → PutsBack chip (pages ∷ below) (steps ++ ys)
+  taken_within Told steps taken ys p =
       let P : List Step → Type 0 = λ l. PutsBack chip (pages ∷ below) (l ++ ys) in
       let Q : List Step → Type 0 = λ l. PutsBack chip (pages ∷ below) l in
       let last : List Step = Adds (Undoes (length below + 1) ∷ []) ∷ [] in
-      subst P (sym taken.is) (subst Q (sym (append_assoc taken.returns last ys)) (all_within pages taken.returns (λ m is_one. is_one) taken.are_returns (last ++ ys) (below, undoing pages below, p)))
+      subst P (sym taken.is) (subst Q (sym (append_assoc taken.returns last ys)) (all_within Told pages taken.returns (λ m is_one. is_one) taken.are_returns (last ++ ys) (below, undoing pages below, p)))
 
 -- and one after another
-taken_puts : (chip : ChipData) (count : ℕ) (segments : List (List Kept)) (steps : List Step) → AreTakenBack chip count segments steps → PutsBack chip segments steps
-taken_puts chip zero segments steps is = let P : List Step → Type 0 = λ l. PutsBack chip segments l in subst P (sym is) tt
-taken_puts chip (suc count) [] steps is = absurd is
-taken_puts chip (suc count) (pages ∷ below) steps (first, rest, is, one, others) =
+taken_puts : (chip : ChipData) (Told : Tells) (count : ℕ) (segments : List (List Kept)) (steps : List Step) → AreTakenBack chip Told count segments steps → PutsBack chip segments steps
+taken_puts chip Told zero segments steps is = let P : List Step → Type 0 = λ l. PutsBack chip segments l in subst P (sym is) tt
+taken_puts chip Told (suc count) [] steps is = absurd is
+taken_puts chip Told (suc count) (pages ∷ below) steps (first, rest, is, one, others) =
     let P : List Step → Type 0 = λ l. PutsBack chip (pages ∷ below) l in
-    subst P (sym is) (taken_within chip pages below first one rest (taken_puts chip count below rest others))
+    subst P (sym is) (taken_within chip pages below Told first one rest (taken_puts chip (behind first Told) count below rest others))
 
 -- the page of an intent first, which the newest segment keeps
-all_puts : (chip : ChipData) (intent : Option Intent) (count : ℕ) (segments : List (List Kept)) (steps : List Step) → ((i : Intent) → intent ≡ Some i → IsOfNewest (intent_page i) segments)
-    → AreAllTakenBack chip intent count segments steps → PutsBack chip segments steps
-all_puts chip None count segments steps own taken =
+all_puts : (chip : ChipData) (Told : Tells) (intent : Option Intent) (count : ℕ) (segments : List (List Kept)) (steps : List Step) → ((i : Intent) → intent ≡ Some i → IsOfNewest (intent_page i) segments)
+    → AreAllTakenBack chip Told intent count segments steps → PutsBack chip segments steps
+all_puts chip Told None count segments steps own taken =
     let P : List Step → Type 0 = λ l. PutsBack chip segments l in
-    subst P (sym (taken.is ∙ ap (λ (l : List Step). l ++ taken.back) taken.is_first)) (taken_puts chip count segments taken.back taken.are_back)
-all_puts chip (Some intent) count [] steps own taken = absurd (own intent refl)
-all_puts chip (Some intent) count (pages ∷ below) steps own taken =
+    subst P (sym (taken.is ∙ ap (λ (l : List Step). l ++ taken.back) taken.is_first)) (taken_puts chip (behind taken.first Told) count segments taken.back taken.are_back)
+all_puts chip Told (Some intent) count [] steps own taken = absurd (own intent refl)
+all_puts chip Told (Some intent) count (pages ∷ below) steps own taken =
     let n = intent_page intent in
     let segments : List (List Kept) = pages ∷ below in
     let P : List Step → Type 0 = λ l. PutsBack chip segments l in
     let work = taken.is_first in
     subst P (sym taken.is)
-    (within_as chip segments _ taken.first work.is (rewrite_within chip pages below n work.page (own intent refl) work.size) taken.back (taken_puts chip count segments taken.back taken.are_back))
+    (within_as chip segments _ taken.first work.is (rewrite_within chip pages below n work.page (own intent refl) work.size) taken.back (taken_puts chip (behind taken.first Told) count segments taken.back taken.are_back))
 
 -- as it does in each journal without a bad line
 intent_own : (s : StateData) → IsSound s → (i : Intent) → intent_of s ≡ Some i → IsOfNewest (intent_page i) (pages_of_segments s.stack)
@@ -126,7 +126,7 @@ intent_own s sound i is = by_stack s.stack (newest-listed (intent_page i) s.stac
     by_stack (segment ∷ below) kept = kept
 
 taken_puts_back : (taken : ℕ) (chip : ChipData) (s : StateData) (steps : List Step) → IsSound s → AreTaken taken chip s steps → PutsBackFrom chip s steps
-taken_puts_back taken chip s steps sound = all_puts chip (intent_of s) taken (pages_of_segments s.stack) steps (intent_own s sound)
+taken_puts_back taken chip s steps sound = all_puts chip untold (intent_of s) taken (pages_of_segments s.stack) steps (intent_own s sound)
 
 pub undo_puts_back : (is_fresh : Bool) (table : List ChipData) (taken : ℕ) (old new : RigState) → UndoesInOrderFrom is_fresh table taken old new → UndoPutsBack is_fresh table old new
 undo_puts_back is_fresh table taken old new =

@@ -29,7 +29,9 @@ pub mod Erasings
 pub mod Frames
 pub mod Programmings
 pub mod SentParts
+pub mod Tellings
 pub mod Orders
+pub mod ToldPages
 pub mod Causes
 pub mod CutShort
 pub mod AskingStops
@@ -70,6 +72,7 @@ pub mod RunLoop
 pub mod RunContracts
 pub mod ReadRuns
 pub mod OneCommands
+pub mod Arrivals
 pub mod RunOrders
 pub mod KeptSteps
 pub mod KeptRuns

@@ -19,6 +19,7 @@ use Rattle.stm_session.specs.Asking.{Asks}
 use Rattle.stm_session.specs.Reading.{IsBlock, IsPageRest}
 use Rattle.stm_session.specs.Fault.{Cause}
 use Rattle.stm_session.specs.Order.{Step, AreReadsOf, Begin, IsInOrder, IsReadOf, ReadsBlock, Sends, StopsBy, read_steps}
+use Rattle.stm_session.specs.Came.{ComeInBlocks}
 use Rattle.stm_session.specs.RunOrder.{IsReading, OnlyReads}
 use Rattle.stm_session.specs.Running.{bytes_at}
 use Rattle.stm_session.proofs.Asking.{asks_then, settled_still}
@@ -63,7 +64,7 @@ pub record IsReadSoFar (chip : ChipData) (start size done : ℕ) (bytes : List �
   pub stays : old.is_honest → new.is_honest
   pub parts : GoesOn (IsPart (Some chip) true (13 * done)) old.calls new.calls
   pub few : (page : ℕ) → InPage chip page start size → IsReadInPage chip size done old new
-  pub reads : OnlyReads chip old new
+  pub reads : OnlyReads chip (ComeInBlocks start bytes) old new
   pub order : (page : ℕ) → InPage chip page start size → size % 256 ≡ 0 → (torn : Bool) → AreBlocksRead start done bytes torn old new
   pub honest : old.is_honest → IsSettled old.device → old.device.chip ≡ chip
       → Asks {T = Unit {0}} old new (Ok tt) (λ x. bytes ≡ bytes_at chip old.device.flash start done)
@@ -180,16 +181,17 @@ blocks_all start size done bytes torn old new all read =
     subst P is read.steps
 
 -- the next block is read, which lies in one page
-pub block_read : (chip : ChipData) (address left size : ℕ) (answer : List ℕ) (a b c : RigState) → 1 ≤ left → IsBlock chip address left size → OnlyReads chip a b → ReadsBlock address size answer b c → OnlyReads chip a c
-block_read chip address left size answer a b c some is before reads =
+pub block_read : (chip : ChipData) (P Q : List Step → Type 0) (address left size : ℕ) (answer : List ℕ) (a b c : RigState) → ((xs : List Step) → P xs → Q (xs ++ Sends (read_turns address answer) ∷ [])) → 1 ≤ left → IsBlock chip address left size
+    → OnlyReads chip P a b → ReadsBlock address size answer b c → OnlyReads chip Q a c
+block_read chip P0 Q address left size answer a b c longer some is before reads =
     let (page, within) = block_in_page chip address left size is in
     let P : ℕ → Type 0 = λ n. (1 ≤ n) × (n ≤ 256) × InPage chip page address n in
     let fits = subst P (sym reads.size) (omega (arith, some, is.cut, is.is_rest.some), omega (arith, is.cut), within) in
-    reads_more chip page address answer a b c fits.0 fits.1 fits.2 before reads.sent
+    reads_more chip P0 Q page address answer a b c longer fits.0 fits.1 fits.2 before reads.sent
 
 -- or begun
-pub block_stop : (chip : ChipData) (address left size : ℕ) (cause : Cause) (a b c : RigState) → 1 ≤ left → IsBlock chip address left size → OnlyReads chip a b
+pub block_stop : (chip : ChipData) (P : List Step → Type 0) (address left size : ℕ) (cause : Cause) (a b c : RigState) → 1 ≤ left → IsBlock chip address left size → OnlyReads chip P a b
     → ((torn : Bool) → StopsBy (Begin (IsReadOf address size)) cause torn b c) → (torn : Bool) → StopsBy (AllByRecursion (IsReading chip)) cause torn a c
-block_stop chip address left size cause a b c some is before stops =
+block_stop chip P address left size cause a b c some is before stops =
     let (page, within) = block_in_page chip address left size is in
-    reads_stop chip page address size cause a b c (omega (arith, some, is.cut, is.is_rest.some)) (omega (arith, is.cut)) within before stops
+    reads_stop chip P page address size cause a b c (omega (arith, some, is.cut, is.is_rest.some)) (omega (arith, is.cut)) within before stops

@@ -33,7 +33,7 @@ pub record IsRunSoFar (chip : ChipData) (commands : List Command) (i : ℕ) (out
   pub journal : new.journal_failures ≡ old.journal_failures
   pub stays : old.is_honest → new.is_honest
   pub parts : GoesOn (IsPart (Some chip) true (i * most_of_command)) old.calls new.calls
-  pub order : Follows (AreDone chip (commands_in (take i commands)) l.state l2.state) l l2 old new
+  pub order : Follows (AreDone chip (commands_in (take i commands)) (map outcome_data outcomes.items) l.state l2.state) l l2 old new
   pub honest : (flashes : List (List ℕ)) → IsSteady flashes l old → old.device.chip ≡ chip
       → HasRun (commands_in (take i commands)) flashes l2 old new (map outcome_data outcomes.items)
 

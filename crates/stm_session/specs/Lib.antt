@@ -3,6 +3,7 @@ pub mod Sending
 pub mod Unwritten
 pub mod Fresh
 pub mod Order
+pub mod Told
 pub mod Undoable
 pub mod Moments
 pub mod PowerLoss
@@ -34,5 +35,6 @@ pub mod Contents
 pub mod ChangeOrder
 pub mod Segments
 pub mod OneCommand
+pub mod Came
 pub mod RunOrder
 pub mod Kept

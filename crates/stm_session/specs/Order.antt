@@ -184,53 +184,78 @@ restore_steps chip n held page =
     if bytes_eq held page then []
     else rewrite_steps chip n page (frames_of (erased_byte chip) page (length page / 256))
 
--- a page is read, and given the bytes that the journal keeps
-pub record IsReturned (chip : ChipData) (n : ℕ) (steps : List Step) : Type 0 where
+-- What the journal told on the way: behind these steps just the digits of these bytes.
+abbrev pub Tells : Type 1
+Tells = List Step → List ℕ → Type 0
+
+-- as steps tell it that come behind others
+abbrev pub behind : List Step → Tells → Tells
+behind before Told steps page = Told (before ++ steps) page
+
+-- nothing is said of what it told
+abbrev pub untold : Tells
+untold steps page = Unit {0}
+
+-- what is said of it counts where fewer steps stand before it than these
+abbrev pub so_far : ℕ → Tells → Tells
+so_far count Told steps page = length steps < count → Told steps page
+
+-- Steps that can go on to be such; the journal told each page of which they begin more than to
+-- read it.
+abbrev pub BeginTold : (Tells → List Step → Type 0) → Tells → List Step → Type 0
+BeginTold P Told steps = Begin (P (so_far (length steps) Told)) steps
+
+-- a page is read, and given the bytes that the journal told behind that
+pub record IsReturned (chip : ChipData) (Told : Tells) (n : ℕ) (steps : List Step) : Type 0 where
   pub held : List ℕ
   pub held_size : length held ≡ page_size chip n
   pub page : List ℕ
   pub size : length page ≡ page_size chip n
+  pub told : Told (page_reads chip n held) page
   pub is : steps ≡ page_reads chip n held ++ restore_steps chip n held page
 
 -- each of the pages, in the order of their lines
-abbrev pub AreReturned : ChipData → List Kept → List Step → Type 0
-AreReturned chip [] steps = steps ≡ []
-AreReturned chip (kept ∷ pages) steps = (first : List Step) × (rest : List Step)
-    × (steps ≡ first ++ rest) × IsReturned chip kept.page first × AreReturned chip pages rest
+abbrev pub AreReturned : ChipData → Tells → List Kept → List Step → Type 0
+AreReturned chip Told [] steps = steps ≡ []
+AreReturned chip Told (kept ∷ pages) steps = (first : List Step) × (rest : List Step)
+    × (steps ≡ first ++ rest) × IsReturned chip Told kept.page first
+    × AreReturned chip (behind first Told) pages rest
 
 -- and then the line that says so is appended
-pub record IsTakenBack (chip : ChipData) (pages : List Kept) (number : ℕ)
+pub record IsTakenBack (chip : ChipData) (Told : Tells) (pages : List Kept) (number : ℕ)
     (steps : List Step) : Type 0 where
   pub returns : List Step
-  pub are_returns : AreReturned chip pages returns
+  pub are_returns : AreReturned chip Told pages returns
   pub is : steps ≡ returns ++ Adds (Undoes number ∷ []) ∷ []
 
 -- so many segments of these pages are taken back, the newest first
-abbrev pub AreTakenBack : ChipData → ℕ → List (List Kept) → List Step → Type 0
-AreTakenBack chip zero segments steps = steps ≡ []
-AreTakenBack chip (suc taken) [] steps = ⊥
-AreTakenBack chip (suc taken) (pages ∷ below) steps =
+abbrev pub AreTakenBack : ChipData → Tells → ℕ → List (List Kept) → List Step → Type 0
+AreTakenBack chip Told zero segments steps = steps ≡ []
+AreTakenBack chip Told (suc taken) [] steps = ⊥
+AreTakenBack chip Told (suc taken) (pages ∷ below) steps =
     (first : List Step) × (rest : List Step) × (steps ≡ first ++ rest)
-    × IsTakenBack chip pages (length below + 1) first × AreTakenBack chip taken below rest
+    × IsTakenBack chip Told pages (length below + 1) first
+    × AreTakenBack chip (behind first Told) taken below rest
 
--- a page is given the bytes that the journal keeps, unread
-pub record IsRewritten (chip : ChipData) (n : ℕ) (steps : List Step) : Type 0 where
+-- a page is given the bytes that the journal told first, unread
+pub record IsRewritten (chip : ChipData) (Told : Tells) (n : ℕ) (steps : List Step) : Type 0 where
   pub page : List ℕ
   pub size : length page ≡ page_size chip n
+  pub told : Told [] page
   pub is : steps ≡ rewrite_steps chip n page (frames_of (erased_byte chip) page (length page / 256))
 
 -- the page of an intent is
-abbrev pub IsWorkRewritten : ChipData → Option Intent → List Step → Type 0
-IsWorkRewritten chip None steps = steps ≡ []
-IsWorkRewritten chip (Some intent) steps = IsRewritten chip (intent_page intent) steps
+abbrev pub IsWorkRewritten : ChipData → Tells → Option Intent → List Step → Type 0
+IsWorkRewritten chip Told None steps = steps ≡ []
+IsWorkRewritten chip Told (Some intent) steps = IsRewritten chip Told (intent_page intent) steps
 
 -- the page of the newest segment's intent first, and then so many segments are taken back
-pub record AreAllTakenBack (chip : ChipData) (intent : Option Intent) (taken : ℕ)
+pub record AreAllTakenBack (chip : ChipData) (Told : Tells) (intent : Option Intent) (taken : ℕ)
     (segments : List (List Kept)) (steps : List Step) : Type 0 where
   pub first : List Step
-  pub is_first : IsWorkRewritten chip intent first
+  pub is_first : IsWorkRewritten chip Told intent first
   pub back : List Step
-  pub are_back : AreTakenBack chip taken segments back
+  pub are_back : AreTakenBack chip (behind first Told) taken segments back
   pub is : steps ≡ first ++ back
 
 -- a device was settled, and it showed that it is; and then came such calls
@@ -336,9 +361,12 @@ UndoDoesInPart is_fresh P table old new fault = GoesOn AreFetches old.calls new.
     ⊎ ReachesAndStops way chip.id l.is_torn (P chip l.state) (cause_of fault) old new)
 
 -- so many of the journal's segments are taken back, the page of its intent first
+abbrev pub AreTakenAs : Tells → ℕ → StepsOf
+AreTakenAs Told taken chip s steps =
+    AreAllTakenBack chip Told (intent_of s) taken (pages_of_segments s.stack) steps
+
 abbrev pub AreTaken : ℕ → StepsOf
-AreTaken taken chip s steps =
-    AreAllTakenBack chip (intent_of s) taken (pages_of_segments s.stack) steps
+AreTaken taken = AreTakenAs untold taken
 
 -- a beginning of taking some back, no more than there are, nor than are asked for where that is a
 -- number

@@ -1,6 +1,7 @@
 -- In which order a run puts frames and appends lines, on any line.
 use Rattle.stm_session.specs.Fresh.{Settles}
 use Rattle.std.specs.Prelude.{◌≡◌, ◌⊎◌, ℕ, ◌+◌, ◌≤◌, Bool, true, false, List, [], ◌∷◌, ◌++◌, length}
+use Rattle.std.specs.Prelude.{Result, IfErr}
 use Rattle.std.specs.List.{AllByRecursion}
 use Rattle.stm_wire.specs.Chip.{ChipData}
 use Rattle.stm_wire.specs.Dialogue.{GoesOn}
@@ -11,12 +12,13 @@ use Rattle.stm_journal.specs.States.{StateData}
 use Rattle.stm_session.specs.declared.change.Change.{Change}
 use Rattle.stm_session.specs.declared.fault.Fault.{Fault}
 use Rattle.stm_session.specs.Fault.{cause_of}
-use Rattle.stm_session.specs.Answers.{segments_of}
+use Rattle.stm_session.specs.Answers.{OutcomeData, segments_of}
+use Rattle.stm_session.specs.Came.{FaultTells, TellsWhatCame}
 use Rattle.stm_session.specs.ChangeOrder.{IsOneSegment, IsSegmentBegun}
 use Rattle.stm_session.specs.Contents.{command_of}
 use Rattle.stm_session.specs.Meaning.{CommandData, is_change}
 use Rattle.stm_session.specs.Order.{Step, Sends, StepsOf, IsInOrder, ReachesAndDoes}
-use Rattle.stm_session.specs.Order.{ReachesAndStops, ReachesInPart, Session}
+use Rattle.stm_session.specs.Order.{ReachesAndStops, ReachesInPart, Session, StopsBy}
 
 -- bytes of one page are read
 pub record IsReading (chip : ChipData) (step : Step) : Type 0 where
@@ -28,9 +30,10 @@ pub record IsReading (chip : ChipData) (step : Step) : Type 0 where
   pub within : InPage chip page address (length answer)
   pub is : step ≡ Sends (read_turns address answer)
 
--- nothing else was put, and nothing appended
-abbrev pub OnlyReads : ChipData → RigState → RigState → Type 0
-OnlyReads chip old new = (torn : Bool) → (steps : List Step) × AllByRecursion (IsReading chip) steps
+-- nothing else was put, and nothing appended; and these steps are such
+abbrev pub OnlyReads : ChipData → (List Step → Type 0) → RigState → RigState → Type 0
+OnlyReads chip P old new = (torn : Bool) → (steps : List Step)
+    × AllByRecursion (IsReading chip) steps × P steps
     × GoesOn (IsInOrder torn steps) old.calls new.calls
 
 -- a write or an erase is one segment, whose pages come by rising number; a
@@ -43,14 +46,20 @@ IsDoneIf false chip c s steps = AllByRecursion (IsReading chip) steps
 abbrev pub IsDoneBy : ChipData → CommandData → StateData → List Step → Type 0
 IsDoneBy chip c s steps = IsDoneIf (is_change c) chip c s steps
 
--- The commands are done in their order, each above the segments of those before it.
-pub data AreDone (chip : ChipData) : List CommandData → StateData → StateData → List Step
-    → Type 0 where
-  none : (s : StateData) → AreDone chip [] s s []
-  more : (commands : List CommandData) (c : CommandData) (s mid last : StateData)
-      (before own : List Step) → AreDone chip commands s mid before → IsDoneBy chip c mid own
+-- and what it tells is what came
+abbrev pub IsDoneTelling : ChipData → CommandData → StateData → OutcomeData → List Step → Type 0
+IsDoneTelling chip c s said steps = IsDoneBy chip c s steps × TellsWhatCame chip c said steps
+
+-- The commands are done in their order, each above the segments of those before it, with an outcome
+-- each.
+pub data AreDone (chip : ChipData) : List CommandData → List OutcomeData → StateData → StateData
+    → List Step → Type 0 where
+  none : (s : StateData) → AreDone chip [] [] s s []
+  more : (commands : List CommandData) (c : CommandData) (outcomes : List OutcomeData)
+      (said : OutcomeData) (s mid last : StateData) (before own : List Step)
+      → AreDone chip commands outcomes s mid before → IsDoneTelling chip c mid said own
       → length last.stack ≡ length mid.stack + segments_of c
-      → AreDone chip (commands ++ c ∷ []) s last (before ++ own)
+      → AreDone chip (commands ++ c ∷ []) (outcomes ++ said ∷ []) s last (before ++ own)
 
 -- A run that does such steps: settling by 7F, Get, Get ID, by which the device is the chip, and
 -- then these.
@@ -58,10 +67,19 @@ abbrev pub RunDoes : StepsOf → List ChipData → RigState → RigState → Typ
 RunDoes P table old new = Session table old (λ chip l.
     ReachesAndDoes (Settles 0x7F 131072) chip.id l.is_torn (P chip l.state) old new)
 
--- its commands
+-- its commands, with these outcomes
+abbrev pub RunsTelling : List ChipData → List CommandData → List OutcomeData → RigState → RigState
+    → Type 0
+RunsTelling table commands outcomes old new = RunDoes
+    (λ chip s steps. (last : StateData) × AreDone chip commands outcomes s last steps) table old new
+
+-- or with some
+abbrev pub AreDoneSomehow : List CommandData → StepsOf
+AreDoneSomehow commands chip s steps = (outcomes : List OutcomeData) × (last : StateData)
+    × AreDone chip commands outcomes s last steps
+
 abbrev pub RunsInOrder : List ChipData → List CommandData → RigState → RigState → Type 0
-RunsInOrder table commands old new = RunDoes
-    (λ chip s steps. (last : StateData) × AreDone chip commands s last steps) table old new
+RunsInOrder table commands old new = RunDoes (AreDoneSomehow commands) table old new
 
 -- At a fault:
 
@@ -74,23 +92,36 @@ IsBegunIf false chip c s steps = AllByRecursion (IsReading chip) steps
 abbrev pub IsBegunBy : ChipData → CommandData → StateData → List Step → Type 0
 IsBegunBy chip c s steps = IsBegunIf (is_change c) chip c s steps
 
--- the commands before one are done, and then that one is begun
-pub record AreBegunAt (chip : ChipData) (commands : List CommandData) (s : StateData)
+-- the commands before one are done, and then that one is begun; where it tells a difference, that
+-- is what came
+pub record AreBegunAt (fault : Fault) (chip : ChipData) (commands : List CommandData) (s : StateData)
     (steps : List Step) : Type 0 where
   pub earlier : List CommandData
   pub command : CommandData
   pub later : List CommandData
   pub split : commands ≡ earlier ++ command ∷ later
+  pub outcomes : List OutcomeData
   pub mid : StateData
   pub before : List Step
-  pub are_done : AreDone chip earlier s mid before
+  pub are_done : AreDone chip earlier outcomes s mid before
   pub own : List Step
   pub is_begun : IsBegunBy chip command mid own
+  pub tells : FaultTells fault chip command own
   pub is : steps ≡ before ++ own
 
 -- or none is
-abbrev pub AreBegun : ChipData → List CommandData → StateData → List Step → Type 0
-AreBegun chip commands s steps = (steps ≡ []) ⊎ AreBegunAt chip commands s steps
+abbrev pub AreBegun : Fault → ChipData → List CommandData → StateData → List Step → Type 0
+AreBegun fault chip commands s steps = (steps ≡ []) ⊎ AreBegunAt fault chip commands s steps
+
+-- one command is
+abbrev pub IsBegunTelling : ChipData → CommandData → StateData → Fault → List Step → Type 0
+IsBegunTelling chip c s fault steps = IsBegunBy chip c s steps × FaultTells fault chip c steps
+
+-- where a fault is answered, it ends such steps
+abbrev pub StopsTelling : {T : Type 0} → (Fault → List Step → Type 0) → Bool → RigState → RigState
+    → Result T Fault → Type 0
+StopsTelling Allowed torn old new result =
+    IfErr result (λ fault. StopsBy (Allowed fault) (cause_of fault) torn old new)
 
 -- A run that is broken off: its device isn't reached, or isn't one for it; or it is, and then such
 -- steps were cut short.
@@ -104,4 +135,4 @@ RunDoesInPart P table old new fault =
 -- a beginning of its commands
 abbrev pub RunStops : List ChipData → List CommandData → RigState → RigState → Fault → Type 0
 RunStops table commands old new fault =
-    RunDoesInPart (λ chip s. AreBegun chip commands s) table old new fault
+    RunDoesInPart (λ chip s. AreBegun fault chip commands s) table old new fault

@@ -1,6 +1,6 @@
 // Comparing an image with the flash.
 ghost use Rattle.std.specs.Prelude.{◌≡◌, ℕ, Bool, List, ◌∷◌, [], OnOk, ◌+◌, ◌≤◌, true, length};
-ghost use Rattle.std.specs.Prelude.{IsTrue, IfErr, Some, None, MatchOption};
+ghost use Rattle.std.specs.Prelude.{IsTrue, IfErr, IfOk, Some, None, MatchOption};
 ghost use Rattle.std.specs.List.{AllByRecursion};
 ghost use Rattle.stm_image.specs.Pairs.{Pairs, HasNone, IsNext};
 ghost use Rattle.stm_wire.specs.Chip.{fits_inside, flash_size};
@@ -10,6 +10,7 @@ ghost use Rattle.stm_wire.specs.Intents.{InPage};
 ghost use Rattle.stm_wire.specs.Parts.{IsPart};
 ghost use Rattle.stm_session.specs.Answers.{first_difference};
 ghost use Rattle.stm_session.specs.Asking.{Asks};
+ghost use Rattle.stm_session.specs.Came.{CameFor};
 ghost use Rattle.stm_session.specs.Fault.{HasSessionCause, IsRefusal};
 ghost use Rattle.stm_session.specs.Reading.{IsNextBlock, IsNotBehind};
 ghost use Rattle.stm_session.specs.Refusals.{image_fits};
@@ -57,7 +58,9 @@ fn compare_block<R: Rig>(
         (page : ℕ) → InPage chip.now page address size
         → GoesOn (IsPart (Some chip.now) (is_whole result) (12 + size)) old.calls new.calls }
     ensures order { let old = R.view rig.old in let new = R.view rig.new in
-        OnOk result ((answer : List ℕ) × ReadsBlock address size answer old new) }
+        IfOk result (λ found. (answer : List ℕ)
+        × (found ≡ first_difference image.now address answer)
+        × ReadsBlock address size answer old new) }
     ensures stops { let old = R.view rig.old in let new = R.view rig.new in
         (torn : Bool) → Stops (Begin (IsReadOf address size)) torn old new result }
     ensures sent { IfErr result (λ fault. IsRefusal fault → ⊥) }
@@ -111,7 +114,10 @@ pub fn find_difference<R: Rig>(
     requires { image_fits chip.now image.now ≡ true }
     ensures puts { let old = R.view rig.old in let new = R.view rig.new in
         GoesOn (IsPart (Some chip.now) (is_whole result) most_of_command) old.calls new.calls }
-    ensures reads { OnOk result (OnlyReads chip.now (R.view rig.old) (R.view rig.new)) }
+    // What is found is what came, in blocks of which none is read twice.
+    ensures reads { let old = R.view rig.old in let new = R.view rig.new in
+        IfOk result (λ found. OnlyReads chip.now
+        (CameFor image.now chip.now.base found) old new) }
     ensures reads_stop { let old = R.view rig.old in let new = R.view rig.new in
         (torn : Bool) → Stops (AllByRecursion (IsReading chip.now)) torn old new result }
     ensures cause { HasSessionCause (R.view rig.old) (R.view rig.new) result }

@@ -1,13 +1,15 @@
 // Asking a device who it is, whether or not a table has its chip.
-ghost use Rattle.std.specs.Prelude.{◌≡◌, IfErr, IfOk, OnOk, None};
+ghost use Rattle.std.specs.Prelude.{◌≡◌, Bool, IfErr, IfOk, OnOk, None};
 ghost use Rattle.stm_wire.specs.Dialogue.{GoesOn};
 ghost use Rattle.stm_wire.specs.Parts.{IsSession};
 ghost use Rattle.stm_journal.specs.Calls.{AreFetches};
 ghost use Rattle.stm_journal.specs.Journals.{journal_of};
 ghost use Rattle.stm_session.specs.Unwritten.{AppendsNothing};
 ghost use Rattle.stm_session.specs.Fault.{HasSessionCause};
+ghost use Rattle.stm_session.specs.Fresh.{Settles};
 ghost use Rattle.stm_session.specs.Moments.{IsSafe};
 ghost use Rattle.stm_session.specs.Opening.{Tells};
+ghost use Rattle.stm_session.specs.Order.{ReachesInOrder, StopsShort};
 ghost use Rattle.stm_session.specs.Refusal.{unsent_refusal};
 ghost use Rattle.stm_session.specs.Sending.{is_whole, most_calls};
 
@@ -28,6 +30,11 @@ pub fn identify<R: Rig>(alloc: Global, rig: &mut R) -> Result<Told, Fault>
         HasSessionCause old new result }
     ensures puts { let old = R.view rig.old in let new = R.view rig.new in
         GoesOn (IsSession None 0x7F 131072 (is_whole result) (most_calls 0)) old.calls new.calls }
+    ensures order { let old = R.view rig.old in let new = R.view rig.new in
+        (torn : Bool)
+        → IfOk result (λ told. ReachesInOrder (Settles 0x7F 131072) told.id torn old new) }
+    ensures stops { let old = R.view rig.old in let new = R.view rig.new in
+        (torn : Bool) → StopsShort (Settles 0x7F 131072) torn old new result }
     ensures silent { let old = R.view rig.old in let new = R.view rig.new in
         IfErr result (λ fault. fault ≡ Fault.Unfinished → GoesOn AreFetches old.calls new.calls) }
     ensures kept { let old = R.view rig.old in let new = R.view rig.new in

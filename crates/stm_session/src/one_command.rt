@@ -14,7 +14,7 @@ ghost use Rattle.stm_session.specs.Meaning.{writes};
 ghost use Rattle.stm_session.specs.Refusals.{image_fits, lies_in_flash};
 ghost use Rattle.stm_session.specs.Running.{IsKindOf};
 ghost use Rattle.stm_session.specs.Order.{Follows, Stops};
-ghost use Rattle.stm_session.specs.RunOrder.{IsBegunBy, IsDoneBy};
+ghost use Rattle.stm_session.specs.RunOrder.{IsBegunBy, IsBegunTelling, IsDoneTelling, StopsTelling};
 ghost use Rattle.stm_session.specs.Sending.{is_whole, most_of_command};
 ghost use Rattle.stm_session.specs.Steps.{IsSteady};
 
@@ -48,8 +48,9 @@ fn write_image<R: Rig>(
     ensures puts { let old = R.view rig.old in let new = R.view rig.new in
         GoesOn (IsPart (Some chip.now) (is_whole result) most_of_command) old.calls new.calls }
     ensures order { let old = R.view rig.old in let new = R.view rig.new in
-        let Done = IsDoneBy chip.now (writes image.now) journal.old.state in
-        OnOk result (Follows Done journal.old journal.new old new) }
+        let Done = IsDoneTelling chip.now (writes image.now) journal.old.state in
+        IfOk result (λ said.
+        Follows (Done (outcome_data said)) journal.old journal.new old new) }
     ensures stops { let old = R.view rig.old in let new = R.view rig.new in
         let Begun = IsBegunBy chip.now (writes image.now) journal.old.state in
         Stops Begun journal.old.is_torn old new result }
@@ -80,8 +81,9 @@ fn erase_pages<R: Rig>(
     ensures puts { let old = R.view rig.old in let new = R.view rig.new in
         GoesOn (IsPart (Some chip.now) (is_whole result) most_of_command) old.calls new.calls }
     ensures order { let old = R.view rig.old in let new = R.view rig.new in
-        let Done = IsDoneBy chip.now (erases pages.now.items) journal.old.state in
-        OnOk result (Follows Done journal.old journal.new old new) }
+        let Done = IsDoneTelling chip.now (erases pages.now.items) journal.old.state in
+        IfOk result (λ said.
+        Follows (Done (outcome_data said)) journal.old journal.new old new) }
     ensures stops { let old = R.view rig.old in let new = R.view rig.new in
         let Begun = IsBegunBy chip.now (erases pages.now.items) journal.old.state in
         Stops Begun journal.old.is_torn old new result }
@@ -103,11 +105,11 @@ fn verify_image<R: Rig>(rig: &mut R, chip: &Chip, image: &Image) -> Result<Outco
     ensures puts { let old = R.view rig.old in let new = R.view rig.new in
         GoesOn (IsPart (Some chip.now) (is_whole result) most_of_command) old.calls new.calls }
     ensures order { let old = R.view rig.old in let new = R.view rig.new in
-        (l : Loaded) → let Done = IsDoneBy chip.now (verifies image.now) l.state in
-        OnOk result (Follows Done l l old new) }
+        (l : Loaded) → let Done = IsDoneTelling chip.now (verifies image.now) l.state in
+        IfOk result (λ said. Follows (Done (outcome_data said)) l l old new) }
     ensures stops { let old = R.view rig.old in let new = R.view rig.new in
-        (l : Loaded) → let Begun = IsBegunBy chip.now (verifies image.now) l.state in
-        Stops Begun l.is_torn old new result }
+        (l : Loaded) → let Begun = IsBegunTelling chip.now (verifies image.now) l.state in
+        StopsTelling Begun l.is_torn old new result }
     ensures honest { let old = R.view rig.old in let new = R.view rig.new in
         (flashes : List (List ℕ)) (l : Loaded) → IsSteady flashes l old
         → old.device.chip ≡ chip.now
@@ -136,11 +138,11 @@ fn read_part_of<R: Rig>(
     ensures puts { let old = R.view rig.old in let new = R.view rig.new in
         GoesOn (IsPart (Some chip.now) (is_whole result) most_of_command) old.calls new.calls }
     ensures order { let old = R.view rig.old in let new = R.view rig.new in
-        (l : Loaded) → let Done = IsDoneBy chip.now (reads start length) l.state in
-        OnOk result (Follows Done l l old new) }
+        (l : Loaded) → let Done = IsDoneTelling chip.now (reads start length) l.state in
+        IfOk result (λ said. Follows (Done (outcome_data said)) l l old new) }
     ensures stops { let old = R.view rig.old in let new = R.view rig.new in
-        (l : Loaded) → let Begun = IsBegunBy chip.now (reads start length) l.state in
-        Stops Begun l.is_torn old new result }
+        (l : Loaded) → let Begun = IsBegunTelling chip.now (reads start length) l.state in
+        StopsTelling Begun l.is_torn old new result }
     ensures honest { let old = R.view rig.old in let new = R.view rig.new in
         (flashes : List (List ℕ)) (l : Loaded) → IsSteady flashes l old
         → old.device.chip ≡ chip.now
@@ -172,11 +174,12 @@ pub fn run_command<R: Rig>(
     ensures puts { let old = R.view rig.old in let new = R.view rig.new in
         GoesOn (IsPart (Some chip.now) (is_whole result) most_of_command) old.calls new.calls }
     ensures order { let old = R.view rig.old in let new = R.view rig.new in
-        let Done = IsDoneBy chip.now (command_data command.now) journal.old.state in
-        OnOk result (Follows Done journal.old journal.new old new) }
+        let Done = IsDoneTelling chip.now (command_data command.now) journal.old.state in
+        IfOk result (λ said.
+        Follows (Done (outcome_data said)) journal.old journal.new old new) }
     ensures stops { let old = R.view rig.old in let new = R.view rig.new in
-        let Begun = IsBegunBy chip.now (command_data command.now) journal.old.state in
-        Stops Begun journal.old.is_torn old new result }
+        let Begun = IsBegunTelling chip.now (command_data command.now) journal.old.state in
+        StopsTelling Begun journal.old.is_torn old new result }
     ensures honest { let old = R.view rig.old in let new = R.view rig.new in
         (flashes : List (List ℕ)) → IsSteady flashes journal.old old → old.device.chip ≡ chip.now
         → let c = command_data command.now in

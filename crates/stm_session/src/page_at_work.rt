@@ -10,9 +10,10 @@ ghost use Rattle.stm_journal.specs.KeptPlaces.{IsPlaceIn, kept_entry, place_of};
 ghost use Rattle.stm_journal.specs.Newest.{KeepsSame};
 ghost use Rattle.stm_session.specs.Fault.{HasSessionCause};
 ghost use Rattle.stm_session.specs.Lines.{rewrite_entries, work_entries};
-ghost use Rattle.stm_session.specs.Order.{Begin, Follows, IsRewritten, IsWorkRewritten, Stops};
+ghost use Rattle.stm_session.specs.Order.{BeginTold, Follows, IsRewritten, IsWorkRewritten, Stops};
 ghost use Rattle.stm_session.specs.Sending.{is_whole};
 ghost use Rattle.stm_session.specs.Steps.{IsSteady, Goes};
+ghost use Rattle.stm_session.specs.Told.{ToldIn};
 ghost use Rattle.stm_session.specs.Undoable.{state_at};
 ghost use Rattle.stm_session.specs.Work.{page_at_work, with_work};
 
@@ -54,9 +55,11 @@ fn rewrite_line<R: Rig>(
         GoesOn (IsPart (Some chip.now) (is_whole result) (3 * page_size chip.now n))
         old.calls new.calls }
     ensures order { let old = R.view rig.old in let new = R.view rig.new in
-        OnOk result (Follows (IsRewritten chip.now n) journal.old journal.new old new) }
+        let Told = ToldIn R.view journal.old.is_torn old new in
+        OnOk result (Follows (IsRewritten chip.now Told n) journal.old journal.new old new) }
     ensures stops { let old = R.view rig.old in let new = R.view rig.new in
-        Stops (Begin (IsRewritten chip.now n)) journal.old.is_torn old new result }
+        let Told = ToldIn R.view journal.old.is_torn old new in
+        Stops (BeginTold (λ T. IsRewritten chip.now T n) Told) journal.old.is_torn old new result }
     ensures honest { let old = R.view rig.old in let new = R.view rig.new in
         (flashes : List (List ℕ)) (k i : ℕ) (kept : Kept) → IsSteady flashes journal.old old
         → old.device.chip ≡ chip.now → kept_entry (state_at old.journal) k i ≡ Some kept
@@ -89,11 +92,14 @@ pub fn rewrite_at_work<R: Rig>(
     ensures puts { let old = R.view rig.old in let new = R.view rig.new in
         GoesOn (IsPart (Some chip.now) (is_whole result) (3 * 2097152)) old.calls new.calls }
     ensures order { let old = R.view rig.old in let new = R.view rig.new in
-        let Rewritten = IsWorkRewritten chip.now (intent_of journal.old.state) in
+        let Told = ToldIn R.view journal.old.is_torn old new in
+        let Rewritten = IsWorkRewritten chip.now Told (intent_of journal.old.state) in
         OnOk result (Follows Rewritten journal.old journal.new old new) }
     ensures stops { let old = R.view rig.old in let new = R.view rig.new in
-        let Rewritten = IsWorkRewritten chip.now (intent_of journal.old.state) in
-        Stops (Begin Rewritten) journal.old.is_torn old new result }
+        let Told = ToldIn R.view journal.old.is_torn old new in
+        let intent = intent_of journal.old.state in
+        let Begun = BeginTold (λ T. IsWorkRewritten chip.now T intent) Told in
+        Stops Begun journal.old.is_torn old new result }
     ensures honest { let old = R.view rig.old in let new = R.view rig.new in
         (flashes : List (List ℕ)) → IsSteady flashes journal.old old → old.device.chip ≡ chip.now
         → let kept = page_at_work (state_at old.journal).stack in

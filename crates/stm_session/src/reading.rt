@@ -10,6 +10,7 @@ ghost use Rattle.stm_wire.specs.Intents.{InPage};
 ghost use Rattle.stm_wire.specs.Parts.{IsPart};
 ghost use Rattle.stm_session.specs.Fault.{HasSessionCause, IsRefusal};
 ghost use Rattle.stm_session.specs.Asking.{Asks};
+ghost use Rattle.stm_session.specs.Came.{ComeInBlocks};
 ghost use Rattle.stm_session.specs.Reading.{HoldsAddress, IsBlock, IsNotBehind};
 ghost use Rattle.stm_session.specs.Order.{AreReadsOf, Begin, IsInOrder, IsReadOf, ReadsBlock};
 ghost use Rattle.stm_session.specs.Order.{Stops, read_steps};
@@ -168,7 +169,9 @@ pub fn read_range<R: Rig>(
     ensures order_stops { let old = R.view rig.old in let new = R.view rig.new in
         (page : ℕ) → InPage chip.now page start size → size % 256 ≡ 0 → (torn : Bool)
         → Stops (Begin (AreReadsOf start size)) torn old new result }
-    ensures reads { OnOk result (OnlyReads chip.now (R.view rig.old) (R.view rig.new)) }
+    // They are what came, in blocks of which none is read twice.
+    ensures reads { let old = R.view rig.old in let new = R.view rig.new in
+        IfOk result (λ bytes. OnlyReads chip.now (ComeInBlocks start bytes.items) old new) }
     ensures reads_stop { let old = R.view rig.old in let new = R.view rig.new in
         (torn : Bool) → Stops (AllByRecursion (IsReading chip.now)) torn old new result }
     ensures cause { let old = R.view rig.old in let new = R.view rig.new in

@@ -9,9 +9,10 @@ ghost use Rattle.stm_journal.specs.KeptPlaces.{IsPlaceIn, kept_entry, place_of};
 ghost use Rattle.stm_journal.specs.Newest.{KeepsSame};
 ghost use Rattle.stm_session.specs.Fault.{HasSessionCause};
 ghost use Rattle.stm_session.specs.Lines.{return_entries};
-ghost use Rattle.stm_session.specs.Order.{Begin, Follows, IsReturned, Stops};
+ghost use Rattle.stm_session.specs.Order.{BeginTold, Follows, IsReturned, Stops};
 ghost use Rattle.stm_session.specs.Sending.{is_whole};
 ghost use Rattle.stm_session.specs.Steps.{IsSteady, Goes};
+ghost use Rattle.stm_session.specs.Told.{ToldIn};
 ghost use Rattle.stm_session.specs.Undoable.{state_at};
 
 use crate::Fault;
@@ -42,9 +43,11 @@ pub fn restore_line<R: Rig>(
         GoesOn (IsPart (Some chip.now) (is_whole result) (13 * page_size chip.now n))
         old.calls new.calls }
     ensures order { let old = R.view rig.old in let new = R.view rig.new in
-        OnOk result (Follows (IsReturned chip.now n) journal.old journal.new old new) }
+        let Told = ToldIn R.view journal.old.is_torn old new in
+        OnOk result (Follows (IsReturned chip.now Told n) journal.old journal.new old new) }
     ensures stops { let old = R.view rig.old in let new = R.view rig.new in
-        Stops (Begin (IsReturned chip.now n)) journal.old.is_torn old new result }
+        let Told = ToldIn R.view journal.old.is_torn old new in
+        Stops (BeginTold (λ T. IsReturned chip.now T n) Told) journal.old.is_torn old new result }
     ensures honest { let old = R.view rig.old in let new = R.view rig.new in
         (flashes : List (List ℕ)) (k i : ℕ) (kept : Kept) → IsSteady flashes journal.old old
         → old.device.chip ≡ chip.now → kept_entry (state_at old.journal) k i ≡ Some kept

@@ -1,5 +1,5 @@
 // Taking a session back, wherever it was stopped.
-ghost use Rattle.std.specs.Prelude.{◌≡◌, ◌<◌, ◌≤◌, true, Ok, IfErr, IfOk};
+ghost use Rattle.std.specs.Prelude.{◌≡◌, ◌<◌, ◌≤◌, true, false, Ok, IfErr, IfOk};
 ghost use Rattle.stm_wire.specs.Dialogue.{GoesOn};
 ghost use Rattle.stm_journal.specs.Calls.{AreFetches};
 ghost use Rattle.stm_session.specs.Fault.{HasSessionCause};
@@ -8,6 +8,7 @@ ghost use Rattle.stm_session.specs.Promises.{UndoContract};
 ghost use Rattle.stm_session.specs.Order.{UndoStops, UndoStopsFrom, UndoesInOrder};
 ghost use Rattle.stm_session.specs.Order.{UndoesInOrderFrom};
 ghost use Rattle.stm_session.specs.Sending.{SendsAsUndo};
+ghost use Rattle.stm_session.specs.Told.{UndoGivesTold, UndoStopsTold};
 ghost use Rattle.stm_session.specs.Undoes.{taken_count};
 
 use crate::Fault;
@@ -52,6 +53,10 @@ fn undo_from<R: Rig>(
         IfOk result (λ taken. 1 ≤ taken → UndoesInOrderFrom is_fresh table.now taken old new) }
     ensures stops { let old = R.view rig.old in let new = R.view rig.new in
         IfErr result (UndoStopsFrom is_fresh table.now count old new) }
+    ensures given { let old = R.view rig.old in let new = R.view rig.new in
+        IfOk result (λ taken. 1 ≤ taken → UndoGivesTold R.view is_fresh table.now taken old new) }
+    ensures given_stops { let old = R.view rig.old in let new = R.view rig.new in
+        IfErr result (UndoStopsTold R.view is_fresh table.now count old new) }
     ensures promised { let old = R.view rig.old in let new = R.view rig.new in
         IsAsSaid is_fresh old.device → UndoContract table.now count old new result }
 {
@@ -87,6 +92,10 @@ pub fn undo<R: Rig>(alloc: Global, rig: &mut R, table: &Table, count: u32) -> Re
         IfOk result (λ taken. 1 ≤ taken → UndoesInOrder table.now taken old new) }
     ensures stops { let old = R.view rig.old in let new = R.view rig.new in
         IfErr result (UndoStops table.now count old new) }
+    ensures given { let old = R.view rig.old in let new = R.view rig.new in
+        IfOk result (λ taken. 1 ≤ taken → UndoGivesTold R.view false table.now taken old new) }
+    ensures given_stops { let old = R.view rig.old in let new = R.view rig.new in
+        IfErr result (UndoStopsTold R.view false table.now count old new) }
     ensures promised { UndoContract table.now count (R.view rig.old) (R.view rig.new) result }
 {
     undo_from(alloc, rig, table, count, false)
@@ -111,6 +120,10 @@ pub fn undo_fresh<R: Rig>(
         IfOk result (λ taken. 1 ≤ taken → UndoesInOrderFrom true table.now taken old new) }
     ensures stops { let old = R.view rig.old in let new = R.view rig.new in
         IfErr result (UndoStopsFrom true table.now count old new) }
+    ensures given { let old = R.view rig.old in let new = R.view rig.new in
+        IfOk result (λ taken. 1 ≤ taken → UndoGivesTold R.view true table.now taken old new) }
+    ensures given_stops { let old = R.view rig.old in let new = R.view rig.new in
+        IfErr result (UndoStopsTold R.view true table.now count old new) }
     ensures promised { let old = R.view rig.old in let new = R.view rig.new in
         IsReset old.device → UndoContract table.now count old new result }
 {

@@ -14,8 +14,9 @@ ghost use Rattle.stm_session.specs.Promises.{RunContract};
 ghost use Rattle.stm_session.specs.Refusals.{lies_in_flash};
 ghost use Rattle.stm_session.specs.Running.{AreKindsOf};
 ghost use Rattle.stm_session.specs.Runs.{Runs};
-ghost use Rattle.stm_session.specs.Order.{Follows, Stops};
+ghost use Rattle.stm_session.specs.Order.{Follows};
 ghost use Rattle.stm_session.specs.RunOrder.{AreBegun, AreDone, RunStops, RunsInOrder};
+ghost use Rattle.stm_session.specs.RunOrder.{RunsTelling, StopsTelling};
 ghost use Rattle.stm_session.specs.Sending.{SendsAsRun, is_whole, most_of_command};
 ghost use Rattle.stm_session.specs.Steps.{IsSteady};
 
@@ -47,12 +48,14 @@ fn run_commands<R: Rig>(
         old.calls new.calls }
     ensures kinds { IfOk result (λ outcomes. AreKindsOf commands.now outcomes.items) }
     ensures order { let old = R.view rig.old in let new = R.view rig.new in
-        let Done = AreDone chip.now (commands_in commands.now)
-        journal.old.state journal.new.state in
-        OnOk result (Follows Done journal.old journal.new old new) }
+        let cs = commands_in commands.now in
+        IfOk result (λ outcomes. let said = map outcome_data outcomes.items in
+        let Done = AreDone chip.now cs said journal.old.state journal.new.state in
+        Follows Done journal.old journal.new old new) }
     ensures stops { let old = R.view rig.old in let new = R.view rig.new in
-        let Begun = AreBegun chip.now (commands_in commands.now) journal.old.state in
-        Stops Begun journal.old.is_torn old new result }
+        let cs = commands_in commands.now in
+        StopsTelling (λ fault. AreBegun fault chip.now cs journal.old.state)
+        journal.old.is_torn old new result }
     ensures nothing { commands.now ≡ [] → IfErr result (λ _. ⊥) }
     ensures cause { HasSessionCause (R.view rig.old) (R.view rig.new) result }
     ensures named { IfErr result (λ fault. fault ≢ Fault.Unfinished) }
@@ -88,6 +91,10 @@ pub fn run<R: Rig>(
         IfErr result (λ fault. fault ≡ Fault.Unfinished → GoesOn AreFetches old.calls new.calls) }
     ensures order { let old = R.view rig.old in let new = R.view rig.new in
         OnOk result (RunsInOrder table.now (commands_in commands.now) old new) }
+    // What is answered is what came in the reads of that command.
+    ensures told { let old = R.view rig.old in let new = R.view rig.new in
+        let commands = commands_in commands.now in
+        IfOk result (λ report. RunsTelling table.now commands (outcomes_in report) old new) }
     ensures stops { let old = R.view rig.old in let new = R.view rig.new in
         IfErr result (RunStops table.now (commands_in commands.now) old new) }
     ensures promised { let old = R.view rig.old in let new = R.view rig.new in

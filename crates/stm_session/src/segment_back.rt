@@ -5,7 +5,8 @@ ghost use Rattle.stm_wire.specs.Parts.{IsPart};
 ghost use Rattle.stm_journal.specs.Fits.{AllFit};
 ghost use Rattle.stm_journal.specs.Newest.{KeepsSame, pages_of_segments};
 ghost use Rattle.stm_session.specs.Fault.{HasSessionCause};
-ghost use Rattle.stm_session.specs.Order.{Begin, Follows, AreReturned, IsTakenBack, Stops};
+ghost use Rattle.stm_session.specs.Order.{BeginTold, Follows, AreReturned, IsTakenBack, Stops};
+ghost use Rattle.stm_session.specs.Told.{ToldIn};
 ghost use Rattle.stm_session.specs.Undoable.{newest_kept};
 ghost use Rattle.stm_session.specs.Sending.{is_whole, most_of_command};
 ghost use Rattle.stm_session.specs.Steps.{IsSteady, Goes};
@@ -33,10 +34,13 @@ pub fn restore_lines<R: Rig>(
         GoesOn (IsPart (Some chip.now) (is_whole result) most_of_command) old.calls new.calls }
     ensures order { let old = R.view rig.old in let new = R.view rig.new in
         let pages = newest_kept journal.old.state.stack in
-        OnOk result (Follows (AreReturned chip.now pages) journal.old journal.new old new) }
+        let Told = ToldIn R.view journal.old.is_torn old new in
+        OnOk result (Follows (AreReturned chip.now Told pages) journal.old journal.new old new) }
     ensures stops { let old = R.view rig.old in let new = R.view rig.new in
         let pages = newest_kept journal.old.state.stack in
-        Stops (Begin (AreReturned chip.now pages)) journal.old.is_torn old new result }
+        let Told = ToldIn R.view journal.old.is_torn old new in
+        let Begun = BeginTold (λ T. AreReturned chip.now T pages) Told in
+        Stops Begun journal.old.is_torn old new result }
     ensures honest { let old = R.view rig.old in let new = R.view rig.new in
         (flashes : List (List ℕ)) → IsSteady flashes journal.old old → old.device.chip ≡ chip.now
         → let pages = newest_at old.journal in
@@ -75,12 +79,15 @@ pub fn take_back<R: Rig>(
         GoesOn (IsPart (Some chip.now) (is_whole result) most_of_command) old.calls new.calls }
     ensures order { let old = R.view rig.old in let new = R.view rig.new in
         let stack = journal.old.state.stack in
-        let Taken = IsTakenBack chip.now (newest_kept stack) (length stack) in
+        let Told = ToldIn R.view journal.old.is_torn old new in
+        let Taken = IsTakenBack chip.now Told (newest_kept stack) (length stack) in
         OnOk result (Follows Taken journal.old journal.new old new) }
     ensures stops { let old = R.view rig.old in let new = R.view rig.new in
-        let stack = journal.old.state.stack in
-        let Taken = IsTakenBack chip.now (newest_kept stack) (length stack) in
-        Stops (Begin Taken) journal.old.is_torn old new result }
+        let pages = newest_kept journal.old.state.stack in
+        let number = length journal.old.state.stack in
+        let Told = ToldIn R.view journal.old.is_torn old new in
+        let Begun = BeginTold (λ T. IsTakenBack chip.now T pages number) Told in
+        Stops Begun journal.old.is_torn old new result }
     ensures honest { let old = R.view rig.old in let new = R.view rig.new in
         (flash : List ℕ) (flashes : List (List ℕ))
         → IsSteady (flash ∷ flashes) journal.old old → old.device.chip ≡ chip.now

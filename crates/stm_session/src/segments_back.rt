@@ -7,7 +7,9 @@ ghost use Rattle.stm_journal.specs.Newest.{pages_of_segments};
 ghost use Rattle.stm_journal.specs.States.{intent_of};
 ghost use Rattle.stm_session.specs.Fault.{HasSessionCause};
 ghost use Rattle.stm_session.specs.SegmentsBack.{GoesBack, GoesBackBy, undo_lines};
-ghost use Rattle.stm_session.specs.Order.{Begin, Follows, AreAllTakenBack, AreTakenBack, Stops};
+ghost use Rattle.stm_session.specs.Order.{BeginTold, Follows, AreAllTakenBack, AreTakenBack};
+ghost use Rattle.stm_session.specs.Order.{Stops};
+ghost use Rattle.stm_session.specs.Told.{ToldIn};
 ghost use Rattle.stm_session.specs.Sending.{is_whole, most_of_command, most_of_undo};
 ghost use Rattle.stm_session.specs.Steps.{IsSteady};
 
@@ -34,11 +36,15 @@ pub fn take_back_newest<R: Rig>(
         let most = taken * most_of_command in
         GoesOn (IsPart (Some chip.now) (is_whole result) most) old.calls new.calls }
     ensures order { let old = R.view rig.old in let new = R.view rig.new in
-        let Taken = AreTakenBack chip.now taken (pages_of_segments journal.old.state.stack) in
+        let segments = pages_of_segments journal.old.state.stack in
+        let Told = ToldIn R.view journal.old.is_torn old new in
+        let Taken = AreTakenBack chip.now Told taken segments in
         OnOk result (Follows Taken journal.old journal.new old new) }
     ensures stops { let old = R.view rig.old in let new = R.view rig.new in
-        let Taken = AreTakenBack chip.now taken (pages_of_segments journal.old.state.stack) in
-        Stops (Begin Taken) journal.old.is_torn old new result }
+        let segments = pages_of_segments journal.old.state.stack in
+        let Told = ToldIn R.view journal.old.is_torn old new in
+        let Begun = BeginTold (λ T. AreTakenBack chip.now T taken segments) Told in
+        Stops Begun journal.old.is_torn old new result }
     ensures honest { let old = R.view rig.old in let new = R.view rig.new in
         (flashes : List (List ℕ)) → IsSteady flashes journal.old old → old.device.chip ≡ chip.now
         → GoesBack taken flashes journal.new old new result }
@@ -69,13 +75,15 @@ pub fn go_back<R: Rig>(
     ensures order { let old = R.view rig.old in let new = R.view rig.new in
         let intent = intent_of journal.old.state in
         let segments = pages_of_segments journal.old.state.stack in
-        let Taken = AreAllTakenBack chip.now intent taken segments in
+        let Told = ToldIn R.view journal.old.is_torn old new in
+        let Taken = AreAllTakenBack chip.now Told intent taken segments in
         OnOk result (Follows Taken journal.old journal.new old new) }
     ensures stops { let old = R.view rig.old in let new = R.view rig.new in
         let intent = intent_of journal.old.state in
         let segments = pages_of_segments journal.old.state.stack in
-        let Taken = AreAllTakenBack chip.now intent taken segments in
-        Stops (Begin Taken) journal.old.is_torn old new result }
+        let Told = ToldIn R.view journal.old.is_torn old new in
+        let Begun = BeginTold (λ T. AreAllTakenBack chip.now T intent taken segments) Told in
+        Stops Begun journal.old.is_torn old new result }
     ensures honest { let old = R.view rig.old in let new = R.view rig.new in
         (flashes : List (List ℕ)) → IsSteady flashes journal.old old → old.device.chip ≡ chip.now
         → GoesBackBy (undo_lines taken old) taken flashes journal.new old new result }

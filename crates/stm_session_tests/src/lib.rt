@@ -28,6 +28,8 @@ mod flipped_bytes;
 #[cfg(test)]
 mod full;
 #[cfg(test)]
+mod garbled_reads;
+#[cfg(test)]
 mod large;
 #[cfg(test)]
 mod laws;

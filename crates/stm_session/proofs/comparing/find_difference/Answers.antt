@@ -6,10 +6,11 @@ use Rattle.stm_wire.specs.PartLaws.{nothing_is_part, part_longer}
 use Rattle.stm_session.specs.Answers.{first_difference}
 use Rattle.stm_session.specs.Sending.{most_of_command}
 use Rattle.stm_session.proofs.Asking.{asks_failed, asks_ok, nothing_asked}
-use Rattle.stm_session.proofs.Comparisons.{block_agrees, block_differs, block_within, compare_asks, compared_part, compared_reads, compared_stop}
+use Rattle.stm_session.proofs.Comparisons.{block_agrees, block_differs, block_within, compare_asks, compared_part, compared_stop, reads_agree, reads_differ}
 use Rattle.std.specs.List.{AllByRecursion}
 use Rattle.stm_session.specs.Fault.{Cause}
 use Rattle.stm_session.specs.Order.{StopsBy}
+use Rattle.stm_session.specs.Came.{AgreeInBlocks}
 use Rattle.stm_session.specs.RunOrder.{IsReading}
 use Rattle.stm_session.proofs.CutShort.{by_fault}
 use Rattle.stm_session.proofs.RunOrders.{reads_nothing}
@@ -25,7 +26,7 @@ loop-block-init g c =
         journal = refl;
         stays = λ h. h;
         parts = nothing_is_part (Some c.args.chip.now) true 0 (V c.args.rig.now).calls;
-        reads = reads_nothing c.args.chip.now (V c.args.rig.now);
+        reads = reads_nothing c.args.chip.now (AgreeInBlocks c.args.image.now c.args.chip.now.base (c.args.chip.now.base + 0)) (V c.args.rig.now) (omega arith);
         honest = λ h settled chip.
             nothing_asked c.sending_is_harmless.ensures.asking (V c.args.rig.now) (tt {0}) _ h (g.met.R.Rig.model c.args.rig.now h) settled
             (ap (λ (a : ℕ). first_difference c.args.image.now a (V c.args.rig.now).device.flash) (omega arith));
@@ -53,7 +54,9 @@ loop-block-preserved g c =
         stays = λ h. c.in_ok-found.ensures.cause.honest (so_far.stays h);
         parts = subst (λ (n : ℕ). GoesOn (IsPart (Some chip) true (13 * (block.address - n + block.size))) a.calls d.calls) (sym base)
             (compared_part chip image c.loop-block.done block a b d so_far next true c.in_ok-found.ensures.puts);
-        reads = compared_reads chip image c.loop-block.done block a b d so_far next c.in_ok-found.ensures.order.0 c.in_ok-found.ensures.order.1;
+        reads =
+            let order = c.in_ok-found.ensures.order in
+            reads_agree chip image c.loop-block.done block a b d so_far next c.in_ok-found.found order.0 _ (omega (arith, base)) none order.1 order.2;
         honest = λ h settled chip_is.
             compare_asks chip image c.loop-block.done block a b d so_far next c.unnamed_places_agree.ensures.before h settled chip_is _ _ _ c.in_ok-found.ensures.honest
             (λ asks. asks_ok b d c.in_ok-found.found (tt {0}) asks
@@ -112,7 +115,9 @@ returns-then-is_some-clause-puts g c =
 pub returns-then-is_some-clause-reads : goal.returns-then-is_some-clause-reads
 returns-then-is_some-clause-reads g c =
     let V = g.R.Rig.view in
-    compared_reads c.args.chip.now c.args.image.now c.loop-block.done c.in-Some.block (V c.args.rig.now) (V c.loop-block.rig) (V c.compare_block.new.rig) c.loop-block.invariant.0 c.in-Some.ensures c.in_ok-found.ensures.order.0 c.in_ok-found.ensures.order.1
+    let some : is_some c.in_ok-found.found ≡ true = search (rules, c.is_some.ensures, c.if-is_some.true) in
+    let order = c.in_ok-found.ensures.order in
+    reads_differ c.args.chip.now c.args.image.now c.loop-block.done c.in-Some.block (V c.args.rig.now) (V c.loop-block.rig) (V c.compare_block.new.rig) c.loop-block.invariant.0 c.in-Some.ensures c.in_ok-found.found order.0 some order.1 order.2
 
 pub returns-in_err-found-clause-reads_stop : goal.returns-in_err-found-clause-reads_stop
 returns-in_err-found-clause-reads_stop g c torn =
@@ -121,3 +126,8 @@ returns-in_err-found-clause-reads_stop g c torn =
     let d = V c.compare_block.new.rig in
     by_fault (λ (k : Cause). StopsBy (AllByRecursion (IsReading c.args.chip.now)) k torn a d) _ c.from_residual.result c.from_residual.ensures.1
     (compared_stop c.args.chip.now c.args.image.now c.loop-block.done c.in-Some.block a (V c.loop-block.rig) d c.loop-block.invariant.0 c.in-Some.ensures _ c.in_err-found.ensures.stops torn)
+
+pub returns-clause-reads : goal.returns-clause-reads
+returns-clause-reads g c torn =
+    let read = c.loop-block.invariant.0.reads torn in
+    (read.0, read.1, (c.args.chip.now.base + c.loop-block.done, c.in_default.ensures, read.2), read.3)

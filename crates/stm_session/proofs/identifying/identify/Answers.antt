@@ -1,7 +1,16 @@
-use Rattle.std.proofs.Common.{None}
+use Rattle.std.proofs.Common.{ℕ, None}
 use Rattle.stm_wire.specs.PartLaws.{silent_is_session, silent_then_session}
 use Rattle.stm_journal.specs.Calls.{AreFetches}
+use Rattle.stm_wire.specs.Dialogue.{GoesOn}
+use Rattle.stm_session.specs.declared.contact.Told.{Told}
+use Rattle.stm_session.specs.declared.fault.Fault.{Fault}
+use Rattle.stm_session.specs.Fault.{Cause, cause_of}
+use Rattle.stm_session.specs.Fresh.{Settles}
+use Rattle.stm_session.specs.Order.{ReachesInOrder, ReachesInPart, asking_steps}
 use Rattle.stm_session.specs.Sending.{is_whole, most_calls}
+use Rattle.stm_session.proofs.CutShort.{by_fault}
+use Rattle.stm_session.proofs.Orders.{fetched_then}
+use Rattle.stm_session.proofs.Reaching.{err_then, fetched_stops, told_then, unread_stops}
 use Rattle.stm_session.proofs.Sending.{fetches_get, fetches_put}
 use Rattle.stm_session.proofs.Unwritings.{fetching_appends_nothing, then_appends_nothing}
 use Rattle.stm_session.proofs.identifying.identify.Goals as goal
@@ -30,3 +39,30 @@ returns-clause-puts g c =
     let b = (V c.load_finished.new.rig).calls in
     let d = (V c.reach.new.rig).calls in
     silent_then_session None 0x7F 131072 (is_whole c.reach.result) (most_calls 0) AreFetches a b d fetches_put fetches_get c.load_finished.ensures.calls c.reach.ensures.puts
+
+pub returns-clause-order : goal.returns-clause-order
+returns-clause-order g c torn =
+    let V = g.R.Rig.view in
+    let a = V c.args.rig.now in
+    let b = V c.load_finished.new.rig in
+    let d = V c.reach.new.rig in
+    let way = Settles 0x7F 131072 in
+    told_then c.reach.result (λ (told : Told). ReachesInOrder way told.id torn b d) (λ (told : Told). ReachesInOrder way told.id torn a d)
+    (λ told asked. (asked.0, asked.1, fetched_then way torn (asking_steps asked.0 asked.1 told.id) a.calls b.calls d.calls c.load_finished.ensures.calls asked.2)) (c.reach.ensures.order torn)
+
+pub returns-in_err-_journal-clause-stops : goal.returns-in_err-_journal-clause-stops
+returns-in_err-_journal-clause-stops g c torn =
+    let V = g.R.Rig.view in
+    let a = (V c.args.rig.now).calls in
+    let b = (V c.load_finished.new.rig).calls in
+    by_fault (λ (k : Cause). GoesOn (ReachesInPart (Settles 0x7F 131072) k torn) a b) _ c.from_residual.result c.from_residual.ensures.1 (unread_stops (Settles 0x7F 131072) _ torn a b c.load_finished.ensures.calls)
+
+pub returns-clause-stops : goal.returns-clause-stops
+returns-clause-stops g c torn =
+    let V = g.R.Rig.view in
+    let a = (V c.args.rig.now).calls in
+    let b = (V c.load_finished.new.rig).calls in
+    let d = (V c.reach.new.rig).calls in
+    let way = Settles 0x7F 131072 in
+    err_then c.reach.result (λ (e : Fault). GoesOn (ReachesInPart way (cause_of e) torn) b d) (λ (e : Fault). GoesOn (ReachesInPart way (cause_of e) torn) a d)
+    (λ e stopped. fetched_stops way (cause_of e) torn a b d c.load_finished.ensures.calls stopped) (c.reach.ensures.stops torn)

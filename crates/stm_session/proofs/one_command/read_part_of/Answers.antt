@@ -5,9 +5,8 @@ use Rattle.stm_session.specs.Meaning.{reads}
 use Rattle.stm_session.specs.Running.{bytes_at}
 use Rattle.stm_session.proofs.Doings.{asks_does, asks_fails}
 use Rattle.stm_session.proofs.RunOrders.{reads_follow}
-use Rattle.std.specs.List.{AllByRecursion}
-use Rattle.stm_session.specs.RunOrder.{IsReading}
-use Rattle.stm_session.proofs.CutShort.{part_stops}
+use Rattle.stm_session.specs.Came.{ComeInBlocks}
+use Rattle.stm_session.proofs.Arrivals.{reading_stops}
 use Rattle.stm_session.proofs.one_command.read_part_of.Goals as goal
 
 pub returns-in_err-bytes-clause-honest : goal.returns-in_err-bytes-clause-honest
@@ -28,10 +27,12 @@ returns-clause-honest g c flashes l steady chip =
 pub returns-clause-order : goal.returns-clause-order
 returns-clause-order g c l =
     let V = g.R.Rig.view in
-    reads_follow c.args.chip.now l (V c.args.rig.now) (V c.read_range.new.rig) c.in_ok-bytes.ensures.reads
+    let bytes = c.in_ok-bytes.bytes.items in
+    let read = reads_follow c.args.chip.now (ComeInBlocks c.args.start bytes) l (V c.args.rig.now) (V c.read_range.new.rig) c.in_ok-bytes.ensures.reads in
+    (read.0, (read.1.0, (bytes, refl, read.1.1)), read.2)
 
 pub returns-in_err-bytes-clause-stops : goal.returns-in_err-bytes-clause-stops
 returns-in_err-bytes-clause-stops g c l =
     let V = g.R.Rig.view in
-    let Reads = AllByRecursion (IsReading c.args.chip.now) in
-    part_stops Reads Reads l.is_torn (V c.args.rig.now) (V c.read_range.new.rig) _ c.from_residual.result c.from_residual.ensures.1 (λ xs are. are) (c.in_err-bytes.ensures.reads_stop l.is_torn)
+    reading_stops c.args.chip.now (reads c.args.start c.args.length) l.state l.is_torn (V c.args.rig.now) (V c.read_range.new.rig) _ c.from_residual.result refl c.from_residual.ensures.1 c.in_err-bytes.ensures.sent
+    (c.in_err-bytes.ensures.reads_stop l.is_torn)

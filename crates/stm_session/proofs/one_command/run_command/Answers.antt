@@ -2,12 +2,14 @@ use Rattle.std.proofs.Common.{sym, subst}
 use Rattle.stm_session.specs.declared.command.Command.{Command}
 use Rattle.stm_session.specs.Answers.{outcome_data}
 use Rattle.stm_session.specs.OneCommand.{Does}
-use Rattle.stm_session.specs.Meaning.{command_data}
-use Rattle.std.specs.Prelude.{OnOk}
+use Rattle.stm_session.specs.Meaning.{command_data, is_change}
+use Rattle.std.specs.Prelude.{IfOk}
 use Rattle.stm_session.specs.Order.{Follows}
-use Rattle.stm_session.specs.RunOrder.{IsDoneBy}
+use Rattle.stm_session.specs.RunOrder.{IsDoneTelling}
+use Rattle.std.proofs.Common.{ap}
 use Rattle.stm_session.specs.Order.{Stops}
-use Rattle.stm_session.specs.RunOrder.{IsBegunBy}
+use Rattle.stm_session.specs.RunOrder.{IsBegunBy, IsBegunTelling, StopsTelling}
+use Rattle.stm_session.proofs.Arrivals.{change_stops}
 use Rattle.stm_session.proofs.one_command.run_command.Goals as goal
 
 pub returns-in-Write-clause-honest : goal.returns-in-Write-clause-honest
@@ -37,47 +39,57 @@ returns-in-Read-clause-honest g c flashes steady chip =
 pub returns-in-Write-clause-order : goal.returns-in-Write-clause-order
 returns-in-Write-clause-order g c =
     let V = g.R.Rig.view in
-    let P : Command → Type 0 = λ k. OnOk c.write_image.result (Follows (IsDoneBy c.args.chip.now (command_data k) c.args.journal.now.state) c.args.journal.now c.write_image.new.journal (V c.args.rig.now) (V c.write_image.new.rig)) in
+    let P : Command → Type 0 = λ k. IfOk c.write_image.result (λ said. Follows (IsDoneTelling c.args.chip.now (command_data k) c.args.journal.now.state (outcome_data said)) c.args.journal.now c.write_image.new.journal (V c.args.rig.now) (V c.write_image.new.rig)) in
     subst P (sym c.in-Write.is) c.write_image.ensures.order
 
 pub returns-in-Erase-clause-order : goal.returns-in-Erase-clause-order
 returns-in-Erase-clause-order g c =
     let V = g.R.Rig.view in
-    let P : Command → Type 0 = λ k. OnOk c.erase_pages.result (Follows (IsDoneBy c.args.chip.now (command_data k) c.args.journal.now.state) c.args.journal.now c.erase_pages.new.journal (V c.args.rig.now) (V c.erase_pages.new.rig)) in
+    let P : Command → Type 0 = λ k. IfOk c.erase_pages.result (λ said. Follows (IsDoneTelling c.args.chip.now (command_data k) c.args.journal.now.state (outcome_data said)) c.args.journal.now c.erase_pages.new.journal (V c.args.rig.now) (V c.erase_pages.new.rig)) in
     subst P (sym c.in-Erase.is) c.erase_pages.ensures.order
 
 pub returns-in-Verify-clause-order : goal.returns-in-Verify-clause-order
 returns-in-Verify-clause-order g c =
     let V = g.R.Rig.view in
-    let P : Command → Type 0 = λ k. OnOk c.verify_image.result (Follows (IsDoneBy c.args.chip.now (command_data k) c.args.journal.now.state) c.args.journal.now c.args.journal.now (V c.args.rig.now) (V c.verify_image.new.rig)) in
+    let P : Command → Type 0 = λ k. IfOk c.verify_image.result (λ said. Follows (IsDoneTelling c.args.chip.now (command_data k) c.args.journal.now.state (outcome_data said)) c.args.journal.now c.args.journal.now (V c.args.rig.now) (V c.verify_image.new.rig)) in
     subst P (sym c.in-Verify.is) (c.verify_image.ensures.order c.args.journal.now)
 
 pub returns-in-Read-clause-order : goal.returns-in-Read-clause-order
 returns-in-Read-clause-order g c =
     let V = g.R.Rig.view in
-    let P : Command → Type 0 = λ k. OnOk c.read_part_of.result (Follows (IsDoneBy c.args.chip.now (command_data k) c.args.journal.now.state) c.args.journal.now c.args.journal.now (V c.args.rig.now) (V c.read_part_of.new.rig)) in
+    let P : Command → Type 0 = λ k. IfOk c.read_part_of.result (λ said. Follows (IsDoneTelling c.args.chip.now (command_data k) c.args.journal.now.state (outcome_data said)) c.args.journal.now c.args.journal.now (V c.args.rig.now) (V c.read_part_of.new.rig)) in
     subst P (sym c.in-Read.is) (c.read_part_of.ensures.order c.args.journal.now)
 
 pub returns-in-Write-clause-stops : goal.returns-in-Write-clause-stops
 returns-in-Write-clause-stops g c =
     let V = g.R.Rig.view in
-    let P : Command → Type 0 = λ k. Stops (IsBegunBy c.args.chip.now (command_data k) c.args.journal.now.state) c.args.journal.now.is_torn (V c.args.rig.now) (V c.write_image.new.rig) c.write_image.result in
-    subst P (sym c.in-Write.is) c.write_image.ensures.stops
+    let chip = c.args.chip.now in
+    let l = c.args.journal.now in
+    let a = V c.args.rig.now in
+    let b = V c.write_image.new.rig in
+    let P : Command → Type 0 = λ k. Stops (IsBegunBy chip (command_data k) l.state) l.is_torn a b c.write_image.result in
+    change_stops chip (command_data c.args.command.now) l.state l.is_torn a b c.write_image.result (ap (λ (k : Command). is_change (command_data k)) c.in-Write.is)
+    (subst P (sym c.in-Write.is) c.write_image.ensures.stops)
 
 pub returns-in-Erase-clause-stops : goal.returns-in-Erase-clause-stops
 returns-in-Erase-clause-stops g c =
     let V = g.R.Rig.view in
-    let P : Command → Type 0 = λ k. Stops (IsBegunBy c.args.chip.now (command_data k) c.args.journal.now.state) c.args.journal.now.is_torn (V c.args.rig.now) (V c.erase_pages.new.rig) c.erase_pages.result in
-    subst P (sym c.in-Erase.is) c.erase_pages.ensures.stops
+    let chip = c.args.chip.now in
+    let l = c.args.journal.now in
+    let a = V c.args.rig.now in
+    let b = V c.erase_pages.new.rig in
+    let P : Command → Type 0 = λ k. Stops (IsBegunBy chip (command_data k) l.state) l.is_torn a b c.erase_pages.result in
+    change_stops chip (command_data c.args.command.now) l.state l.is_torn a b c.erase_pages.result (ap (λ (k : Command). is_change (command_data k)) c.in-Erase.is)
+    (subst P (sym c.in-Erase.is) c.erase_pages.ensures.stops)
 
 pub returns-in-Verify-clause-stops : goal.returns-in-Verify-clause-stops
 returns-in-Verify-clause-stops g c =
     let V = g.R.Rig.view in
-    let P : Command → Type 0 = λ k. Stops (IsBegunBy c.args.chip.now (command_data k) c.args.journal.now.state) c.args.journal.now.is_torn (V c.args.rig.now) (V c.verify_image.new.rig) c.verify_image.result in
+    let P : Command → Type 0 = λ k. StopsTelling (IsBegunTelling c.args.chip.now (command_data k) c.args.journal.now.state) c.args.journal.now.is_torn (V c.args.rig.now) (V c.verify_image.new.rig) c.verify_image.result in
     subst P (sym c.in-Verify.is) (c.verify_image.ensures.stops c.args.journal.now)
 
 pub returns-in-Read-clause-stops : goal.returns-in-Read-clause-stops
 returns-in-Read-clause-stops g c =
     let V = g.R.Rig.view in
-    let P : Command → Type 0 = λ k. Stops (IsBegunBy c.args.chip.now (command_data k) c.args.journal.now.state) c.args.journal.now.is_torn (V c.args.rig.now) (V c.read_part_of.new.rig) c.read_part_of.result in
+    let P : Command → Type 0 = λ k. StopsTelling (IsBegunTelling c.args.chip.now (command_data k) c.args.journal.now.state) c.args.journal.now.is_torn (V c.args.rig.now) (V c.read_part_of.new.rig) c.read_part_of.result in
     subst P (sym c.in-Read.is) (c.read_part_of.ensures.stops c.args.journal.now)

@@ -5,10 +5,13 @@ use Rattle.stm_session.specs.Meaning.{verifies}
 use Rattle.stm_session.proofs.Doings.{asks_fails}
 use Rattle.stm_session.proofs.OneCommands.{verify_agrees, verify_differs}
 use Rattle.stm_session.proofs.RunOrders.{reads_follow}
-use Rattle.std.specs.List.{AllByRecursion}
 use Rattle.stm_session.specs.Fault.{of_refusal}
-use Rattle.stm_session.specs.RunOrder.{IsReading}
-use Rattle.stm_session.proofs.CutShort.{halts, part_stops}
+use Rattle.stm_session.specs.Came.{AllAgree, CameFor}
+use Rattle.std.proofs.Common.{Some}
+use Rattle.stm_session.specs.declared.fault.Fault.TheVariants as faults
+use Rattle.stm_session.specs.RunOrder.{IsBegunTelling, OnlyReads}
+use Rattle.stm_session.proofs.Arrivals.{reading_stops}
+use Rattle.stm_session.proofs.CutShort.{halts}
 use Rattle.stm_session.proofs.one_command.verify_image.Goals as goal
 
 pub returns-in_err-difference-clause-honest : goal.returns-in_err-difference-clause-honest
@@ -36,16 +39,27 @@ returns-in-None-clause-honest g c flashes l steady chip =
 pub returns-in-None-clause-order : goal.returns-in-None-clause-order
 returns-in-None-clause-order g c l =
     let V = g.R.Rig.view in
-    reads_follow c.args.chip.now l (V c.args.rig.now) (V c.find_difference.new.rig) c.in_ok-difference.ensures.reads
+    let chip = c.args.chip.now in
+    let image = c.args.image.now in
+    let a = V c.args.rig.now in
+    let b = V c.find_difference.new.rig in
+    let P : Option ℕ → Type 0 = λ o. OnlyReads chip (CameFor image chip.base o) a b in
+    reads_follow chip (AllAgree image chip.base) l a b (subst P c.in-None.is c.in_ok-difference.ensures.reads)
 
 pub returns-in_err-difference-clause-stops : goal.returns-in_err-difference-clause-stops
 returns-in_err-difference-clause-stops g c l =
     let V = g.R.Rig.view in
-    let Reads = AllByRecursion (IsReading c.args.chip.now) in
-    part_stops Reads Reads l.is_torn (V c.args.rig.now) (V c.find_difference.new.rig) _ c.from_residual.result c.from_residual.ensures.1 (λ xs are. are) (c.in_err-difference.ensures.reads_stop l.is_torn)
+    reading_stops c.args.chip.now (verifies c.args.image.now) l.state l.is_torn (V c.args.rig.now) (V c.find_difference.new.rig) _ c.from_residual.result refl c.from_residual.ensures.1 c.in_err-difference.ensures.sent
+    (c.in_err-difference.ensures.reads_stop l.is_torn)
 
 pub returns-in-Some-clause-stops : goal.returns-in-Some-clause-stops
 returns-in-Some-clause-stops g c l =
     let V = g.R.Rig.view in
-    let read = c.in_ok-difference.ensures.reads l.is_torn in
-    halts (AllByRecursion (IsReading c.args.chip.now)) of_refusal l.is_torn read.0 (V c.args.rig.now) (V c.find_difference.new.rig) read.1 refl read.2
+    let chip = c.args.chip.now in
+    let image = c.args.image.now in
+    let a = V c.args.rig.now in
+    let b = V c.find_difference.new.rig in
+    let R : Option ℕ → Type 0 = λ o. OnlyReads chip (CameFor image chip.base o) a b in
+    let found : R (Some c.in-Some.address) = subst R c.in-Some.is c.in_ok-difference.ensures.reads in
+    let read = found l.is_torn in
+    halts (IsBegunTelling chip (verifies image) l.state (faults.Differs c.in-Some.address)) of_refusal l.is_torn read.0 a b (read.1, read.2) refl read.3

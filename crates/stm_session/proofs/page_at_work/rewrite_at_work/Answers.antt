@@ -21,8 +21,9 @@ use Rattle.stm_session.proofs.Settlings.{intent_text}
 use Rattle.stm_session.proofs.Work.{StandsAt, no_work, stands_at, work_is}
 use Rattle.std.proofs.Common.{List, length}
 use Rattle.stm_wire.specs.declared.intent.Intent.{Intent}
-use Rattle.stm_session.specs.Order.{Step, Begin, IsRewritten, IsWorkRewritten}
-use Rattle.stm_session.proofs.CutShort.{begin_as, part_stops}
+use Rattle.stm_session.specs.Order.{Step, BeginTold, IsRewritten, IsWorkRewritten}
+use Rattle.stm_session.specs.Told.{ToldIn}
+use Rattle.stm_session.proofs.CutShort.{part_stops}
 use Rattle.stm_session.proofs.page_at_work.rewrite_at_work.Given as given
 use Rattle.stm_session.proofs.page_at_work.rewrite_at_work.Goals as goal
 use Rattle.stm_session.proofs.page_at_work.rewrite_at_work.Goals.{After-rewrite_line}
@@ -162,10 +163,15 @@ returns-in_err-rewrite_line-clause-stops g c =
     let V = g.R.Rig.view in
     let chip = c.args.chip.now in
     let s = c.args.journal.now.state in
-    let One : ℕ → List Step → Type 0 = λ n. IsRewritten chip n in
-    let Work : Option Intent → List Step → Type 0 = λ o. IsWorkRewritten chip o in
-    part_stops (Begin (One c.intent_page-n.result)) (Begin (Work (intent_of s))) c.args.journal.now.is_torn (V c.args.rig.now) (V c.rewrite_line.new.rig) _ c.from_residual.result c.from_residual.ensures.1
-    (begin_as (One c.intent_page-n.result) (Work (intent_of s)) (λ xs one.
+    let a = V c.args.rig.now in
+    let b = V c.rewrite_line.new.rig in
+    let torn = c.args.journal.now.is_torn in
+    let Told = ToldIn V torn a b in
+    let One : ℕ → List Step → Type 0 = λ n. BeginTold (λ T. IsRewritten chip T n) Told in
+    let Work : Option Intent → List Step → Type 0 =
+    λ o. BeginTold (λ T. IsWorkRewritten chip T o) Told in
+    part_stops (One c.intent_page-n.result) (Work (intent_of s)) torn a b _ c.from_residual.result
+    c.from_residual.ensures.1 (λ xs one.
     let P : ℕ → Type 0 = λ n. One n xs in
     let Q : Option Intent → Type 0 = λ o. Work o xs in
-    subst Q c.in-Some.ensures (subst P c.intent_page-n.ensures one))) c.in_err-rewrite_line.ensures.stops
+    subst Q c.in-Some.ensures (subst P c.intent_page-n.ensures one)) c.in_err-rewrite_line.ensures.stops

@@ -1,5 +1,5 @@
 use Rattle.std.proofs.Common.{◌≡◌, ◌∙◌, ◌+◌, ◌*◌, ◌/◌, ◌≤◌, ◌++◌, ◌∷◌, [], List, ℕ, Result, Some}
-use Rattle.std.proofs.Common.{true, length, take, drop, sym, ap, ap₂, arith, rules}
+use Rattle.std.proofs.Common.{true, length, take, drop, subst, sym, ap, ap₂, arith, rules}
 use Rattle.std.proofs.Math.Seq.{take-append_seam}
 use Rattle.stm_wire.specs.Chip.{erased_byte, page_size, with_page}
 use Rattle.stm_wire.specs.Device.{Device}
@@ -10,8 +10,14 @@ use Rattle.stm_chip.specs.declared.plan.Frame.{Frame}
 use Rattle.stm_chip.specs.Plan.{frames_of}
 use Rattle.stm_journal.specs.declared.entry.Entry.TheVariants.{Erases}
 use Rattle.stm_session.specs.Lines.{program_entries, rewrite_entries}
-use Rattle.stm_session.specs.Order.{IsRewritten, rewrite_steps}
-use Rattle.stm_session.specs.Order.{Are, Begin}
+use Rattle.hex.specs.Hex.{encode_upper}
+use Rattle.stm_wire.specs.Call.{Call}
+use Rattle.stm_wire.specs.Dialogue.{GoesOn}
+use Rattle.stm_journal.specs.PageFetching.{Brings}
+use Rattle.stm_session.specs.Fault.{cause_of}
+use Rattle.stm_session.specs.Order.{Are, AreCutShort, Begin, BeginTold, IsInOrder, IsRewritten}
+use Rattle.stm_session.specs.Order.{acts_of, rewrite_steps, so_far}
+use Rattle.stm_session.specs.Told.{ToldIn}
 use Rattle.stm_session.specs.Steps.{Goes, IsSteady}
 use Rattle.stm_session.specs.Undoable.{state_at}
 use Rattle.stm_session.specs.declared.fault.Fault.{Fault}
@@ -23,6 +29,7 @@ use Rattle.stm_session.proofs.Orders.{does_fetch, does_then}
 use Rattle.stm_session.proofs.SentParts.{fetch_part, part_after, part_fails_after}
 use Rattle.stm_session.proofs.CutShort.{begin_as, memory_stops, then_stops}
 use Rattle.stm_session.proofs.Orders.{does_nothing}
+use Rattle.stm_session.proofs.ToldPages.{some_calls}
 use Rattle.stm_session.proofs.UndoOrders.{journal_stops, some_rewrite}
 use Rattle.stm_session.proofs.page_at_work.rewrite_line.Given as given
 use Rattle.stm_session.proofs.page_at_work.rewrite_line.Goals as goal
@@ -40,6 +47,37 @@ fits : (g : given.Over) (c : goal.After-rewrite_kept g)
 fits g c =
     let many = page_size_is g c in
     omega (arith, many, c.page_size-size.ensures.bytes, c.page_size-size.ensures.blocks.0)
+
+-- it gets what was fetched
+page_same : (g : given.Over) (c : goal.After-rewrite_kept g)
+    → c.deref-2.result.now ≡ c.fetch_page.new.buf
+page_same g c =
+    let buf = c.fetch_page.new.buf in
+    let many : length buf ≡ c.in_ok-page.page.len =
+    omega (arith, c.fetch_page.auto.buf, c.deref_mut.ensures.len) in
+    c.deref-2.ensures.value
+    ∙ ap (λ (z : ℕ). take z (buf ++ drop (length buf) c.in_ok-page.page.items)) (sym many)
+    ∙ take-append_seam buf _
+
+-- which the journal told first
+was_told : (g : given.Over) (c : goal.After-rewrite_kept g) (P : List Call → Type 0)
+    → GoesOn P (g.R.Rig.view c.fetch_page.new.rig).calls (g.R.Rig.view c.rewrite_kept.new.rig).calls
+    → ToldIn g.R.Rig.view c.args.journal.now.is_torn (g.R.Rig.view c.args.rig.now)
+    (g.R.Rig.view c.rewrite_kept.new.rig) [] c.deref-2.result.now
+was_told g c P rest =
+    let V = g.R.Rig.view in
+    let l = c.args.journal.now in
+    let a = V c.args.rig.now in
+    let B : List ℕ → Type 0 = λ page. Brings (encode_upper page) a.told
+    (V c.fetch_page.new.rig).told in
+    record {
+      before = c.args.rig.now;
+      after = c.fetch_page.new.rig;
+      done = (does_nothing l a).acts;
+      fetches = c.in_ok-fetch_page.ensures.calls;
+      brought = subst B (sym (page_same g c)) c.in_ok-fetch_page.ensures.told;
+      rest = some_calls P _ _ rest;
+    }
 
 -- the frames are those of the page
 framed : (g : given.Over) (c : goal.After-rewrite_kept g)
@@ -74,20 +112,15 @@ rewritten g c flashes k i kept steady chip entry place number r gives =
     let a = V c.args.rig.now in
     let b = V c.fetch_page.new.rig in
     let d = V c.rewrite_kept.new.rig in
-    let buf = c.fetch_page.new.buf in
     let fetches = c.in_ok-fetch_page.ensures.honest steady.honest steady.loaded in
-    let first = fetch_goes c.step_laws.ensures flashes l c.args.place buf a b
+    let first = fetch_goes c.step_laws.ensures flashes l c.args.place c.fetch_page.new.buf a b
     (g.met.R.Rig.model c.args.rig.now steady.honest) steady (tt {0}) (λ (z : Unit {0}). Unit {0})
     fetches tt in
     let model_b = g.met.R.Rig.model c.fetch_page.new.rig first.honest in
     let still = ap (λ (x : Device). x.chip) fetches.same_device ∙ chip in
     let good = good_at l a.journal steady.loaded in
-    let many : length buf ≡ c.in_ok-page.page.len =
-    omega (arith, c.fetch_page.auto.buf, c.deref_mut.ensures.len) in
     let page_is : c.deref-2.result.now ≡ kept.bytes =
-    c.deref-2.ensures.value
-    ∙ ap (λ (z : ℕ). take z (buf ++ drop (length buf) c.in_ok-page.page.items)) (sym many)
-    ∙ take-append_seam buf _ ∙ fetches.bytes (state_at a.journal) k i kept good entry place in
+    page_same g c ∙ fetches.bytes (state_at a.journal) k i kept good entry place in
     let own = Erases c.args.n ∷ program_entries c.args.n c.deref-3.result.now in
     let lines : own ≡ rewrite_entries c.args.chip.now kept.page kept.bytes =
     ap (λ (fs : List Frame). Erases c.args.n ∷ program_entries c.args.n fs) (framed g c)
@@ -200,8 +233,11 @@ returns-clause-order g c =
     let own = rewrite_steps chip n page c.deref-3.result.now in
     let last = (goal.at.returns-clause-order g c).After-rewrite_kept in
     let is = ap (λ (fs : List Frame). rewrite_steps chip n page fs) (framed g last) in
-    let rewritten : IsRewritten chip n own =
-    record { page = page; size = page_size_is g last; is = is } in (
+    let Own : List Call → Type 0 = λ calls. IsInOrder l.is_torn own calls in
+    let told = was_told g last Own c.in_ok-rewrite_kept.ensures.order.acts in
+    let Told = ToldIn V l.is_torn a (V c.rewrite_kept.new.rig) in
+    let rewritten : IsRewritten chip Told n own =
+    record { page = page; size = page_size_is g last; told = told; is = is } in (
       own,
       rewritten,
       does_then [] own l l c.rewrite_kept.new.journal a b (V c.rewrite_kept.new.rig)
@@ -212,7 +248,11 @@ pub returns-in_err-page-clause-stops : goal.returns-in_err-page-clause-stops
 returns-in_err-page-clause-stops g c =
     let a = g.R.Rig.view c.args.rig.now in
     let l = c.args.journal.now in
-    memory_stops (Begin (IsRewritten c.args.chip.now c.args.n)) l.is_torn [] a a c.from_residual.result c.from_residual.ensures.1 (some_rewrite c.args.chip.now c.args.n) (does_nothing l a).acts
+    let chip = c.args.chip.now in
+    let n = c.args.n in
+    let Told = ToldIn g.R.Rig.view l.is_torn a a in
+    memory_stops (BeginTold (λ T. IsRewritten chip T n) Told) l.is_torn [] a a c.from_residual.result
+    c.from_residual.ensures.1 (some_rewrite chip Told n) (does_nothing l a).acts
 
 pub returns-in_err-fetch_page-clause-stops : goal.returns-in_err-fetch_page-clause-stops
 returns-in_err-fetch_page-clause-stops g c =
@@ -220,8 +260,12 @@ returns-in_err-fetch_page-clause-stops g c =
     let l = c.args.journal.now in
     let a = V c.args.rig.now in
     let b = V c.fetch_page.new.rig in
-    journal_stops (Begin (IsRewritten c.args.chip.now c.args.n)) l.is_torn [] _ a b c.from_residual-in_err-fetch_page.result c.from_residual-in_err-fetch_page.ensures.1 (some_rewrite c.args.chip.now c.args.n)
-    (does_fetch l a b c.fetch_page.ensures.calls).acts
+    let chip = c.args.chip.now in
+    let n = c.args.n in
+    let Told = ToldIn V l.is_torn a b in
+    journal_stops (BeginTold (λ T. IsRewritten chip T n) Told) l.is_torn [] _ a b
+    c.from_residual-in_err-fetch_page.result c.from_residual-in_err-fetch_page.ensures.1
+    (some_rewrite chip Told n) (does_fetch l a b c.fetch_page.ensures.calls).acts
 
 pub returns-in_err-frames-clause-stops : goal.returns-in_err-frames-clause-stops
 returns-in_err-frames-clause-stops g c =
@@ -229,7 +273,12 @@ returns-in_err-frames-clause-stops g c =
     let l = c.args.journal.now in
     let a = V c.args.rig.now in
     let b = V c.fetch_page.new.rig in
-    memory_stops (Begin (IsRewritten c.args.chip.now c.args.n)) l.is_torn [] a b c.from_residual-in_err-frames.result c.from_residual-in_err-frames.ensures.1 (some_rewrite c.args.chip.now c.args.n) (does_fetch l a b c.fetch_page.ensures.calls).acts
+    let chip = c.args.chip.now in
+    let n = c.args.n in
+    let Told = ToldIn V l.is_torn a b in
+    memory_stops (BeginTold (λ T. IsRewritten chip T n) Told) l.is_torn [] a b
+    c.from_residual-in_err-frames.result c.from_residual-in_err-frames.ensures.1
+    (some_rewrite chip Told n) (does_fetch l a b c.fetch_page.ensures.calls).acts
 
 pub returns-in_err-rewrite_kept-clause-stops : goal.returns-in_err-rewrite_kept-clause-stops
 returns-in_err-rewrite_kept-clause-stops g c =
@@ -244,8 +293,14 @@ returns-in_err-rewrite_kept-clause-stops g c =
     let Own = Are (rewrite_steps chip n page c.deref-3.result.now) in
     let same = ap (λ (fs : List Frame). rewrite_steps chip n page fs) (framed g last) in
     let many = page_size_is g last in
-    then_stops (Begin Own) (Begin (IsRewritten chip n)) [] l l a b (V c.rewrite_kept.new.rig) _
+    let d = V c.rewrite_kept.new.rig in
+    let cause = cause_of c.in_err-rewrite_kept.field-0.0 in
+    let Cut : List Call → Type 0 =
+    λ calls. AreCutShort (Begin Own) cause l.is_torn (acts_of calls) in
+    let told = was_told g last Cut c.in_err-rewrite_kept.ensures.stops in
+    let Told = ToldIn V l.is_torn a d in
+    then_stops (Begin Own) (BeginTold (λ T. IsRewritten chip T n) Told) [] l l a b d _
     c.from_residual-in_err-rewrite_kept.result c.from_residual-in_err-rewrite_kept.ensures.1
     (does_fetch l a b c.in_ok-fetch_page.ensures.calls) c.in_err-rewrite_kept.ensures.stops
-    (begin_as Own (IsRewritten chip n)
-    (λ ys is. record { page = page; size = many; is = is ∙ same }))
+    (λ ys. begin_as Own (IsRewritten chip (so_far (length ys) Told) n)
+    (λ xs is. record { page = page; size = many; told = λ lt. told; is = is ∙ same }) ys)

@@ -1,5 +1,8 @@
 -- A round of the loop reads a block more.
-use Rattle.std.proofs.Common.{◌≡◌, ◌≤◌, ◌+◌, ◌-◌, ◌*◌, arith, ap, ◌∙◌, ℕ, Bool, Some, [], true, refl}
+use Rattle.std.proofs.Common.{◌≡◌, ◌≤◌, ◌+◌, ◌-◌, ◌*◌, ◌++◌, ◌∷◌, arith, ap, ◌∙◌, ℕ, Bool, List, Some, [], true, length, refl, subst, sym}
+use Rattle.stm_wire.specs.Frames.{read_turns}
+use Rattle.stm_session.specs.Came.{ComeInBlocks}
+use Rattle.stm_session.proofs.Arrivals.{come_more}
 use Rattle.stm_session.specs.Running.{bytes_at}
 use Rattle.stm_session.proofs.Asking.{asks_failed, asks_ok, memory_refused, nothing_asked}
 use Rattle.stm_session.proofs.Ranges.{block_adds, block_asks, size-limit}
@@ -7,7 +10,7 @@ use Rattle.stm_wire.specs.Dialogue.{GoesOn}
 use Rattle.stm_wire.specs.DialogueLaws.{GoesOn-nothing}
 use Rattle.std.specs.List.{AllByRecursion}
 use Rattle.stm_session.specs.Fault.{Cause}
-use Rattle.stm_session.specs.Order.{AreReadsOf, Begin, IsInOrder, StopsBy}
+use Rattle.stm_session.specs.Order.{Step, AreReadsOf, Begin, IsInOrder, Sends, StopsBy}
 use Rattle.stm_session.specs.RunOrder.{IsReading}
 use Rattle.stm_session.proofs.CutShort.{by_fault, memory_stops, reads_begin}
 use Rattle.stm_wire.specs.Parts.{IsPart}
@@ -36,7 +39,7 @@ loop-done-init g c =
         stays = λ h. h;
         parts = nothing_is_part (Some c.args.chip.now) true 0 (V c.args.rig.now).calls;
         few = λ page within. record { most = 0; within = omega arith; blocks = λ lt. omega arith; parts = nothing_is_part (Some c.args.chip.now) true 0 (V c.args.rig.now).calls };
-        reads = reads_nothing c.args.chip.now (V c.args.rig.now);
+        reads = reads_nothing c.args.chip.now (ComeInBlocks c.args.start c.in_ok-bytes.bytes.items) (V c.args.rig.now) c.in_ok-bytes.ensures.items;
         order = λ page within even torn. record { blocks = 0; is = refl; many = omega (arith, c.in_ok-bytes.ensures.len); steps = GoesOn-nothing (IsInOrder torn []) (V c.args.rig.now).calls refl };
         honest = λ h settled chip. nothing_asked c.sending_is_harmless.ensures.asking (V c.args.rig.now) (tt {0}) _ h (g.met.R.Rig.model c.args.rig.now h) settled c.in_ok-bytes.ensures.items;
       },
@@ -58,8 +61,20 @@ loop-done-preserved g c =
         few = λ page within.
             block_in_few c.args.chip.now c.args.start c.args.size c.loop-done.done c.block_size-block.result page (V c.args.rig.now) (V c.loop-done.rig) (V c.read_block.new.rig)
             c.loop-done-test.true (so_far.few page within) c.block_size-block.ensures within c.in_ok-read_block.ensures.puts;
-        reads = block_read c.args.chip.now (c.args.start + c.loop-done.done) (c.args.size - c.loop-done.done) c.block_size-block.result c.in_ok-read_block.ensures.order.0 (V c.args.rig.now) (V c.loop-done.rig) (V c.read_block.new.rig)
-            (omega (arith, c.loop-done-test.true)) c.block_size-block.ensures so_far.reads c.in_ok-read_block.ensures.order.2;
+        reads =
+            let start = c.args.start in
+            let address = c.args.start + c.loop-done.done in
+            let before = c.loop-done.bytes.items in
+            let after = c.read_block.new.bytes.items in
+            let order = c.in_ok-read_block.ensures.order in
+            let at : address ≡ start + length before = omega (arith, c.loop-done.invariant.0) in
+            let longer : (xs : List Step) → ComeInBlocks start before xs → ComeInBlocks start after (xs ++ Sends (read_turns address order.0) ∷ []) =
+            λ xs came.
+            let own : List Step = Sends (read_turns address order.0) ∷ [] in
+            let P : List ℕ → Type 0 = λ bytes. ComeInBlocks start bytes (xs ++ own) in
+            subst P (sym order.1) (come_more start address before order.0 xs at came) in
+            block_read c.args.chip.now (ComeInBlocks start before) (ComeInBlocks start after) address (c.args.size - c.loop-done.done) c.block_size-block.result order.0 (V c.args.rig.now) (V c.loop-done.rig) (V c.read_block.new.rig)
+            longer (omega (arith, c.loop-done-test.true)) c.block_size-block.ensures so_far.reads order.2;
         order = λ page within even torn.
             blocks_more c.args.chip.now c.args.start c.args.size c.loop-done.done c.block_size-block.result page torn c.loop-done.bytes.items (V c.args.rig.now) (V c.loop-done.rig) (V c.read_block.new.rig)
             c.loop-done-test.true (so_far.order page within even torn) c.block_size-block.ensures within even c.read_block.new.bytes.items c.in_ok-read_block.ensures.order.0 c.in_ok-read_block.ensures.order.1 c.in_ok-read_block.ensures.order.2;
@@ -168,5 +183,5 @@ returns-in_err-read_block-clause-reads_stop g c torn =
     let a = V c.args.rig.now in
     let d = V c.read_block.new.rig in
     by_fault (λ (k : Cause). StopsBy (AllByRecursion (IsReading c.args.chip.now)) k torn a d) _ c.from_residual-in_err-read_block.result c.from_residual-in_err-read_block.ensures.1
-    (block_stop c.args.chip.now (c.args.start + c.loop-done.done) (c.args.size - c.loop-done.done) c.block_size-block.result _ a (V c.loop-done.rig) d (omega (arith, c.loop-done-test.true)) c.block_size-block.ensures
+    (block_stop c.args.chip.now (ComeInBlocks c.args.start c.loop-done.bytes.items) (c.args.start + c.loop-done.done) (c.args.size - c.loop-done.done) c.block_size-block.result _ a (V c.loop-done.rig) d (omega (arith, c.loop-done-test.true)) c.block_size-block.ensures
     c.loop-done.invariant.1.reads c.in_err-read_block.ensures.stops torn)

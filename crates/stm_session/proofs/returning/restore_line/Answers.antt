@@ -15,21 +15,28 @@ use Rattle.stm_journal.specs.Journals.{journal_of, good}
 use Rattle.stm_journal.specs.KeptPlaces.{kept_entry, place_of}
 use Rattle.stm_session.specs.declared.fault.Fault.{Fault}
 use Rattle.stm_session.specs.Lines.{return_entries, rewrite_entries}
-use Rattle.stm_session.specs.Order.{Step, Are, Begin, DoesSteps, IsReturned}
-use Rattle.stm_session.specs.Order.{page_reads, restore_steps}
+use Rattle.hex.specs.Hex.{encode_upper}
+use Rattle.stm_wire.specs.Call.{Call}
+use Rattle.stm_journal.specs.PageFetching.{Brings}
+use Rattle.stm_session.specs.Fault.{cause_of}
+use Rattle.stm_session.specs.Order.{Step, Are, AreCutShort, AreReadsOf, Begin, BeginTold, DoesSteps}
+use Rattle.stm_session.specs.Order.{IsInOrder, IsReturned, Tells, acts_of, page_reads}
+use Rattle.stm_session.specs.Order.{restore_steps, so_far}
+use Rattle.stm_session.specs.Told.{ToldIn}
 use Rattle.stm_session.specs.Sending.{is_whole}
 use Rattle.stm_session.specs.Steps.{Goes, IsSteady}
 use Rattle.stm_session.specs.Undoable.{state_at}
 use Rattle.stm_session.proofs.Causes.{cause_behind}
-use Rattle.stm_session.proofs.CutShort.{begin_after, memory_stops, then_stops}
-use Rattle.stm_session.proofs.Exits.{goes_fault, in_page, read_stops, reads_page}
+use Rattle.stm_session.proofs.CutShort.{begin_after, memory_stops, part_stops, then_stops}
+use Rattle.stm_session.proofs.Exits.{goes_fault, in_page, reads_page}
 use Rattle.stm_session.proofs.Fetchings.{fetch_goes, fetch_fails}
 use Rattle.stm_session.proofs.Going.{asks_fail, asks_on, goes_as, goes_ok, goes_refused, goes_then}
 use Rattle.stm_session.proofs.Keeping.{good_at}
 use Rattle.stm_session.proofs.Orders.{does_as, does_fetch, does_then}
 use Rattle.stm_session.proofs.Restorings.{lines_same, page_read}
 use Rattle.stm_session.proofs.SentParts.{fetch_part, part_after, part_fails, part_fails_after}
-use Rattle.stm_session.proofs.UndoOrders.{journal_stops, some_return}
+use Rattle.stm_session.proofs.ToldPages.{some_calls}
+use Rattle.stm_session.proofs.UndoOrders.{journal_stops, return_read, return_reading}
 use Rattle.stm_session.proofs.returning.restore_line.Given as given
 use Rattle.stm_session.proofs.returning.restore_line.Goals as goal
 use Rattle.stm_session.proofs.returning.restore_line.Goals.{After-read_range, In_ok-held}
@@ -118,17 +125,51 @@ fits g c =
     let many = given_size g c in
     omega (arith, many, c.page_size-size.ensures.bytes, c.page_size-size.ensures.blocks.0)
 
+-- it gets what was fetched
+page_same : (g : given.Over) (c : goal.After-restore_page g)
+    → c.deref-2.result.now ≡ c.fetch_page.new.buf
+page_same g c =
+    let buf = c.fetch_page.new.buf in
+    let many : length buf ≡ c.in_ok-page.page.len =
+    omega (arith, c.fetch_page.auto.buf, c.deref_mut.ensures.len) in
+    c.deref-2.ensures.value
+    ∙ ap (λ (z : ℕ). take z (buf ++ drop (length buf) c.in_ok-page.page.items)) (sym many)
+    ∙ take-append_seam buf _
+
+-- which the journal told behind the read
+was_told : (g : given.Over) (c : goal.After-restore_page g) (P : List Call → Type 0)
+    → GoesOn P (g.R.Rig.view c.fetch_page.new.rig).calls (g.R.Rig.view c.restore_page.new.rig).calls
+    → DoesSteps (page_reads c.args.chip.now c.args.n c.deref.result.now) c.args.journal.now
+    c.args.journal.now (g.R.Rig.view c.args.rig.now) (g.R.Rig.view c.read_range.new.rig)
+    → ToldIn g.R.Rig.view c.args.journal.now.is_torn (g.R.Rig.view c.args.rig.now)
+    (g.R.Rig.view c.restore_page.new.rig)
+    (page_reads c.args.chip.now c.args.n c.deref.result.now) c.deref-2.result.now
+was_told g c P rest reads =
+    let V = g.R.Rig.view in
+    let B : List ℕ → Type 0 = λ page. Brings (encode_upper page)
+    (V c.read_range.new.rig).told (V c.fetch_page.new.rig).told in
+    record {
+      before = c.read_range.new.rig;
+      after = c.fetch_page.new.rig;
+      done = reads.acts;
+      fetches = c.in_ok-fetch_page.ensures.calls;
+      brought = subst B (sym (page_same g c)) c.in_ok-fetch_page.ensures.told;
+      rest = some_calls P _ _ rest;
+    }
+
 -- the page is returned
-returned : (g : given.Over) (c : goal.After-restore_page g) (steps : List Step)
+returned : (g : given.Over) (c : goal.After-restore_page g) (Told : Tells) (steps : List Step)
+    → Told (page_reads c.args.chip.now c.args.n c.deref.result.now) c.deref-2.result.now
     → steps ≡ restore_steps c.args.chip.now c.args.n c.deref.result.now c.deref-2.result.now
-    → IsReturned c.args.chip.now c.args.n
+    → IsReturned c.args.chip.now Told c.args.n
     (page_reads c.args.chip.now c.args.n c.deref.result.now ++ steps)
-returned g c steps is =
+returned g c Told steps told is =
     record {
       held = c.deref.result.now;
       held_size = held_size g c;
       page = c.deref-2.result.now;
       size = given_size g c;
+      told = told;
       is = ap (λ (xs : List Step). page_reads c.args.chip.now c.args.n c.deref.result.now ++ xs) is;
     }
 
@@ -180,14 +221,7 @@ given_back g c flashes k i kept steady chip entry place number r gives =
     let J : List ℕ → Type 0 = λ j. journal_of j ≡ good (state_at a.journal) in
     let there = subst J (sym asks.left.journal_same) (good_at l a.journal steady.loaded) in
     let fetched = fetches.bytes (state_at a.journal) k i kept there entry place in
-    let buf = c.fetch_page.new.buf in
-    let many : length buf ≡ c.in_ok-page.page.len =
-    omega (arith, c.fetch_page.auto.buf, c.deref_mut.ensures.len) in
-    let same : c.deref-2.result.now ≡ buf =
-    c.deref-2.ensures.value
-    ∙ ap (λ (z : ℕ). take z (buf ++ drop (length buf) c.in_ok-page.page.items)) (sym many)
-    ∙ take-append_seam buf _ in
-    let page_is : c.deref-2.result.now ≡ kept.bytes = same ∙ fetched in
+    let page_is : c.deref-2.result.now ≡ kept.bytes = page_same g c ∙ fetched in
     let lines = lines_same c.args.chip.now a.device.flash n c.deref.result.now c.deref-2.result.now
     kept held_is page_is number in
     let own = if bytes_eq c.deref.result.now c.deref-2.result.now then []
@@ -329,9 +363,12 @@ returns-clause-order g c =
     let d = V c.fetch_page.new.rig in
     let before =
     fetched g read held d c.deref.ensures.value c.in_ok-fetch_page.ensures.calls in
-    let l = c.args.journal.now in (
+    let l = c.args.journal.now in
+    let Own : List Call → Type 0 = λ calls. IsInOrder l.is_torn own calls in
+    let told = was_told g last Own c.in_ok-restore_page.ensures.order.acts
+    (was_read g read held c.deref.ensures.value) in (
       reads ++ own,
-      returned g last own refl,
+      returned g last (ToldIn V l.is_torn (V c.args.rig.now) (V c.restore_page.new.rig)) own told refl,
       does_then reads own l l c.restore_page.new.journal (V c.args.rig.now) d
           (V c.restore_page.new.rig) before c.in_ok-restore_page.ensures.order,
     )
@@ -339,12 +376,21 @@ returns-clause-order g c =
 pub returns-in_err-held-clause-stops : goal.returns-in_err-held-clause-stops
 returns-in_err-held-clause-stops g c =
     let V = g.R.Rig.view in
-    read_stops c.args.chip.now c.args.n c.page_start-start.result c.page_size-size.result
-    c.requires.exists c.page_start-start.ensures.address c.page_size-size.ensures.bytes
-    (IsReturned c.args.chip.now c.args.n) c.args.journal.now.is_torn (V c.args.rig.now)
-    (V c.read_range.new.rig) _ c.from_residual.result c.from_residual.ensures.1
-    c.page_size-size.ensures.blocks.1 (some_return c.args.chip.now c.args.n)
-    c.in_err-held.ensures.order_stops
+    let chip = c.args.chip.now in
+    let n = c.args.n in
+    let start = c.page_start-start.result in
+    let size = c.page_size-size.result in
+    let torn = c.args.journal.now.is_torn in
+    let a = V c.args.rig.now in
+    let b = V c.read_range.new.rig in
+    let Told = ToldIn V torn a b in
+    part_stops (Begin (AreReadsOf start size)) (BeginTold (λ T. IsReturned chip T n) Told) torn a b
+    _ c.from_residual.result c.from_residual.ensures.1
+    (return_reading chip Told n start size c.page_start-start.ensures.address
+    c.page_size-size.ensures.bytes)
+    (c.in_err-held.ensures.order_stops n
+    (in_page chip n start size c.requires.exists c.page_start-start.ensures.address
+    c.page_size-size.ensures.bytes) c.page_size-size.ensures.blocks.1 torn)
 
 pub returns-in_err-page-clause-stops : goal.returns-in_err-page-clause-stops
 returns-in_err-page-clause-stops g c =
@@ -354,9 +400,13 @@ returns-in_err-page-clause-stops g c =
     let held = c.in_ok-held.held.items in
     let many : length held ≡ page_size chip n = search rules in
     let read = (goal.at.returns-in_err-page-clause-stops g c).In_ok-held in
-    memory_stops (Begin (IsReturned chip n)) c.args.journal.now.is_torn (page_reads chip n held)
-    (V c.args.rig.now) (V c.read_range.new.rig) c.from_residual-in_err-page.result
-    c.from_residual-in_err-page.ensures.1 (some_return chip n held many)
+    let torn = c.args.journal.now.is_torn in
+    let a = V c.args.rig.now in
+    let b = V c.read_range.new.rig in
+    let Told = ToldIn V torn a b in
+    memory_stops (BeginTold (λ T. IsReturned chip T n) Told) torn (page_reads chip n held) a b
+    c.from_residual-in_err-page.result
+    c.from_residual-in_err-page.ensures.1 (return_read chip Told n held many)
     (was_read g read held refl).acts
 
 pub returns-in_err-fetch_page-clause-stops : goal.returns-in_err-fetch_page-clause-stops
@@ -368,9 +418,11 @@ returns-in_err-fetch_page-clause-stops g c =
     let many : length held ≡ page_size chip n = search rules in
     let d = V c.fetch_page.new.rig in
     let read = (goal.at.returns-in_err-fetch_page-clause-stops g c).In_ok-held in
-    journal_stops (Begin (IsReturned chip n)) c.args.journal.now.is_torn (page_reads chip n held) _
+    let torn = c.args.journal.now.is_torn in
+    let Told = ToldIn V torn (V c.args.rig.now) d in
+    journal_stops (BeginTold (λ T. IsReturned chip T n) Told) torn (page_reads chip n held) _
     (V c.args.rig.now) d c.from_residual-in_err-fetch_page.result
-    c.from_residual-in_err-fetch_page.ensures.1 (some_return chip n held many)
+    c.from_residual-in_err-fetch_page.ensures.1 (return_read chip Told n held many)
     (fetched g read held d refl c.fetch_page.ensures.calls).acts
 
 pub returns-in_err-restore_page-clause-stops : goal.returns-in_err-restore_page-clause-stops
@@ -387,10 +439,19 @@ returns-in_err-restore_page-clause-stops g c =
     let d = V c.fetch_page.new.rig in
     let before =
     fetched g read held d c.deref.ensures.value c.in_ok-fetch_page.ensures.calls in
-    then_stops (Begin (Are own)) (Begin (IsReturned chip n)) reads l l (V c.args.rig.now) d
-    (V c.restore_page.new.rig) _ c.from_residual-in_err-restore_page.result
+    let a = V c.args.rig.now in
+    let e = V c.restore_page.new.rig in
+    let cause = cause_of c.in_err-restore_page.field-0.0 in
+    let Cut : List Call → Type 0 =
+    λ calls. AreCutShort (Begin (Are own)) cause l.is_torn (acts_of calls) in
+    let told = was_told g last Cut c.in_err-restore_page.ensures.stops
+    (was_read g read held c.deref.ensures.value) in
+    let Told = ToldIn V l.is_torn a e in
+    then_stops (Begin (Are own)) (BeginTold (λ T. IsReturned chip T n) Told) reads l l a d e _
+    c.from_residual-in_err-restore_page.result
     c.from_residual-in_err-restore_page.ensures.1 before c.in_err-restore_page.ensures.stops
-    (begin_after (Are own) (IsReturned chip n) reads (returned g last))
+    (λ ys. begin_after (Are own) (IsReturned chip (so_far (length (reads ++ ys)) Told) n) reads
+    (λ steps is. returned g last (so_far (length (reads ++ ys)) Told) steps (λ lt. told) is) ys)
 
 pub returns-in_err-restore_page-clause-cause : goal.returns-in_err-restore_page-clause-cause
 returns-in_err-restore_page-clause-cause g c =

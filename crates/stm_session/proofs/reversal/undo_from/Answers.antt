@@ -23,7 +23,11 @@ use Rattle.stm_session.proofs.Undone.{contract_when, contract_after, refuses_els
 use Rattle.std.proofs.Common.{◌++◌}
 use Rattle.std.proofs.Common.{inl, inr}
 use Rattle.stm_session.specs.Fault.{cause_of}
-use Rattle.stm_session.specs.Order.{AreCutShort, AreTaken, Begin, BeginTaking, IsAfter, UndoStopsFrom, asking_steps}
+use Rattle.stm_journal.specs.Newest.{pages_of_segments}
+use Rattle.stm_session.specs.Order.{Step, AreCutShort, AreTakenAs, BeginTaking, BeginTold, IsAfter, SettlesFirst, UndoStopsFrom, asking_steps, so_far, untold}
+use Rattle.stm_session.specs.Told.{BeginTakingTold, ToldBy, ToldIn, UndoStopsTold}
+use Rattle.stm_session.proofs.Tellings.{all_as}
+use Rattle.stm_session.proofs.ToldPages.{told_by}
 use Rattle.stm_session.proofs.KeptRuns.{stops_as}
 use Rattle.stm_session.proofs.Orders.{fetched_and, fetched_then, settled_then}
 use Rattle.stm_session.proofs.Reaching.{at_fault, fetched_stops, reached_stops}
@@ -309,25 +313,62 @@ returns-clause-puts g c =
 pub returns-then-depth-eq0-clause-order : goal.returns-then-depth-eq0-clause-order
 returns-then-depth-eq0-clause-order g c some = absurd (omega (arith, some))
 
+pub returns-then-depth-eq0-clause-given : goal.returns-then-depth-eq0-clause-given
+returns-then-depth-eq0-clause-given g c some = absurd (omega (arith, some))
+
 pub returns-clause-order : goal.returns-clause-order
 returns-clause-order g c some =
     let V = g.R.Rig.view in
     let l = c.in_ok-journal.journal in
-    let way = undo_way c.args.is_fresh c.in_ok-chip.chip.now.kind (intent_of l.state) in
+    let chip = c.in_ok-chip.chip.now in
+    let way = undo_way c.args.is_fresh chip.kind (intent_of l.state) in
     let a = (V c.args.rig.now).calls in
     let b = (V c.load.new.rig).calls in
     let d = (V c.meet.new.rig).calls in
     let e = (V c.go_back.new.rig).calls in
     let back = c.in_ok-go_back.ensures.order in
     let met = c.in_ok-meet.ensures.order l.is_torn in
-    let asking = asking_steps met.0 met.1 c.in_ok-chip.chip.now.id in
+    let asking = asking_steps met.0 met.1 chip.id in
+    let Told = ToldIn V l.is_torn (V c.meet.new.rig) (V c.go_back.new.rig) in
+    let taken = all_as chip Told untold (intent_of l.state) c.taken_count-taken.result (pages_of_segments l.state.stack) back.0 (λ steps page told. tt) back.1 in
     record {
       journal = l;
       loaded = λ h. (c.in_ok-journal.ensures.honest h).loaded;
       sound = c.depth-depth.ensures.sound;
-      chip = c.in_ok-chip.chip.now;
-      listed = own-id c.args.table.now c.in-Some.id c.in_ok-chip.chip.now c.in_ok-chip.ensures.chip;
-      does = (met.0, met.1, back.0, back.1, fetched_then way l.is_torn (asking ++ back.0) a b e c.in_ok-journal.ensures.calls (settled_then way l.is_torn asking back.0 b d e refl met.2 back.2.acts));
+      chip = chip;
+      listed = own-id c.args.table.now c.in-Some.id chip c.in_ok-chip.ensures.chip;
+      does = (met.0, met.1, back.0, taken, fetched_then way l.is_torn (asking ++ back.0) a b e c.in_ok-journal.ensures.calls (settled_then way l.is_torn asking back.0 b d e refl met.2 back.2.acts));
+    }
+
+pub returns-clause-given : goal.returns-clause-given
+returns-clause-given g c some =
+    let V = g.R.Rig.view in
+    let l = c.in_ok-journal.journal in
+    let chip = c.in_ok-chip.chip.now in
+    let way = undo_way c.args.is_fresh chip.kind (intent_of l.state) in
+    let a = V c.args.rig.now in
+    let b = V c.load.new.rig in
+    let d = V c.meet.new.rig in
+    let e = V c.go_back.new.rig in
+    let back = c.in_ok-go_back.ensures.order in
+    let met = c.in_ok-meet.ensures.order l.is_torn in
+    let asking = asking_steps met.0 met.1 chip.id in
+    let opened = fetched_then way l.is_torn asking a.calls b.calls d.calls c.in_ok-journal.ensures.calls met.2 in
+    let told = told_by V (λ calls. SettlesFirst way l.is_torn asking calls) l.is_torn a d e opened in
+    let taken = all_as chip (ToldIn V l.is_torn d e) (ToldBy V a e) (intent_of l.state) c.taken_count-taken.result (pages_of_segments l.state.stack) back.0 told back.1 in
+    record {
+      journal = l;
+      loaded = λ h. (c.in_ok-journal.ensures.honest h).loaded;
+      sound = c.depth-depth.ensures.sound;
+      chip = chip;
+      listed = own-id c.args.table.now c.in-Some.id chip c.in_ok-chip.ensures.chip;
+      does = (
+        met.0,
+        met.1,
+        back.0,
+        taken,
+        fetched_then way l.is_torn (asking ++ back.0) a.calls b.calls e.calls c.in_ok-journal.ensures.calls (settled_then way l.is_torn asking back.0 b.calls d.calls e.calls refl met.2 back.2.acts),
+      );
     }
 
 pub returns-in_err-journal-clause-stops : goal.returns-in_err-journal-clause-stops
@@ -365,8 +406,10 @@ pub returns-in_err-go_back-clause-stops : goal.returns-in_err-go_back-clause-sto
 returns-in_err-go_back-clause-stops g c =
     let V = g.R.Rig.view in
     let l = c.in_ok-journal.journal in
-    let way = undo_way c.args.is_fresh c.in_ok-chip.chip.now.kind (intent_of l.state) in
     let chip = c.in_ok-chip.chip.now in
+    let intent = intent_of l.state in
+    let segments = pages_of_segments l.state.stack in
+    let way = undo_way c.args.is_fresh chip.kind intent in
     let a = V c.args.rig.now in
     let b = V c.load.new.rig in
     let d = V c.meet.new.rig in
@@ -375,11 +418,15 @@ returns-in_err-go_back-clause-stops g c =
     let within : taken.result ≤ length l.state.stack = omega (arith, taken.ensures.most, c.depth-depth.ensures.value) in
     let met = c.in_ok-meet.ensures.order l.is_torn in
     let cause = cause_of c.in_err-go_back.field-0.0 in
-    let Own = Begin (AreTaken taken.result chip l.state) in
+    let Told = ToldIn V l.is_torn d e in
+    let Own = BeginTold (λ T. AreTakenAs T taken.result chip l.state) Told in
     let Back = BeginTaking c.args.count chip l.state in
     let Cut = AreCutShort (IsAfter (asking_steps met.0 met.1 chip.id) Own) cause l.is_torn in
     let P : Fault → Type 0 = λ x. UndoStopsFrom c.args.is_fresh c.args.table.now c.args.count a e x in
     let back = fetched_and way Cut a.calls b.calls e.calls c.in_ok-journal.ensures.calls (reached_stops way chip.id met.0 met.1 Own cause l.is_torn b d e met.2 c.in_err-go_back.ensures.stops) in
+    let begun : (steps : List Step) → Own steps → Back steps =
+    λ steps own.
+    (taken.result, within, taken.ensures.asked, (own.0, all_as chip (so_far (length steps) Told) untold intent taken.result segments (steps ++ own.0) (λ ys page told. tt) own.1)) in
     at_fault P _ c.from_residual-in_err-go_back.result c.from_residual-in_err-go_back.ensures.1
     (inr (record {
       journal = l;
@@ -387,5 +434,77 @@ returns-in_err-go_back-clause-stops g c =
       sound = c.depth-depth.ensures.sound;
       chip = chip;
       listed = own-id c.args.table.now c.in-Some.id chip c.in_ok-chip.ensures.chip;
-      does = inr (stops_as way chip.id l.is_torn Own Back cause a e (λ steps own. (taken.result, within, taken.ensures.asked, own)) (met.0, met.1, back));
+      does = inr (stops_as way chip.id l.is_torn Own Back cause a e begun (met.0, met.1, back));
+    }))
+
+pub returns-in_err-journal-clause-given_stops : goal.returns-in_err-journal-clause-given_stops
+returns-in_err-journal-clause-given_stops g c =
+    let V = g.R.Rig.view in
+    let P : Fault → Type 0 = λ e. UndoStopsTold V c.args.is_fresh c.args.table.now c.args.count (V c.args.rig.now) (V c.load.new.rig) e in
+    at_fault P _ c.from_residual.result c.from_residual.ensures.1 (inl c.in_err-journal.ensures.calls)
+
+pub returns-in_err-chip-clause-given_stops : goal.returns-in_err-chip-clause-given_stops
+returns-in_err-chip-clause-given_stops g c =
+    let V = g.R.Rig.view in
+    let P : Fault → Type 0 = λ e. UndoStopsTold V c.args.is_fresh c.args.table.now c.args.count (V c.args.rig.now) (V c.load.new.rig) e in
+    at_fault P _ c.from_residual-in_err-chip.result c.from_residual-in_err-chip.ensures.1 (inl c.in_ok-journal.ensures.calls)
+
+pub returns-in_err-meet-clause-given_stops : goal.returns-in_err-meet-clause-given_stops
+returns-in_err-meet-clause-given_stops g c =
+    let V = g.R.Rig.view in
+    let l = c.in_ok-journal.journal in
+    let chip = c.in_ok-chip.chip.now in
+    let way = undo_way c.args.is_fresh chip.kind (intent_of l.state) in
+    let a = V c.args.rig.now in
+    let b = V c.load.new.rig in
+    let d = V c.meet.new.rig in
+    let P : Fault → Type 0 = λ e. UndoStopsTold V c.args.is_fresh c.args.table.now c.args.count a d e in
+    at_fault P _ c.from_residual-in_err-meet.result c.from_residual-in_err-meet.ensures.1
+    (inr (record {
+      journal = l;
+      loaded = λ h. (c.in_ok-journal.ensures.honest h).loaded;
+      sound = c.depth-depth.ensures.sound;
+      chip = chip;
+      listed = own-id c.args.table.now c.in-Some.id chip c.in_ok-chip.ensures.chip;
+      does = inl (fetched_stops way _ l.is_torn a.calls b.calls d.calls c.in_ok-journal.ensures.calls (c.in_err-meet.ensures.stops l.is_torn));
+    }))
+
+pub returns-in_err-go_back-clause-given_stops : goal.returns-in_err-go_back-clause-given_stops
+returns-in_err-go_back-clause-given_stops g c =
+    let V = g.R.Rig.view in
+    let l = c.in_ok-journal.journal in
+    let chip = c.in_ok-chip.chip.now in
+    let intent = intent_of l.state in
+    let segments = pages_of_segments l.state.stack in
+    let way = undo_way c.args.is_fresh chip.kind intent in
+    let a = V c.args.rig.now in
+    let b = V c.load.new.rig in
+    let d = V c.meet.new.rig in
+    let e = V c.go_back.new.rig in
+    let taken = c.taken_count-taken in
+    let within : taken.result ≤ length l.state.stack = omega (arith, taken.ensures.most, c.depth-depth.ensures.value) in
+    let met = c.in_ok-meet.ensures.order l.is_torn in
+    let asking = asking_steps met.0 met.1 chip.id in
+    let cause = cause_of c.in_err-go_back.field-0.0 in
+    let Told = ToldIn V l.is_torn d e in
+    let Given = ToldBy V a e in
+    let opened = fetched_then way l.is_torn asking a.calls b.calls d.calls c.in_ok-journal.ensures.calls met.2 in
+    let told = told_by V (λ calls. SettlesFirst way l.is_torn asking calls) l.is_torn a d e opened in
+    let Own = BeginTold (λ T. AreTakenAs T taken.result chip l.state) Told in
+    let Back = BeginTakingTold Given c.args.count chip l.state in
+    let Cut = AreCutShort (IsAfter asking Own) cause l.is_torn in
+    let P : Fault → Type 0 = λ x. UndoStopsTold V c.args.is_fresh c.args.table.now c.args.count a e x in
+    let back = fetched_and way Cut a.calls b.calls e.calls c.in_ok-journal.ensures.calls (reached_stops way chip.id met.0 met.1 Own cause l.is_torn b d e met.2 c.in_err-go_back.ensures.stops) in
+    let begun : (steps : List Step) → Own steps → Back steps =
+    λ steps own.
+    let n = length steps in
+    (taken.result, within, taken.ensures.asked, (own.0, all_as chip (so_far n Told) (so_far n Given) intent taken.result segments (steps ++ own.0) (λ ys page is lt. told ys page (is lt)) own.1)) in
+    at_fault P _ c.from_residual-in_err-go_back.result c.from_residual-in_err-go_back.ensures.1
+    (inr (record {
+      journal = l;
+      loaded = λ h. (c.in_ok-journal.ensures.honest h).loaded;
+      sound = c.depth-depth.ensures.sound;
+      chip = chip;
+      listed = own-id c.args.table.now c.in-Some.id chip c.in_ok-chip.ensures.chip;
+      does = inr (stops_as way chip.id l.is_torn Own Back cause a e begun (met.0, met.1, back));
     }))

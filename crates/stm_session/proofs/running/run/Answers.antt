@@ -109,6 +109,24 @@ returns-clause-order g c =
       sound = c.in_ok-check_commands.ensures.sound;
       chip = c.in_ok-opened.opened.chip.now;
       listed = c.in_ok-opened.ensures.coherent.chip;
+      does = (reached.0, reached.1, done.0, (map outcome_data c.in_ok-outcomes.outcomes.items, c.run_commands.new.journal.state, done.1), settled_then (Settles 0x7F 131072) l.is_torn (asking_steps reached.0 reached.1 _) done.0 a b d refl reached.2 done.2.acts);
+    }
+
+pub returns-clause-told : goal.returns-clause-told
+returns-clause-told g c =
+    let V = g.R.Rig.view in
+    let l = c.in_ok-opened.opened.journal in
+    let a = (V c.args.rig.now).calls in
+    let b = (V c.open.new.rig).calls in
+    let d = (V c.run_commands.new.rig).calls in
+    let done = c.in_ok-outcomes.ensures.order in
+    let reached = c.in_ok-opened.ensures.order l.is_torn in
+    record {
+      journal = l;
+      loaded = c.in_ok-opened.ensures.loaded;
+      sound = c.in_ok-check_commands.ensures.sound;
+      chip = c.in_ok-opened.opened.chip.now;
+      listed = c.in_ok-opened.ensures.coherent.chip;
       does = (reached.0, reached.1, done.0, (c.run_commands.new.journal.state, done.1), settled_then (Settles 0x7F 131072) l.is_torn (asking_steps reached.0 reached.1 _) done.0 a b d refl reached.2 done.2.acts);
     }
 
@@ -147,7 +165,7 @@ returns-in_err-outcomes-clause-stops g c =
       sound = c.in_ok-check_commands.ensures.sound;
       chip = chip;
       listed = c.in_ok-opened.ensures.coherent.chip;
-      does = (reached.0, reached.1, reached_stops (Settles 0x7F 131072) chip.id reached.0 reached.1 (AreBegun chip cs l.state) _ l.is_torn a b d reached.2 c.in_err-outcomes.ensures.stops);
+      does = (reached.0, reached.1, reached_stops (Settles 0x7F 131072) chip.id reached.0 reached.1 (AreBegun c.in_err-outcomes.field-0.0 chip cs l.state) _ l.is_torn a b d reached.2 c.in_err-outcomes.ensures.stops);
     }))
 
 pub returns-in_err-opened-clause-puts : goal.returns-in_err-opened-clause-puts

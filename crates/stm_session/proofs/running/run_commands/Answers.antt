@@ -21,8 +21,13 @@ use Rattle.stm_session.specs.Order.{Follows}
 use Rattle.stm_session.specs.RunOrder.{AreDone, none as none_done, more}
 use Rattle.stm_session.proofs.Orders.{does_nothing, does_then}
 use Rattle.std.proofs.Common.{drop, inl, inr}
-use Rattle.stm_session.specs.RunOrder.{AreBegun, IsBegunBy}
-use Rattle.stm_session.proofs.CutShort.{memory_stops, then_stops}
+use Rattle.stm_session.specs.declared.fault.Fault.{Fault}
+use Rattle.stm_session.specs.declared.fault.Fault.TheVariants as faults
+use Rattle.stm_session.specs.Fault.{cause_of, of_memory}
+use Rattle.stm_session.specs.Order.{Step, StopsBy}
+use Rattle.stm_session.specs.RunOrder.{AreBegun, IsBegunTelling}
+use Rattle.stm_session.proofs.CutShort.{halts_first, stop_after}
+use Rattle.stm_session.proofs.Reaching.{at_fault}
 use Rattle.stm_session.proofs.RunLoop.{commands_split}
 use Rattle.stm_session.proofs.running.run_commands.Goals as goal
 
@@ -50,7 +55,9 @@ loop-command-init g c =
       journal = refl;
       stays = λ h. h;
       parts = nothing_is_part (Some c.args.chip.now) true 0 a.calls;
-      order = ([], none_done l.state, does_nothing l a);
+      order =
+          let D : List Outcome → Type 0 = λ os. AreDone c.args.chip.now [] (map outcome_data os) l.state l.state [] in
+          ([], subst D (sym none) (none_done l.state), does_nothing l a);
       honest = λ flashes steady chip.
           let model = g.met.R.Rig.model c.args.rig.now steady.honest in
           let H : List Outcome → Type 0 = λ os. HasRun [] flashes l a a (map outcome_data os) in
@@ -135,9 +142,13 @@ loop-command-preserved g c =
           let before = so_far.order in
           let own = c.in_ok-outcome.ensures.order in
           let steps = before.0 ++ own.0 in
-          let O : List CommandData → Type 0 = λ ys. AreDone c.args.chip.now ys l.state l3.state steps in
-          let done = more (commands_in (take i cs)) (command_data next) l.state l2.state l3.state before.0 own.0 before.1 own.1 c.in_ok-outcome.ensures.depth in
-          (steps, subst O (sym (taken_next cs i next lt c.command-item.is)) done, does_then before.0 own.0 l l2 l3 a b d before.2 own.2);
+          let after = map outcome_data c.push.new.self.items in
+          let O : List CommandData → Type 0 = λ ys. AreDone c.args.chip.now ys after l.state l3.state steps in
+          let S : List OutcomeData → Type 0 = λ os. AreDone c.args.chip.now (commands_in (take i cs) ++ command_data next ∷ []) os l.state l3.state steps in
+          let said : map outcome_data c.loop-command.outcomes.items ++ outcome_data one ∷ [] ≡ after =
+          sym (ap (map outcome_data) pushed ∙ map-append outcome_data c.loop-command.outcomes.items (one ∷ [])) in
+          let done = more (commands_in (take i cs)) (command_data next) (map outcome_data c.loop-command.outcomes.items) (outcome_data one) l.state l2.state l3.state before.0 own.0 before.1 own.1 c.in_ok-outcome.ensures.depth in
+          (steps, subst O (sym (taken_next cs i next lt c.command-item.is)) (subst S said done), does_then before.0 own.0 l l2 l3 a b d before.2 own.2);
       honest = λ flashes steady chip.
           let xs = commands_in (take i cs) in
           let said = map outcome_data c.loop-command.outcomes.items in
@@ -177,15 +188,16 @@ returns-clause-order g c =
     let i = c.loop-command.command-index in
     let cs = c.args.commands.now in
     let all : commands_in (take i cs) ≡ commands_in cs = ap commands_in (take_all i cs (omega (arith, c.loop-command-test.false))) in
-    let P : List CommandData → Type 0 = λ ys. Follows (AreDone c.args.chip.now ys l.state l2.state) l l2 (V c.args.rig.now) (V c.loop-command.rig) in
+    let said = map outcome_data c.loop-command.outcomes.items in
+    let P : List CommandData → Type 0 = λ ys. Follows (AreDone c.args.chip.now ys said l.state l2.state) l l2 (V c.args.rig.now) (V c.loop-command.rig) in
     subst P all c.loop-command.invariant.order
 
 pub returns-in_err-reserve_exact-clause-stops : goal.returns-in_err-reserve_exact-clause-stops
 returns-in_err-reserve_exact-clause-stops g c =
     let a = g.R.Rig.view c.args.rig.now in
     let l = c.args.journal.now in
-    let Begun = AreBegun c.args.chip.now (commands_in c.args.commands.now) l.state in
-    memory_stops Begun l.is_torn [] a a c.from_residual.result c.from_residual.ensures.1 (inl refl) (does_nothing l a).acts
+    let P : Fault → Type 0 = λ e. StopsBy (AreBegun e c.args.chip.now (commands_in c.args.commands.now) l.state) (cause_of e) l.is_torn a a in
+    at_fault P faults.Memory c.from_residual.result c.from_residual.ensures.1 (halts_first (AreBegun faults.Memory c.args.chip.now (commands_in c.args.commands.now) l.state) of_memory l.is_torn a (inl refl) refl)
 
 pub returns-in_err-outcome-clause-stops : goal.returns-in_err-outcome-clause-stops
 returns-in_err-outcome-clause-stops g c =
@@ -197,20 +209,27 @@ returns-in_err-outcome-clause-stops g c =
     let cs = c.args.commands.now in
     let next = c.command-item.result in
     let so_far = c.loop-command.invariant.order in
-    let One = IsBegunBy chip (command_data next) l2.state in
+    let a = V c.args.rig.now in
+    let d = V c.run_command.new.rig in
+    let e = c.in_err-outcome.field-0.0 in
+    let One = IsBegunTelling chip (command_data next) l2.state e in
     let split = commands_split cs i next c.loop-command-test.true c.command-item.is in
-    then_stops One (AreBegun chip (commands_in cs) l.state) so_far.0 l l2 (V c.args.rig.now) (V c.loop-command.rig) (V c.run_command.new.rig) _ c.from_residual-in_err-outcome.result c.from_residual-in_err-outcome.ensures.1
-    so_far.2 c.in_err-outcome.ensures.stops
+    let All : Fault → List Step → Type 0 = λ x. AreBegun x chip (commands_in cs) l.state in
+    let P : Fault → Type 0 = λ x. StopsBy (All x) (cause_of x) l.is_torn a d in
+    at_fault P e c.from_residual-in_err-outcome.result c.from_residual-in_err-outcome.ensures.1
+    (stop_after One (All e) (cause_of e) so_far.0 l l2 a (V c.loop-command.rig) d so_far.2 c.in_err-outcome.ensures.stops
     (λ ys begun.
     inr (record {
       earlier = commands_in (take i cs);
       command = command_data next;
       later = commands_in (drop (i + 1) cs);
       split = split;
+      outcomes = map outcome_data c.loop-command.outcomes.items;
       mid = l2.state;
       before = so_far.0;
       are_done = so_far.1;
       own = ys;
-      is_begun = begun;
+      is_begun = begun.0;
+      tells = begun.1;
       is = refl;
-    }))
+    })))

@@ -16,10 +16,14 @@ use Rattle.stm_session.specs.Undoable.{newest_kept}
 use Rattle.stm_session.proofs.PageSums.{pages_next, pages_within}
 use Rattle.stm_session.proofs.Sending.{same_fault}
 use Rattle.std.proofs.Common.{[], ℕ, ◌++◌, subst}
-use Rattle.stm_session.specs.Order.{Follows, AreReturned, IsReturned}
+use Rattle.std.proofs.Common.{take}
+use Rattle.stm_wire.specs.Call.{Call}
+use Rattle.stm_session.specs.Fault.{cause_of}
+use Rattle.stm_session.specs.Order.{Step, AreCutShort, AreReturned, BeginTold, Follows, IsInOrder, IsReturned, acts_of, behind}
+use Rattle.stm_session.specs.Told.{ToldIn}
 use Rattle.stm_session.proofs.Orders.{does_nothing, does_then, returned_next}
-use Rattle.std.proofs.Common.{List}
-use Rattle.stm_session.specs.Order.{Step, Begin}
+use Rattle.stm_session.proofs.Tellings.{pages_as, returned_as}
+use Rattle.stm_session.proofs.ToldPages.{told_on, told_then}
 use Rattle.stm_session.proofs.CutShort.{then_stops}
 use Rattle.stm_session.proofs.UndoOrders.{return_begun}
 use Rattle.stm_session.proofs.segment_back.restore_lines.Goals as goal
@@ -101,10 +105,18 @@ loop-i-preserved g c =
           c.requires.fits (sym c.in-Some-kept.ensures) in
           let before = so_far.order in
           let one = c.in_ok-restore_line.ensures.order in
-          let P : ℕ → Type 0 = λ m. IsReturned c.args.chip.now m one.0 in (
+          let chip = c.args.chip.now in
+          let l = c.args.journal.now in
+          let l2 = c.loop-i.journal in
+          let d = V c.restore_line.new.rig in
+          let pages = newest_kept l.state.stack in
+          let Told = ToldIn V l.is_torn a d in
+          let front = pages_as chip (ToldIn V l.is_torn a b) Told (take c.loop-i.i pages) before.0 (told_on V (λ calls. IsInOrder l2.is_torn one.0 calls) l.is_torn a b d one.2.acts) before.1 in
+          let own = returned_as chip (ToldIn V l2.is_torn b d) (behind before.0 Told) c.in-Some-kept.n one.0 (told_then V before.0 l l2 a b d before.2) one.1 in
+          let P : ℕ → Type 0 = λ m. IsReturned chip (behind before.0 Told) m one.0 in (
             before.0 ++ one.0,
-            returned_next c.args.chip.now (newest_kept c.args.journal.now.state.stack) c.loop-i.i kept.0 before.0 one.0 kept.1 before.1 (subst P (sym kept.2) one.1),
-            does_then before.0 one.0 c.args.journal.now c.loop-i.journal c.restore_line.new.journal a b (V c.restore_line.new.rig) before.2 one.2,
+            returned_next chip Told pages c.loop-i.i kept.0 before.0 one.0 kept.1 front (subst P (sym kept.2) own),
+            does_then before.0 one.0 l l2 c.restore_line.new.journal a b d before.2 one.2,
           );
       honest = λ flashes steady chip.
           let model_then = λ (h : b.is_honest). g.met.R.Rig.model c.loop-i.rig h in
@@ -163,7 +175,8 @@ returns-clause-order g c =
     let pages = newest_kept c.args.journal.now.state.stack in
     let many = count_newest c.args.journal.now.state c.depth-newest.result c.depth-newest.ensures.value in
     let all = take_all c.loop-i.i pages (omega (arith, c.loop-i-test.false, c.kept_count-count.ensures, many)) in
-    let P : List Kept → Type 0 = λ ks. Follows (AreReturned c.args.chip.now ks) c.args.journal.now c.loop-i.journal (V c.args.rig.now) (V c.loop-i.rig) in
+    let Told = ToldIn V c.args.journal.now.is_torn (V c.args.rig.now) (V c.loop-i.rig) in
+    let P : List Kept → Type 0 = λ ks. Follows (AreReturned c.args.chip.now Told ks) c.args.journal.now c.loop-i.journal (V c.args.rig.now) (V c.loop-i.rig) in
     subst P all c.loop-i.invariant.order
 
 pub returns-in_err-restore_line-clause-stops : goal.returns-in_err-restore_line-clause-stops
@@ -177,9 +190,20 @@ returns-in_err-restore_line-clause-stops g c =
     let kept = the_kept l.state c.loop-i.journal.state c.depth-newest.result c.loop-i.i so_far.same c.depth-newest.ensures.value lt chip c.in-Some-kept.n c.in-Some-kept.field-0-1
     c.requires.fits (sym c.in-Some-kept.ensures) in
     let before = so_far.order in
-    let One : ℕ → List Step → Type 0 = λ m. Begin (IsReturned chip m) in
-    then_stops (One c.in-Some-kept.n) (Begin (AreReturned chip pages)) before.0 l c.loop-i.journal (V c.args.rig.now) (V c.loop-i.rig) (V c.restore_line.new.rig) _ c.from_residual.result c.from_residual.ensures.1
+    let l2 = c.loop-i.journal in
+    let a = V c.args.rig.now in
+    let b = V c.loop-i.rig in
+    let d = V c.restore_line.new.rig in
+    let First = ToldIn V l.is_torn a b in
+    let Own = ToldIn V l2.is_torn b d in
+    let Told = ToldIn V l.is_torn a d in
+    let One : ℕ → List Step → Type 0 = λ m. BeginTold (λ T. IsReturned chip T m) Own in
+    let cause = cause_of c.in_err-restore_line.field-0.0 in
+    let Cut : List Call → Type 0 = λ calls. AreCutShort (One c.in-Some-kept.n) cause l2.is_torn (acts_of calls) in
+    let first = told_on V Cut l.is_torn a b d c.in_err-restore_line.ensures.stops in
+    let own = told_then V before.0 l l2 a b d before.2 in
+    then_stops (One c.in-Some-kept.n) (BeginTold (λ T. AreReturned chip T pages) Told) before.0 l l2 a b d _ c.from_residual.result c.from_residual.ensures.1
     before.2 c.in_err-restore_line.ensures.stops
     (λ ys begun.
     let P : ℕ → Type 0 = λ m. One m ys in
-    return_begun chip pages c.loop-i.i kept.0 before.0 kept.1 before.1 ys (subst P (sym kept.2) begun))
+    return_begun chip First Own Told pages c.loop-i.i kept.0 before.0 kept.1 first own before.1 ys (subst P (sym kept.2) begun))

@@ -10,9 +10,14 @@ use Rattle.stm_session.proofs.SentParts.{part_after, part_fails, part_fails_afte
 use Rattle.std.proofs.Common.{◌≤◌, length, arith}
 use Rattle.stm_journal.specs.Newest.{pages_of_segments}
 use Rattle.stm_journal.specs.States.{intent_of}
-use Rattle.stm_session.specs.Order.{Step, AreAllTakenBack, Begin, IsWorkRewritten}
-use Rattle.stm_session.proofs.CutShort.{begin_after, begin_on, part_stops, then_stops}
-use Rattle.stm_session.proofs.UndoOrders.{pages_count, some_segments}
+use Rattle.stm_wire.specs.Call.{Call}
+use Rattle.stm_session.specs.Fault.{cause_of}
+use Rattle.stm_session.specs.Order.{Step, AreAllTakenBack, AreCutShort, BeginTold, IsInOrder, IsWorkRewritten, acts_of, behind}
+use Rattle.stm_session.specs.Told.{ToldIn}
+use Rattle.stm_session.proofs.CutShort.{part_stops, then_stops}
+use Rattle.stm_session.proofs.Tellings.{segments_as, work_as}
+use Rattle.stm_session.proofs.ToldPages.{told_on, told_then}
+use Rattle.stm_session.proofs.UndoOrders.{pages_count, segments_begun, work_begun}
 use Rattle.stm_session.specs.Steps.{IsSteady}
 use Rattle.stm_session.proofs.segments_back.go_back.Given as given
 use Rattle.stm_session.proofs.segments_back.go_back.Goals as goal
@@ -89,9 +94,20 @@ returns-clause-order g c =
     let V = g.R.Rig.view in
     let first = c.in_ok-rewrite_at_work.ensures.order in
     let back = c.in_ok-take_back_newest.ensures.order in
-    let T : List (List Kept) → Type 0 = λ segments. AreTakenBack c.args.chip.now c.args.taken segments back.0 in (
+    let chip = c.args.chip.now in
+    let l = c.args.journal.now in
+    let l2 = c.rewrite_at_work.new.journal in
+    let a = V c.args.rig.now in
+    let b = V c.rewrite_at_work.new.rig in
+    let d = V c.take_back_newest.new.rig in
+    let First = ToldIn V l.is_torn a b in
+    let Own = ToldIn V l2.is_torn b d in
+    let Told = ToldIn V l.is_torn a d in
+    let work = work_as chip First Told (intent_of l.state) first.0 (told_on V (λ calls. IsInOrder l2.is_torn back.0 calls) l.is_torn a b d back.2.acts) first.1 in
+    let taken = segments_as chip Own (behind first.0 Told) c.args.taken (pages_of_segments l2.state.stack) back.0 (told_then V first.0 l l2 a b d first.2) back.1 in
+    let T : List (List Kept) → Type 0 = λ segments. AreTakenBack chip (behind first.0 Told) c.args.taken segments back.0 in (
       first.0 ++ back.0,
-      record { first = first.0; is_first = first.1; back = back.0; are_back = subst T c.in_ok-rewrite_at_work.ensures.same.same back.1; is = refl },
+      record { first = first.0; is_first = work; back = back.0; are_back = subst T c.in_ok-rewrite_at_work.ensures.same.same taken; is = refl },
       does_then first.0 back.0 c.args.journal.now c.rewrite_at_work.new.journal c.take_back_newest.new.journal (V c.args.rig.now) (V c.rewrite_at_work.new.rig) (V c.take_back_newest.new.rig) first.2 back.2,
     )
 
@@ -103,10 +119,11 @@ returns-in_err-rewrite_at_work-clause-stops g c =
     let intent = intent_of l.state in
     let segments = pages_of_segments l.state.stack in
     let deep : c.args.taken ≤ length segments = omega (arith, pages_count l.state.stack, c.requires.some) in
-    let more = some_segments chip c.args.taken segments deep in
-    let All = AreAllTakenBack chip intent c.args.taken segments in
-    part_stops (Begin (IsWorkRewritten chip intent)) (Begin All) l.is_torn (V c.args.rig.now) (V c.rewrite_at_work.new.rig) _ c.from_residual.result c.from_residual.ensures.1
-    (begin_on (IsWorkRewritten chip intent) All (λ xs work. (more.0, record { first = xs; is_first = work; back = more.0; are_back = more.1; is = refl }))) c.in_err-rewrite_at_work.ensures.stops
+    let a = V c.args.rig.now in
+    let b = V c.rewrite_at_work.new.rig in
+    let Told = ToldIn V l.is_torn a b in
+    part_stops (BeginTold (λ T. IsWorkRewritten chip T intent) Told) (BeginTold (λ T. AreAllTakenBack chip T intent c.args.taken segments) Told) l.is_torn a b _ c.from_residual.result c.from_residual.ensures.1
+    (work_begun chip Told intent c.args.taken segments deep) c.in_err-rewrite_at_work.ensures.stops
 
 pub returns-in_err-take_back_newest-clause-stops : goal.returns-in_err-take_back_newest-clause-stops
 returns-in_err-take_back_newest-clause-stops g c =
@@ -117,11 +134,18 @@ returns-in_err-take_back_newest-clause-stops g c =
     let intent = intent_of l.state in
     let segments = pages_of_segments l.state.stack in
     let first = c.in_ok-rewrite_at_work.ensures.order in
-    let Back : List (List Kept) → List Step → Type 0 = λ ss. AreTakenBack chip c.args.taken ss in
-    let All = AreAllTakenBack chip intent c.args.taken segments in
+    let a = V c.args.rig.now in
+    let b = V c.rewrite_at_work.new.rig in
+    let d = V c.take_back_newest.new.rig in
+    let First = ToldIn V l.is_torn a b in
+    let Own = ToldIn V l2.is_torn b d in
+    let Told = ToldIn V l.is_torn a d in
+    let Back : List (List Kept) → List Step → Type 0 = λ ss. BeginTold (λ T. AreTakenBack chip T c.args.taken ss) Own in
     let same = c.in_ok-rewrite_at_work.ensures.same.same in
-    then_stops (Begin (Back (pages_of_segments l2.state.stack))) (Begin All) first.0 l l2 (V c.args.rig.now) (V c.rewrite_at_work.new.rig) (V c.take_back_newest.new.rig) _
+    let cause = cause_of c.in_err-take_back_newest.field-0.0 in
+    let Cut : List Call → Type 0 = λ calls. AreCutShort (Back (pages_of_segments l2.state.stack)) cause l2.is_torn (acts_of calls) in
+    then_stops (Back (pages_of_segments l2.state.stack)) (BeginTold (λ T. AreAllTakenBack chip T intent c.args.taken segments) Told) first.0 l l2 a b d _
     c.from_residual-in_err-take_back_newest.result c.from_residual-in_err-take_back_newest.ensures.1 first.2 c.in_err-take_back_newest.ensures.stops
-    (begin_after (Back (pages_of_segments l2.state.stack)) All first.0 (λ ys back.
+    (λ ys begun.
     let T : List (List Kept) → Type 0 = λ ss. Back ss ys in
-    record { first = first.0; is_first = first.1; back = ys; are_back = subst T same back; is = refl }))
+    segments_begun chip First Own Told intent c.args.taken segments first.0 (told_on V Cut l.is_torn a b d c.in_err-take_back_newest.ensures.stops) (told_then V first.0 l l2 a b d first.2) first.1 ys (subst T same begun))

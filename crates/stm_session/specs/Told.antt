@@ -1,0 +1,60 @@
+-- What the journal tells in an undo, on any line: each page that is given back gets just the bytes
+-- whose digits fetches brought in that call, at that place.
+use Rattle.std.specs.Prelude.{◌≡◌, ℕ, ◌<◌, ◌≤◌, Bool, List, ◌++◌, length}
+use Rattle.hex.specs.Hex.{encode_upper}
+use Rattle.stm_wire.specs.Call.{Call}
+use Rattle.stm_wire.specs.Chip.{ChipData}
+use Rattle.stm_wire.specs.Dialogue.{GoesOn}
+use Rattle.stm_wire.specs.Rig.{RigState}
+use Rattle.stm_journal.specs.Calls.{AreFetches}
+use Rattle.stm_journal.specs.PageFetching.{Brings}
+use Rattle.stm_session.specs.declared.fault.Fault.{Fault}
+use Rattle.stm_session.specs.Order.{Step, StepsOf, Tells, AreTakenAs, BeginTold, IsInOrder}
+use Rattle.stm_session.specs.Order.{UndoDoes, UndoDoesInPart, acts_of, acts_of_steps}
+
+-- some calls
+abbrev pub AreCalls : List Call → Type 0
+AreCalls calls = Unit {0}
+
+-- On its way from the old state to the new one a Rig was in two states of its own: the first behind
+-- just these steps; and between them came fetches alone, which brought the digits of these bytes
+-- and nothing else.
+pub record ToldBehind {R : Type 0} (view : R → RigState) (Behind : List Step → List Call → Type 0)
+    (old new : RigState) (steps : List Step) (page : List ℕ) : Type 0 where
+  pub before : R
+  pub after : R
+  pub done : GoesOn (Behind steps) old.calls (view before).calls
+  pub fetches : GoesOn AreFetches (view before).calls (view after).calls
+  pub brought : Brings (encode_upper page) (view before).told (view after).told
+  pub rest : GoesOn AreCalls (view after).calls new.calls
+
+-- where all calls from the old state on are of these steps
+abbrev pub ToldIn : {R : Type 0} → (R → RigState) → Bool → RigState → RigState → Tells
+ToldIn view torn old new steps page = ToldBehind view (IsInOrder torn) old new steps page
+
+-- calls that end with these steps
+abbrev pub EndsWith : List Step → List Call → Type 0
+EndsWith steps calls = (torn : Bool) × (earlier : List Call)
+    × (acts_of calls ≡ earlier ++ acts_of_steps torn steps)
+
+-- where a session was opened before
+abbrev pub ToldBy : {R : Type 0} → (R → RigState) → RigState → RigState → Tells
+ToldBy view old new steps page = ToldBehind view EndsWith old new steps page
+
+-- An undo at Ok: its steps, in which each page that is read or rewritten is given the bytes that
+-- the journal told.
+abbrev pub UndoGivesTold : {R : Type 0} → (R → RigState) → Bool → List ChipData → ℕ → RigState
+    → RigState → Type 0
+UndoGivesTold view is_fresh table taken old new =
+    UndoDoes is_fresh (AreTakenAs (ToldBy view old new) taken) table old new
+
+-- a beginning of them
+abbrev pub BeginTakingTold : Tells → ℕ → StepsOf
+BeginTakingTold Told count chip s steps = (taken : ℕ) × (taken ≤ length s.stack)
+    × (0 < count → taken ≤ count) × BeginTold (λ T. AreTakenAs T taken chip s) Told steps
+
+-- An undo at a fault: such a beginning, each step whole but the last, which failed.
+abbrev pub UndoStopsTold : {R : Type 0} → (R → RigState) → Bool → List ChipData → ℕ → RigState
+    → RigState → Fault → Type 0
+UndoStopsTold view is_fresh table count old new fault =
+    UndoDoesInPart is_fresh (BeginTakingTold (ToldBy view old new) count) table old new fault
