@@ -93,11 +93,12 @@ class Trial:
         asked = {path for edit in taken for path in edit.functions}
         said, status = check(self.crate, self.functions, texts, asked, self.kept)
         lines = said.rstrip("\n").split("\n")
-        bad = blamed(taken, texts, [it for it in lines if FRONT_END.match(it) or rt.unread(it, texts)])
+        errors = [it for it in lines if FRONT_END.match(it) or rt.unread(it, texts)]
+        bad = blamed(taken, texts, errors)
         if bad:
             return {name: (BAD, line) for name, line in bad.items()}, left + [it for it in taken if it.name not in bad]
-        if status not in (0, 1) or not lines[-1].startswith("only="):
-            raise CannotTry(lines[-1][:200])
+        if errors or status not in (0, 1) or not lines[-1].startswith("only="):
+            raise CannotTry((errors or lines[-1:])[0][:200])
         verdicts = Verdicts(self.crate.name, said)
         strange = verdicts.beside(asked, self.functions)
         if strange:
@@ -132,15 +133,16 @@ class Trial:
         of_twins = self.try_all(asked)
         for edit in edits:
             kind, why = came[edit.name]
+            spare = "; its line `# says nothing` can go" if edit.reason else ""
             twin = of_twins.get(twins[edit.name].name) if edit.name in twins else None
             if kind == BAD:
                 self.say(NOT, edit.name, f"BAD EDIT: {why[:200]}")
             elif kind == PASSED:
                 self.say(NOT, edit.name, "NOT REFUSED")
             elif kind in REFUSED:
-                self.say(WELL, edit.name, f"refused, {kind}: {why[:160]}")
+                self.say(WELL, edit.name, f"refused, {kind}{spare}: {why[:160]}")
             elif twin and twin[0] == PASSED:
-                self.say(WELL, edit.name, f"refused, and its twin is proved: {why[:160]}")
+                self.say(WELL, edit.name, f"refused, and its twin is proved{spare}: {why[:160]}")
             elif edit.reason:
                 self.say(OPEN, edit.name, f"says nothing, as it says: {edit.reason}")
             else:

@@ -146,15 +146,15 @@ def put_together(functions, edits):
 
 
 def blamed(edits, texts, errors):
-    """The edits in whose new texts an error of the front end lies, by name, each with its line. Where it lies in none, it is of
-    each edit of its file."""
+    """The edits in whose new texts an error of the front end lies, by name, each with its line. Where it lies in no new text, it is
+    of each edit of its file."""
     found = {}
     for error in errors:
         at = re.match(r"(?:\./)?(\S+?):(\d+):", error)
         places = {it.name: [(file, line_of(texts[file], new)) for file, _, new in it.pairs] for it in edits}
         of_file = [it for it in edits if at and at[1] in [file for file, _ in places[it.name]]]
         near = [it for it in of_file if (at[1], int(at[2])) in places[it.name]]
-        for edit in near or of_file or edits:
+        for edit in near or of_file:
             found.setdefault(edit.name, error)
     return found
 

@@ -1,4 +1,4 @@
-"""What tools/wrong-bodies makes of an edit and of the prover's lines, without a prover: `recorded/` has what it printed."""
+"""What tools/wrong-bodies makes of an edit and of the prover's lines, on a small crate, without a prover."""
 
 import os
 import sys
@@ -9,7 +9,7 @@ sys.dont_write_bytecode = True
 HERE = os.path.dirname(os.path.abspath(__file__))
 sys.path.insert(0, HERE)
 
-from edits import BadEdit, Edit, blamed, check_twin, is_one_word, put_together, read_edit
+from edits import BadEdit, blamed, check_twin, is_one_word, put_together, read_edit
 from functions import Functions
 from judging import FAILED, GONE, IS_FALSE, ONE_WORD, PASSED, WAITS, judge
 from verdicts import Verdicts
@@ -201,6 +201,7 @@ class Blame(Crate):
         texts = {"src/calls.rt": SOURCES["src/calls.rt"].replace("left < 2", "right < 2").replace("Short", "Long")}
         self.assertEqual([*blamed(edits, texts, ["src/calls.rt:7:17: error[no-field]: there is no `right`"])], ["a.edit"])
         self.assertEqual([*blamed(edits, texts, ["src/calls.rt:9:9: error[cannot-infer-type]: no type"])], ["a.edit", "b.edit"])
+        self.assertEqual(blamed(edits, texts, ["src/lib.rt:9:9: error[cannot-infer-type]: no type"]), {})
         self.assertEqual(blamed(edits, texts, []), {})
 
 
@@ -278,46 +279,6 @@ class Judged(Crate):
         self.assertEqual(verdicts.beside({"Line::read"}, self.functions), ANSWER)
         lemma = "./proofs/Reading.antt:3:1: error: `lemma`: the two types differ"
         self.assertEqual(self.said(lemma).beside({"Line::call"}, self.functions), lemma)
-
-
-class Known(Functions):
-    """Functions of which the paths alone are known."""
-
-    def __init__(self, *paths):
-        self.texts, self.all, self.paths = {}, [], set(paths)
-
-
-class Recorded(unittest.TestCase):
-    """What edits come to by what the prover printed of them."""
-
-    def came(self, file, path, old, new, *others):
-        with open(f"{HERE}/recorded/{file}.txt", encoding="utf-8") as lines:
-            verdicts = Verdicts(file.split("-")[0], lines.read())
-        return judge(Edit("one.edit", {path}, [("src/one.rt", old, new)], None, None), verdicts, Known(path, *others))[0]
-
-    def test_a_body_at_whose_goal_the_prover_has_values(self):
-        came = self.came("stm_image", "writer::part_len", "(65536 - at % 65536) as usize", "65536usize")
-        self.assertEqual(came, IS_FALSE)
-
-    def test_one_word_for_another(self):
-        came = self.came("stm_image", "clash::clash_with", "(address - piece.first)", "(address - address)")
-        self.assertEqual(came, ONE_WORD)
-
-    def test_more_words_at_the_same_errors(self):
-        came = self.came("stm_image", "clash::clash_with", "(address - piece.first)", "(address - address + 0)")
-        self.assertEqual(came, FAILED)
-
-    def test_a_form_that_the_prover_doesnt_cover(self):
-        self.assertEqual(self.came("stm_image", "laying::put_at", "to[skip + i] = *byte;", "let _ = *byte;"), GONE)
-
-    def test_a_function_that_is_taken_by_its_contract(self):
-        self.assertEqual(self.came("stm_image", "data::take_up", "a", "b"), PASSED)
-
-    def test_a_function_that_waits_for_its_callee(self):
-        self.assertEqual(self.came("stm_image-waiting", "set::Image::run_from", "a", "b"), WAITS)
-
-    def test_a_look_alike(self):
-        self.assertEqual(self.came("stm_image", "set::len", "a", "b", "set::Image::len"), WAITS)
 
 
 if __name__ == "__main__":
