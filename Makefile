@@ -3,6 +3,10 @@
 #               at bin/stmflash-unproved
 #   make        proves and builds bin/stmflash
 #   make tests  the tests of the program alone (tests/), on the one that `make demo` leaves (needs python3)
+#   make check CRATE=NAME
+#               proves one crate, over what earlier checks of it kept
+#   make try CRATE=NAME
+#               runs the tests of one crate, or of the crate that has them, without a proof; the program's are those of `make tests`
 #   make test   the whole gate: every proof from nothing, the tests of the libraries, the programs, and the wrong bodies; then each
 #               allocation of small sessions and of the program refused in turn, journals of 1 GB (1.2 GB free in TMPDIR),
 #               images of 2 MiB, an erase on a stored simulator without power, a Debian package that is packed, installed,
@@ -40,7 +44,7 @@ CHECKS ?= $(shell awk -v most=$(JOBS) '/^MemAvailable/ { n = int($$2 / 5000000) 
 WITHOUT ?=
 SOAKED = $(if $(wildcard bin/stmflash),bin/stmflash,bin/stmflash-unproved)
 
-.PHONY: all demo tests test wrong-bodies soak install deb pictures bench beside clean
+.PHONY: all demo tests check try test wrong-bodies soak install deb pictures bench beside clean
 
 all:
 	cd crates/stmflash && rt check
@@ -59,9 +63,26 @@ tests:
 	@test -x bin/stmflash-unproved || sh tools/demo.sh
 	python3 tests/run bin/stmflash-unproved --without $(WITHOUT)
 
+# the crate that has the tests of a library
+TESTS_stm_wire = stm_wire_tests
+TESTS_stm_image = stm_tests
+TESTS_stm_chip = stm_tests
+TESTS_stm_journal = stm_tests
+TESTS_stm_session = stm_session_tests
+TESTS_stm_client = stm_session_tests
+NAMED = $(if $(wildcard crates/$(CRATE)/src),$(CRATE),$(error CRATE= is the name of a crate, one of $(notdir $(wildcard crates/*))))
+
+check:
+	cd crates/$(NAMED) && rt check
+
+try:
+	$(if $(filter stm_words stmflash,$(NAMED)),sh tools/demo.sh && python3 tests/run bin/stmflash-unproved,\
+	    cd crates/$(or $(TESTS_$(NAMED)),$(NAMED)) && rt try --test)
+
 # `rt ci` leaves the program that it proved at crates/stmflash/out/, as each of two compilers built it: stmflash by LLVM,
 # stmflash.by-rattle by Rattle's own.
 test:
+	python3 -m unittest discover -q -s tools/wrong-bodies
 	RT_JOBS=$(CHECKS) rt ci
 	RT_JOBS=$(CHECKS) python3 tools/wrong-bodies --built
 	python3 tools/allocations crates/refused_memory/out/refused_memory

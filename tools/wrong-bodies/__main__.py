@@ -1,0 +1,185 @@
+#!/usr/bin/env python3
+"""Tries the wrong bodies crates/NAME/wrong-bodies/*.edit, many in one check: the prover must refuse each, in its own function.
+
+    python3 tools/wrong-bodies [--built] [--by-hand] [CRATE ..]
+
+--built takes the libraries below a crate as `rt ci` left them, and builds none. --by-hand tries those of `wrong-bodies/by-hand`
+too, which the gate leaves out.
+
+An edit is a file as `rt must-fail` reads it: a line `file: src/NAME.rt`, then pairs of lines `old: TEXT` and `new: TEXT`, each
+old text just once in its file. Its twin, where it has one, is a file NAME.twin beside it, of the same form: a body of the same
+function, through which the same ways lead, and which means what it should.
+
+A check takes an edit of every function that has one, and looks at these functions alone; each other one is taken by its contract,
+which `rt ci` has proved that it meets. An edit is refused
+
+- where the prover has values at which a goal of its own function is false;
+- where it isn't proved, and puts one word of the body in the place of another, so that the body itself is its twin;
+- where it isn't proved, and its twin is.
+
+Elsewhere a failed goal says nothing: it may be true, and lack an answer that fits it. Nor does an answer that names what the edit
+took away, or a callee that isn't proved. docs/GATE.md has the reasons. An edit of which that is known has a line
+`# says nothing: REASON`; it fails where the prover proves it.
+
+The status is 0 where each edit was refused, or says nothing as it says itself, and 1 where one wasn't or couldn't be tried.
+"""
+
+import argparse
+import glob
+import os
+import re
+import sys
+import tempfile
+
+sys.dont_write_bytecode = True
+sys.path.insert(0, os.path.dirname(os.path.abspath(__file__)))
+
+from edits import BadEdit, blamed, check_twin, put_together, read_edit
+from functions import Functions
+from judging import BAD, FAILED, GONE, PASSED, REFUSED, WAITS, judge
+from kit import begin, check, rt
+from verdicts import Verdicts
+
+
+# the front end refuses a text before any proof
+FRONT_END = re.compile(r"src/\S+:\d+:\d+: error\[")
+# what an edit counts as: refused, of no word as it says itself, or neither
+WELL, OPEN, NOT = "refused", "that say nothing, as they say themselves", "not"
+
+
+class CannotTry(Exception):
+    """A check says nothing of its edits."""
+
+
+def edits_of(crate, by_hand):
+    """The paths of the crate's edits."""
+    folders = ("wrong-bodies", "wrong-bodies/by-hand") if by_hand else ("wrong-bodies",)
+    return sorted(it for folder in folders for it in glob.glob(f"{crate.folder}/{folder}/*.edit"))
+
+
+class Trial:
+    """What is tried of a crate, and what came of it."""
+
+    def __init__(self, crate, kept):
+        self.crate, self.kept, self.functions, self.told = crate, kept, Functions(crate.folder), []
+
+    def say(self, counts, name, text):
+        self.told.append(counts)
+        print(f"{self.crate.name}/{name}: {text}", flush=True)
+
+    def read(self, path):
+        _, why = rt.read_edit(path, self.crate.folder)
+        if why:
+            raise BadEdit(why)
+        return read_edit(self.functions, path)
+
+    def read_all(self, paths):
+        """The edits that can be read, with their twins by name."""
+        edits, twins = [], {}
+        for path in paths:
+            try:
+                edit = self.read(path)
+                if edit.twin:
+                    twins[edit.name] = self.read(edit.twin)
+                    check_twin(edit, twins[edit.name])
+                edits.append(edit)
+            except BadEdit as why:
+                self.say(NOT, os.path.basename(path), f"BAD EDIT: {why}")
+        return edits, twins
+
+    def try_together(self, edits):
+        """What the prover says of as many edits as go together, by name, and the edits that are left."""
+        texts, taken, left = put_together(self.functions, edits)
+        asked = {path for edit in taken for path in edit.functions}
+        said, status = check(self.crate, self.functions, texts, asked, self.kept)
+        lines = said.rstrip("\n").split("\n")
+        errors = [it for it in lines if FRONT_END.match(it) or rt.unread(it, texts)]
+        bad = blamed(taken, texts, errors)
+        if bad:
+            return {name: (BAD, line) for name, line in bad.items()}, left + [it for it in taken if it.name not in bad]
+        if errors or status not in (0, 1) or not lines[-1].startswith("only="):
+            raise CannotTry((errors or lines[-1:])[0][:200])
+        verdicts = Verdicts(self.crate.name, said)
+        strange = verdicts.beside(asked, self.functions)
+        if strange:
+            raise CannotTry(f"what no edit touches isn't proved: {strange[:200]}")
+        return {edit.name: judge(edit, verdicts, self.functions) for edit in taken}, left
+
+    def try_all(self, edits):
+        """What came of each edit, by its name: tried with others, and in the end alone."""
+        came, waiting, together = {}, edits, True
+        while waiting:
+            now = waiting if together else waiting[:1]
+            try:
+                results, left = self.try_together(now)
+            except CannotTry as why:
+                if together:
+                    together = False
+                    continue
+                results, left = {now[0].name: (WAITS, f"it can't be tried: {why}")}, []
+            again = [it for it in now if it.name in results and results[it.name][0] in (WAITS, GONE) and together]
+            came.update({name: it for name, it in results.items() if name not in {edit.name for edit in again}})
+            if together:
+                # what may wait for a callee's proof is tried with fewer, until that settles nothing
+                together, waiting = len(again) < len(results), left + again
+            else:
+                waiting = waiting[1:]
+        return came
+
+    def run(self, paths):
+        edits, twins = self.read_all(paths)
+        came = self.try_all(edits)
+        asked = [twins[edit.name] for edit in edits if edit.name in twins and came[edit.name][0] == FAILED]
+        of_twins = self.try_all(asked)
+        for edit in edits:
+            kind, why = came[edit.name]
+            spare = "; its line `# says nothing` can go" if edit.reason else ""
+            twin = of_twins.get(twins[edit.name].name) if edit.name in twins else None
+            if kind == BAD:
+                self.say(NOT, edit.name, f"BAD EDIT: {why[:200]}")
+            elif kind == PASSED:
+                self.say(NOT, edit.name, "NOT REFUSED")
+            elif kind in REFUSED:
+                self.say(WELL, edit.name, f"refused, {kind}{spare}: {why[:160]}")
+            elif twin and twin[0] == PASSED:
+                self.say(WELL, edit.name, f"refused, and its twin is proved{spare}: {why[:160]}")
+            elif edit.reason:
+                self.say(OPEN, edit.name, f"says nothing, as it says: {edit.reason}")
+            else:
+                self.say(NOT, edit.name, f"SAYS NOTHING: {f'its twin: {twin[0]}: {twin[1]}' if twin else f'{kind}: {why}'}"[:240])
+        return self.told
+
+
+def try_crate(crate, edits):
+    """Says of each edit of the crate whether it was refused, and returns what each counts as."""
+    with tempfile.TemporaryDirectory(prefix="wrong-bodies-") as room:
+        kept = f"{room}/kept"
+        os.mkdir(kept)
+        begin(crate, kept)
+        return Trial(crate, kept).run(edits)
+
+
+def main():
+    parser = argparse.ArgumentParser()
+    parser.add_argument("--built", action="store_true")
+    parser.add_argument("--by-hand", action="store_true")
+    parser.add_argument("crates", nargs="*")
+    options = parser.parse_args()
+    rt.rtlib.guarded()
+    # libraries and kept work come from any checkout on this machine that has them of the same text
+    rt.share_work(False)
+    crates = [it for it in rt.rtlib.crates_below(os.getcwd()) if not options.crates or it.name in options.crates]
+    edits = {it.name: edits_of(it, options.by_hand) for it in crates}
+    crates = [it for it in crates if edits[it.name]]
+    for below in {it.name: it for crate in crates for it in crate.below()}.values():
+        if not options.built and below.build_rlib(["--jobs", "1"], anew=False):
+            sys.exit(f"tools/wrong-bodies: {below.name} isn't built")
+    work = lambda crate: lambda given, jobs: try_crate(crate, edits[crate.name])
+    tasks = {(it.name, "edits"): ([], it.count(rb"\n"), rt.need(it), work(it)) for it in crates}
+    told = [it for counts in rt.in_lanes(tasks).values() for it in counts]
+    print("tools/wrong-bodies: " + ", ".join(f"{told.count(it)} {it}" for it in (WELL, OPEN, NOT)))
+    sys.exit(1 if NOT in told else 0)
+
+
+if __name__ == "__main__":
+    main()
