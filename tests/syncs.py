@@ -19,7 +19,7 @@ from place import PATIENCE, Said, program
 LIBC = ctypes.CDLL(None, use_errno=True)
 PR_SET_NO_NEW_PRIVS, SYS_SECCOMP = 38, 317
 # the calls that are held
-LSEEK, FSYNC, LINK, ACCEPT = 8, 74, 86, 288
+LSEEK, FLOCK, FSYNC, LINK, ACCEPT = 8, 73, 74, 86, 288
 SET_MODE_FILTER, NEW_LISTENER = 1, 8
 # the steps of a filter
 LOAD, IS_EQUAL, ANSWER = 0x20, 0x15, 0x06
@@ -33,16 +33,17 @@ class CannotHold(unittest.SkipTest):
     """This system lets no call of a program be held: the test that wants it is left out."""
 
 
-def call(folder, words, fails=None, at=lambda number, process: None, held=FSYNC, error=errno.EIO):
-    """Runs the program in a folder, with its sync of this number, counted from 0, failing. Answers what was said, and the names
-    of what was synced: files of the folder, or `.` for itself. Before each, `at` is called with its number and the process.
-    Other calls can be held, and fail with another error. Raises `CannotHold` where no call can be held. A program that hangs is
-    no such case: it raises `subprocess.TimeoutExpired`, and the test fails."""
+def call(folder, words, fails=None, at=lambda number, process: None, held=FSYNC, error=errno.EIO, env=None):
+    """Runs the program in a folder, with its sync of this number, counted from 0, failing, or those of these numbers. Answers
+    what was said, and the names of what was synced: files of the folder, or `.` for itself. Before each, `at` is called with its
+    number and the process. Other calls can be held, and fail with another error. Raises `CannotHold` where no call can be held. A
+    program that hangs is no such case: it raises `subprocess.TimeoutExpired`, and the test fails."""
     ours, theirs = socket.socketpair()
     with ours, theirs:
         try:
-            started = subprocess.Popen(["stmflash", *words], executable=program(), cwd=folder, env={}, stdin=subprocess.DEVNULL,
-                                       stdout=subprocess.PIPE, stderr=subprocess.PIPE, preexec_fn=lambda: listen(theirs, held))
+            started = subprocess.Popen(["stmflash", *words], executable=program(), cwd=folder, env=env or {},
+                                       stdin=subprocess.DEVNULL, stdout=subprocess.PIPE, stderr=subprocess.PIPE,
+                                       preexec_fn=lambda: listen(theirs, held))
         except subprocess.SubprocessError as e:
             raise CannotHold("this system lets no call of a program be held") from e
         _, (listener,), _, _ = socket.recv_fds(ours, 1, 1)
@@ -85,11 +86,12 @@ def reply_to_all(listener, folder, fails, at, error):
     calls = select.poll()
     calls.register(listener, select.POLLIN)
     synced = []
+    failing = (fails,) if isinstance(fails, int) else fails or ()
     while any(event & select.POLLIN for _, event in calls.poll(PATIENCE * 1000)):
         held = bytearray(HELD.size)
         fcntl.ioctl(listener, RECEIVE, held)
         number, process, _, _, _, _, file = HELD.unpack(held)
-        reply = (number, 0, -error, 0) if len(synced) == fails else (number, 0, 0, GO_ON)
+        reply = (number, 0, -error, 0) if len(synced) in failing else (number, 0, 0, GO_ON)
         at(len(synced), process)
         synced.append(name_of(process, file, folder))
         try:

@@ -25,6 +25,11 @@ KEPT = OPENED + b"page 0 " + b"0" * 512 + b"\n"
 ERASING = KEPT + b"erase 0\n"
 PROGRAMMING = ERASING + b"program 0\n"
 ENDED = PROGRAMMING + b"end 1\n"
+# why an append fails: the disk is full, or doesn't sync
+FULL = "journal failed: File too large"
+UNSYNCED = "journal failed: Input/output error"
+# the journal's syncs of a write: its folder; each line; and a line that crosses a sector, before it is ended
+SYNCED = [".", *["journal"] * 6]
 # what an undo adds where the page isn't as it was, and where it is
 GIVEN_BACK = b"erase 0\nprogram 0\nundone 1\n"
 UNDONE = b"undone 1\n"
@@ -96,7 +101,8 @@ class Disk(Place):
         self.store("flash", ZEROS)
         for name, words in (("erase", ("5",)), ("write", ("table",))):
             with self.subTest(name=name):
-                self.assertFault(self.use(name, *words, journal="absent/journal"), "journal failed")
+                said = self.use(name, *words, journal="absent/journal")
+                self.assertFault(said, "journal failed: No such file or directory")
                 self.assertHolds(ZEROS, b"idle\n")
                 self.assertFalse(self.is_there("absent"))
 
@@ -116,7 +122,7 @@ class Disk(Place):
             with self.subTest(room=room):
                 self.begin_small(journal=VOID)
                 said = self.use("write", "image", before=files_up_to(len(VOID) + room))
-                self.assertFault(said, "journal failed")
+                self.assertFault(said, FULL)
                 self.assertFile("journal", VOID + ENDED[:room])
                 flash = SMALL_FLASH
                 if room >= len(ERASING):
@@ -138,7 +144,7 @@ class Disk(Place):
             with self.subTest(room=room):
                 self.begin_small(WRITTEN, VOID + ENDED)
                 said = self.use("undo", before=files_up_to(len(VOID + ENDED) + room))
-                self.assertFault(said, "journal failed")
+                self.assertFault(said, FULL)
                 self.assertFile("journal", VOID + ENDED + GIVEN_BACK[:room])
                 flash = WRITTEN
                 if room >= len(b"erase 0\n"):
@@ -186,11 +192,11 @@ class Disk(Place):
         """Each sync of a write fails, one after the other. A line that was written, and of which it isn't known that it is on
         the disk, is no line: the command behind it isn't sent, nothing more is added, although the disk works again, and an
         undo gives the flash back."""
-        journal = [".", *["journal"] * 5]
-        simulator = ["flash.0.new", "flash.line.0.new", ".", "."]
+        simulator = ["flash.stmflash-0.new", "flash.line.stmflash-0.new", ".", "."]
         for fails, (added, flash) in enumerate((
             (b"", SMALL_FLASH),
             (OPENED, SMALL_FLASH),
+            (KEPT[:-1], SMALL_FLASH),
             (KEPT, SMALL_FLASH),
             (ERASING, SMALL_FLASH),
             (PROGRAMMING, EMPTIED),
@@ -199,8 +205,8 @@ class Disk(Place):
             with self.subTest(fails=fails):
                 self.begin_small()
                 said, synced = self.use_unsynced(fails, "write", "image")
-                self.assertFault(said, "journal failed")
-                self.assertEqual(synced, journal[:fails + 1] + simulator)
+                self.assertFault(said, UNSYNCED)
+                self.assertEqual(synced, SYNCED[:fails + 1] + simulator)
                 self.assertFile("journal", added)
                 self.assertHolds(flash, b"idle\n")
                 self.assertTold(self.use("undo"), "undone %d\n" % (added != b""))
@@ -210,18 +216,42 @@ class Disk(Place):
             ("cannot write flash.line", SMALL_FLASH, None),
             ("cannot write flash", WRITTEN, None),
             ("cannot write flash.line", WRITTEN, b"idle\n"),
-        ), len(journal)):
+        ), len(SYNCED)):
             with self.subTest(fails=fails):
                 self.begin_small()
                 said, synced = self.use_unsynced(fails, "write", "image")
                 self.assertFault(said, text)
-                self.assertEqual(synced, (journal + simulator)[:fails + 1])
+                self.assertEqual(synced, (SYNCED + simulator)[:fails + 1])
                 self.assertFile("journal", ENDED)
                 self.assertHolds(flash, line)
         self.begin_small()
-        said, synced = self.use_unsynced(len(journal + simulator), "write", "image")
+        said, synced = self.use_unsynced(len(SYNCED + simulator), "write", "image")
         self.assertTold(said, "segment 1: 1 pages written\n")
-        self.assertEqual(synced, journal + simulator)
+        self.assertEqual(synced, SYNCED + simulator)
+
+    def test_a_line_is_whole_on_the_disk_only_behind_what_it_ends(self):
+        """A disk writes sectors of 512 bytes in any order, each whole or not at all. Whatever is on its way to it at once has no
+        LF but in its first sector, wherever in a sector the journal begins."""
+        for begins in (0, 400, 480, 486, 487, 488, 500, 511):
+            journal = HEADER + b"." * (begins - len(HEADER) - 2) + b"!\n" if begins else b""
+            with self.subTest(begins=begins):
+                self.begin_small(journal=journal or None)
+                held = [journal]
+
+                def look(number, process, held=held):
+                    now = self.held("journal")
+                    self.assertTrue(now.startswith(held[-1]))
+                    first = len(held[-1])
+                    for at in range(first, len(now)):
+                        if now[at] == 10:
+                            self.assertEqual(at // 512, first // 512, f"the LF at {at} of what was added at {first}")
+                    held.append(now)
+
+                words = ("write", "--table", "table", "--device", "sim:0412:flash", "--journal", "journal", "image")
+                said, _ = syncs.call(self.folder, words, at=look)
+                self.assertTold(said, "segment 1: 1 pages written\n")
+                self.assertFile("journal", journal + (ENDED[len(HEADER):] if begins else ENDED))
+                self.assertTold(self.use("undo"), "undone 1\n")
 
     def test_the_folder_of_a_new_journal_is_on_the_disk(self):
         """The one that it stands in, also where a link leads there: before a line of it counts."""
@@ -231,7 +261,7 @@ class Disk(Place):
             with self.subTest(journal=journal):
                 self.begin_small()
                 said, synced = self.use_unsynced(0, "write", "image", journal=journal)
-                self.assertFault(said, "journal failed")
+                self.assertFault(said, UNSYNCED)
                 self.assertEqual(synced[0], "folder")
                 self.assertFile("folder/journal", b"")
                 self.remove("folder/journal")
@@ -241,13 +271,15 @@ class Disk(Place):
                 self.remove("folder/journal")
 
     def test_what_is_not_on_the_disk_is_not_taken_back(self):
-        """The same of an undo, and of the undo after it. The simulator's files stand before the line that says so."""
-        simulator = ["flash.0.new", "flash.line.0.new", ".", "."]
-        whole = [".", "journal", "journal", *simulator, "journal"]
+        """The same of an undo, and of the undo after it. What a journal holds that is there is on the disk before more is added,
+        and the simulator's files stand before the line that says so."""
+        simulator = ["flash.stmflash-0.new", "flash.line.stmflash-0.new", ".", "."]
+        whole = ["journal", ".", "journal", "journal", *simulator, "journal"]
         # by now the line's file is there, and is removed first
         whole += [*simulator[:2], ".", *simulator[2:]]
         given_back = b"erase 0\nprogram 0\n"
         for fails, (added, flash) in enumerate((
+            (b"", WRITTEN),
             (b"", WRITTEN),
             (b"erase 0\n", WRITTEN),
             (given_back, EMPTIED),
@@ -260,7 +292,8 @@ class Disk(Place):
             with self.subTest(fails=fails):
                 self.begin_small(WRITTEN, ENDED)
                 said, synced = self.use_unsynced(fails, "undo")
-                self.assertFault(said, "journal failed")
+                # the simulator's files, which were stored in the end
+                self.assertFault(said, "journal failed" if 4 <= fails < 8 else UNSYNCED)
                 self.assertEqual(synced[:fails + 1], whole[:fails + 1])
                 self.assertFile("journal", ENDED + added)
                 self.assertHolds(flash, b"idle\n")
@@ -330,7 +363,7 @@ class OverSocket(Served):
         said = self.use_each(rooms, lambda room: ("write", "image"), files_up_to)
         for room, told in zip(rooms, said):
             with self.subTest(room=room):
-                self.assertFault(told, "journal failed")
+                self.assertFault(told, FULL)
                 self.assertFile(f"{room}.journal", ENDED[:room])
         said = self.use_each(rooms, lambda room: ("undo",))
         for room, told, simulator in zip(rooms, said, simulators):
@@ -354,17 +387,16 @@ class OverSocket(Served):
         return said
 
     def test_what_is_not_on_the_disk_is_not_answered(self):
-        journal = [".", *["journal"] * 5]
-        self.begin_served(3 * (len(journal) + 1))
+        self.begin_served(3 * (len(SYNCED) + 1))
         files = ("--table", "table", "--device", "board", "--journal", "journal", "--wait", WAIT)
-        for fails, added in enumerate((b"", OPENED, KEPT, ERASING, PROGRAMMING, ENDED, None)):
+        for fails, added in enumerate((b"", OPENED, KEPT[:-1], KEPT, ERASING, PROGRAMMING, ENDED, None)):
             with self.subTest(fails=fails):
                 said, synced = syncs.call(self.folder, ("write", *files, "image"), fails)
-                self.assertEqual(synced, journal[:fails + 1])
+                self.assertEqual(synced, SYNCED[:fails + 1])
                 if added is None:
                     self.assertTold(said, "segment 1: 1 pages written\n")
                 else:
-                    self.assertFault(said, "journal failed")
+                    self.assertFault(said, UNSYNCED)
                     self.assertTakenBack(added)
         self.leave(self.connect())
         self.simulator.kill()

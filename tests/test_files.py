@@ -1,6 +1,9 @@
 """The files that a use names: which are one, how OUT and a simulator's files are written, and how long a file may be."""
 
 import os
+import signal
+import socket
+import subprocess
 import threading
 
 import syncs
@@ -58,7 +61,7 @@ class Files(Place):
     def test_names_that_end_in_new(self):
         """What is written beside a file has a name that no file has, and follows no link."""
         self.store("victim", b"mine")
-        for name in ("flash.new", "flash.0.new", "out.0.new", "flash.line.0.new"):
+        for name in ("flash.new", "flash.0.new", "out.stmflash-0.new", "flash.line.0.new"):
             with self.subTest(name=name):
                 self.store("flash", COUNTING)
                 self.assertTold(self.use("erase", "5", journal=name), "segment 1: 1 pages erased\n")
@@ -145,7 +148,7 @@ class Files(Place):
         """Each sync of it fails, one after the other: what isn't on the disk isn't answered."""
         self.store("flash", COUNTING)
         self.store("flash.line", b"idle\n")
-        mine = ["out.0.new", "."]
+        mine = ["out.stmflash-0.new", "."]
         for fails in range(len(mine)):
             with self.subTest(fails=fails):
                 self.store("out", b"older")
@@ -234,6 +237,92 @@ class Files(Place):
         self.assertFalse(self.is_there("-"))
         self.assertSilent(self.use("read", "./-"))
         self.assertFile("-", COUNTING)
+
+    def test_new_files_are_their_users_alone(self):
+        """The journal holds what was in the flash, and FILE what is. OUT is as the process's mask lets it be, and what is there
+        keeps its mode."""
+        for mask in (0o022, 0):
+            with self.subTest(mask=mask):
+                for name in ("flash", "flash.line", "journal", "out"):
+                    if self.is_there(name):
+                        self.remove(name)
+                seen = []
+
+                def look(number, process):
+                    for name in os.listdir(self.folder):
+                        if name.endswith(".new") and not name.startswith("out"):
+                            seen.append(os.stat(self.path(name)).st_mode & 0o777)
+
+                old = os.umask(mask)
+                try:
+                    said, _ = self.use_held(look, "erase", "5")
+                    self.assertTold(said, "segment 1: 0 pages erased\n")
+                    self.assertSilent(self.use("read", "out"))
+                finally:
+                    os.umask(old)
+                for name in ("flash", "flash.line", "journal"):
+                    self.assertEqual(os.stat(self.path(name)).st_mode & 0o777, 0o600, name)
+                self.assertEqual(set(seen), {0o600})
+                self.assertEqual(os.stat(self.path("out")).st_mode & 0o777, 0o666 & ~mask)
+        os.chmod(self.path("journal"), 0o640)
+        self.assertTold(self.use("erase", "6"), "segment 2: 0 pages erased\n")
+        self.assertEqual(os.stat(self.path("journal")).st_mode & 0o777, 0o640)
+
+    def test_what_a_killed_program_left_is_removed(self):
+        """By the next one that has the simulator's file; a file of another name stays."""
+        mine = {"flash.0.new": b"mine", "flash.new": b"mine", "flash.stmflash-x.new": b"mine"}
+        for kills in range(4):
+            for begun in (None, COUNTING):
+                with self.subTest(kills=kills, begun=begun is not None):
+                    for name in ("flash", "flash.line"):
+                        if self.is_there(name):
+                            self.remove(name)
+                    if begun is not None:
+                        self.store("flash", begun)
+                    for name, text in mine.items():
+                        self.store(name, text)
+
+                    def kill(number, process, kills=kills):
+                        if number == kills:
+                            os.kill(process, signal.SIGKILL)
+
+                    said, _ = self.use_held(kill, "info")
+                    self.assertEqual(said.status, -signal.SIGKILL)
+                    said = self.use("info")
+                    self.assertEqual((said.status, said.err), (0, b""))
+                    self.assertEqual({name for name in os.listdir(self.folder) if name.endswith(".new")}, set(mine))
+                    self.remove(*mine)
+
+    def test_what_is_read_is_a_regular_file(self):
+        """A pipe without a writer would be waited for, and a device may have no end."""
+        self.store("flash", COUNTING)
+        os.mkfifo(self.path("pipe"))
+        listener = socket.socket(socket.AF_UNIX, socket.SOCK_STREAM)
+        self.addCleanup(listener.close)
+        listener.bind(self.path("board"))
+        os.mkdir(self.path("folder"))
+        for word in ("pipe", "board", "folder", "/dev/null", "/dev/tty"):
+            with self.subTest(word=word):
+                self.assertFault(self.use("verify", word), f"cannot read {word}")
+                self.assertFault(self.use("write", "-f", word), f"cannot read {word}")
+                said = self.call("info", "--table", word, "--device", "sim:0412:flash", "--journal", "journal")
+                self.assertFault(said, f"cannot read {word}")
+                said = self.call("sim", "--table", word, "--id", "0412", "--flash", "flash", "--socket", "s")
+                self.assertFault(said, f"cannot read {word}")
+                self.assertFault(self.use("undo", journal=word), f"cannot read {word}")
+                self.assertFault(self.call("log", "--journal", word), f"cannot read {word}")
+        self.assertHolds(COUNTING, b"fresh\n")
+
+    def test_an_image_may_come_from_standard_input(self):
+        """Also by a pipe, which was opened for the program."""
+        self.store("flash", COUNTING)
+        for name in ("/dev/stdin", "/dev/fd/0"):
+            with self.subTest(name=name):
+                files = ("--table", "table", "--device", "sim:0412:flash", "--journal", "journal")
+                words = ["stmflash", "verify", *files, "-S", "0x08000005", name]
+                ran = subprocess.run(words, executable=program(), cwd=self.folder, env={}, timeout=PATIENCE, input=COUNTING[5:500],
+                                     capture_output=True)
+                self.assertEqual((ran.returncode, ran.stdout, ran.stderr), (0, b"verified 495 bytes\n", b""))
 
     def test_files_without_an_end(self):
         self.store("flash", COUNTING)

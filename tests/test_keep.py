@@ -152,6 +152,26 @@ class Keep(Place):
         self.assertFile("journal", None)
         self.assertFile("elsewhere", journal)
 
+    def test_says_so_where_its_folder_went_away(self):
+        """A journal is kept only if it's gone then."""
+        journal = self.write()
+
+        def leave():
+            os.mkdir("away")
+            os.chdir("away")
+            os.rmdir("../away")
+
+        for words in ((), ("../elsewhere",)):
+            with self.subTest(words=words):
+                said = self.call("keep", "--journal", "../journal", *words, before=leave)
+                if said.status == 0:
+                    self.assertTold(said, "kept 1\n")
+                    self.assertFile("journal", None)
+                    self.store("journal", journal)
+                else:
+                    self.assertIn(said.err, (b"stmflash: cannot write ../journal\n", b"stmflash: cannot write ../elsewhere\n"))
+                    self.assertFile("journal", journal)
+
     def test_wants_a_journal(self):
         self.assertUsage(self.call("keep"))
         self.assertUsage(self.keep("one", "two"))

@@ -1,9 +1,11 @@
 """One journal, one program: what is locked, by whom, and that two programs at once leave nothing that can't be taken back."""
 
+import errno
 import fcntl
 import os
 import socket
 
+import syncs
 from place import COUNTING, PATIENCE
 from served import WAIT, Served, relay
 
@@ -56,12 +58,145 @@ class Locks(Served):
         self.assertTold(self.use("undo"), "undone 1\n")
         self.assertHolds(COUNTING, b"idle\n")
 
-    def test_a_journal_that_another_reads_may_be_read(self):
+    def test_a_journal_that_another_has_may_be_looked_at(self):
         self.assertTold(self.use("erase", "5"), "segment 1: 0 pages erased\n")
-        for name, how, status in (("log", fcntl.LOCK_SH, 0), ("log", fcntl.LOCK_EX, 1), ("keep", fcntl.LOCK_SH, 1)):
+        for name, how, status in (("log", fcntl.LOCK_SH, 0), ("log", fcntl.LOCK_EX, 0), ("keep", fcntl.LOCK_SH, 1)):
             with self.subTest(name=name, how=how), Held(self.path("journal"), how):
                 said = self.call(name, "--journal", "journal")
                 self.assertEqual((said.status, said.err), (status, BUSY[0] if status else b""))
+
+    def hold(self, words, **how):
+        """Uses the program with one of the system's calls held, and answers what was said, and which files they were for."""
+        return syncs.call(self.folder, words, **how)
+
+    def words_on(self, name, *words):
+        return (name, "--table", "table", "--device", "sim:0412:flash", "--journal", "journal", *words)
+
+    def test_a_log_locks_nothing(self):
+        """So no session has to wait for it, however long it is read."""
+        self.assertTold(self.use("erase", "5"), "segment 1: 0 pages erased\n")
+        said, locked = self.hold(("log", "--journal", "journal"), held=syncs.FLOCK)
+        self.assertTold(said, "id 0412\nsegment 1: ended, 0 pages\n1 can be undone\n")
+        self.assertEqual(locked, [])
+
+    def test_a_log_beside_a_session_tells_what_is_there(self):
+        """Whole lines alone, at each sync of an erase."""
+        told = []
+
+        def look(number, process):
+            said = self.call("log", "--journal", "journal")
+            self.assertEqual((said.status, said.err), (0, b""))
+            told.append(said.out)
+
+        self.store("flash", COUNTING)
+        said, _ = self.hold(self.words_on("erase", "5"), at=look)
+        self.assertTold(said, "segment 1: 1 pages erased\n")
+        opened = b"id 0412\nsegment 1: open, %d pages%s\nunfinished, undo first\n"
+        kept = opened % (1, b": 5")
+        ended = b"id 0412\nsegment 1: ended, 1 pages: 5\n1 can be undone\n"
+        self.assertEqual(told[:6], [b"0 can be undone\n", opened % (0, b""), opened % (0, b""), kept,
+                                    opened % (1, b": 5, erasing 5"), ended])
+
+    def test_a_journal_that_was_just_made_is_locked(self):
+        """Another program comes when the journal is there and has no line yet."""
+        self.store("flash", COUNTING)
+        came = []
+
+        def come(number, process):
+            if number == 0:
+                self.assertFile("journal", b"")
+                came.append(self.use("erase", "6", device="sim:0412:other"))
+                came.append(self.call("keep", "--journal", "journal"))
+
+        said, _ = self.hold(self.words_on("erase", "5"), at=come)
+        self.assertTold(said, "segment 1: 1 pages erased\n")
+        self.assertEqual(len(came), 2)
+        for other in came:
+            self.assertFault(other, "journal is in use")
+        self.assertTold(self.use("undo"), "undone 1\n")
+        self.assertFile("flash", COUNTING)
+
+    def test_locks_are_asked_for_on_a_handle_that_writes(self):
+        """NFS gives no other an exclusive one. Of a journal that is there, of one that is made, and of a simulator's file."""
+        for journal in (None, b""):
+            with self.subTest(journal=journal):
+                self.store("flash", COUNTING)
+                if journal is not None:
+                    self.store("journal", journal)
+                modes = []
+
+                def look(number, process):
+                    for file in os.listdir(f"/proc/{process}/fd"):
+                        if os.path.basename(os.readlink(f"/proc/{process}/fd/{file}")) in ("journal", "flash"):
+                            with open(f"/proc/{process}/fdinfo/{file}", encoding="ascii") as info:
+                                modes.append(int(info.read().split("flags:")[1].split()[0], 8) & os.O_ACCMODE)
+
+                said, locked = self.hold(self.words_on("erase", "5"), held=syncs.FLOCK, at=look)
+                self.assertTold(said, "segment 1: 1 pages erased\n")
+                self.assertIn("journal", locked)
+                self.assertIn("flash", locked)
+                self.assertNotIn(os.O_RDONLY, modes)
+                self.remove("journal")
+
+    def test_a_read_only_journal_is_read(self):
+        """A handle that reads is asked where there is no other."""
+        if os.geteuid() == 0:
+            # who may write all the same; there only a file system that is read could show it
+            return
+        self.assertTold(self.use("erase", "5"), "segment 1: 0 pages erased\n")
+        os.chmod(self.path("journal"), 0o400)
+        said = self.use("info")
+        self.assertEqual((said.status, said.err), (0, b""))
+        self.assertFault(self.use("erase", "5"), "journal failed: Permission denied")
+
+    def test_without_locks_a_file_is_refused(self):
+        """A file system that gives none, as NFS may: told by name, unless it's said that no other program has the files."""
+        every = range(100)
+        for error, text in ((errno.EBADF, "Bad file descriptor"), (errno.ENOLCK, "No locks available"),
+                            (errno.EOPNOTSUPP, "Operation not supported")):
+            how = {"held": syncs.FLOCK, "error": error}
+            with self.subTest(text=text):
+                self.store("flash", COUNTING)
+                self.store("journal", b"")
+                for name, words in (("journal", self.words_on("info")), ("journal", ("keep", "--journal", "journal")),
+                                    ("journal", self.words_on("erase", "5")),
+                                    ("flash", ("sim", "--table", "table", "--id", "0412", "--flash", "flash", "--socket", "s"))):
+                    said, _ = self.hold(words, fails=0, **how)
+                    self.assertFault(said, f"cannot lock {name}: {text}; --no-lock if no other program has it")
+                said, _ = self.hold(self.words_on("info"), fails=1, **how)
+                self.assertFault(said, f"cannot lock flash: {text}; --no-lock if no other program has it")
+                self.remove("journal")
+                said, _ = self.hold(self.words_on("erase", "5"), fails=1, **how)
+                self.assertFault(said, f"cannot lock journal: {text}; --no-lock if no other program has it")
+                self.assertFile("flash", COUNTING)
+                self.assertFile("journal", b"")
+                self.remove("journal")
+                said, _ = self.hold(self.words_on("erase", "--no-lock", "5"), fails=every, **how)
+                self.assertTold(said, "segment 1: 1 pages erased\n")
+                said, _ = self.hold(("keep", "--journal", "journal", "--no-lock"), fails=every, **how)
+                self.assertTold(said, "kept 1\n")
+
+    def test_a_variable_says_that_no_lock_is_needed(self):
+        self.store("flash", COUNTING)
+        how = {"held": syncs.FLOCK, "error": errno.EBADF, "fails": range(100)}
+        for text, status in (("1", 0), ("0", 1), ("", 1)):
+            with self.subTest(text=text):
+                self.store("journal", b"")
+                said, _ = self.hold(self.words_on("erase", "5"), env={"STMFLASH_NO_LOCK": text}, **how)
+                self.assertEqual(said.status, status)
+                said, _ = self.hold(("keep", "--journal", "journal"), env={"STMFLASH_NO_LOCK": text}, **how)
+                self.assertEqual(said.status, status)
+
+    def test_without_a_lock_another_program_is_still_seen(self):
+        """Where there are locks, `--no-lock` is no leave to use what another has."""
+        self.store("flash", COUNTING)
+        self.store("journal", b"")
+        with Held(self.path("journal")):
+            self.assertFault(self.use("erase", "--no-lock", "5"), "journal is in use")
+            variables = {"STMFLASH_NO_LOCK": "1"}
+            self.assertFault(self.call(*self.words_on("erase", "5"), variables=variables), "journal is in use")
+        with Held(self.path("flash")):
+            self.assertFault(self.use("erase", "--no-lock", "5"), "simulator file is in use")
 
     def test_a_journal_is_locked_by_whatever_name(self):
         self.store("flash", COUNTING)

@@ -50,7 +50,7 @@ class Variables(Place):
         self.assertUsage(self.call("info", *words, variables={"STMFLASH_JOURNAL": ""}))
 
     def test_are_text(self):
-        for name in ("STMFLASH_TABLE", "STMFLASH_DEVICE", "STMFLASH_JOURNAL", "STMFLASH_FRESH"):
+        for name in ("STMFLASH_TABLE", "STMFLASH_DEVICE", "STMFLASH_JOURNAL", "STMFLASH_FRESH", "STMFLASH_NO_LOCK"):
             with self.subTest(name=name):
                 self.assertFault(self.call("info", variables={name: os.fsdecode(b"\xff")}), f"usage: {name} is not text", 2)
 

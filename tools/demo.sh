@@ -7,19 +7,19 @@ program="$top/bin/stmflash-unproved"
 demo=$(mktemp -d)
 trap 'rm -rf "$demo"' EXIT
 
-# `rt try` builds the program, runs it once and removes it. So that run is given its table by a pipe, and the pipe is
-# filled when a copy of the program has been taken.
+# `rt try` builds the program, runs it once and removes it. So that run serves a simulator, until a copy of the program has
+# been taken and is its client.
 echo "Building stmflash without waiting for its proofs (\`make\` waits for them). This takes about a minute."
 mkdir -p "$demo/room" "$top/bin"
-mkfifo "$demo/pipe"
 (
     cd "$top/crates/stmflash"
-    TMPDIR="$demo/room" rt try -- info --table "$demo/pipe" --device "sim:0412:$demo/first.bin" \
-        --journal "$demo/first" > "$demo/said" 2>&1 || true
-    [ -e "$demo/runs" ] || : < "$demo/pipe"
+    TMPDIR="$demo/room" rt try -- sim --table "$top/chips.toml" --id 0412 --flash "$demo/first.bin" --socket "$demo/first" \
+        > "$demo/said" 2>&1 || true
+    touch "$demo/over"
 ) &
-exec 3> "$demo/pipe"
-touch "$demo/runs"
+until [ -S "$demo/first" ] || [ -e "$demo/over" ]; do
+    sleep 1
+done
 made=$(find "$demo/room" -type f -name program)
 if [ -z "$made" ]; then
     wait
@@ -31,8 +31,7 @@ cp "$made" "$program"
 chmod 755 "$program"
 mkdir -p "$top/bin/unproved"
 ln -sf ../stmflash-unproved "$top/bin/unproved/stmflash"
-cat "$top/chips.toml" >&3
-exec 3>&-
+"$program" info --table "$top/chips.toml" --device "$demo/first" --journal "$demo/journal" > "$demo/said" || true
 wait
 
 # A flash of 32 KiB with something to see in it.

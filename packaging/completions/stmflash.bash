@@ -7,7 +7,7 @@ _stmflash_ports() { mapfile -t COMPREPLY < <(compgen -G "$1*" | grep -E '^/dev/(
 _stmflash() {
     local word=${COMP_WORDS[COMP_CWORD]} before=${COMP_WORDS[COMP_CWORD-1]} subcommand="" i
     local subcommands="info read write verify erase undo go protect log keep sim help"
-    local device="--table --device --journal --wait --stop --give-up --progress --quiet --fresh --help"
+    local device="--table --device --journal --no-lock --wait --stop --give-up --progress --quiet --fresh --help"
     COMPREPLY=()
     for ((i = 1; i < COMP_CWORD; i++)); do
         if [[ " $subcommands " == *" ${COMP_WORDS[i]} "* ]]; then
@@ -40,8 +40,9 @@ _stmflash() {
         verify) _stmflash_words "$word" "$device -f -S -h" ;;
         erase) _stmflash_words "$word" "$device --all -h" ;;
         undo | go | protect) _stmflash_words "$word" "$device -h" ;;
-        log | keep) _stmflash_words "$word" "--journal --help -h" ;;
-        sim) _stmflash_words "$word" "--table --id --flash --socket --clients --mode --help -h" ;;
+        log) _stmflash_words "$word" "--journal --help -h" ;;
+        keep) _stmflash_words "$word" "--journal --no-lock --help -h" ;;
+        sim) _stmflash_words "$word" "--table --id --flash --no-lock --socket --clients --mode --help -h" ;;
     esac
 }
 

@@ -72,9 +72,9 @@ with_table e name =
 -- a subcommand with the options that name the table, the device and the journal
 abbrev pub with_places : Environment → Text → App
 with_places e name =
-    with_rule (with_rule (with_table e name)
+    with_rule (with_rule (with_rule (with_table e name)
     (standing_option_rule (codes "device") (text_of e.device)))
-    (standing_option_rule (codes "journal") (text_of e.journal))
+    (standing_option_rule (codes "journal") (text_of e.journal))) (flag_rule (codes "no-lock"))
 
 -- the same, with the options of how long a device may take to answer
 abbrev pub with_waits : Environment → Text → App
@@ -122,7 +122,9 @@ abbrev pub log_app : Environment → App
 log_app e = on_journal e (codes "log")
 
 abbrev pub keep_app : Environment → App
-keep_app e = with_rule (on_journal e (codes "keep")) (new_rule (codes "TO"))
+keep_app e =
+    with_rule (with_rule (on_journal e (codes "keep")) (flag_rule (codes "no-lock")))
+    (new_rule (codes "TO"))
 
 abbrev pub go_app : Environment → App
 go_app e = with_rule (on_device e (codes "go")) (needed_rule (codes "ADDRESS"))
@@ -131,8 +133,10 @@ abbrev pub protect_app : Environment → ValueParser → App
 protect_app e kinds = with_rule (on_device e (codes "protect")) (kind_rule kinds)
 
 abbrev pub sim_app : Environment → App
-sim_app e = with_rule (with_rule (with_rule (with_rule (with_rule (with_table e (codes "sim"))
+sim_app e = with_rule (with_rule (with_rule (with_rule (with_rule (with_rule
+    (with_table e (codes "sim"))
     (needed_option_rule (codes "id"))) (needed_option_rule (codes "flash")))
+    (flag_rule (codes "no-lock")))
     (needed_option_rule (codes "socket")))
     (default_option_rule (codes "mode") (codes "600")))
     (default_option_rule (codes "clients") (codes "1"))

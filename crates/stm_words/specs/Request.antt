@@ -1,10 +1,11 @@
 -- What the words ask for.
-use Rattle.std.specs.Prelude.{◌≡◌, ℕ, Bool, List, [], None, Some, codes, false, map}
+use Rattle.std.specs.Prelude.{◌≡◌, ◌||◌, ℕ, Bool, List, [], None, Some, codes, false, map}
 use Rattle.std.specs.Prelude.{option_and_then, option_map, true, unwrap_or}
 use Rattle.clap.specs.Matches.{first_value, matched_of, one_text, raw_values}
 use Rattle.clap.specs.declared.parser.matches.Found.{Found}
 use Rattle.stm_words.specs.declared.device.Device.{Device}
 use Rattle.stm_words.specs.declared.device.Device.TheVariants.{Simulator, Socket}
+use Rattle.stm_words.specs.declared.environment.Environment.{Environment}
 use Rattle.stm_words.specs.declared.image_file.ImageFile.{ImageFile}
 use Rattle.stm_words.specs.declared.kept.Kept.{Kept}
 use Rattle.stm_words.specs.declared.task.Task.{Task}
@@ -27,6 +28,11 @@ abbrev pub IsFlag : Found → List ℕ → Bool → Type 0
 IsFlag given id b =
     (one_text given id ≡ None → b ≡ false) × (one_text given id ≡ Some (codes "true") → b ≡ true)
     × (one_text given id ≡ Some (codes "false") → b ≡ false)
+
+-- the flag was given, or the environment says so
+abbrev pub IsFlagOr : Bool → Found → List ℕ → Bool → Type 0
+IsFlagOr standing given id b = (was_given : Bool) × IsFlag given id was_given
+    × (b ≡ (was_given || standing))
 
 -- all words that were given under this id
 abbrev pub texts_of : Found → List ℕ → List (List ℕ)
@@ -51,9 +57,10 @@ IsErase given (Go address) = ⊥
 IsErase given (Protect kind) = ⊥
 
 -- the journal that `keep` names, and where it goes
-abbrev pub IsKept : Found → Kept → Type 0
-IsKept given kept = (first_value given (codes "journal") ≡ Some kept.journal.now)
+abbrev pub IsKept : Environment → Found → Kept → Type 0
+IsKept e given kept = (first_value given (codes "journal") ≡ Some kept.journal.now)
     × (first_value given (codes "TO") ≡ option_map (λ s. s.now) kept.to)
+    × IsFlagOr e.without_lock given (codes "no-lock") kept.without_lock
 
 -- the subcommand of this name, with these words, asks for this
 abbrev pub IsTask : List ℕ → Found → Task → Type 0

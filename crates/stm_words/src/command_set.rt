@@ -46,7 +46,8 @@ fn with_places<'a>(
 {
     with_table(alloc, environment, name, about)?
         .arg(standing_option(alloc, "device", "DEV", environment.device, help::DEVICE))?
-        .arg(standing_option(alloc, "journal", "FILE", environment.journal, help::JOURNAL))
+        .arg(standing_option(alloc, "journal", "FILE", environment.journal, help::JOURNAL))?
+        .arg(flag(alloc, "no-lock", help::NO_LOCK))
 }
 
 /// The same, with the options of how long a device may take to answer.
@@ -158,7 +159,9 @@ fn log<'a>(alloc: Global, environment: Environment<'a>) -> Result<Command<'a>, A
 fn keep<'a>(alloc: Global, environment: Environment<'a>) -> Result<Command<'a>, AllocError>
     ensures { IfOk result (Makes (keep_app environment.entry)) }
 {
-    on_journal(alloc, environment, "keep", help::KEEP)?.arg(spare(alloc, "TO", help::TO))
+    on_journal(alloc, environment, "keep", help::KEEP)?
+        .arg(flag(alloc, "no-lock", help::NO_LOCK))?
+        .arg(spare(alloc, "TO", help::TO))
 }
 
 fn go<'a>(alloc: Global, environment: Environment<'a>) -> Result<Command<'a>, AllocError>
@@ -180,6 +183,7 @@ fn sim<'a>(alloc: Global, environment: Environment<'a>) -> Result<Command<'a>, A
     with_table(alloc, environment, "sim", help::SIM)?
         .arg(needed_option(alloc, "id", "ID", help::ID))?
         .arg(needed_option(alloc, "flash", "FILE", help::FLASH))?
+        .arg(flag(alloc, "no-lock", help::NO_LOCK))?
         .arg(needed_option(alloc, "socket", "PATH", help::SOCKET))?
         .arg(default_option(alloc, "mode", "MODE", "600", help::MODE))?
         .arg(default_option(alloc, "clients", "N", "1", help::CLIENTS))

@@ -12,4 +12,6 @@ pub struct Environment<'a> {
     pub journal: Option<&'a str>,
     /// Whether the device was reset since the last session.
     pub is_fresh: bool,
+    /// Whether no other program has the files, so that they need no lock.
+    pub without_lock: bool,
 }

@@ -3,7 +3,7 @@ ghost use Rattle.std.specs.Prelude.{◌≡◌, ◌≤◌, IfOk, Some, option_and
 ghost use Rattle.clap.specs.Words.{first_value, found_of};
 ghost use Rattle.stm_words.specs.Number.{number_of};
 ghost use Rattle.stm_words.specs.Pages.{NameAll};
-ghost use Rattle.stm_words.specs.Request.{IsFlag, texts_of};
+ghost use Rattle.stm_words.specs.Request.{IsFlag, IsFlagOr, texts_of};
 
 use crate::number::parse_number;
 use crate::pages::pages_of;
@@ -28,6 +28,13 @@ pub fn flag(given: &ArgMatches, id: &str) -> bool
     ensures { IsFlag (found_of given.now) id.now result }
 {
     given.get_flag(id)
+}
+
+/// Whether the flag of this name was given, or stands without.
+pub fn flag_or(given: &ArgMatches, id: &str, standing: bool) -> bool
+    ensures { IsFlagOr standing (found_of given.now) id.now result }
+{
+    flag(given, id) || standing
 }
 
 /// The number that was given under this name.

@@ -5,7 +5,7 @@ ghost use Rattle.stm_words.specs.Options.{AreOptions};
 
 use crate::device::Device;
 use crate::environment::Environment;
-use crate::given::{flag, number, number_within, stop, word};
+use crate::given::{flag, flag_or, number, number_within, stop, word};
 use crate::progress::Progress;
 use crate::usage_fault::UsageFault;
 use clap::ArgMatches;
@@ -24,6 +24,8 @@ pub struct Options<'a> {
     pub give_up: u32,
     /// Whether the device was reset since the last session.
     pub is_fresh: bool,
+    /// Whether no other program has the files, so that they need no lock where there is none.
+    pub without_lock: bool,
     /// What is shown while the session runs.
     pub progress: Progress,
     /// After how many steps a simulator is stopped.
@@ -32,12 +34,12 @@ pub struct Options<'a> {
 
 impl<'a> Options<'a> {
     /// The options that the words of a subcommand give. The environment says that the device is
-    /// fresh, where the words don't.
+    /// fresh, and that the files need no lock, where the words don't.
     pub fn parse(
         environment: Environment<'a>,
         given: &ArgMatches<'a>,
     ) -> Result<Options<'a>, UsageFault<'a>>
-        ensures { IfOk result (AreOptions environment.entry.is_fresh (found_of given.now)) }
+        ensures { IfOk result (AreOptions environment.entry (found_of given.now)) }
     {
         let table = word(given, "table")?;
         let device = word(given, "device")?;
@@ -53,7 +55,8 @@ impl<'a> Options<'a> {
             journal,
             wait,
             give_up,
-            is_fresh: flag(given, "fresh") || environment.is_fresh,
+            is_fresh: flag_or(given, "fresh", environment.is_fresh),
+            without_lock: flag_or(given, "no-lock", environment.without_lock),
             progress: Progress::of(flag(given, "progress"), flag(given, "quiet")),
             stop: stop(given)?,
         })

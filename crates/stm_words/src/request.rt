@@ -34,8 +34,8 @@ impl<'a> Request<'a> {
     ) -> Result<Request<'a>, Unread<'a>> {
         match matches.subcommand() {
             Some(("log", given)) => Ok(Request::Log(word(given, "journal")?)),
-            Some(("keep", given)) => Ok(Request::Keep(Kept::parse(given)?)),
-            Some(("sim", given)) => Ok(Request::Serve(Served::parse(given)?)),
+            Some(("keep", given)) => Ok(Request::Keep(Kept::parse(environment, given)?)),
+            Some(("sim", given)) => Ok(Request::Serve(Served::parse(environment, given)?)),
             Some((name, given)) => {
                 let options = Options::parse(environment, given)?;
                 let task = Task::parse(alloc, name, given)?;

@@ -1,7 +1,8 @@
 // A simulator that is to be served on a socket.
 
 use crate::device::parse_id;
-use crate::given::{number_within, word};
+use crate::environment::Environment;
+use crate::given::{flag_or, number_within, word};
 use crate::mode::parse_mode;
 use crate::usage_fault::UsageFault;
 use clap::ArgMatches;
@@ -21,11 +22,17 @@ pub struct Served<'a> {
     pub mode: u32,
     /// How many clients, one after the other: 1 to 1,000,000.
     pub clients: u32,
+    /// Whether no other program has the file, so that it needs no lock where there is none.
+    pub without_lock: bool,
 }
 
 impl<'a> Served<'a> {
-    /// The simulator that the words of `sim` name.
-    pub fn parse(given: &ArgMatches<'a>) -> Result<Served<'a>, UsageFault<'a>> {
+    /// The simulator that the words of `sim` name. The environment says that its file needs no lock,
+    /// where the words don't.
+    pub fn parse(
+        environment: Environment<'a>,
+        given: &ArgMatches<'a>,
+    ) -> Result<Served<'a>, UsageFault<'a>> {
         let table = word(given, "table")?;
         let id = word(given, "id")?;
         let Some(id) = parse_id(id) else {
@@ -44,6 +51,7 @@ impl<'a> Served<'a> {
             socket,
             mode,
             clients: number_within(given, "clients", 1_000_000)?,
+            without_lock: flag_or(given, "no-lock", environment.without_lock),
         })
     }
 }

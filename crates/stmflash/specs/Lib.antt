@@ -5,8 +5,10 @@ pub mod Content
 pub mod Escaped
 pub mod FalseErase
 pub mod JournalFile
+pub mod Locks
 pub mod Logging
 pub mod Outgoing
+pub mod Sectors
 pub mod Serving
 pub mod ShortWaits
 pub mod SimulatorFile

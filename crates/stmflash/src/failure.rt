@@ -3,7 +3,8 @@ ghost use Rattle.std.specs.Prelude.{◌≡◌};
 ghost use Rattle.stmflash.specs.declared.failure.Failure.TheVariants.{Session, Hex, Raw};
 
 use crate::foreign::Foreign;
-use crate::journal_file::Unusable;
+use crate::reason::Reason;
+use crate::unusable::Unusable;
 use std::alloc::{AllocError, AllocFailed};
 use std::io;
 use std::io::ErrorKind;
@@ -49,6 +50,12 @@ pub enum Failure<'a> {
     /// Another program has the journal.
     #[error("journal is in use")]
     JournalInUse,
+    /// The system gives no lock on a file.
+    #[error("cannot lock {0}: {1}; --no-lock if no other program has it")]
+    CannotLock(&'a str, Reason),
+    /// The journal couldn't be read, or added to.
+    #[error("journal failed: {0}")]
+    JournalFailed(Reason),
     /// Another program has the simulator's files.
     #[error("simulator file is in use")]
     SimulatorInUse,
@@ -92,10 +99,28 @@ impl<'a> Failure<'a> {
 
 impl<'a> Failure<'a> {
     /// Why the journal of this name can't be used.
-    pub fn of_journal(why: &Unusable, name: &'a str) -> Failure<'a> {
+    pub fn of_journal(why: Unusable, name: &'a str) -> Failure<'a> {
         match why {
             Unusable::InUse => Failure::JournalInUse,
-            Unusable::Unread(e) => Failure::of_file(e, Failure::CannotRead(name)),
+            Unusable::Unlockable(e) => Failure::CannotLock(name, Reason(e)),
+            Unusable::Unread(e) => Failure::of_file(&e, Failure::CannotRead(name)),
+        }
+    }
+
+    /// Why the simulator's file of this name can't be used.
+    pub fn of_simulator(why: Unusable, name: &'a str) -> Failure<'a> {
+        match why {
+            Unusable::InUse => Failure::SimulatorInUse,
+            why => Failure::of_journal(why, name),
+        }
+    }
+
+    /// Why the journal failed, where the system told it.
+    pub fn of_reason(reason: Option<io::Error>) -> Failure<'a> {
+        match reason {
+            Some(e) if e.kind() == ErrorKind::OutOfMemory => Failure::Memory,
+            Some(e) => Failure::JournalFailed(Reason(e)),
+            None => Failure::Session(Fault::Journal),
         }
     }
 }

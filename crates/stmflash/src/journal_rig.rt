@@ -1,22 +1,30 @@
-// A journal in a file, with no device.
-ghost use Rattle.std.specs.Prelude.{◌≡◌};
+// A journal to be read, with no device.
+ghost use Rattle.std.specs.Prelude.{◌≡◌, ◌≤◌, ◌-◌, ◌^◌, length, IfOk};
 ghost use Rattle.stm_wire.specs.Rig.{HasCause};
 ghost use Rattle.stm_wire.specs.Unmodelled.{unmodelled};
 
-use crate::journal_file::JournalFile;
-use std::fs::Files;
+use std::io;
 use std::marker::Model;
 use stm_wire::{Patience, Rig, RigFault};
 
-/// A journal in a file, with no device: whatever is sent to one, or added to the journal, fails.
+/// What a journal's bytes are read from.
+pub trait Source {
+    /// Reads from a place on, and answers how many bytes; 0 at or past the end.
+    fn fetch(&mut self, at: u64, buf: &mut [u8]) -> io::Result<usize>
+        ensures length { length buf.new ≡ length buf.old }
+        ensures within { IfOk result (λ n. n ≤ length buf.old) }
+        ensures last { 2 ^ 63 - 1 ≤ at → IfOk result (λ n. n ≡ 0) };
+}
+
+/// A journal to be read, with no device: whatever is sent to one, or added to the journal, fails.
 #[derive(Drop)]
-pub struct JournalRig<'a, R: Files> {
-    file: JournalFile<'a, R>,
+pub struct JournalRig<S: Source + Drop> {
+    source: S,
     line_failures: u64,
     journal_failures: u64,
 }
 
-impl<'a, R: Files> Model for JournalRig<'a, R> {
+impl<S: Source + Drop> Model for JournalRig<S> {
     ghost use Rattle.stmflash.specs.SocketRig.{Failures};
 
     ghost Value = { Failures };
@@ -24,18 +32,18 @@ impl<'a, R: Files> Model for JournalRig<'a, R> {
     ghost view = { λ rig. record { line = rig.line_failures; journal = rig.journal_failures } };
 }
 
-impl<'a, R: Files> JournalRig<'a, R> {
-    /// A Rig with this journal.
-    pub fn new(file: JournalFile<'a, R>) -> JournalRig<'a, R> {
+impl<S: Source + Drop> JournalRig<S> {
+    /// A Rig with the journal that is read from here.
+    pub fn new(source: S) -> JournalRig<S> {
         JournalRig {
-            file,
+            source,
             line_failures: 0,
             journal_failures: 0,
         }
     }
 }
 
-impl<'a, R: Files> Rig for JournalRig<'a, R> {
+impl<S: Source + Drop> Rig for JournalRig<S> {
     ghost use Rattle.stmflash.specs.SocketRig.{socket_rig_state};
 
     ghost view = { socket_rig_state };
@@ -60,7 +68,7 @@ impl<'a, R: Files> Rig for JournalRig<'a, R> {
     }
 
     fn fetch(&mut self, at: u64, buf: &mut [u8]) -> Result<usize, RigFault> {
-        match self.file.fetch(at, buf) {
+        match self.source.fetch(at, buf) {
             Ok(count) => Ok(count),
             Err(_) => {
                 self.journal_failures = self.journal_failures.saturating_add(1);

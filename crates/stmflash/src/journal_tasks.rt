@@ -3,12 +3,13 @@
 use crate::answer::Answer;
 use crate::failure::Failure;
 use crate::files::sync_folder;
-use crate::journal_file::{JournalFile, Unusable};
-use crate::journal_rig::JournalRig;
+use crate::journal_file::JournalFile;
+use crate::journal_rig::{JournalRig, Source};
 use crate::keeping::count_kept;
 use crate::locks::Locks;
 use crate::logging::log_lines;
-use crate::names::{is_one, is_same_place};
+use crate::names::{is_one, is_same_place, resolve};
+use crate::shown::Shown;
 use std::alloc::Global;
 use std::fs::{Files, Metadata};
 use std::io::ErrorKind;
@@ -18,26 +19,28 @@ use stm_journal::{Journal, JournalFault};
 use stm_session::Fault;
 use stm_words::Kept;
 
-/// Reads the journal in a file that was opened. One that isn't there is empty.
-fn load<'a, 'b, R: Locks + AllocGlobal>(
-    rt: &R,
+/// Reads a journal, and hands back what it was read from.
+fn load<'a, S: Source + Drop>(
+    alloc: Global,
     name: &'a str,
-    opened: Result<JournalFile<'b, R>, Unusable>,
-) -> Result<(Journal, JournalRig<'b, R>), Failure<'a>> {
-    let mut rig = match opened {
-        Ok(file) => JournalRig::new(file),
-        Err(why) => return Err(Failure::of_journal(&why, name)),
-    };
-    match Journal::load(rt.alloc(), &mut rig) {
+    source: S,
+) -> Result<(Journal, JournalRig<S>), Failure<'a>> {
+    let mut rig = JournalRig::new(source);
+    match Journal::load(alloc, &mut rig) {
         Ok(journal) => Ok((journal, rig)),
         Err(JournalFault::File) => Err(Failure::CannotRead(name)),
         Err(fault) => Err(Failure::Session(Fault::from(fault))),
     }
 }
 
-/// Tells what the journal in a file says.
-pub fn log<'a, R: Locks + AllocGlobal>(rt: &R, name: &'a str) -> Result<Answer, Failure<'a>> {
-    let (journal, _locked) = load(rt, name, JournalFile::open_shared(rt, name))?;
+/// Tells what the journal in a file says by now. It isn't locked: a session beside it goes on, and
+/// adds whole lines, of which the last may be torn and counts as nothing.
+pub fn log<'a, R: Files + AllocGlobal>(rt: &R, name: &'a str) -> Result<Answer, Failure<'a>> {
+    let shown = match Shown::open(rt, name) {
+        Ok(shown) => shown,
+        Err(e) => return Err(Failure::of_file(&e, Failure::CannotRead(name))),
+    };
+    let (journal, _shown) = load(rt.alloc(), name, shown)?;
     tell(rt.alloc(), &journal)
 }
 
@@ -47,10 +50,15 @@ fn tell<'a>(alloc: Global, journal: &Journal) -> Result<Answer, Failure<'a>> {
 }
 
 /// Lets the writes and erases of a journal stay: the journal is removed, or renamed to a name that
-/// isn't there. It is locked until then.
+/// isn't there. This program has it for itself until then.
 pub fn keep<'a, R: Locks + AllocGlobal>(rt: &R, kept: &Kept<'a>) -> Result<Answer, Failure<'a>> {
-    let (journal, _locked) = load(rt, kept.journal, JournalFile::open(rt, kept.journal))?;
-    keep_loaded(rt, &journal, kept)
+    let file = match JournalFile::open(rt, kept.journal, kept.without_lock) {
+        Ok(file) => file,
+        Err(why) => return Err(Failure::of_journal(why, kept.journal)),
+    };
+    let is_there = file.is_there();
+    let (journal, _held) = load(rt.alloc(), kept.journal, file)?;
+    keep_loaded(rt, &journal, kept, is_there)
 }
 
 /// The same, of a journal that was read.
@@ -58,62 +66,67 @@ fn keep_loaded<'a, R: Files + AllocGlobal>(
     rt: &R,
     journal: &Journal,
     kept: &Kept<'a>,
+    is_there: bool,
 ) -> Result<Answer, Failure<'a>> {
     let count = count_kept(journal)?;
     match kept.to {
-        Some(to) => rename(rt, kept.journal, to)?,
-        None => remove(rt, kept.journal)?,
+        Some(to) => rename(rt, kept.journal, to, is_there)?,
+        None if is_there => remove(rt, kept.journal)?,
+        None => {}
     }
     Ok(Answer::Kept(count))
 }
 
-/// Removes a file, where it is there, and answers once that is on the disk. A
-/// symbolic link is followed.
+/// Removes a file that was there, and answers once that is on the disk. A symbolic link is followed.
 fn remove<'a, R: Files + AllocGlobal>(rt: &R, name: &'a str) -> Result<(), Failure<'a>> {
-    let done = match fs::canonicalize(rt, name) {
-        Ok(path) => match fs::remove_file(rt, path.as_str()) {
-            Ok(()) => sync_folder(rt, path.as_str()),
-            Err(e) => Err(e),
-        },
-        Err(e) if e.kind() == ErrorKind::NotFound => Ok(()),
-        Err(e) => Err(e),
-    };
-    match done {
+    match remove_behind_links(rt, name) {
         Ok(()) => Ok(()),
         Err(e) => Err(Failure::of_file(&e, Failure::CannotWrite(name))),
     }
 }
 
-/// Renames a file, where it is there, to a name that isn't, and answers once that is on the
+/// The same, with the system's fault.
+fn remove_behind_links<R: Files + AllocGlobal>(rt: &R, name: &str) -> io::Result<()> {
+    let path = resolve(rt, name)?;
+    let path = path.as_path().as_str();
+    fs::remove_file(rt, path)?;
+    sync_folder(rt, path)
+}
+
+/// Renames a file, if it was there, to a name that isn't, and answers once that is on the
 /// disk. A symbolic link is followed. The file gets the new name first, and a file that is
 /// made there meanwhile stays.
 fn rename<'a, R: Files + AllocGlobal>(
     rt: &R,
     name: &'a str,
     to: &'a str,
+    is_there: bool,
 ) -> Result<(), Failure<'a>> {
-    match rename_unless_there(rt, name, to) {
+    match rename_unless_there(rt, name, to, is_there) {
         Ok(()) => Ok(()),
         Err(e) => Err(Failure::of_file(&e, Failure::CannotWrite(to))),
     }
 }
 
 /// The same, with the system's fault.
-fn rename_unless_there<R: Files + AllocGlobal>(rt: &R, name: &str, to: &str) -> io::Result<()> {
+fn rename_unless_there<R: Files + AllocGlobal>(
+    rt: &R,
+    name: &str,
+    to: &str,
+    is_there: bool,
+) -> io::Result<()> {
     match fs::symlink_metadata(rt, to) {
         Ok(told) => end_renaming(rt, name, to, &told),
-        Err(e) if e.kind() == ErrorKind::NotFound => begin_renaming(rt, name, to),
-        Err(e) => Err(e),
+        Err(e) if e.kind() != ErrorKind::NotFound => Err(e),
+        Err(_) if is_there => begin_renaming(rt, name, to),
+        Err(_) => Ok(()),
     }
 }
 
-/// Renames a file, where it is there, to a name that wasn't.
+/// Renames a file that was there to a name that wasn't.
 fn begin_renaming<R: Files + AllocGlobal>(rt: &R, name: &str, to: &str) -> io::Result<()> {
-    match fs::canonicalize(rt, name) {
-        Ok(path) => give_name(rt, path.as_str(), to),
-        Err(e) if e.kind() == ErrorKind::NotFound => Ok(()),
-        Err(e) => Err(e),
-    }
+    let path = resolve(rt, name)?;
+    give_name(rt, path.as_path().as_str(), to)
 }
 
 /// Gives a file a new name, and takes the old one from it.

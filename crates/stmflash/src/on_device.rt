@@ -5,7 +5,7 @@ use crate::answer::Answer;
 use crate::escaped::Escaped;
 use crate::failure::Failure;
 use crate::files::{is_there, read_file};
-use crate::journal_file::{JournalFile, Unusable};
+use crate::journal_file::JournalFile;
 use crate::locks::Locks;
 use crate::named_files::NamedFiles;
 use crate::output::Output;
@@ -16,6 +16,7 @@ use crate::simulator_file::SimulatorFiles;
 use crate::simulator_rig::SimulatorRig;
 use crate::socket_line::SocketLine;
 use crate::socket_rig::SocketRig;
+use crate::unusable::Unusable;
 use crate::work::Work;
 use std::fs::Files;
 use std::io::{IsTerminal, Write};
@@ -106,7 +107,7 @@ fn serving_journal<'a, 'b, R: Locks + AllocGlobal>(
 ) -> Result<JournalFile<'b, R>, Failure<'a>> {
     let mut journal = match opened {
         Ok(journal) => journal,
-        Err(why) => return Err(Failure::of_journal(&why, name)),
+        Err(why) => return Err(Failure::of_journal(why, name)),
     };
     if work.is_undo() && !journal.is_there() {
         return Err(Failure::CannotRead(name));
@@ -127,6 +128,23 @@ fn read_journal<'a, 'b, R: Locks + AllocGlobal>(
     match journal.read() {
         Ok(bytes) => Ok((journal, bytes)),
         Err(e) => Err(Failure::of_file(&e, Failure::CannotRead(name))),
+    }
+}
+
+/// What came of a session with the journal of this name. It was done only if what was added to the
+/// journal is still there; and of a journal that failed it's told why.
+fn done_on<'a, R: Locks>(
+    mut journal: JournalFile<'_, R>,
+    name: &'a str,
+    done: Result<Answer, Failure<'a>>,
+) -> Result<Answer, Failure<'a>> {
+    if let Some(why) = journal.take_refusal() {
+        return Err(Failure::of_journal(why, name));
+    }
+    match done {
+        Ok(_) if !journal.stays() => Err(Failure::of_reason(journal.take_reason())),
+        Err(Failure::Session(Fault::Journal)) => Err(Failure::of_reason(journal.take_reason())),
+        done => done,
     }
 }
 
@@ -154,11 +172,13 @@ fn on_simulator<'a, R: Locks + Clock + AllocGlobal, W: Write + Drop>(
     output: Output<'a, R>,
     screen: Screen<'_, W, R>,
 ) -> Result<Answer, Failure<'a>> {
-    let opened = JournalFile::open(rt, options.journal);
-    if let Err(Unusable::InUse) = &opened {
-        return Err(Failure::JournalInUse);
-    }
-    let mut files = SimulatorFiles::open(rt, file)?.beside(options.journal);
+    let opened = match JournalFile::open(rt, options.journal, options.without_lock) {
+        // a simulator of which nothing else is known is fresh
+        Err(Unusable::Unread(e)) => Err(Unusable::Unread(e)),
+        Err(why) => return Err(Failure::of_journal(why, options.journal)),
+        opened => opened,
+    };
+    let mut files = SimulatorFiles::open(rt, file, options.without_lock)?.beside(options.journal);
     let loaded = files.load(chip)?;
     match read_journal(opened, options.journal, &work) {
         Ok((journal, bytes)) => {
@@ -167,7 +187,7 @@ fn on_simulator<'a, R: Locks + Clock + AllocGlobal, W: Write + Drop>(
                 memory.stop_after(u64::from(steps));
             }
             let rig = SimulatorRig::new(memory, journal, files);
-            use_simulator(rt, rig, work, table, output, screen)
+            use_simulator(rt, rig, work, table, options.journal, output, screen)
         }
         Err(failure) => {
             let memory = files.begin(loaded, Vec::new(rt.alloc()))?;
@@ -183,6 +203,7 @@ fn use_simulator<'a, R: Locks + Clock + AllocGlobal, W: Write + Drop>(
     rig: SimulatorRig<'_, 'a, R>,
     work: Work,
     table: &Table,
+    name: &'a str,
     output: Output<'a, R>,
     screen: Screen<'_, W, R>,
 ) -> Result<Answer, Failure<'a>> {
@@ -191,10 +212,9 @@ fn use_simulator<'a, R: Locks + Clock + AllocGlobal, W: Write + Drop>(
     let rig = rig.finish(done.is_ok());
     let is_unstored = rig.is_unstored();
     let (memory, journal, mut files) = rig.into_parts();
-    let done = match done {
+    let done = match done_on(journal, name, done) {
         Ok(answer) => write_out(rt, answer, output),
         Err(_) if memory.has_stopped() => Err(Failure::Stopped),
-        Err(_) if journal.is_in_use() => Err(Failure::JournalInUse),
         Err(failure) => Err(failure),
     };
     let stored = files.store_rig(&memory);
@@ -218,7 +238,7 @@ fn on_socket<'a, R: Locks + Net + Clock + AllocGlobal, W: Write + Drop>(
     output: Output<'a, R>,
     screen: Screen<'_, W, R>,
 ) -> Result<Answer, Failure<'a>> {
-    let opened = JournalFile::open(rt, options.journal);
+    let opened = JournalFile::open(rt, options.journal, options.without_lock);
     let journal = serving_journal(opened, options.journal, &work)?;
     let line = match SocketLine::connect(
         rt,
@@ -235,11 +255,10 @@ fn on_socket<'a, R: Locks + Net + Clock + AllocGlobal, W: Write + Drop>(
     let done = work.run(rt.alloc(), &mut rig, table);
     let rig = rig.finish(done.is_ok());
     let has_given_up = rig.has_given_up();
-    let journal = rig.into_journal();
-    match done {
-        Ok(answer) => write_out(rt, answer, output),
-        Err(_) if journal.is_in_use() => Err(Failure::JournalInUse),
+    let done = match done {
         Err(_) if has_given_up => Err(Failure::NoAnswer),
-        Err(failure) => Err(failure),
-    }
+        done => done,
+    };
+    let answer = done_on(rig.into_journal(), options.journal, done)?;
+    write_out(rt, answer, output)
 }

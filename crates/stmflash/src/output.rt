@@ -2,7 +2,7 @@
 
 use crate::failure::Failure;
 use crate::named_files::NamedFiles;
-use crate::replacement::{Replacement, try_beside};
+use crate::replacement::{ANYONE, Replacement, try_beside};
 use std::fs::{Files, OpenFile, OpenOptions};
 use std::io::{ErrorKind, Write};
 use std::{fs, io};
@@ -81,7 +81,7 @@ fn replace<'a, R: Files + AllocGlobal>(
     files: &NamedFiles<'a>,
     bytes: &[u8],
 ) -> Result<(), Failure<'a>> {
-    let beside = match Replacement::prepare(rt, name, bytes) {
+    let beside = match Replacement::prepare(rt, name, bytes, ANYONE) {
         Ok(beside) => beside,
         Err(e) => return Err(Failure::of_file(&e, Failure::CannotWrite(name))),
     };

@@ -2,6 +2,7 @@
 
 use crate::files::sync_folder;
 use crate::names::resolve;
+use std::alloc::{AllocError, Global};
 use std::fs::{Files, Metadata, OpenFile, OpenOptions};
 use std::io::{ErrorKind, Write};
 use std::os::unix::fs::{MetadataExt, OpenOptionsExt, lchown};
@@ -11,11 +12,11 @@ use std::{fs, io};
 /// How many names are tried for the file beside.
 const NAMES: u32 = 10_000;
 
-/// Who may use a file before it has the mode of the one whose place it takes: nobody else.
-const ALONE: u32 = 0o600;
+/// Who may use a file: nobody else, as before it has the mode of the one whose place it takes.
+pub const ALONE: u32 = 0o600;
 
-/// Who may use a file that takes no other's place, as far as the process's mask lets them.
-const ANYONE: u32 = 0o666;
+/// Anyone may use a file, as far as the process's mask lets them.
+pub const ANYONE: u32 = 0o666;
 
 /// Bytes that stand on the disk beside a file, ready to take its place: all of them, or, where that
 /// fails or never comes, none. What a symbolic link names is replaced, and the link stays.
@@ -28,10 +29,11 @@ pub struct Replacement<R: Files> {
 
 impl<R: Files + AllocGlobal> Replacement<R> {
     /// Writes bytes beside the file of this name, and puts them on the disk. Where that file is
-    /// there, its mode is kept, and its owner and group as far as the system lets them.
-    pub fn prepare(rt: &R, name: &str, bytes: &[u8]) -> io::Result<Replacement<R>> {
+    /// there, its mode is kept, and its owner and group as far as the system lets them; else
+    /// these may use it.
+    pub fn prepare(rt: &R, name: &str, bytes: &[u8], mode: u32) -> io::Result<Replacement<R>> {
         let target = resolve(rt, name)?;
-        let (beside, mut file) = create_beside(rt, target.as_path().as_str())?;
+        let (beside, mut file) = create_beside(rt, target.as_path().as_str(), mode)?;
         match fill(
             rt,
             target.as_path().as_str(),
@@ -109,19 +111,45 @@ impl<R: Files + AllocGlobal> Replacement<R> {
 /// Whether a file could be made beside this one. It is made, and removed.
 pub fn try_beside<R: Files + AllocGlobal>(rt: &R, name: &str) -> io::Result<()> {
     let target = resolve(rt, name)?;
-    let (beside, _file) = create_beside(rt, target.as_path().as_str())?;
+    let (beside, _file) = create_beside(rt, target.as_path().as_str(), ALONE)?;
     fs::remove_file(rt, beside.as_str())
 }
 
-/// Makes a file beside another, under a name that none has.
-fn create_beside<R: Files + AllocGlobal>(rt: &R, target: &str) -> io::Result<(String, R::File)> {
+/// The name of a file beside another. It tells whose it is: a file that a user may have isn't taken
+/// for one that a program left.
+fn name_beside(alloc: Global, target: &str, count: u32) -> Result<String, AllocError> {
+    format!(in alloc; "{target}.stmflash-{count}.new")
+}
+
+/// Removes what programs left beside the file of this name that were killed before it took the
+/// place, as far as the system lets it.
+pub fn remove_leftovers<R: Files + AllocGlobal>(rt: &R, name: &str) {
+    let Ok(target) = resolve(rt, name) else {
+        return;
+    };
+    for count in 0..NAMES {
+        let Ok(beside) = name_beside(rt.alloc(), target.as_path().as_str(), count) else {
+            return;
+        };
+        if fs::remove_file(rt, beside.as_str()).is_err() {
+            return;
+        }
+    }
+}
+
+/// Makes a file beside another, under a name that none has, for these to use where there is no other.
+fn create_beside<R: Files + AllocGlobal>(
+    rt: &R,
+    target: &str,
+    mode: u32,
+) -> io::Result<(String, R::File)> {
     let mode = if fs::metadata(rt, target).is_ok() {
         ALONE
     } else {
-        ANYONE
+        mode
     };
     for count in 0..NAMES {
-        let beside = format!(in rt.alloc(); "{target}.{count}.new")?;
+        let beside = name_beside(rt.alloc(), target, count)?;
         let mut options = OpenOptions::new();
         match options
             .write(true)

@@ -120,7 +120,7 @@ fn serve_chip<'a, R: Locks + Net + AllocGlobal>(
     served: &Served<'a>,
 ) -> Result<Answer, Failure<'a>> {
     check(rt, served)?;
-    let mut files = SimulatorFiles::open(rt, served.flash)?;
+    let mut files = SimulatorFiles::open(rt, served.flash, served.without_lock)?;
     let mut sim = load(rt, chip, &mut files)?;
     serve_socket(rt, &mut sim, &mut files, served)?;
     Ok(Answer::Nothing)

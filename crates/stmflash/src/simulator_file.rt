@@ -7,12 +7,14 @@ ghost use Rattle.stmflash.specs.SimulatorFile.{StandsSo, simulator_at};
 ghost use Rattle.stmflash.specs.Standing.{phase_of};
 
 use crate::failure::Failure;
-use crate::files::{open_if_there, read_up_to, remove_if_there};
+use crate::files::{open_to_hold, read_up_to, remove_if_there};
+use crate::held::lock_if_any;
 use crate::locks::Locks;
 use crate::names::{is_named, is_same_file};
-use crate::replacement::Replacement;
+use crate::replacement::{ALONE, Replacement, remove_leftovers};
 use crate::restoring::stand;
 use crate::standing::{Standing, line_of, read_standing};
+use crate::unusable::Unusable;
 use std::alloc::{AllocError, Global};
 use std::fs::Files;
 use stm_wire::{Chip, MemoryRig};
@@ -93,25 +95,37 @@ impl StoredSimulator {
 }
 
 impl<'r, 'a, R: Locks + AllocGlobal> SimulatorFiles<'r, 'a, R> {
-    /// The files of the simulator of this name, which no other program has then.
-    pub fn open(rt: &'r R, file: &'a str) -> Result<SimulatorFiles<'r, 'a, R>, Failure<'a>> {
+    /// The files of the simulator of this name, which no other program has then. Where it's said
+    /// that none has, they need no lock on a file system that has none. What a program left
+    /// beside them that was killed is removed.
+    pub fn open(
+        rt: &'r R,
+        file: &'a str,
+        without_lock: bool,
+    ) -> Result<SimulatorFiles<'r, 'a, R>, Failure<'a>> {
         let line = line_name(rt.alloc(), file)?;
-        let flash = match open_if_there(rt, file) {
+        let flash = match open_alone(rt, file, without_lock) {
             Ok(flash) => flash,
-            Err(e) => return Err(Failure::of_file(&e, Failure::CannotRead(file))),
+            Err(why) => return Err(Failure::of_simulator(why, file)),
         };
-        if let Some(opened) = &flash {
-            if !rt.lock(opened) || !is_named(rt, opened, file) {
-                return Err(Failure::SimulatorInUse);
-            }
-        }
-        Ok(SimulatorFiles {
+        let files = SimulatorFiles {
             rt,
             file,
             line,
             flash,
             journal: None,
-        })
+        };
+        if files.flash.is_some() {
+            files.tidy();
+        }
+        Ok(files)
+    }
+
+    /// Removes what a program left beside the files that was killed. Who has them for itself alone
+    /// may do so.
+    fn tidy(&self) {
+        remove_leftovers(self.rt, self.file);
+        remove_leftovers(self.rt, self.line.as_str());
     }
 
     /// The same files beside a journal of this name, whose place neither takes.
@@ -199,6 +213,7 @@ impl<'r, 'a, R: Locks + AllocGlobal> SimulatorFiles<'r, 'a, R> {
         match beside.place_new(self.rt) {
             Ok(Some(file)) => {
                 self.flash = Some(file);
+                self.tidy();
                 Ok(())
             }
             Ok(None) => Err(Failure::SimulatorInUse),
@@ -208,7 +223,7 @@ impl<'r, 'a, R: Locks + AllocGlobal> SimulatorFiles<'r, 'a, R> {
 
     /// The flash, beside its file, so that no other program has it once it takes the place.
     fn prepare(&self, flash: &[u8]) -> Result<Replacement<R>, Failure<'a>> {
-        match Replacement::prepare(self.rt, self.file, flash) {
+        match Replacement::prepare(self.rt, self.file, flash, ALONE) {
             Ok(beside) => {
                 let _ = self.rt.lock(beside.file());
                 Ok(beside)
@@ -229,7 +244,7 @@ impl<'r, 'a, R: Locks + AllocGlobal> SimulatorFiles<'r, 'a, R> {
     /// device without a line is fresh.
     pub fn store(&mut self, flash: &[u8], line: &[u8]) -> Result<(), Failure<'a>> {
         let flash = self.prepare(flash)?;
-        match Replacement::prepare(self.rt, self.line.as_str(), line) {
+        match Replacement::prepare(self.rt, self.line.as_str(), line, ALONE) {
             Ok(line) => self.replace(flash, line),
             Err(e) => {
                 flash.discard(self.rt);
@@ -287,5 +302,24 @@ impl<'r, 'a, R: Locks + AllocGlobal> SimulatorFiles<'r, 'a, R> {
             return Err(Failure::CannotWriteLine(self.file));
         }
         Ok(())
+    }
+}
+
+/// Opens the file of this name for this program alone; none where there is none.
+fn open_alone<R: Locks>(
+    rt: &R,
+    name: &str,
+    without_lock: bool,
+) -> Result<Option<R::File>, Unusable> {
+    let file = match open_to_hold(rt, name) {
+        Ok(Some(file)) => file,
+        Ok(None) => return Ok(None),
+        Err(e) => return Err(Unusable::Unread(e)),
+    };
+    let _is_locked = lock_if_any(rt, &file, without_lock)?;
+    if is_named(rt, &file, name) {
+        Ok(Some(file))
+    } else {
+        Err(Unusable::InUse)
     }
 }

@@ -15,7 +15,6 @@ ghost use Rattle.stmflash.specs.SimulatorRigLaws.{follows};
 use crate::journal_file::JournalFile;
 use crate::locks::Locks;
 use crate::simulator_file::SimulatorFiles;
-use std::fs::Files;
 use std::io;
 use std::io::ErrorKind;
 use std::marker::Model;
@@ -30,7 +29,7 @@ use stm_wire::{MemoryRig, Patience, Rig, RigFault};
 /// what a file holds: an append that the file refused stands whole in memory, and a
 /// beginning of it in the file.
 #[derive(Drop)]
-pub struct SimulatorRig<'a, 'f, R: Files> {
+pub struct SimulatorRig<'a, 'f, R: Locks> {
     memory: MemoryRig,
     file: JournalFile<'a, R>,
     journal_failures: u64,
@@ -39,7 +38,7 @@ pub struct SimulatorRig<'a, 'f, R: Files> {
     is_unstored: bool,
 }
 
-impl<'a, 'f, R: Files> Model for SimulatorRig<'a, 'f, R> {
+impl<'a, 'f, R: Locks> Model for SimulatorRig<'a, 'f, R> {
     ghost Value = { SimulatorState };
 
     ghost view = { λ rig.

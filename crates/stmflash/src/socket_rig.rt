@@ -13,7 +13,6 @@ ghost use Rattle.stm_wire.specs.Rig.{PutsAside, PutsHonestly, Records, RecordsAp
 use crate::journal_file::JournalFile;
 use crate::locks::Locks;
 use crate::socket_line::{SocketLine, Timed};
-use std::fs::Files;
 use std::io;
 use std::marker::Model;
 use std::time::Clock;
@@ -21,14 +20,14 @@ use stm_wire::{Patience, Rig, RigFault};
 
 /// A device behind a socket, and a journal kept in a file.
 #[derive(Drop)]
-pub struct SocketRig<'a, S: Timed, R: Files> {
+pub struct SocketRig<'a, S: Timed, R: Locks> {
     line: SocketLine<'a, S, R>,
     file: JournalFile<'a, R>,
     line_failures: u64,
     journal_failures: u64,
 }
 
-impl<'a, S: Timed, R: Files> Model for SocketRig<'a, S, R> {
+impl<'a, S: Timed, R: Locks> Model for SocketRig<'a, S, R> {
     ghost Value = { SocketState };
 
     ghost view = { λ rig. record {

@@ -116,11 +116,11 @@ fn act<'a, R: Locks + AllocGlobal>(
 ) -> Result<(MemoryRig, Result<Answer, Failure<'a>>), Failure<'a>>
     ensures { IfOk result (λ left. DoesOnFiles table.now action memory left.0 left.1) }
 {
-    let journal = match JournalFile::open(rt, names.journal) {
+    let journal = match JournalFile::open(rt, names.journal, false) {
         Ok(journal) => journal,
-        Err(why) => return Err(Failure::of_journal(&why, names.journal)),
+        Err(why) => return Err(Failure::of_journal(why, names.journal)),
     };
-    let files = SimulatorFiles::open(rt, names.simulator)?;
+    let files = SimulatorFiles::open(rt, names.simulator, false)?;
     let mut rig = SimulatorRig::new(memory, journal, files);
     let said = action.run(rt.alloc(), &mut rig, table);
     let (memory, _journal, _files) = rig.into_parts();

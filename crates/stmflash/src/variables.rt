@@ -19,6 +19,7 @@ pub struct Variables {
     device: Option<String>,
     journal: Option<String>,
     is_fresh: bool,
+    without_lock: bool,
 }
 
 impl Variables {
@@ -28,11 +29,13 @@ impl Variables {
         let device = variable(rt, "STMFLASH_DEVICE")?;
         let journal = variable(rt, "STMFLASH_JOURNAL")?;
         let is_fresh = is_one(rt, "STMFLASH_FRESH")?;
+        let without_lock = is_one(rt, "STMFLASH_NO_LOCK")?;
         Ok(Variables {
             table,
             device,
             journal,
             is_fresh,
+            without_lock,
         })
     }
 
@@ -47,6 +50,7 @@ impl Variables {
             device: text_of(&self.device),
             journal: text_of(&self.journal),
             is_fresh: self.is_fresh,
+            without_lock: self.without_lock,
         }
     }
 }

@@ -1,7 +1,7 @@
 use Rattle.std.proofs.Common.{codes}
 use Rattle.std.proofs.lemmas.Result.{IfOk-weaker}
-use Rattle.clap.specs.Words.{App, new_rule}
-use Rattle.stm_words.specs.CommandSet.{Makes, on_journal}
+use Rattle.clap.specs.Words.{App, new_rule, with_rule}
+use Rattle.stm_words.specs.CommandSet.{Makes, flag_rule, on_journal}
 use Rattle.stm_words.proofs.Subcommands.{adds}
 use Rattle.stm_words.proofs.command_set.keep.Goals as goal
 
@@ -9,5 +9,8 @@ pub returns : goal.returns
 returns c =
     let a0 : App = on_journal c.args.environment (codes "keep") in
     let m0 : Makes a0 c.in_ok-on_journal.field-0 = c.in_ok-on_journal.ensures in
-    IfOk-weaker c.arg.result _ _
-    (λ r h. adds a0 (new_rule (codes "TO")) c.in_ok-on_journal.field-0 c.spare.result r m0 c.spare.ensures.rule c.spare.ensures.local h) c.arg.ensures
+    let a1 : App = with_rule a0 (flag_rule (codes "no-lock")) in
+    let m1 : Makes a1 c.in_ok-arg.field-0 =
+    adds a0 (flag_rule (codes "no-lock")) c.in_ok-on_journal.field-0 c.flag.result c.in_ok-arg.field-0 m0 c.flag.ensures.rule c.flag.ensures.local c.in_ok-arg.ensures in
+    IfOk-weaker c.arg-2.result _ _
+    (λ r h. adds a1 (new_rule (codes "TO")) c.in_ok-arg.field-0 c.spare.result r m1 c.spare.ensures.rule c.spare.ensures.local h) c.arg-2.ensures
