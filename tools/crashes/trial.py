@@ -57,13 +57,15 @@ def counts_at(story, moment):
 
 
 def draw(story, seed, number, stale_lines):
-    """A state of a story. Every other one is of a moment at which bytes of the journal in several sectors aren't on the disk,
-    each such moment in turn; the last of these sectors is there, and something before it isn't."""
+    """A state of a story. The second is of its end. Every other one is of a moment at which bytes of the journal in several
+    sectors aren't on the disk, each such moment in turn; the last of these sectors is there, and something before it isn't."""
     chance = random.Random("%s %s %d" % (seed, story.name, number))
     kinds = (NUL, NUL, DIGITS, BYTES) + ((LINES,) if stale_lines else ())
     is_hole = number % 2 == 0 and bool(story.crossed)
     if is_hole:
         moment = story.crossed[number // 2 % len(story.crossed)]
+    elif number == 1:
+        moment = len(story.events)
     elif story.unsynced and chance.random() < 0.6:
         moment = chance.choice(story.unsynced)
     else:
