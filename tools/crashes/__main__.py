@@ -1,6 +1,6 @@
 """Shows by trial what a crash of the PC leaves of a session's files, and that an undo from there gives the flash back.
 
-    tools/crashes PROGRAM [--states N] [--seed TEXT] [--only KEY] [--plant FAULT] [--plants] [--stale-lines] [--jobs N]
+    python3 tools/crashes PROGRAM [--states N] [--seed TEXT] [--only KEY] [--plant FAULT] [--plants] [--stale-lines] [--jobs N]
 
 Sessions are recorded, call after call (strace), over served simulators and over those in the process. Behind each call states
 are drawn that a crash of the PC may leave then (disk.py says which): of the files by what was synced; and of the device,
