@@ -1,0 +1,161 @@
+"""Shows by trial what a crash of the PC leaves of a session's files, and that an undo from there gives the flash back.
+
+    python3 tools/crashes PROGRAM [--states N] [--seed TEXT] [--only KEY] [--plant FAULT] [--plants] [--stale-lines] [--jobs N]
+
+Sessions are recorded, call after call (strace), over served simulators and over those in the process. Behind each call states
+are drawn that a crash of the PC may leave then (disk.py says which): of the files by what was synced; and of the device,
+which keeps its power, by how many of the bytes that were sent it has got, those at least that it has replied to. Each state
+is made anew in a folder, and everything is taken back there:
+
+- `undone N` has to leave every byte of the flash as it was before the journal's first command, and `undo 1`, where the
+  journal has more segments, as it was before the newest. N is how many segments the journal has by the second model of
+  tools/soak.
+- Where the crash left no journal, the flash has to be what it was at first, and `info` has to do, and to leave it so; behind
+  `keep` what it was then.
+- What a session has told to be done is on the disk, whole: the journal, or its new name, or OUT, or the simulator's FILE.
+
+Anything else is bad, and told with a key that --only takes. --states N makes so many states, 3,000 without it, of all
+sessions in turn. --seed gives those that are drawn; without it one is drawn, and printed. Beside them two programs come to
+one journal, with no crash (race.py).
+
+--plant has the record broken, as a program with that fault would have made it (plants.py). --plants does it for each fault
+behind the states, until one is bad, which has to come. --stale-lines lets a sector hold lines of a former journal too. --jobs
+is how many states are tried at a time. The exit status is 1 where a state is bad, or a fault wasn't found.
+"""
+
+import argparse
+import concurrent.futures
+import os
+import random
+import sys
+import tempfile
+
+sys.path.insert(0, os.path.dirname(os.path.abspath(__file__)))
+
+from board import NotStarted  # noqa: E402
+from disk import Misunderstood  # noqa: E402
+from record import can_trace  # noqa: E402
+from sessions import BehindCrash, all_stories  # noqa: E402
+from story import Unrecorded  # noqa: E402
+from trial import State, draw, judge, top  # noqa: E402
+import plants  # noqa: E402
+import race  # noqa: E402
+
+
+def record_all(program, stories, pool, folder):
+    """Records the stories, those behind a crash of another one last."""
+    for is_behind in (False, True):
+        begun = [pool.submit(story.record, program, folder) for story in stories if isinstance(story, BehindCrash) == is_behind]
+        for story in begun:
+            story.result()
+
+
+def needed(stories, names):
+    """The stories of these names, and those that they stand behind."""
+    found = {name: stories[name] for name in names}
+    for story in list(found.values()):
+        if isinstance(story, BehindCrash):
+            found[story.other.name] = story.other
+    return list(found.values())
+
+
+def try_states(program, states, pool):
+    """The keys of the states that are bad, and what is wrong there."""
+    return wrong([(state.key(), pool.submit(judge, program, state)) for state in states])
+
+
+def try_races(program, counts, pool, locks=True):
+    """The same of two programs on one journal, where the second comes behind so many bytes of the first's line."""
+    return wrong([("%s:%d" % (race.NAME, count), pool.submit(race.judge, program, count, locks)) for count in counts])
+
+
+def wrong(judged):
+    return [(key, text) for key, done in judged if (text := done.result()) is not None]
+
+
+def states_of(stories, count, seed, stale_lines):
+    """So many states, of all stories in turn, each once."""
+    found = {}
+    for number in range(20 * count if stories else 0):
+        if len(found) == count:
+            break
+        state = draw(stories[number % len(stories)], seed, number // len(stories), stale_lines)
+        found.setdefault(state.key(), state)
+    return list(found.values())
+
+
+def main():
+    words = argparse.ArgumentParser(prog="tools/crashes", description=__doc__,
+                                    formatter_class=argparse.RawDescriptionHelpFormatter)
+    words.add_argument("program")
+    words.add_argument("--states", type=int, default=3000)
+    words.add_argument("--seed", default=str(random.SystemRandom().randrange(1000000)))
+    words.add_argument("--only", metavar="KEY")
+    words.add_argument("--plant", choices=[*plants.PLANTS, plants.NO_LOCK])
+    words.add_argument("--plants", action="store_true")
+    words.add_argument("--stale-lines", action="store_true")
+    words.add_argument("--jobs", type=int, default=2 * (os.cpu_count() or 1))
+    given = words.parse_args()
+    if not can_trace():
+        print("tools/crashes: left out: there is no strace here, or it can't trace")
+        return 0
+    program = os.path.abspath(given.program)
+    stories = all_stories()
+    if given.only and given.only.split(":")[0] not in (race.NAME, *stories):
+        words.error("no session has this name: %s" % given.only)
+    with tempfile.TemporaryDirectory(dir=top(), prefix="crashes-") as folder, \
+            concurrent.futures.ThreadPoolExecutor(given.jobs) as pool:
+        try:
+            return run(given, program, stories, pool, folder)
+        except (Misunderstood, NotStarted, Unrecorded) as fault:
+            print("tools/crashes: %s" % fault)
+            return 1
+
+
+def run(given, program, stories, pool, folder):
+    print("tools/crashes: seed %s" % given.seed, flush=True)
+    name, *key = given.only.split(":") if given.only else [None]
+    counts = race.BYTES if name is None else (int(key[0]),) if name == race.NAME else ()
+    chosen = [] if name == race.NAME else needed(stories, [name]) if name else list(stories.values())
+    record_all(program, chosen, pool, folder)
+    tried, bad = try_all(given, program, plants.planted(given.plant, chosen), counts, pool)
+    for key, text in bad:
+        print("BAD %s: %s" % (key, text))
+    missed = find_plants(given, program, chosen, pool) if given.plants else 0
+    print("tools/crashes: %d states of %d sessions, %d bad" % (tried, len(chosen) + bool(counts), len(bad)))
+    return 1 if bad or missed else 0
+
+
+def try_all(given, program, stories, counts, pool):
+    """How many states were tried, and the bad ones."""
+    if given.only and not counts:
+        states = [State.of({story.name: story for story in stories}, given.only)]
+    else:
+        states = states_of(stories, given.states, given.seed, given.stale_lines)
+    bad = try_races(program, counts, pool, locks=given.plant != plants.NO_LOCK)
+    return len(states) + len(counts), bad + try_states(program, states, pool)
+
+
+def find(program, states, pool):
+    """The first bad ones of these states, if any are."""
+    for at in range(0, len(states), 16):
+        if bad := try_states(program, states[at:at + 16], pool):
+            return bad
+    return []
+
+
+def find_plants(given, program, stories, pool):
+    """Plants each fault, and sees that some of the states show it: how many weren't shown."""
+    missed = 0
+    for fault in (*plants.PLANTS, plants.NO_LOCK):
+        if fault == plants.NO_LOCK:
+            bad = try_races(program, race.BYTES, pool, locks=False)
+        else:
+            bad = find(program, states_of(plants.planted(fault, stories), given.states, given.seed, given.stale_lines), pool)
+        print("tools/crashes: planted: %s: %s" % (fault, "found, BAD %s: %s" % bad[0] if bad else "NOT FOUND"), flush=True)
+        missed += not bad
+    return missed
+
+
+if __name__ == "__main__":
+    sys.exit(main())

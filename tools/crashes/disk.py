@@ -1,0 +1,198 @@
+"""What a crash of the PC leaves of files, by what a session did to them until then.
+
+Which states are made, of all that POSIX lets a file system leave:
+
+- A byte that was synced never goes: `fsync` and `fdatasync` of a file put its bytes and its length on the disk.
+- What wasn't synced is there or isn't by sectors of 512 bytes, each whole, in any combination. A sector that isn't there as
+  it was written holds what it held on the disk: the synced bytes and NUL, or what an earlier write left and NUL. One without
+  a synced byte may hold bytes of a former file instead: upper-case digits, as of a former journal, or any others but LF.
+- The length is anything from the least to the greatest that the file had since its sync: behind its data, or ahead of them.
+- A name that was made, linked, removed or renamed since the sync of its folder is changed or isn't, each by itself. A rename
+  within a folder is done whole or not at all. The sync of a file doesn't put its name on the disk.
+
+And which aren't: a disk that says that it synced and didn't; a sector that is torn within; bytes that rot; a folder that is
+lost. Nor sectors that hold a former file's bytes with an LF (`--stale-lines` makes them): no text whose lines have no sum can
+stand these, so that a file system which shows them behind a crash (FAT, ext2, ext4 with data=writeback) is outside of what is
+promised.
+"""
+
+import os
+import random
+
+SECTOR = 512
+# what a sector holds that wasn't written: NUL, digits of a former journal, other bytes without an LF, lines of a former journal
+NUL, DIGITS, BYTES, LINES = "n", "h", "x", "l"
+
+
+class Misunderstood(Exception):
+    """The session did what isn't understood here, so that no state can be made."""
+
+
+def stale(kind, name, count):
+    """Bytes of a former file."""
+    chance = random.Random("%s %s" % (kind, name))
+    if kind == DIGITS:
+        return bytes(chance.choice(b"0123456789ABCDEF") for _ in range(count))
+    if kind == LINES:
+        return (b"0123\nend 1\nerase 0\n" * count)[:count]
+    return bytes(chance.choice(range(11, 256)) for _ in range(count))
+
+
+class File:
+    """A file's bytes on the disk, and how they were behind each change since."""
+
+    def __init__(self, held=b""):
+        self.versions = [held]
+        self.first = None
+
+    def is_synced(self):
+        return len(self.versions) == 1
+
+    def sync(self):
+        self.versions = self.versions[-1:]
+        self.first = None
+
+    def change(self, at, held):
+        self.first = at if self.first is None else min(at, self.first)
+        self.versions.append(held)
+
+    def write(self, at, data):
+        old = self.versions[-1].ljust(at, b"\0")
+        self.change(min(at, len(self.versions[-1])), old[:at] + data + old[at + len(data):])
+
+    def cut(self, length):
+        old = self.versions[-1]
+        self.change(min(length, len(old)), old[:length].ljust(length, b"\0"))
+
+    def lengths(self):
+        """The least and the greatest."""
+        found = [len(held) for held in self.versions]
+        return min(found), max(found)
+
+    def sectors(self):
+        """Those that aren't wholly synced."""
+        return range(self.first // SECTOR, -(-self.lengths()[1] // SECTOR))
+
+    def left(self, name, length, kinds):
+        """The bytes behind a crash: a kind for each sector that isn't synced, or the number of the change that it holds."""
+        held = bytearray(self.versions[0][:self.sectors().start * SECTOR])
+        for sector, kind in zip(self.sectors(), kinds, strict=True):
+            part = slice(sector * SECTOR, (sector + 1) * SECTOR)
+            synced = self.versions[0][part]
+            if kind in (DIGITS, BYTES, LINES) and not synced:
+                held += stale(kind, "%s %d" % (name, sector), SECTOR)
+            else:
+                known = synced if kind in (NUL, DIGITS, BYTES, LINES) else self.versions[int(kind)][part]
+                held += known.ljust(SECTOR, b"\0")
+        return bytes(held[:length]).ljust(length, b"\0")
+
+    def draw(self, chance, kinds, is_hole):
+        """A length, and what each sector holds: of a hole the last as it was written, and one or all before it not."""
+        least, most = self.lengths()
+        count, newest = len(self.sectors()), str(len(self.versions) - 1)
+        lost = [chance.choice(kinds) for _ in range(count)]
+        how = chance.randrange(4, 6) if is_hole and count > 1 else chance.randrange(5 if count > 1 else 4)
+        if how == 0:
+            return len(self.versions[0]), lost
+        if how == 1:
+            return chance.randint(least, most), [newest] * count
+        if how == 2:
+            return most, lost
+        if how == 4:
+            hole = chance.randrange(count - 1)
+            return most, [newest] * hole + lost[:1] + [newest] * (count - hole - 1)
+        if how == 5:
+            return most, lost[:-1] + [newest]
+        mixed = [chance.choice((old, newest, str(chance.randrange(1, len(self.versions))))) for old in lost]
+        return chance.choice((most, chance.randint(least, most))), mixed
+
+
+class Disk:
+    """The files of a folder, by numbers, and their names, on the disk and as they were changed since."""
+
+    def __init__(self, files):
+        self.files = {}
+        self.names = {}
+        self.changes = []
+        for name in sorted(files):
+            self.names[name] = len(self.files)
+            self.files[len(self.files)] = File(files[name])
+
+    def now(self):
+        """The names as a program sees them."""
+        names = dict(self.names)
+        for change in self.changes:
+            self.rename(names, change)
+        return names
+
+    @staticmethod
+    def rename(names, change):
+        old, new, number = change
+        if old is not None:
+            names.pop(old, None)
+        if new is not None:
+            names[new] = number
+
+    def do(self, event):
+        """What an event of a session does to the files."""
+        kind, words = event.kind, event.words
+        if kind == "make":
+            self.files[words[1]] = File()
+            self.changes.append((None, words[0], words[1]))
+        elif kind == "write":
+            self.files[words[0]].write(words[1], words[2])
+        elif kind == "cut":
+            self.files[words[0]].cut(words[1])
+        elif kind == "sync":
+            self.files[words[0]].sync()
+        elif kind == "link":
+            self.changes.append((None, words[1], self.now()[words[0]]))
+        elif kind == "remove":
+            self.changes.append((words[0], None, None))
+        elif kind == "rename":
+            self.changes.append((words[0], words[1], self.now()[words[0]]))
+        elif kind == "sync folder":
+            self.sync_folder(words[0])
+
+    def sync_folder(self, folder):
+        later = []
+        for change in self.changes:
+            if any(name is not None and os.path.dirname(name) == folder for name in change[:2]):
+                self.rename(self.names, change)
+            else:
+                later.append(change)
+        self.changes = later
+
+    def unsynced(self):
+        """The numbers of the files that aren't synced."""
+        return [number for number in sorted(self.files) if not self.files[number].is_synced()]
+
+    def is_synced(self):
+        return not self.changes and not self.unsynced()
+
+    def draw(self, chance, kinds, is_hole=False):
+        """A crash: which changes of names are done, and what is left of each file that isn't synced, as a text."""
+        count = len(self.changes)
+        most = chance.randint(0, count)
+        any_of_them = "".join(chance.choice("01") for _ in range(count))
+        all_of_them = "1" * count
+        done = chance.choice(("0" * count, all_of_them, "1" * most + "0" * (count - most), any_of_them))
+        parts = [all_of_them if is_hole else done] if count else []
+        for number in self.unsynced():
+            length, kinds_left = self.files[number].draw(chance, kinds, is_hole)
+            parts.append("%d=%d.%s" % (number, length, ".".join(kinds_left)) if kinds_left else "%d=%d" % (number, length))
+        return "+".join(parts) or "synced"
+
+    def left(self, crash):
+        """The files behind a crash that such a text tells: their bytes by number, and the numbers by name."""
+        parts = [] if crash == "synced" else crash.split("+")
+        names = dict(self.names)
+        if self.changes:
+            for is_done, change in zip(parts.pop(0), self.changes, strict=True):
+                if is_done == "1":
+                    self.rename(names, change)
+        held = {number: file.versions[0] for number, file in self.files.items() if file.is_synced()}
+        for number, part in zip(self.unsynced(), parts, strict=True):
+            told, *kinds = part.partition("=")[2].split(".")
+            held[number] = self.files[number].left(number, int(told), kinds)
+        return held, names

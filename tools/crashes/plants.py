@@ -1,0 +1,64 @@
+"""Faults of a program that crashes have to find: the record is broken as a program with the fault would have made it."""
+
+import copy
+
+from record import Event
+
+# how many sendings a sync may come behind
+LATE = 2
+
+
+def no_sync(events):
+    """Files aren't synced."""
+    return [event for event in events if event.kind != "sync"]
+
+
+def no_folder_sync(events):
+    """Folders aren't synced."""
+    return [event for event in events if event.kind != "sync folder"]
+
+
+def late_sync(events):
+    """A file is synced once two more sendings have gone out: in the background, while the program goes on."""
+    found, late = [], []
+    for event in events:
+        if event.kind == "sync":
+            late.append([event, LATE])
+            continue
+        found.append(event)
+        if event.kind == "send":
+            for waiting in late:
+                waiting[1] -= 1
+            found += [event for event, left in late if left == 0]
+            late = [waiting for waiting in late if waiting[1] > 0]
+    return found + [event for event, _ in late]
+
+
+def early_lf(events):
+    """What is added to a file once a beginning without an LF is synced, is added with it, in one write."""
+    found = []
+    for event in events:
+        if event.kind == "write" and [one.kind for one in found[-2:]] == ["write", "sync"]:
+            number, at, data = found[-2].words
+            if event.words[:2] == (number, at + len(data)) and not data.endswith(b"\n"):
+                found[-2] = Event("write", number, at, data + event.words[2], received=found[-2].received)
+                found.pop()
+                continue
+        found.append(event)
+    return found
+
+
+# what another program's lock does, which no record shows: race.py has it ignored
+NO_LOCK = "no-lock"
+PLANTS = {"no-sync": no_sync, "late-sync": late_sync, "early-lf": early_lf, "no-folder-sync": no_folder_sync}
+
+
+def planted(name, stories):
+    """The sessions as a program with this fault would have done them."""
+    if name not in PLANTS:
+        return stories
+    found = [copy.copy(story) for story in stories]
+    for story in found:
+        story.events = PLANTS[name](story.events)
+        story.note()
+    return found

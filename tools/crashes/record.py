@@ -1,0 +1,182 @@
+"""What a session did, call after call, as strace(1) tells it: to files, to the line, and to its standard output."""
+
+import os
+import re
+import subprocess
+
+from disk import Misunderstood
+
+CALL = re.compile(r"\d+ +(\w+)\((.*)\) += (-?\d+)(?: .*)?")
+TEXT = re.compile(r'"((?:\\x[0-9a-f]{2})*)"')
+# calls that are understood, and calls that would change files in ways that aren't
+UNDERSTOOD = """open openat close dup dup2 dup3 fcntl lseek read pread64 readv write writev pwrite64 ftruncate fsync fdatasync
+    rename renameat renameat2 link linkat unlink unlinkat flock socket connect sendto recvfrom""".split()
+FOREIGN = """creat truncate fallocate sync_file_range sync syncfs copy_file_range sendfile splice pwritev pwritev2 preadv preadv2
+    msync mkdir mkdirat rmdir symlink symlinkat mknod mknodat sendmsg recvmsg io_uring_setup""".split()
+
+
+class Event:
+    """One call that counts here; of an event on the line, the bytes; how many bytes of the line were received before it."""
+
+    def __init__(self, kind, *words, received=0):
+        self.kind, self.words, self.received = kind, words, received
+
+
+class Opened:
+    """A descriptor: of a file by its number, of a folder, of the line, or of nothing that counts."""
+
+    def __init__(self, kind, what=None, appends=False):
+        self.kind, self.what, self.appends, self.at = kind, what, appends, 0
+
+
+class Reader:
+    """Reads the calls of one process after the other, over the files of a folder."""
+
+    def __init__(self, room, disk):
+        self.room, self.disk = os.path.realpath(room), disk
+        self.events = []
+        self.received = bytearray()
+        self.begin()
+
+    def begin(self):
+        """A process begins, with nothing open but what it was given."""
+        self.open = {1: Opened("output")}
+
+    def read(self, text):
+        for line in text.splitlines():
+            called = CALL.fullmatch(line)
+            if called:
+                self.take(called[1], called[2], int(called[3]))
+            elif "unfinished" in line or "resumed" in line:
+                raise Misunderstood("a program of several threads: %s" % line)
+
+    def take(self, name, words, result):
+        if result < 0:
+            return
+        if name in FOREIGN:
+            raise Misunderstood("%s(%s)" % (name, words[:200]))
+        texts = [bytes.fromhex(text.replace("\\x", "")) for text in TEXT.findall(words)]
+        getattr(self, "do_" + ALIKE.get(name, name))(words, texts, result)
+
+    def add(self, kind, *words):
+        event = Event(kind, *words, received=len(self.received))
+        self.events.append(event)
+        self.disk.do(event)
+
+    def inside(self, name):
+        """A name as it counts from the folder on; none of a name elsewhere."""
+        name = os.path.normpath(os.path.join(self.room, os.fsdecode(name)))
+        folder = os.path.realpath(os.path.dirname(name))
+        name = os.path.relpath(os.path.join(folder, os.path.basename(name)), self.room)
+        return None if name.startswith("..") else name
+
+    def at(self, words):
+        return self.open.get(int(words.split(",")[0]), Opened("other"))
+
+    def do_open(self, words, texts, result):
+        name = self.inside(texts[0])
+        self.open[result] = Opened("other")
+        if name is None:
+            return
+        if name not in self.disk.now():
+            if "O_CREAT" not in words:
+                self.open[result] = Opened("folder", "" if name == "." else name)
+                return
+            self.add("make", name, max(self.disk.files, default=-1) + 1)
+        number = self.disk.now()[name]
+        if "O_TRUNC" in words:
+            self.add("cut", number, 0)
+        self.open[result] = Opened("file", number, "O_APPEND" in words)
+
+    def do_close(self, words, texts, result):
+        self.open.pop(int(words), None)
+
+    def do_dup(self, words, texts, result):
+        self.open[result] = self.at(words)
+
+    def do_fcntl(self, words, texts, result):
+        if "F_DUPFD" in words:
+            self.do_dup(words, texts, result)
+
+    def do_lseek(self, words, texts, result):
+        self.at(words).at = result
+
+    def do_read(self, words, texts, result):
+        opened = self.at(words)
+        opened.at += result
+        if opened.kind == "line":
+            self.received += b"".join(texts)[:result]
+
+    def do_pread64(self, words, texts, result):
+        pass
+
+    def do_write(self, words, texts, result):
+        opened, data = self.at(words), b"".join(texts)[:result]
+        if opened.kind == "line":
+            self.add("send", data)
+        elif opened.kind == "output":
+            self.add("say", data)
+        elif opened.kind == "file":
+            at = len(self.disk.files[opened.what].versions[-1]) if opened.appends else opened.at
+            self.add("write", opened.what, at, data)
+            opened.at = at + len(data)
+
+    def do_pwrite64(self, words, texts, result):
+        if self.at(words).kind == "file":
+            self.add("write", self.at(words).what, int(words.rsplit(", ", 1)[1]), b"".join(texts)[:result])
+
+    def do_ftruncate(self, words, texts, result):
+        if self.at(words).kind == "file":
+            self.add("cut", self.at(words).what, int(words.split(", ")[1]))
+
+    def do_fsync(self, words, texts, result):
+        opened = self.at(words)
+        if opened.kind == "file":
+            self.add("sync", opened.what)
+        elif opened.kind == "folder":
+            self.add("sync folder", opened.what)
+
+    def do_rename(self, words, texts, result):
+        old, new = map(self.inside, texts)
+        if old is None or new is None or os.path.dirname(old) != os.path.dirname(new):
+            raise Misunderstood("a rename from folder to folder: %s" % words)
+        self.add("rename", old, new)
+
+    def do_link(self, words, texts, result):
+        self.add("link", *map(self.inside, texts))
+
+    def do_unlink(self, words, texts, result):
+        name = self.inside(texts[0])
+        if name is not None:
+            self.add("remove", name)
+
+    def do_flock(self, words, texts, result):
+        self.add("lock", self.at(words).what, "LOCK_EX" in words)
+
+    def do_socket(self, words, texts, result):
+        self.open[result] = Opened("line")
+
+    def do_connect(self, words, texts, result):
+        pass
+
+
+ALIKE = {"openat": "open", "dup2": "dup", "dup3": "dup", "readv": "read", "recvfrom": "read", "writev": "write",
+         "sendto": "write", "fdatasync": "fsync", "renameat": "rename", "renameat2": "rename", "linkat": "link",
+         "unlinkat": "unlink"}
+
+
+def run(words, room, record, inject=None):
+    """Runs a program in a folder: its status and outputs. Its calls are in the file `record` then."""
+    traced = ["strace", "-f", "-xx", "-s", "100000000", "-o", record, "-e", "trace=" + ",".join(UNDERSTOOD + FOREIGN)]
+    if inject is not None:
+        traced += ["-e", "inject=" + inject]
+    return subprocess.run([*traced, *words], cwd=room, env={"PATH": os.environ["PATH"]}, stdin=subprocess.DEVNULL,
+                          capture_output=True)
+
+
+def can_trace():
+    """Whether strace is there, and this system lets a program trace its child."""
+    try:
+        return subprocess.run(["strace", "-o", os.devnull, "true"], capture_output=True).returncode == 0
+    except FileNotFoundError:
+        return False

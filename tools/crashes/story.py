@@ -1,0 +1,200 @@
+"""Sessions that are recorded: what stands before each, what it does, and what has to come of an undo behind a crash of it."""
+
+import copy
+import os
+import random
+import subprocess
+import time
+
+from board import BASE, CHIPS, Board, Device, flash_of, stand, table
+from disk import Disk
+from record import Reader, run
+
+# how long a recorded session waits until the line counts as quiet, in ms, and how often one is recorded anew that a busy machine
+# was too late for
+WAIT, TRIES = "300", 4
+BOARD, FILE = "board", "file"
+
+
+class Unrecorded(Exception):
+    """A session ended otherwise than it has to, or its record isn't whole."""
+
+
+class Story:
+    """A session, or one that is killed and one behind it, over a served simulator (`board`) or one in the process (`file`)."""
+
+    def __init__(self, name, way, number, uses, before=(), pad=None, tail=None, kill=None, is_new=False):
+        self.name = "%s-%s-%04X" % (name, way, number)
+        self.way, self.chip, self.uses, self.before = way, CHIPS[number], uses, before
+        # where the journal ends in its last sector before the session, by a void line at its start; a tail without a journal;
+        # which sync of the first use it is killed at; no flash was ever written, and a simulator has no FILE yet
+        self.pad, self.tail, self.kill, self.is_new = pad, tail, kill, is_new
+        # the flash before each segment of the journal
+        self.flashes = [bytes([self.chip.erased]) * self.chip.size if is_new else flash_of(self.chip)]
+
+    def words(self, use, device="sim"):
+        """The words of a use of the program."""
+        name, *more = use
+        if name == "keep":
+            return ["keep", "--journal", "journal", *more]
+        if device == "sim":
+            device = "sim:%04X:flash" % self.chip.number
+        words = [name, "--table", "table", "--device", device, "--journal", "journal", "--wait", WAIT]
+        size = self.chip.sizes[0]
+        if name == "write":
+            # over the edge of two pages
+            words += ["-f", "-S", "0x%08x" % (BASE + (1 + int(more[0] == "second")) * size - 40)]
+        return words + list(more)
+
+    def files(self):
+        """The files that every session has, whatever stood before it."""
+        files = {"table": table(), "out": b"what was read before\n"}
+        for name in ("first", "second"):
+            files[name] = random.Random("%s %s" % (name, self.chip.number)).randbytes(120)
+        return files
+
+    def prepare(self, program, folder):
+        """What stands before the session: the files, with those of the device."""
+        store(folder, self.files() if self.is_new else {**self.files(), "flash": self.flashes[0]})
+        for use in self.before:
+            ran = subprocess.run([program, *self.words(use)], cwd=folder, env={}, capture_output=True)
+            if ran.returncode != (3 if "--stop" in use else 0):
+                raise Unrecorded("%s: before it, %s: %s" % (self.name, " ".join(use), ran.stderr.decode().strip()))
+            self.flashes.append(held(folder)["flash"])
+        files = held(folder)
+        if self.tail is not None:
+            files["journal"] = self.tail
+        if self.pad is not None:
+            # a line that counts as nothing
+            files["journal"] = b"x" * ((self.pad - len(files["journal"]) - 2) % 512) + b"!\n" + files["journal"]
+        return files
+
+    def record(self, program, folder):
+        """Records the session, anew where a reply came too late for it."""
+        for left in reversed(range(TRIES)):
+            try:
+                self.flashes = self.flashes[:1]
+                self.record_once(program, os.path.join(folder, "%s-%d" % (self.name, left)))
+                return self
+            except Unrecorded:
+                if left == 0:
+                    raise
+                time.sleep(1)
+
+    def record_once(self, program, folder):
+        room, made = os.path.join(folder, "room"), os.path.join(folder, "before")
+        os.makedirs(made)
+        os.makedirs(os.path.join(room, "elsewhere"))
+        files = self.prepare(program, made)
+        self.device = self.stands(files)
+        if self.way == BOARD:
+            files = {name: held for name, held in files.items() if name not in ("flash", "flash.line")}
+        self.start = files
+        store(room, files)
+        reader = Reader(room, Disk(files))
+        board = Board(program, os.path.join(folder, "board"), self.device) if self.way == BOARD else None
+        try:
+            for number in range(len(self.uses)):
+                self.use(program, room, reader, number, board.socket if board else "sim")
+            self.events = reader.events
+            self.after = held(room)
+            self.flash_after = self.checked(reader, room, board)
+            self.note()
+        finally:
+            if board is not None:
+                board.stop()
+
+    def stands(self, files):
+        """The device as it stands before the session."""
+        device = Device(self.chip, files.get("flash", self.flashes[0]))
+        if not stand(device, files.get("flash.line", b"fresh\n")):
+            raise Unrecorded("%s: no device stands so" % self.name)
+        device.owed.clear()
+        return device
+
+    def use(self, program, room, reader, number, device):
+        """One use of the program, recorded."""
+        words = self.words(self.uses[number], device)
+        killed = self.kill is not None and number == 0
+        record = os.path.join(room, "..", "record")
+        reader.begin()
+        ran = run([program, *words], room, record, "fsync:signal=KILL:when=%d" % self.kill if killed else None)
+        with open(record, encoding="ascii") as text:
+            reader.read(text.read())
+        if ran.returncode not in ((-9, 137) if killed else (0,)):
+            raise Unrecorded("%s: %s: status %d: %s" % (self.name, " ".join(words), ran.returncode, ran.stderr.decode().strip()))
+
+    def checked(self, reader, room, board):
+        """The flash behind the session, where its record has all that it did."""
+        names = reader.disk.now()
+        found = {name: reader.disk.files[number].versions[-1] for name, number in names.items()}
+        if found != held(room):
+            raise Unrecorded("%s: the record leaves other files than the session" % self.name)
+        if board is None:
+            return found["flash"]
+        device, replies = self.device_at()
+        if device.flash != board.held() or not replies.startswith(reader.received):
+            raise Unrecorded("%s: the device did otherwise than the record tells" % self.name)
+        return bytes(device.flash)
+
+    def note(self):
+        """Notes how many bytes the device replied to each byte; behind how many events something isn't on the disk; and behind
+        how many the journal was added to, and its bytes that aren't on the disk lie in more than one sector."""
+        device, self.replies = copy.deepcopy(self.device), []
+        for byte in self.sent():
+            device.feed(byte)
+            self.replies.append(len(device.owed))
+            device.owed.clear()
+        disk, self.unsynced, self.crossed = Disk(self.start), [], []
+        for moment, event in enumerate(self.events, 1):
+            disk.do(event)
+            if not disk.is_synced():
+                self.unsynced.append(moment)
+            if event.kind == "write" and event.words[0] == disk.now().get("journal"):
+                if len(disk.files[event.words[0]].sectors()) > 1:
+                    self.crossed.append(moment)
+
+    def journals(self):
+        """The names that the journal has or gets."""
+        return ["journal"] + [use[1] for use in self.uses if use[0] == "keep" and len(use) > 1]
+
+    def has_given_up(self, moment):
+        """Whether the journal was removed by then, since its way back was given up."""
+        return ("keep",) in self.uses and any(event.kind == "remove" for event in self.events[:moment])
+
+    def outs(self, is_told):
+        """What OUT may hold: what it held, unless the session has told that it is read, or what was read."""
+        if not any(use[0] == "read" for use in self.uses):
+            return [self.start["out"]]
+        return [self.after["out"]] if is_told else [self.start["out"], self.after["out"]]
+
+    def sent(self, moment=None):
+        """The bytes of the line until a moment."""
+        return b"".join(event.words[0] for event in self.events[:moment] if event.kind == "send")
+
+    def device_at(self, count=None):
+        """The device once it got so many bytes of the line, or all, and all that it replied until then."""
+        device, replies = copy.deepcopy(self.device), bytearray()
+        for byte in self.sent()[:count]:
+            device.feed(byte)
+            replies += bytes(device.owed)
+            device.owed.clear()
+        return device, bytes(replies)
+
+
+def store(folder, files):
+    for name, held in files.items():
+        with open(os.path.join(folder, name), "wb") as file:
+            file.write(held)
+
+
+def held(folder):
+    """The files of a folder and of those in it, but for sockets."""
+    files = {}
+    for top, _, names in os.walk(folder):
+        for name in names:
+            path = os.path.join(top, name)
+            if os.path.isfile(path):
+                with open(path, "rb") as file:
+                    files[os.path.relpath(path, folder)] = file.read()
+    return files

@@ -1,0 +1,224 @@
+"""A state that a crash leaves, made anew in a folder, and the undo from there."""
+
+import os
+import random
+import re
+import subprocess
+import tempfile
+
+from board import Board
+from disk import BYTES, DIGITS, LINES, NUL, Disk
+from journal import BadLine, Journal
+from story import BOARD, FILE
+
+# how long an undo waits until the line counts as quiet, in ms: where a reply was later than that, the next time longer
+WAITS = ("40", "300", "2000")
+LATE = ("stmflash: device does not follow the protocol", "stmflash: no answer from the device")
+
+
+class State:
+    """A moment of a recorded session, what the disk has kept by then, and how many bytes of the line the device got."""
+
+    def __init__(self, story, moment, count, crash):
+        self.story, self.moment, self.count, self.crash = story, moment, count, crash
+
+    def key(self):
+        return "%s:%d:%d:%s" % (self.story.name, self.moment, self.count, self.crash)
+
+    @staticmethod
+    def of(stories, key):
+        name, moment, count, crash = key.split(":")
+        return State(stories[name], int(moment), int(count), crash)
+
+    def files(self):
+        """The files by name, and which names are of one file."""
+        held, names = disk_at(self.story, self.moment).left(self.crash)
+        return {name: held[number] for name, number in names.items()}, names
+
+
+def disk_at(story, moment):
+    """The disk once so many events were done."""
+    disk = Disk(story.start)
+    for event in story.events[:moment]:
+        disk.do(event)
+    return disk
+
+
+def counts_at(story, moment):
+    """How many bytes the device has got at the least, since it replied to them, and at the most."""
+    if moment == 0:
+        return 0, 0
+    received = story.events[moment - 1].received
+    replied = least = 0
+    while replied < received:
+        replied += story.replies[least]
+        least += 1
+    return least, len(story.sent(moment))
+
+
+def draw(story, seed, number, stale_lines):
+    """A state of a story. The second is of its end. Every other one is of a moment at which bytes of the journal in several
+    sectors aren't on the disk, each such moment in turn; the last of these sectors is there, and something before it isn't."""
+    chance = random.Random("%s %s %d" % (seed, story.name, number))
+    kinds = (NUL, NUL, DIGITS, BYTES) + ((LINES,) if stale_lines else ())
+    is_hole = number % 2 == 0 and bool(story.crossed)
+    if is_hole:
+        moment = story.crossed[number // 2 % len(story.crossed)]
+    elif number == 1:
+        moment = len(story.events)
+    elif story.unsynced and chance.random() < 0.6:
+        moment = chance.choice(story.unsynced)
+    else:
+        moment = chance.randrange(len(story.events) + 1)
+    least, most = counts_at(story, moment)
+    count = chance.choice((most, most, least, chance.randint(least, most)))
+    return State(story, moment, count, disk_at(story, moment).draw(chance, kinds, is_hole))
+
+
+class Bad(Exception):
+    """What the undo did isn't what it has to do."""
+
+
+def judge(program, state):
+    """What is wrong behind a state, if anything. What is wrong by short waits is tried once more by a long one, since a reply
+    that comes later than a host waits is outside of the model."""
+    try:
+        Trial(program, state, WAITS).judge()
+        return None
+    except Bad as short:
+        try:
+            Trial(program, state, WAITS[-1:]).judge()
+        except Bad as bad:
+            return str(bad)
+        print("tools/crashes: late: %s: %s; and not by a longer wait" % (state.key(), short), flush=True)
+        return None
+
+
+class Trial:
+    """A state in a folder, with a board where the session had one."""
+
+    def __init__(self, program, state, waits):
+        self.program, self.state, self.story, self.waits = program, state, state.story, waits
+        self.files, self.names = state.files()
+        self.answered = state.moment == len(self.story.events) or any(
+            event.kind == "say" for event in self.story.events[:state.moment])
+
+    def judge(self):
+        with tempfile.TemporaryDirectory(dir=top(), prefix="crash-") as folder:
+            self.room = os.path.join(folder, "room")
+            self.make_room()
+            self.board = None
+            if self.story.way == BOARD:
+                device, _ = self.story.device_at(self.state.count)
+                self.flash = bytes(device.flash)
+                self.board = Board(self.program, os.path.join(folder, "board"), device)
+            else:
+                self.flash = self.files.get("flash", self.erased())
+            try:
+                self.check()
+            finally:
+                if self.board is not None:
+                    self.board.stop()
+
+    def make_room(self):
+        os.makedirs(os.path.join(self.room, "elsewhere"))
+        first = {}
+        for name, number in sorted(self.names.items()):
+            path = os.path.join(self.room, name)
+            if number in first:
+                os.link(first[number], path)
+            else:
+                first[number] = path
+                with open(path, "wb") as file:
+                    file.write(self.files[name])
+
+    def erased(self):
+        return bytes([self.story.chip.erased]) * self.story.chip.size
+
+    def use(self, name, journal, *more):
+        """What the program said; where a reply came too late for it, it is used again."""
+        device = self.board.socket if self.board else "sim:%04X:flash" % self.story.chip.number
+        words = [self.program, name, "--table", "table", "--device", device, "--journal", journal, *more]
+        for wait in self.waits:
+            ran = subprocess.run([*words, "--wait", wait], cwd=self.room, env={}, stdin=subprocess.DEVNULL, capture_output=True)
+            said = ran.stderr.decode(errors="replace").strip()
+            if ran.returncode == 0:
+                return ran.stdout.decode(errors="replace")
+            if said not in LATE:
+                break
+        raise Bad("%s says: %s" % (" ".join((name, *more)), said or "nothing, with status %d" % ran.returncode))
+
+    def held(self):
+        """The flash."""
+        if self.board:
+            return self.board.held()
+        path = os.path.join(self.room, "flash")
+        if not os.path.exists(path):
+            return self.erased()
+        with open(path, "rb") as file:
+            return file.read()
+
+    def same(self, flash, text):
+        found = self.held()
+        if found != flash:
+            wrong = [at for at, (one, two) in enumerate(zip(found, flash)) if one != two]
+            raise Bad("%s, in %d bytes from %s on" % (text, len(wrong), wrong[:1]))
+
+    def check(self):
+        journals = [name for name in self.story.journals() if name in self.files]
+        self.check_answer(journals)
+        if not journals:
+            self.check_without(self.story.has_given_up(self.state.moment))
+            return
+        # by one name each file
+        for name in {self.names[name]: name for name in reversed(journals)}.values():
+            self.take_back(name)
+
+    def take_back(self, name):
+        """Undoes the newest segment, and then all that are left."""
+        depth = self.depth(name)
+        if depth is not None and depth > 1:
+            self.undone(name, 1, "1")
+            self.same(self.story.flashes[depth - 1], "the flash isn't what it was before segment %d" % depth)
+        self.undone(name, None if depth is None else depth - 1 if depth > 1 else depth)
+        self.same(self.story.flashes[0], "the flash isn't what it was")
+
+    def undone(self, name, wanted, *more):
+        said = self.use("undo", name, *more)
+        found = re.fullmatch(r"undone (\d+)\n", said)
+        if not found or wanted not in (None, int(found[1])):
+            raise Bad("undo says: %s, and not undone %s" % (said.strip(), wanted))
+
+    def depth(self, name):
+        """How many segments the journal has, by the second model; none where it finds a bad line."""
+        try:
+            return Journal(self.files[name]).depth()
+        except BadLine:
+            return None
+
+    def check_without(self, is_given_up):
+        """There is no journal: nothing was begun that it would be needed for, or it was given up."""
+        flash = self.story.flashes[-1] if is_given_up else self.story.flashes[0]
+        if self.flash != flash:
+            raise Bad("there is no journal, and the flash isn't what it was")
+        self.use("info", "journal")
+        self.same(flash, "there is no journal, and info changed the flash")
+
+    def check_answer(self, journals):
+        """What the session has told to be done is on the disk."""
+        if self.files.get("out") not in self.story.outs(self.answered):
+            raise Bad("OUT has neither what it had nor what was read")
+        if not self.answered:
+            return
+        if sorted(journals) != sorted(name for name in self.story.journals() if name in self.story.after):
+            raise Bad("the session has ended, and there is %s" % (" and ".join(journals) or "no journal"))
+        for name in journals:
+            if self.files[name] != self.story.after[name]:
+                raise Bad("the session has ended, and the journal lacks some of it")
+        if self.story.way == FILE and self.flash != self.story.flash_after:
+            raise Bad("the session has ended, and FILE isn't what it leaves")
+
+
+def top():
+    """A folder in memory, where there is one."""
+    return "/dev/shm" if os.path.isdir("/dev/shm") else None
