@@ -5,8 +5,6 @@ parts.
 """
 
 import contextlib
-import importlib.machinery
-import importlib.util
 import os
 import signal
 import socket
@@ -21,22 +19,11 @@ from place import PATIENCE, TOP, Place, Said, program
 LINE = os.path.join(TOP, "line", "stmflash-line")
 # how long a host waits until the line counts as quiet, in ms: longer than a busy machine takes to answer
 WAIT = "1000"
+# the modules of which the companion is made
+sys.path.insert(0, os.path.dirname(LINE))
+sys.dont_write_bytecode = True
 
-
-def load(name):
-    """A program of the folder line/ as a module."""
-    path = os.path.join(TOP, "line", name)
-    loader = importlib.machinery.SourceFileLoader(name.replace("-", "_").removesuffix(".py"), path)
-    module = importlib.util.module_from_spec(importlib.util.spec_from_loader(loader.name, loader))
-    before, sys.dont_write_bytecode = sys.dont_write_bytecode, True
-    try:
-        loader.exec_module(module)
-    finally:
-        sys.dont_write_bytecode = before
-    return module
-
-
-pty_boards = load("pty_boards.py")
+import pty_boards
 
 
 def find_python():

@@ -81,8 +81,9 @@ class Faults(LinePlace):
     def test_no_permission(self):
         """The group that would have it is named, and who has to join it."""
         self.plain()
-        # a copy that everyone may run, since root has permission for everything
+        # a copy that everyone may read, since root has permission for everything
         shutil.copy(LINE, self.path("line"))
+        shutil.copytree(os.path.join(os.path.dirname(LINE), "stmflash_line"), self.path("stmflash_line"))
         before, user = None, pwd.getpwuid(os.geteuid()).pw_name
         place = os.stat(self.path("ttyUSB0"))
         group = grp.getgrgid(place.st_gid).gr_name

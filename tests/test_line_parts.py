@@ -14,10 +14,14 @@ import termios
 import time
 import unittest
 
-from boards import LINE, LinePlace, load
+from boards import LINE, LinePlace
 from place import ERASED, PATIENCE
+from stmflash_line import opening
+from stmflash_line.join import Join
+from stmflash_line.port import Port
+from stmflash_line.sequences import read_sequence
+from stmflash_line.unmark import Unmark
 
-line = load("stmflash-line")
 LATENCY = "LAT  low"
 STAND_INS = os.path.dirname(os.path.abspath(__file__))
 # runs the companion where pyserial knows the ports of tests/stand_ins
@@ -37,12 +41,12 @@ class Sequences(unittest.TestCase):
                 (",,", [wait, wait]),
                 ("brk,-brk&rts", [("brk", True), wait, ("rts", True)])):
             with self.subTest(text=text):
-                self.assertEqual(line.read_sequence(text), steps)
+                self.assertEqual(read_sequence(text), steps)
 
     def test_no_signals(self):
         for text in ("-", "cts", "rts dtr", "4", "-3,3", "rts:dtr", "RTS", "--rts"):
             with self.subTest(text=text), self.assertRaises(ValueError):
-                line.read_sequence(text)
+                read_sequence(text)
 
 
 class Played(LinePlace):
@@ -152,8 +156,8 @@ class Modes(unittest.TestCase):
         self.addCleanup(os.close, master)
         self.addCleanup(os.close, slave)
         with self.assertRaises(ValueError):
-            line.set_mode(slave, is_pty=False)
-        line.set_mode(slave, is_pty=True)
+            opening.set_mode(slave, is_pty=False)
+        opening.set_mode(slave, is_pty=True)
 
 
 class Unmarking(unittest.TestCase):
@@ -167,7 +171,7 @@ class Unmarking(unittest.TestCase):
         for marked, clean, bad in (*((marked, clean, 0) for marked, clean in self.CLEAN), *self.BAD):
             for parts in partings(marked):
                 with self.subTest(parts=parts):
-                    unmark, came, found = line.Unmark(), b"", 0
+                    unmark, came, found = Unmark(), b"", 0
                     for part in parts:
                         data, count = unmark.take(part)
                         came += data if not found else b""
@@ -204,8 +208,8 @@ class BadBytes(unittest.TestCase):
         (self.device, port), (self.client, ours) = pairs
         port.setblocking(False)
         ours.setblocking(False)
-        self.port = line.Port(Stub(port), "PORT", 9600)
-        self.join = line.Join(self.port, None)
+        self.port = Port(Stub(port), "PORT", 9600)
+        self.join = Join(self.port, None)
         self.join.client = ours
 
     def take(self, marked):
