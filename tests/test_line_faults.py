@@ -107,9 +107,10 @@ class Faults(LinePlace):
     def test_no_signals(self):
         """A pseudo-terminal has neither RTS nor DTR."""
         self.plain()
-        for words, name in ((("--boot", "rts"), "RTS"), (("--boot=-dtr",), "DTR"), (("--after", "-rts"), "RTS")):
+        for words, name in ((("--boot", "rts"), "RTS"), (("--boot=-dtr",), "DTR"), (("--after", "-rts"), "RTS"),
+                            (("--wiring", "dtr-reset"), "DTR")):
             said = self.line("ttyUSB0", *words, "--", "true")
-            self.assertLineFault(said, f"ttyUSB0: has no {name}; leave --boot and --after out")
+            self.assertLineFault(said, f"ttyUSB0: has no {name}; leave --wiring, --boot and --after out")
 
     def test_bad_words(self):
         self.plain()

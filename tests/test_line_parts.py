@@ -14,19 +14,13 @@ import termios
 import time
 import unittest
 
-from boards import LINE, LinePlace
-from place import ERASED, PATIENCE
+from boards import LATENCY, WiredPlace
+from place import PATIENCE
 from stmflash_line import opening
 from stmflash_line.join import Join
 from stmflash_line.port import Port
 from stmflash_line.sequences import read_sequence
 from stmflash_line.unmark import Unmark
-
-LATENCY = "LAT  low"
-STAND_INS = os.path.dirname(os.path.abspath(__file__))
-# runs the companion where pyserial knows the ports of tests/stand_ins
-RUNNER = "import runpy, serial, sys; sys.path.insert(0, sys.argv.pop(1)); sys.dont_write_bytecode = True; " \
-         "serial.protocol_handler_packages.append('stand_ins'); sys.argv.pop(0); runpy.run_path(sys.argv[0], run_name='__main__')"
 
 
 class Sequences(unittest.TestCase):
@@ -49,24 +43,7 @@ class Sequences(unittest.TestCase):
                 read_sequence(text)
 
 
-class Played(LinePlace):
-    def setUp(self):
-        super().setUp()
-        self.master = self.plain()
-        self.wired = f"wired://{self.path('ttyUSB0')}?file={self.path('calls')}"
-
-    def play(self, *words):
-        return self.ended(self.begin(*words))
-
-    def begin(self, *words):
-        return self.start(STAND_INS, LINE, self.wired, *words, line=("-c", RUNNER))
-
-    def calls(self, name="calls"):
-        """The calls that move something on the line, and when each was made, in seconds."""
-        lines = [text.split(" ", 1) for text in self.held(name).decode().splitlines()]
-        lines = [(when, " ".join(call.split())) for when, call in lines if call != LATENCY]
-        return [call for _, call in lines], [float(when) for when, _ in lines]
-
+class Played(WiredPlace):
     def test_before_and_after(self):
         """The calls and delays in this order, and no byte on the line before."""
         self.assertSilent(self.play("--boot", "rts,-dtr,,:dtr", "--", "cp", "calls", "before"))
@@ -110,7 +87,7 @@ class Played(LinePlace):
             self.assertEqual(mode[5], termios.B9600 if "--baud" in words else termios.B115200)
 
     def mode_during(self, *words):
-        started = self.start(STAND_INS, LINE, *words, "--", "sh", "-c", "echo; exec sleep 1000", line=("-c", RUNNER))
+        started = self.begin_on(words[0], *words[1:], "--", "sh", "-c", "echo; exec sleep 1000")
         self.assertEqual(started.stdout.readline(), b"\n")
         mode = termios.tcgetattr(self.master)
         started.terminate()
@@ -129,24 +106,6 @@ class Played(LinePlace):
             said = self.ended(started)
             self.assertEqual((said.status, said.err), (128 + signal.SIGTERM, b""))
             self.assertEqual(self.calls()[0], calls)
-
-    def test_tells_that_the_board_is_fresh(self):
-        """Where RTS or DTR was lowered, and only there: both are up before."""
-        for boot, fresh in (("rts,-dtr", "1"), ("-rts&rts", "1"), ("rts,dtr", "no"), (",,", "no"), ("brk", "no")):
-            with self.subTest(boot=boot):
-                said = self.play("--boot", boot, "--", "sh", "-c", "echo ${STMFLASH_FRESH-no}")
-                self.assertTold(said, fresh + "\n")
-
-
-class Fresh(LinePlace):
-    def test_a_board_that_was_reset(self):
-        """The program takes the word that the board is fresh, and the session goes through."""
-        board = self.board()
-        self.assertEqual(board.store(), ERASED)
-        wired = f"wired://{self.path('ttyUSB0')}?file={self.path('calls')}"
-        words = (STAND_INS, LINE, wired, "--boot", "rts,-dtr", "--", *self.stmflash("info"))
-        said = self.ended(self.start(*words, line=("-c", RUNNER)))
-        self.assertEqual((said.status, said.out.split(b"\n")[0], said.err), (0, b"id 0412", b""))
 
 
 class Modes(unittest.TestCase):
@@ -209,7 +168,7 @@ class BadBytes(unittest.TestCase):
         port.setblocking(False)
         ours.setblocking(False)
         self.port = Port(Stub(port), "PORT", 9600)
-        self.join = Join(self.port, None)
+        self.join = Join(self.port, None, None)
         self.join.client = ours
 
     def take(self, marked):

@@ -15,10 +15,10 @@ GRACE = 5
 PR_SET_PDEATHSIG = 1
 
 
-def run(command, path, fresh, join, wake):
+def run(command, path, fresh, join):
     """Runs COMMAND on the socket at this path, and answers its status. Where a signal ends us, or the port goes, it is
     ended too."""
-    child = start(command, path, fresh)
+    child, wake = start(command, path, fresh), join.wake
     try:
         until = None
         while child.poll() is None:
@@ -27,8 +27,8 @@ def run(command, path, fresh, join, wake):
                 until = time.monotonic() + GRACE
             if until is not None and time.monotonic() > until:
                 child.kill()
-            join.turn(wake, until)
-        join.finish(wake)
+            join.turn(until)
+        join.finish()
     except Gone:
         # it sees the line closed and ends by itself, if it is stmflash
         join.leave()

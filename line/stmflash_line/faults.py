@@ -12,10 +12,6 @@ class Gone(Exception):
     """The port isn't there any more."""
 
 
-class Ended(Exception):
-    """A signal has come that ends us."""
-
-
 def say(text):
     with contextlib.suppress(OSError):
         print("stmflash-line: " + text, file=sys.stderr, flush=True)

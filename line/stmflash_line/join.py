@@ -11,15 +11,20 @@ MOST_UNREAD = 1 << 20
 
 class Join:
     """A port and whoever is connected to the socket, one client after another. What comes while nobody is connected is
-    dropped, as on a line that nobody listens at. What a client has sent goes out whole, also where it was killed since."""
+    dropped, as on a line that nobody listens at. What a client has sent goes out whole, also where it was killed since.
 
-    def __init__(self, port, listener):
-        self.port, self.listener = port, listener
+    `entry` is what is played before the first byte of each client but the one that an `entered` board is for; None: nothing."""
+
+    def __init__(self, port, listener, wake, entry=None, entered=False):
+        self.port, self.listener, self.wake = port, listener, wake
         self.client = None
+        self.entry, self.entered = entry, entered
+        self.is_first = False
         self.out, self.into = bytearray(), bytearray()
 
-    def turn(self, wake, until=None):
+    def turn(self, until=None):
         """Waits for bytes, a client or a signal, until a time at most, and hands on what there is."""
+        wake = self.wake
         readers, writers = [wake.reader, self.port.descriptor], []
         readers.append(self.listener if self.client is None else self.client)
         if self.out:
@@ -52,6 +57,22 @@ class Join:
         except OSError:
             return False
         self.client.setblocking(False)
+        self.is_first = True
+        return True
+
+    def enter(self):
+        """Brings the board to where a client's first byte is to find it, behind all that earlier clients have sent. False where a
+        signal ends us meanwhile."""
+        if self.entry is None or self.entered:
+            self.entered = False
+            return True
+        self.send_rest()
+        if not self.wake.number:
+            self.port.play(self.entry, self.wake.pause)
+        if self.wake.number:
+            return False
+        self.port.forget()
+        self.into.clear()
         return True
 
     def from_port(self):
@@ -80,9 +101,10 @@ class Join:
             return False
         except OSError:
             data = b""
-        if not data:
+        if not data or self.is_first and not self.enter():
             self.leave()
             return False
+        self.is_first = False
         self.out += data
         self.to_port()
         return True
@@ -105,13 +127,17 @@ class Join:
             self.client = None
         self.into.clear()
 
-    def finish(self, wake):
+    def finish(self):
         """Hands on what clients have sent that are gone now, also one that was never taken."""
         while self.client is not None or self.accept():
             while self.client is not None and self.from_client():
                 pass
             self.leave()
-        while self.out and not wake.number:
-            select.select([wake.reader], [self.port.descriptor], [], None)
+        self.send_rest()
+
+    def send_rest(self):
+        """Waits until what was taken of clients has gone out, or a signal ends us."""
+        while self.out and not self.wake.number:
+            select.select([self.wake.reader], [self.port.descriptor], [], None)
             self.to_port()
         self.port.drain()

@@ -79,7 +79,7 @@ class Port:
                     raise Gone from error
 
     def play(self, steps, pause):
-        """Moves RTS and DTR and sends breaks, step by step."""
+        """Moves RTS and DTR and sends breaks, step by step, each of them: a board isn't left in the midst of a reset."""
         for name, value in steps:
             if name == "wait":
                 pause(value)
@@ -94,7 +94,7 @@ class Port:
                 if number_of(error) == errno.EINTR:
                     continue
                 if number_of(error) in (errno.ENOTTY, errno.EINVAL):
-                    raise Fault(f"{self.name}: has no {name.upper()}; leave --boot and --after out") from None
+                    raise Fault(f"{self.name}: has no {name.upper()}; leave --wiring, --boot and --after out") from None
                 raise Gone from None
 
     def close(self):

@@ -1,13 +1,11 @@
 """One call from beginning to end: the port, the board on it, and who uses it."""
 
-import contextlib
 import time
 
 from .command import run
-from .faults import Ended, Fault, Gone
+from .faults import Fault, Gone
 from .join import Join
 from .opening import open_port
-from .sequences import has_reset
 from .sockets import served, served_privately
 
 
@@ -25,22 +23,22 @@ def use_port(given, wake):
 
 
 def use_board(port, given, wake):
-    """Brings the board into its bootloader, and serves it."""
-    with contextlib.suppress(Ended):
-        port.play(given.boot, wake.pause)
+    """Brings the board into its bootloader, and serves it. One that a sequence resets is reset for each client: COMMAND's first
+    finds it so, and a socket's may come at any time."""
+    port.play(given.boot, wake.pause)
     if wake.number:
         return 128 + wake.number if given.command else 0
     port.forget()
     with (served(given.socket) if given.socket else served_privately()) as (path, listener):
-        join = Join(port, listener)
+        join = Join(port, listener, wake, given.boot if given.resets else None, entered=bool(given.command))
         if given.command:
-            return run(given.command, path, has_reset(given.boot), join, wake)
-        return serve(join, wake)
+            return run(given.command, path, given.resets, join)
+        return serve(join)
 
 
-def serve(join, wake):
+def serve(join):
     """Serves until a signal comes."""
-    while not wake.number:
-        join.turn(wake)
+    while not join.wake.number:
+        join.turn()
     join.leave()
     return 0

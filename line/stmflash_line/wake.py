@@ -6,8 +6,6 @@ import select
 import signal
 import time
 
-from .faults import Ended
-
 ENDING = (signal.SIGTERM, signal.SIGINT, signal.SIGHUP)
 
 
@@ -32,10 +30,8 @@ class Wake:
             os.read(self.reader, 4096)
 
     def pause(self, seconds):
-        """Waits, unless a signal ends us."""
+        """Waits, until a signal ends us at most."""
         until = time.monotonic() + seconds
-        while (left := until - time.monotonic()) > 0:
-            if self.number:
-                raise Ended
+        while not self.number and (left := until - time.monotonic()) > 0:
             select.select([self.reader], [], [], left)
             self.clear()
