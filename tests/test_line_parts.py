@@ -208,6 +208,20 @@ class BadBytes(unittest.TestCase):
         self.join.client = self.client
         self.assertEqual(self.take(b"d"), "")
 
+    def test_the_next_client_gets_none_of_the_former_ones(self):
+        """A client that took nothing is gone, with bytes for it that its socket had no room for."""
+        while not self.join.into:
+            self.assertEqual(self.take(60000 * b"a"), "")
+        self.client.close()
+        self.join.from_client()
+        self.assertIsNone(self.join.client)
+        self.assertEqual(self.take(b"nobody's"), "")
+        self.client, self.join.client = socket.socketpair()
+        self.client.settimeout(PATIENCE)
+        self.addCleanup(self.client.close)
+        self.assertEqual(self.take(b"new"), "")
+        self.assertEqual(self.client.recv(100), b"new")
+
     def test_nobody_is_told_while_nobody_is_there(self):
         ours, self.join.client = self.join.client, None
         self.assertEqual(self.take(b"a\xff\x00b\xff"), "")

@@ -170,9 +170,15 @@ class Clients(WiredPlace):
         self.assertSilent(self.ended(started))
 
     def test_one_that_is_gone_before_its_turn_too(self):
-        script = f"{client('a', 1)} & {client('b', 1)} & wait"
+        """Also where COMMAND has ended, and the port has not yet taken what the client before has sent."""
+        size = 150_000
+        script = f"{client('a', size)}; {client('b', 1)}; echo"
         started = self.begin("--wiring", EXAMPLE, "--after", "", "--", "sh", "-c", script)
-        self.assertEqual(sorted(self.read_from(self.master, 2)), sorted(b"ab"))
+        self.assertEqual(started.stdout.readline(), b"\n")
+        self.read_from(self.master, size // 4)
+        self.assertEqual(self.reset_count(), 1)
+        self.assertEqual(set(self.read_from(self.master, size - size // 4)), {ord("a")})
+        self.assertEqual(self.read_from(self.master, 1), b"b")
         self.assertSilent(self.ended(started))
         self.assertEqual(self.reset_count(), 2)
 
@@ -196,9 +202,10 @@ class Clients(WiredPlace):
                 self.until(self.listens, "the companion doesn't listen")
                 for count in due:
                     with self.connect() as one:
-                        one.sendall(b"?")
-                        self.assertEqual(self.read_from(self.master, 1), b"?")
-                        self.assertEqual(self.reset_count(), count)
+                        for _ in range(2):
+                            one.sendall(b"?")
+                            self.assertEqual(self.read_from(self.master, 1), b"?")
+                            self.assertEqual(self.reset_count(), count)
                 started.terminate()
                 self.assertSilent(self.ended(started))
                 self.remove("calls")

@@ -14,6 +14,8 @@ from .port import Port
 
 # the numbers of pseudo-terminals (Linux: Documentation/admin-guide/devices.txt): they have neither parity nor speed
 PTY_MAJORS = range(136, 144)
+# Linux: how long an adapter of FTDI holds bytes back, in milliseconds
+TIMER = "/sys/class/tty/{}/device/latency_timer"
 
 
 def open_port(word, baud):
@@ -100,7 +102,7 @@ def hasten(port, name):
     """Asks the driver to hand bytes on at once. One that holds them back all the same is told, since it takes long."""
     with contextlib.suppress(OSError, ValueError, NotImplementedError, termios.error):
         port.set_low_latency_mode(True)
-    timer = f"/sys/class/tty/{os.path.basename(os.path.realpath(name))}/device/latency_timer"
+    timer = TIMER.format(os.path.basename(os.path.realpath(name)))
     with contextlib.suppress(OSError, ValueError):
         if read_number(timer) > 2:
             with contextlib.suppress(OSError), open(timer, "w", encoding="ascii") as held:
