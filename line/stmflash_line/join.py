@@ -13,11 +13,13 @@ class Join:
     """A port and whoever is connected to the socket, one client after another. What comes while nobody is connected is
     dropped, as on a line that nobody listens at. What a client has sent goes out whole, also where it was killed since.
 
-    `entry` is what is played before the first byte of each client but the one that an `entered` board is for; None: nothing."""
+    `entry` is what is played before the first byte of each client but the one that an `entered` board is for; None: nothing. A
+    client that has sent nothing for `idle` seconds is let go of; 0: none is."""
 
-    def __init__(self, port, listener, wake, entry=None, entered=False):
+    def __init__(self, port, listener, wake, entry=None, entered=False, idle=0):
         self.port, self.listener, self.wake = port, listener, wake
         self.client = None
+        self.idle, self.heard = idle, 0.0
         self.entry, self.entered = entry, entered
         self.is_first = False
         self.out, self.into = bytearray(), bytearray()
@@ -34,7 +36,8 @@ class Join:
                 readers.remove(self.client)
         if self.into:
             writers.append(self.client)
-        patience = None if until is None else max(0, until - time.monotonic())
+        ends = [end for end in (until, self.end_of_patience()) if end is not None]
+        patience = max(0, min(ends) - time.monotonic()) if ends else None
         readable, writable, _ = select.select(readers, writers, [], patience)
         if wake.reader in readable:
             wake.clear()
@@ -49,6 +52,23 @@ class Join:
             self.from_client()
         if self.client in writable:
             self.to_client()
+        self.let_go()
+
+    def end_of_patience(self):
+        """When a client that has the line has said nothing for too long; None: never. One whose bytes still wait for the port isn't
+        listened to."""
+        if not self.idle or self.client is None:
+            return None
+        if self.out:
+            self.heard = time.monotonic()
+        return self.heard + self.idle
+
+    def let_go(self):
+        """Closes the line to a client that said nothing for too long."""
+        end = self.end_of_patience()
+        if end is not None and time.monotonic() >= end:
+            say(f"{self.port.name}: let go of a client that sent nothing for {self.idle} s")
+            self.leave()
 
     def accept(self):
         """Whether there was a client to take."""
@@ -57,7 +77,7 @@ class Join:
         except OSError:
             return False
         self.client.setblocking(False)
-        self.is_first = True
+        self.is_first, self.heard = True, time.monotonic()
         return True
 
     def enter(self):
@@ -104,7 +124,7 @@ class Join:
         if not data or self.is_first and not self.enter():
             self.leave()
             return False
-        self.is_first = False
+        self.is_first, self.heard = False, time.monotonic()
         self.out += data
         self.to_port()
         return True

@@ -30,7 +30,7 @@ def use_board(port, given, wake):
         return 128 + wake.number if given.command else 0
     port.forget()
     with (served(given.socket) if given.socket else served_privately()) as (path, listener):
-        join = Join(port, listener, wake, given.boot if given.resets else None, entered=bool(given.command))
+        join = Join(port, listener, wake, given.boot if given.resets else None, bool(given.command), given.idle)
         if given.command:
             return run(given.command, path, given.resets, join)
         return serve(join)

@@ -4,8 +4,10 @@ import argparse
 
 from .sequences import read_sequence, read_wiring
 
-USAGE = """stmflash-line PORT [--baud N] [HOW] [--after SEQUENCE] -- COMMAND..
-       stmflash-line PORT [--baud N] [HOW] [--after SEQUENCE] --socket PATH
+# how long a client of a served socket may say nothing, in seconds, where no word says how long
+IDLE = 60
+USAGE = """stmflash-line PORT [--baud N] [HOW] [--after SEQUENCE] [--idle SECONDS] -- COMMAND..
+       stmflash-line PORT [--baud N] [HOW] [--after SEQUENCE] [--idle SECONDS] --socket PATH
 
 HOW, which brings the board into its bootloader: --wiring WIRING | --boot SEQUENCE [--resets]"""
 EXAMPLE = """a board with reset at DTR and BOOT0 at RTS, and the same in stm32flash's notation:
@@ -30,6 +32,8 @@ def make_parser():
                         "Wrong, it can cost a page")
     parser.add_argument("--after", metavar="SEQUENCE", help="the same for the end; also what follows ':' in --boot")
     parser.add_argument("--socket", metavar="PATH", help="serves this socket, one client after another, until a signal comes")
+    parser.add_argument("--idle", type=int, metavar="SECONDS",
+                        help="lets go of a client that has sent nothing for so long; with --socket 60 without it; 0: never")
     return parser
 
 
@@ -44,6 +48,10 @@ def read_words(words):
         parser.error("either --socket PATH or -- COMMAND")
     if not 1 <= given.baud <= 4000000:
         parser.error("--baud is 1 to 4000000")
+    if given.idle is None:
+        given.idle = IDLE if given.socket is not None else 0
+    if given.idle < 0:
+        parser.error("--idle is a number of seconds, or 0")
     try:
         settle_sequences(given)
     except ValueError as error:

@@ -8,5 +8,6 @@ complete -c stmflash-line -n "not contains -- -- (commandline -opc)" -l wiring -
 complete -c stmflash-line -n "not contains -- -- (commandline -opc)" -l boot -x -d 'How RTS, DTR and break are moved'
 complete -c stmflash-line -n "not contains -- -- (commandline -opc)" -l resets -d 'The sequence of --boot is a reset'
 complete -c stmflash-line -n "not contains -- -- (commandline -opc)" -l after -x -d 'The same for the end'
+complete -c stmflash-line -n "not contains -- -- (commandline -opc)" -l idle -x -d 'Seconds until a client that says nothing is let go of'
 complete -c stmflash-line -n "not contains -- -- (commandline -opc)" -l socket -r -F -d 'Serves this socket'
 complete -c stmflash-line -n "contains -- -- (commandline -opc)" -F
