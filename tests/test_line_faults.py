@@ -46,7 +46,7 @@ class Faults(LinePlace):
         for port, kind in (("folder", "folder"), ("table", "file"), ("pipe", "file")):
             self.assertBegins(self.line(port, "--", "true"), f"{port}: is not a serial port but a {kind}; this machine has ")
         self.assertUnusable("/dev/null", "/dev/null: is not a serial port")
-        for port in ("loop://", "socket://localhost:1", "none://here"):
+        for port in ("loop://", "none://here"):
             self.assertUnusable(port, f"{port}: is not a serial port of this machine")
 
     def test_held_by_another_line(self):

@@ -12,7 +12,9 @@ import signal
 import socket
 import termios
 import time
+import types
 import unittest
+from unittest import mock
 
 from boards import LATENCY, WiredPlace
 from place import PATIENCE
@@ -168,7 +170,10 @@ class BadBytes(unittest.TestCase):
         port.setblocking(False)
         ours.setblocking(False)
         self.port = Port(Stub(port), "PORT", 9600)
-        self.join = Join(self.port, None, None)
+        reader, writer = os.pipe()
+        self.addCleanup(os.close, reader)
+        self.addCleanup(os.close, writer)
+        self.join = Join(self.port, None, types.SimpleNamespace(reader=reader, number=None))
         self.join.client = ours
 
     def take(self, marked):
@@ -207,6 +212,36 @@ class BadBytes(unittest.TestCase):
         self.assertLeft(self.take(b"abc"), b"", 3)
         self.join.client = self.client
         self.assertEqual(self.take(b"d"), "")
+
+    def test_a_reset_for_a_client(self):
+        """Behind what went out before, and then all is dropped that came until its end; it is for the first byte alone."""
+        port = mock.Mock(**{"write.side_effect": len})
+        join = Join(port, None, mock.Mock(number=None), ["steps"])
+        join.client, join.is_first = self.join.client, True
+        join.out, join.into = bytearray(b"before"), bytearray(b"old")
+        join.send_rest = mock.Mock(side_effect=join.out.clear)
+        port.attach_mock(join.send_rest, "send_rest")
+        for _ in range(2):
+            self.client.sendall(b"?")
+            self.assertTrue(join.from_client())
+        self.assertEqual([name for name, _, _ in port.mock_calls], ["send_rest", "play", "forget", "write", "write"])
+        port.play.assert_called_once_with(["steps"], join.wake.pause)
+        self.assertEqual((join.out, join.into), (b"", b""))
+
+    def test_a_slow_client_gets_what_its_socket_had_no_room_for(self):
+        """As soon as it has room again, though nothing comes from the port."""
+        came = 0
+        while not self.join.into:
+            self.assertEqual(self.take(bytes(came // 60000 for _ in range(60000))), "")
+            came += 60000
+        held = b""
+        while len(held) < came:
+            held += self.client.recv(came)
+            if self.join.into:
+                before = len(self.join.into)
+                self.join.turn(time.monotonic() + 10)
+                self.assertLess(len(self.join.into), before)
+        self.assertEqual(held, b"".join(bytes([i]) * 60000 for i in range(came // 60000)))
 
     def test_the_next_client_gets_none_of_the_former_ones(self):
         """A client that took nothing is gone, with bytes for it that its socket had no room for."""

@@ -187,6 +187,16 @@ class Calls(unittest.TestCase):
                     with self.assertRaisesRegex(Fault, f"\\APORT: has no {name.upper()}; leave --wiring, --boot and --after out\\Z"):
                         self.play(name, fault)
 
+    def test_what_is_forgotten(self):
+        """Also the first half of a mark, whose other half is forgotten with it."""
+        with mock.patch("os.read", return_value=b"a\xff"):
+            self.assertEqual(self.port.read(), (b"a", 0))
+        with mock.patch("termios.tcflush") as flush:
+            self.port.forget()
+        flush.assert_called_once_with(99, termios.TCIFLUSH)
+        with mock.patch("os.read", return_value=b"\x00b"):
+            self.assertEqual(self.port.read(), (b"\x00b", 0))
+
     def test_what_a_signal_cuts_short_goes_on(self):
         self.waited.clear()
         self.play("brk", termios.error(errno.EINTR, ""))

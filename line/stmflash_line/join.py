@@ -30,7 +30,7 @@ class Join:
         readers, writers = [wake.reader, self.port.descriptor], []
         readers.append(self.listener if self.client is None else self.client)
         if self.out:
-            writers.append(self.port.descriptor)
+            writers.append(self.port.way_out)
             # no more is taken than the port takes
             if self.client is not None:
                 readers.remove(self.client)
@@ -43,7 +43,7 @@ class Join:
             wake.clear()
         if self.port.descriptor in readable:
             self.from_port()
-        if self.port.descriptor in writable:
+        if self.port.way_out in writable:
             self.to_port()
         if self.client is None:
             if self.listener in readable:
@@ -158,6 +158,6 @@ class Join:
     def send_rest(self):
         """Waits until what was taken of clients has gone out, or a signal ends us."""
         while self.out and not self.wake.number:
-            select.select([self.wake.reader], [self.port.descriptor], [], None)
+            select.select([self.wake.reader], [self.port.way_out], [], None)
             self.to_port()
         self.port.drain()

@@ -8,6 +8,7 @@ import stat
 import termios
 import time
 
+from .far import is_far, open_far
 from .faults import Fault, number_of, say
 from .holders import holders, who_may
 from .port import Port
@@ -19,7 +20,10 @@ TIMER = "/sys/class/tty/{}/device/latency_timer"
 
 
 def open_port(word, baud):
-    """The port that this word names: ours alone, 8 data bits, even parity, one stop bit, and quick."""
+    """The port that this word names: ours alone, 8 data bits, even parity, one stop bit, and quick; or one that another machine
+    has."""
+    if is_far(word):
+        return open_far(word, baud)
     try:
         import serial
     except ImportError:

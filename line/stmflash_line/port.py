@@ -17,9 +17,12 @@ TIOCGICOUNT, COUNTERS, LOST = 0x545D, 20, (7, 10)
 class Port:
     """An open port: bytes as they come, and how many of them were lost or came with an error."""
 
+    gone = "unplugged; plug it in, and `stmflash undo` takes back what was begun"
+
     def __init__(self, serial, name, baud):
         self.serial, self.name, self.baud = serial, name, baud
-        self.descriptor = serial.fileno()
+        # what is readable while there is something to read, and writable while something can be written
+        self.descriptor = self.way_out = serial.fileno()
         self.unmark = Unmark()
         self.counters = array.array("i", [0] * COUNTERS)
         self.lost = self.count_lost()

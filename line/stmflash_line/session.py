@@ -17,7 +17,7 @@ def use_port(given, wake):
         port.play(given.after, time.sleep)
         return status
     except Gone:
-        raise Fault(f"{port.name}: unplugged; plug it in, and `stmflash undo` takes back what was begun") from None
+        raise Fault(f"{port.name}: {port.gone}") from None
     finally:
         port.close()
 

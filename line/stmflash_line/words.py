@@ -20,7 +20,7 @@ def make_parser():
         prog="stmflash-line", allow_abbrev=False, usage=USAGE, epilog=EXAMPLE,
         formatter_class=argparse.RawDescriptionHelpFormatter,
         description="Joins a serial port to a Unix socket for stmflash, and runs COMMAND with its path for every {}.")
-    parser.add_argument("port", metavar="PORT", help="a serial port, as /dev/ttyUSB0")
+    parser.add_argument("port", metavar="PORT", help="a serial port, as /dev/ttyUSB0, or rfc2217://HOST:PORT, socket://HOST:PORT")
     parser.add_argument("--baud", type=int, default=115200, metavar="N", help="its speed; 115200 without it")
     parser.add_argument("--wiring", metavar="WIRING",
                         help="what reset and BOOT0 hang on: dtr-reset,rts-boot0, with inverted- before what goes through an "

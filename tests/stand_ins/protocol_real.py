@@ -1,7 +1,7 @@
 """pyserial's port `real://PATH?file=LOG`: a pseudo-terminal that behaves as a serial port with its driver.
 
-It keeps parity, has RTS, DTR, a flag of low latency and counters of bytes that were lost, and can be unplugged. What the test writes
-to the other end is pairs: what happens, and a byte.
+It keeps parity, has RTS, DTR, a flag of low latency and counters of bytes that were lost, and can be unplugged. What the test
+writes to the other end is pairs: what happens, and a byte.
 
     GOOD b         the byte b comes
     PARITY b       it comes with a wrong parity
@@ -127,8 +127,8 @@ class Driver:
 
 
 driver = Driver()
-real = {name: getattr(module, name) for module, names in (
-    (os, ("read", "write", "major")), (fcntl, ("ioctl",)), (termios, ("tcgetattr", "tcsetattr", "tcflush", "tcdrain"))) for name in names}
+NAMES = ((os, ("read", "write", "major")), (fcntl, ("ioctl",)), (termios, ("tcgetattr", "tcsetattr", "tcflush", "tcdrain")))
+real = {name: getattr(module, name) for module, names in NAMES for name in names}
 
 
 def is_gone(descriptor):
