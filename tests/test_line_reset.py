@@ -389,5 +389,7 @@ class Pages(unittest.TestCase):
                 with open(os.path.join(TOP, place), encoding="utf-8") as held:
                     text = held.read().replace("\\-", "-")
                 self.assertTrue(f"--wiring {EXAMPLE}" in text, "no example of a wiring")
+                # more than ten adapters are found, too
+                self.assertNotIn("ttyUSB?", text)
                 for sequence in re.findall(r"--boot[ =]'?([-a-z&]+,[-a-z&,:]+)", text):
                     self.assertEqual(sequence, f"{entry}:{leave}")
