@@ -284,7 +284,9 @@ class Unwired(LinePlace):
                     break
             if undo.status != 0:
                 return f"after {count} bytes: {undo}"
-        return None if board.store() == COUNTING else f"after {count} bytes: the flash isn't what it was"
+        flash = board.store()
+        board.stop()
+        return None if flash == COUNTING else f"after {count} bytes: the flash isn't what it was"
 
     def test_page_127_stays(self):
         """A device that waits for the page of an erase would take 7F for it, and the next 7F for the check."""

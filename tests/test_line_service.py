@@ -42,9 +42,9 @@ class Idle(LinePlace):
     def test_one_that_goes_on_is_not(self):
         """Each of its bytes counts anew, and so does a port that takes none of them."""
         master = self.plain()
-        self.serve("--idle", "3")
+        self.serve("--idle", "2")
         client = self.connect()
-        for _ in range(8):
+        for _ in range(6):
             client.sendall(b"?")
             self.assertEqual(self.read_from(master, 1), b"?")
             with self.assertRaises(TimeoutError):
@@ -53,7 +53,7 @@ class Idle(LinePlace):
         client.settimeout(PATIENCE)
         client.sendall(b"a" * 150_000)
         with self.assertRaises(TimeoutError):
-            client.settimeout(5)
+            client.settimeout(3)
             client.recv(1)
         self.assertEqual(len(self.read_from(master, 150_000)), 150_000)
 
