@@ -303,13 +303,10 @@ class Unwired(LinePlace):
 
 
 def find_recorder():
-    """Builds the recorder of signals, and answers its path; None where there is no compiler."""
-    compiler = shutil.which("cc") or shutil.which("gcc")
-    if compiler is None:
-        return None
+    """Builds the recorder of signals, and answers its path."""
     path = os.path.join(tempfile.mkdtemp(prefix="stmflash-signals-"), "signals.so")
     source = os.path.join(TOP, "tests", "signals.c")
-    words = [compiler, "-shared", "-fPIC", "-O1", source, "-o", path, "-ldl"]
+    words = ["gcc", "-shared", "-fPIC", "-O1", source, "-o", path, "-ldl"]
     ran = subprocess.run(words, stderr=subprocess.PIPE, timeout=PATIENCE)
     if ran.returncode:
         raise AssertionError(ran.stderr.decode())
@@ -317,7 +314,7 @@ def find_recorder():
 
 
 @unittest.skipIf(shutil.which("stm32flash") is None, "stm32flash is not installed")
-@unittest.skipIf(not (shutil.which("cc") or shutil.which("gcc")), "there is no C compiler")
+@unittest.skipIf(shutil.which("gcc") is None or not os.path.exists("/usr/include/stdio.h"), "gcc or libc6-dev is not installed")
 class BesideStm32flash(LinePlace):
     """The moves of a port, recorded below both programs: the same ones in the same order, each no earlier than the notation has
     it."""
