@@ -122,6 +122,8 @@ install:
 	install -m 644 $(completions)/_stmflash $(share)/zsh/vendor-completions/_stmflash
 	install -m 644 $(completions)/stmflash.fish $(share)/fish/vendor_completions.d/stmflash.fish
 	install -m 755 line/stmflash-line $(DESTDIR)$(PREFIX)/bin/stmflash-line
+	install -d $(share)/stmflash/stmflash_line
+	install -m 644 line/stmflash_line/*.py $(share)/stmflash/stmflash_line
 	install -m 644 line/stmflash-line.1 $(share)/man/man1/stmflash-line.1
 	ln -sf stmflash $(share)/bash-completion/completions/stmflash-line
 	install -m 644 $(completions)/stmflash-line.fish $(share)/fish/vendor_completions.d/stmflash-line.fish

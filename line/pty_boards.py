@@ -40,6 +40,7 @@ class PtyBoard:
         self.simulator = subprocess.Popen(words, stdin=subprocess.DEVNULL)
         self.device = None
         self.master = None
+        self.left = None
         self.ended, self.end = os.pipe()
         self.renew()
         self.thread = threading.Thread(target=self.carry, daemon=True)
@@ -57,6 +58,10 @@ class PtyBoard:
         before, self.master = self.master, master
         if before is not None:
             os.close(before)
+
+    def hear(self, count):
+        """From now on the board gets so many bytes of its host and no more, as of one that has stopped there; None: all of them."""
+        self.left = count
 
     def connect(self):
         """The simulator, once it listens."""
@@ -109,6 +114,9 @@ class PtyBoard:
             # nobody has the port open
             time.sleep(0.002)
             return
+        if self.left is not None:
+            data = data[:self.left]
+            self.left -= len(data)
         if self.device is None:
             self.device = self.connect()
         self.wait(len(data) * self.byte_time)

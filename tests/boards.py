@@ -5,8 +5,6 @@ parts.
 """
 
 import contextlib
-import importlib.machinery
-import importlib.util
 import os
 import signal
 import socket
@@ -21,22 +19,16 @@ from place import PATIENCE, TOP, Place, Said, program
 LINE = os.path.join(TOP, "line", "stmflash-line")
 # how long a host waits until the line counts as quiet, in ms: longer than a busy machine takes to answer
 WAIT = "1000"
+# runs the companion where pyserial knows the ports of tests/stand_ins
+STAND_INS = os.path.dirname(os.path.abspath(__file__))
+RUNNER = "import runpy, serial, sys; sys.path.insert(0, sys.argv.pop(1)); sys.dont_write_bytecode = True; " \
+         "serial.protocol_handler_packages.append('stand_ins'); sys.argv.pop(0); runpy.run_path(sys.argv[0], run_name='__main__')"
+LATENCY = "LAT  low"
+# the modules of which the companion is made
+sys.path.insert(0, os.path.dirname(LINE))
+sys.dont_write_bytecode = True
 
-
-def load(name):
-    """A program of the folder line/ as a module."""
-    path = os.path.join(TOP, "line", name)
-    loader = importlib.machinery.SourceFileLoader(name.replace("-", "_").removesuffix(".py"), path)
-    module = importlib.util.module_from_spec(importlib.util.spec_from_loader(loader.name, loader))
-    before, sys.dont_write_bytecode = sys.dont_write_bytecode, True
-    try:
-        loader.exec_module(module)
-    finally:
-        sys.dont_write_bytecode = before
-    return module
-
-
-pty_boards = load("pty_boards.py")
+import pty_boards
 
 
 def find_python():
@@ -83,10 +75,11 @@ class LinePlace(Place):
         self.addCleanup(lambda: os.close(master))
         return master
 
-    def start(self, *words, line=(LINE,), before=default_signals, **settings):
-        """Starts the companion on these words."""
+    def start(self, *words, line=(LINE,), before=default_signals, reads=False, **settings):
+        """Starts the companion on these words, with these variables; `reads`: what it reads is ours to write."""
         settings = {"PATH": os.environ["PATH"], "TMPDIR": self.path("temporary"), **settings}
-        started = subprocess.Popen([PYTHON, *line, *words], cwd=self.folder, env=settings, stdin=subprocess.DEVNULL,
+        given = subprocess.PIPE if reads else subprocess.DEVNULL
+        started = subprocess.Popen([PYTHON, *line, *words], cwd=self.folder, env=settings, stdin=given,
                                    stdout=subprocess.PIPE, stderr=subprocess.PIPE, preexec_fn=before)
 
         def end():
@@ -161,6 +154,36 @@ class LinePlace(Place):
     def assertLineFault(self, said, text, status=1):
         """This one line was all that the companion said."""
         self.assertEqual(said, Said(status, b"", b"stmflash-line: " + text.encode() + b"\n"))
+
+
+class WiredPlace(LinePlace):
+    """The port ttyUSB0 is a pseudo-terminal, plain or with a board behind, that pyserial takes to have RTS and DTR. Its moves are
+    noted in `calls`."""
+
+    def setUp(self):
+        super().setUp()
+        self.wired = f"wired://{self.path('ttyUSB0')}?file={self.path('calls')}"
+        self.master = self.port()
+
+    def port(self):
+        """What stands behind the port: an end of ours, without another word."""
+        return self.plain()
+
+    def play(self, *words, **more):
+        """Runs the companion on this port and these words."""
+        return self.ended(self.begin(*words, **more))
+
+    def begin(self, *words, **more):
+        return self.begin_on(self.wired, *words, **more)
+
+    def begin_on(self, port, *words, **more):
+        return self.start(STAND_INS, LINE, port, *words, line=("-c", RUNNER), **more)
+
+    def calls(self, name="calls"):
+        """The calls that move something on the line, and when each was made, in seconds."""
+        lines = [text.split(" ", 1) for text in (self.held(name) or b"").decode().splitlines()]
+        lines = [(when, " ".join(call.split())) for when, call in lines if call != LATENCY]
+        return [call for _, call in lines], [float(when) for when, _ in lines]
 
 
 def end_with(started, number):

@@ -1,10 +1,15 @@
 """The completions of the shells name every subcommand, option and protection that the program and stmflash-line tell in their help."""
 
 import os
+import pty
 import re
+import select
+import shlex
 import shutil
+import signal
 import subprocess
 import sys
+import time
 
 from place import PATIENCE, TOP, Place
 
@@ -36,8 +41,7 @@ class Completions(Place):
 
     def line_options(self):
         ran = subprocess.run([sys.executable, LINE, "--help"], capture_output=True, text=True, timeout=PATIENCE)
-        if ran.returncode:
-            self.skipTest(f"stmflash-line doesn't run here: {ran.stderr.strip()}")
+        self.assertEqual((ran.returncode, ran.stderr), (0, ""))
         return options(ran.stdout)
 
     def shell(self, name, *words):
@@ -51,9 +55,61 @@ class Completions(Place):
     def bash(self, *words, function="_stmflash"):
         return self.shell("bash", "-c", BASH, "bash", os.path.join(FOLDER, "stmflash.bash"), function, *words)
 
-    def fish(self, words, name="stmflash.fish"):
-        offered = self.shell("fish", "--no-config", "-c", 'source $argv[1]; complete -C $argv[2]', os.path.join(FOLDER, name), words)
-        return {line.split("\t")[0] for line in offered}
+    def fish(self, words):
+        """What fish offers, where the completions of both programs are installed."""
+        script = 'source $argv[1]; source $argv[2]; complete -C $argv[3]'
+        files = [os.path.join(FOLDER, name) for name in ("stmflash.fish", "stmflash-line.fish")]
+        return {line.split("\t")[0] for line in self.shell("fish", "--no-config", "-c", script, *files, words)}
+
+    def zsh_makes(self, typed, made):
+        """Types this into zsh, and a tab, and waits for what it makes of it."""
+        process, terminal = pty.fork()
+        if process == 0:
+            os.chdir(self.folder)
+            os.execvpe("zsh", ["zsh", "-f", "-i"], {"PATH": os.environ["PATH"], "TERM": "dumb", "HOME": self.folder})
+        try:
+            begin = f"PS1=; fpath=({shlex.quote(FOLDER)} $fpath); autoload -U compinit; compinit -u -D; print rea''dy\n"
+            os.write(terminal, begin.encode())
+            self.wait_for(terminal, b"ready")
+            os.write(terminal, typed.encode() + b"\t")
+            self.wait_for(terminal, made.encode())
+        finally:
+            os.kill(process, signal.SIGKILL)
+            os.waitpid(process, 0)
+            os.close(terminal)
+
+    def wait_for(self, terminal, text):
+        held, end = b"", time.monotonic() + PATIENCE
+        while text not in held:
+            ready, _, _ = select.select([terminal], [], [], max(0, end - time.monotonic()))
+            self.assertTrue(ready, f"{text} doesn't come: {held}")
+            held += os.read(terminal, 4096)
+
+    def test_what_follows_in_a_call_of_the_line(self):
+        """Behind `--` stands a command, which is completed as it is by itself: subcommands, options and files."""
+        self.store("an-image.hex", b"")
+        for typed, offered in (("ver", "verify"), ("write --fre", "--fresh"), ("write an-im", "an-image.hex")):
+            line = f"stmflash-line /dev/ttyUSB0 --baud 9600 -- stmflash {typed}"
+            with self.subTest(shell="bash", typed=typed):
+                self.assertEqual(self.bash(*line.split(" "), function="_stmflash_line"), {offered})
+
+    def test_what_follows_in_fish(self):
+        self.store("an-image.hex", b"")
+        for typed, offered in (("ver", "verify"), ("write --fre", "--fresh"), ("write an-im", "an-image.hex")):
+            with self.subTest(typed=typed):
+                self.assertEqual(self.fish(f"stmflash-line /dev/ttyUSB0 --baud 9600 -- stmflash {typed}"), {offered})
+        self.assertIn("true", self.fish("stmflash-line /dev/ttyUSB0 -- tru"))
+        self.assertNotIn("--baud", self.fish("stmflash-line /dev/ttyUSB0 -- stmflash info --"))
+
+    def test_what_follows_in_zsh(self):
+        if not shutil.which("zsh"):
+            self.skipTest("zsh isn't installed")
+        self.store("an-image.hex", b"")
+        for typed, offered in (("ver", "verify "), ("write --fre", "--fresh "), ("write an-im", "an-image.hex ")):
+            with self.subTest(typed=typed):
+                before = typed.rpartition(" ")[0]
+                made = f"-- stmflash {before + ' ' if before else ''}{offered}"
+                self.zsh_makes(f"stmflash-line /dev/ttyUSB0 --baud 9600 -- stmflash {typed}", made)
 
     def test_bash_offers_what_the_program_takes(self):
         subcommands = self.subcommands()
@@ -85,7 +141,7 @@ class Completions(Place):
 
     def test_fish_offers_what_the_line_takes(self):
         taken = self.line_options()
-        self.assertEqual(self.fish("stmflash-line -", "stmflash-line.fish"), taken)
+        self.assertEqual(self.fish("stmflash-line -"), taken)
 
     def test_zsh_names_what_the_program_takes(self):
         self.shell("zsh", "-n", os.path.join(FOLDER, "_stmflash"))

@@ -46,7 +46,7 @@ class Faults(LinePlace):
         for port, kind in (("folder", "folder"), ("table", "file"), ("pipe", "file")):
             self.assertBegins(self.line(port, "--", "true"), f"{port}: is not a serial port but a {kind}; this machine has ")
         self.assertUnusable("/dev/null", "/dev/null: is not a serial port")
-        for port in ("loop://", "socket://localhost:1", "none://here"):
+        for port in ("loop://", "none://here"):
             self.assertUnusable(port, f"{port}: is not a serial port of this machine")
 
     def test_held_by_another_line(self):
@@ -81,8 +81,9 @@ class Faults(LinePlace):
     def test_no_permission(self):
         """The group that would have it is named, and who has to join it."""
         self.plain()
-        # a copy that everyone may run, since root has permission for everything
+        # a copy that everyone may read, since root has permission for everything
         shutil.copy(LINE, self.path("line"))
+        shutil.copytree(os.path.join(os.path.dirname(LINE), "stmflash_line"), self.path("stmflash_line"))
         before, user = None, pwd.getpwuid(os.geteuid()).pw_name
         place = os.stat(self.path("ttyUSB0"))
         group = grp.getgrgid(place.st_gid).gr_name
@@ -106,9 +107,10 @@ class Faults(LinePlace):
     def test_no_signals(self):
         """A pseudo-terminal has neither RTS nor DTR."""
         self.plain()
-        for words, name in ((("--boot", "rts"), "RTS"), (("--boot=-dtr",), "DTR"), (("--after", "-rts"), "RTS")):
+        for words, name in ((("--boot", "rts"), "RTS"), (("--boot=-dtr",), "DTR"), (("--after", "-rts"), "RTS"),
+                            (("--wiring", "dtr-reset"), "DTR")):
             said = self.line("ttyUSB0", *words, "--", "true")
-            self.assertLineFault(said, f"ttyUSB0: has no {name}; leave --boot and --after out")
+            self.assertLineFault(said, f"ttyUSB0: has no {name}; leave --wiring, --boot and --after out")
 
     def test_bad_words(self):
         self.plain()

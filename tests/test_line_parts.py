@@ -12,17 +12,17 @@ import signal
 import socket
 import termios
 import time
+import types
 import unittest
+from unittest import mock
 
-from boards import LINE, LinePlace, load
-from place import ERASED, PATIENCE
-
-line = load("stmflash-line")
-LATENCY = "LAT  low"
-STAND_INS = os.path.dirname(os.path.abspath(__file__))
-# runs the companion where pyserial knows the ports of tests/stand_ins
-RUNNER = "import runpy, serial, sys; sys.path.insert(0, sys.argv.pop(1)); sys.dont_write_bytecode = True; " \
-         "serial.protocol_handler_packages.append('stand_ins'); sys.argv.pop(0); runpy.run_path(sys.argv[0], run_name='__main__')"
+from boards import LATENCY, WiredPlace
+from place import PATIENCE
+from stmflash_line import opening
+from stmflash_line.join import Join
+from stmflash_line.port import Port
+from stmflash_line.sequences import read_sequence
+from stmflash_line.unmark import Unmark
 
 
 class Sequences(unittest.TestCase):
@@ -37,32 +37,15 @@ class Sequences(unittest.TestCase):
                 (",,", [wait, wait]),
                 ("brk,-brk&rts", [("brk", True), wait, ("rts", True)])):
             with self.subTest(text=text):
-                self.assertEqual(line.read_sequence(text), steps)
+                self.assertEqual(read_sequence(text), steps)
 
     def test_no_signals(self):
         for text in ("-", "cts", "rts dtr", "4", "-3,3", "rts:dtr", "RTS", "--rts"):
             with self.subTest(text=text), self.assertRaises(ValueError):
-                line.read_sequence(text)
+                read_sequence(text)
 
 
-class Played(LinePlace):
-    def setUp(self):
-        super().setUp()
-        self.master = self.plain()
-        self.wired = f"wired://{self.path('ttyUSB0')}?file={self.path('calls')}"
-
-    def play(self, *words):
-        return self.ended(self.begin(*words))
-
-    def begin(self, *words):
-        return self.start(STAND_INS, LINE, self.wired, *words, line=("-c", RUNNER))
-
-    def calls(self, name="calls"):
-        """The calls that move something on the line, and when each was made, in seconds."""
-        lines = [text.split(" ", 1) for text in self.held(name).decode().splitlines()]
-        lines = [(when, " ".join(call.split())) for when, call in lines if call != LATENCY]
-        return [call for _, call in lines], [float(when) for when, _ in lines]
-
+class Played(WiredPlace):
     def test_before_and_after(self):
         """The calls and delays in this order, and no byte on the line before."""
         self.assertSilent(self.play("--boot", "rts,-dtr,,:dtr", "--", "cp", "calls", "before"))
@@ -106,7 +89,7 @@ class Played(LinePlace):
             self.assertEqual(mode[5], termios.B9600 if "--baud" in words else termios.B115200)
 
     def mode_during(self, *words):
-        started = self.start(STAND_INS, LINE, *words, "--", "sh", "-c", "echo; exec sleep 1000", line=("-c", RUNNER))
+        started = self.begin_on(words[0], *words[1:], "--", "sh", "-c", "echo; exec sleep 1000")
         self.assertEqual(started.stdout.readline(), b"\n")
         mode = termios.tcgetattr(self.master)
         started.terminate()
@@ -126,24 +109,6 @@ class Played(LinePlace):
             self.assertEqual((said.status, said.err), (128 + signal.SIGTERM, b""))
             self.assertEqual(self.calls()[0], calls)
 
-    def test_tells_that_the_board_is_fresh(self):
-        """Where RTS or DTR was lowered, and only there: both are up before."""
-        for boot, fresh in (("rts,-dtr", "1"), ("-rts&rts", "1"), ("rts,dtr", "no"), (",,", "no"), ("brk", "no")):
-            with self.subTest(boot=boot):
-                said = self.play("--boot", boot, "--", "sh", "-c", "echo ${STMFLASH_FRESH-no}")
-                self.assertTold(said, fresh + "\n")
-
-
-class Fresh(LinePlace):
-    def test_a_board_that_was_reset(self):
-        """The program takes the word that the board is fresh, and the session goes through."""
-        board = self.board()
-        self.assertEqual(board.store(), ERASED)
-        wired = f"wired://{self.path('ttyUSB0')}?file={self.path('calls')}"
-        words = (STAND_INS, LINE, wired, "--boot", "rts,-dtr", "--", *self.stmflash("info"))
-        said = self.ended(self.start(*words, line=("-c", RUNNER)))
-        self.assertEqual((said.status, said.out.split(b"\n")[0], said.err), (0, b"id 0412", b""))
-
 
 class Modes(unittest.TestCase):
     def test_a_driver_that_keeps_another_mode(self):
@@ -152,8 +117,8 @@ class Modes(unittest.TestCase):
         self.addCleanup(os.close, master)
         self.addCleanup(os.close, slave)
         with self.assertRaises(ValueError):
-            line.set_mode(slave, is_pty=False)
-        line.set_mode(slave, is_pty=True)
+            opening.set_mode(slave, is_pty=False)
+        opening.set_mode(slave, is_pty=True)
 
 
 class Unmarking(unittest.TestCase):
@@ -167,7 +132,7 @@ class Unmarking(unittest.TestCase):
         for marked, clean, bad in (*((marked, clean, 0) for marked, clean in self.CLEAN), *self.BAD):
             for parts in partings(marked):
                 with self.subTest(parts=parts):
-                    unmark, came, found = line.Unmark(), b"", 0
+                    unmark, came, found = Unmark(), b"", 0
                     for part in parts:
                         data, count = unmark.take(part)
                         came += data if not found else b""
@@ -204,8 +169,11 @@ class BadBytes(unittest.TestCase):
         (self.device, port), (self.client, ours) = pairs
         port.setblocking(False)
         ours.setblocking(False)
-        self.port = line.Port(Stub(port), "PORT", 9600)
-        self.join = line.Join(self.port, None)
+        self.port = Port(Stub(port), "PORT", 9600)
+        reader, writer = os.pipe()
+        self.addCleanup(os.close, reader)
+        self.addCleanup(os.close, writer)
+        self.join = Join(self.port, None, types.SimpleNamespace(reader=reader, number=None))
         self.join.client = ours
 
     def take(self, marked):
@@ -244,6 +212,50 @@ class BadBytes(unittest.TestCase):
         self.assertLeft(self.take(b"abc"), b"", 3)
         self.join.client = self.client
         self.assertEqual(self.take(b"d"), "")
+
+    def test_a_reset_for_a_client(self):
+        """Behind what went out before, and then all is dropped that came until its end; it is for the first byte alone."""
+        port = mock.Mock(**{"write.side_effect": len})
+        join = Join(port, None, mock.Mock(number=None), ["steps"])
+        join.client, join.is_first = self.join.client, True
+        join.out, join.into = bytearray(b"before"), bytearray(b"old")
+        join.send_rest = mock.Mock(side_effect=join.out.clear)
+        port.attach_mock(join.send_rest, "send_rest")
+        for _ in range(2):
+            self.client.sendall(b"?")
+            self.assertTrue(join.from_client())
+        self.assertEqual([name for name, _, _ in port.mock_calls], ["send_rest", "play", "forget", "write", "write"])
+        port.play.assert_called_once_with(["steps"], join.wake.pause)
+        self.assertEqual((join.out, join.into), (b"", b""))
+
+    def test_a_slow_client_gets_what_its_socket_had_no_room_for(self):
+        """As soon as it has room again, though nothing comes from the port."""
+        came = 0
+        while not self.join.into:
+            self.assertEqual(self.take(bytes(came // 60000 for _ in range(60000))), "")
+            came += 60000
+        held = b""
+        while len(held) < came:
+            held += self.client.recv(came)
+            if self.join.into:
+                before = len(self.join.into)
+                self.join.turn(time.monotonic() + 10)
+                self.assertLess(len(self.join.into), before)
+        self.assertEqual(held, b"".join(bytes([i]) * 60000 for i in range(came // 60000)))
+
+    def test_the_next_client_gets_none_of_the_former_ones(self):
+        """A client that took nothing is gone, with bytes for it that its socket had no room for."""
+        while not self.join.into:
+            self.assertEqual(self.take(60000 * b"a"), "")
+        self.client.close()
+        self.join.from_client()
+        self.assertIsNone(self.join.client)
+        self.assertEqual(self.take(b"nobody's"), "")
+        self.client, self.join.client = socket.socketpair()
+        self.client.settimeout(PATIENCE)
+        self.addCleanup(self.client.close)
+        self.assertEqual(self.take(b"new"), "")
+        self.assertEqual(self.client.recv(100), b"new")
 
     def test_nobody_is_told_while_nobody_is_there(self):
         ours, self.join.client = self.join.client, None

@@ -65,10 +65,11 @@ _stmflash_line() {
     case $before in
         --socket) _stmflash_files "$word"; return ;;
         --baud) _stmflash_words "$word" "9600 19200 38400 57600 115200"; return ;;
-        --boot | --after) return ;;
+        --wiring) _stmflash_words "$word" "dtr-reset,rts-boot0 rts-reset,dtr-boot0 dtr-reset rts-reset inverted-"; return ;;
+        --boot | --after | --idle) return ;;
     esac
     if [[ $word == -* ]]; then
-        _stmflash_words "$word" "--baud --boot --after --socket --help -h --"
+        _stmflash_words "$word" "--baud --wiring --boot --resets --after --idle --socket --help -h --"
     else
         _stmflash_ports "${word:-/dev/tty}"
     fi

@@ -1,0 +1,78 @@
+"""COMMAND: started with the way to the board, and ended with it."""
+
+import ctypes
+import os
+import shutil
+import signal
+import subprocess
+import sys
+import time
+
+from .faults import Fault, Gone, say
+
+# how long COMMAND has to end by itself once it was told to, in seconds
+GRACE = 5
+PR_SET_PDEATHSIG = 1
+
+
+def run(command, path, fresh, join):
+    """Runs COMMAND on the socket at this path, and answers its status. Where a signal ends us, or the port goes, it is
+    ended too."""
+    child, wake = start(command, path, fresh), join.wake
+    try:
+        until = None
+        while child.poll() is None:
+            if wake.number and until is None:
+                child.send_signal(wake.number)
+                until = time.monotonic() + GRACE
+            if until is not None and time.monotonic() > until:
+                child.kill()
+            join.turn(until)
+        join.finish()
+    except Gone:
+        # it sees the line closed and ends by itself, if it is stmflash
+        join.leave()
+        join.listener.close()
+        raise
+    finally:
+        end(child)
+    if wake.number:
+        return 128 + wake.number
+    return child.returncode if child.returncode >= 0 else 128 - child.returncode
+
+
+def start(command, path, fresh):
+    """COMMAND, with the socket's path for every {}. It is told to end where we are killed."""
+    words = [word.replace("{}", path) for word in command]
+    settings = {**os.environ, "STMFLASH_DEVICE": path}
+    if fresh:
+        settings["STMFLASH_FRESH"] = "1"
+    system, ourselves = ctypes.CDLL(None), os.getpid()
+
+    def tie():
+        system.prctl(PR_SET_PDEATHSIG, signal.SIGTERM)
+        if os.getppid() != ourselves:
+            os._exit(1)
+
+    try:
+        return subprocess.Popen(words, env=settings, preexec_fn=tie)
+    except OSError as error:
+        raise Fault(f"{words[0]}: {error.strerror}") from None
+
+
+def end(child):
+    """Waits until COMMAND has ended, and in the end sees to it."""
+    for insist in (child.terminate, child.kill):
+        try:
+            child.wait(GRACE)
+            return
+        except subprocess.TimeoutExpired:
+            insist()
+    child.wait()
+
+
+def find_program(command):
+    """A command that isn't there is told before the board is touched, with the status that env and xargs have for it."""
+    if shutil.which(command[0]) is None:
+        say(f"{command[0]}: no such command")
+        sys.exit(127)

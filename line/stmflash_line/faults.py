@@ -1,0 +1,27 @@
+"""How the line ends in place of an answer, and what is said then."""
+
+import contextlib
+import sys
+
+
+class Fault(Exception):
+    """Why the line can't be had, or ended: one line for a user."""
+
+
+class Gone(Exception):
+    """The port isn't there any more."""
+
+
+def say(text):
+    with contextlib.suppress(OSError):
+        print("stmflash-line: " + text, file=sys.stderr, flush=True)
+
+
+def number_of(error):
+    """The system's number of a fault, which pyserial puts now here, now there."""
+    while error is not None:
+        for number in (getattr(error, "errno", None), *error.args[:1]):
+            if isinstance(number, int):
+                return number
+        error = error.__context__
+    return None

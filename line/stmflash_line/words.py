@@ -1,0 +1,85 @@
+"""The words of the command line."""
+
+import argparse
+
+from .sequences import read_sequence, read_wiring
+
+# how long a client of a served socket may say nothing, in seconds, where no word says how long
+IDLE = 60
+USAGE = """stmflash-line PORT [--baud N] [HOW] [--after SEQUENCE] [--idle SECONDS] -- COMMAND..
+       stmflash-line PORT [--baud N] [HOW] [--after SEQUENCE] [--idle SECONDS] --socket PATH
+
+HOW, which brings the board into its bootloader: --wiring WIRING | --boot SEQUENCE [--resets]"""
+EXAMPLE = """a board with reset at DTR and BOOT0 at RTS, and the same in stm32flash's notation:
+  stmflash-line /dev/ttyUSB0 --wiring dtr-reset,rts-boot0 -- stmflash write --journal board7.journal -v firmware.hex
+  stmflash-line /dev/ttyUSB0 --boot '-rts&dtr,-dtr,,:rts&dtr,-dtr' --resets -- stmflash info --journal board7.journal"""
+
+
+def make_parser():
+    parser = argparse.ArgumentParser(
+        prog="stmflash-line", allow_abbrev=False, usage=USAGE, epilog=EXAMPLE,
+        formatter_class=argparse.RawDescriptionHelpFormatter,
+        description="Joins a serial port to a Unix socket for stmflash, and runs COMMAND with its path for every {}.")
+    parser.add_argument("port", metavar="PORT", help="a serial port, as /dev/ttyUSB0, or rfc2217://HOST:PORT, socket://HOST:PORT")
+    parser.add_argument("--baud", type=int, default=115200, metavar="N", help="its speed; 115200 without it")
+    parser.add_argument("--wiring", metavar="WIRING",
+                        help="what reset and BOOT0 hang on: dtr-reset,rts-boot0, with inverted- before what goes through an "
+                        "inverter; the board is reset into its bootloader, and in the end into its program")
+    parser.add_argument("--boot", metavar="SEQUENCE",
+                        help="how RTS, DTR and break are moved once the port is open: '-rts&dtr,-dtr,,:rts&dtr,-dtr'")
+    parser.add_argument("--resets", action="store_true",
+                        help="--boot is a reset: it is played for each client, and undo takes the board for fresh from reset. "
+                        "Wrong, it can cost a page")
+    parser.add_argument("--after", metavar="SEQUENCE", help="the same for the end; also what follows ':' in --boot")
+    parser.add_argument("--socket", metavar="PATH", help="serves this socket, one client after another, until a signal comes")
+    parser.add_argument("--idle", type=int, metavar="SECONDS",
+                        help="lets go of a client that has sent nothing for so long; with --socket 60 without it; 0: never")
+    return parser
+
+
+def read_words(words):
+    """What the command line asks for. What follows `--` is COMMAND."""
+    at = words.index("--") if "--" in words else len(words)
+    own, command = words[:at], words[at + 1:]
+    parser = make_parser()
+    given = parser.parse_args(joined(own))
+    given.command = command
+    if (given.socket is not None) == bool(command):
+        parser.error("either --socket PATH or -- COMMAND")
+    if not 1 <= given.baud <= 4000000:
+        parser.error("--baud is 1 to 4000000")
+    if given.idle is None:
+        given.idle = IDLE if given.socket is not None else 0
+    if given.idle < 0:
+        parser.error("--idle is a number of seconds, or 0")
+    try:
+        settle_sequences(given)
+    except ValueError as error:
+        parser.error(str(error))
+    return given
+
+
+def settle_sequences(given):
+    """What is played, and whether it is a reset, by whichever words say so."""
+    if given.wiring is not None:
+        if given.boot is not None or given.resets:
+            raise ValueError("--wiring says what is played, and that it resets: leave --boot and --resets out")
+        entry, leave = read_wiring(given.wiring)
+        given.resets = True
+    else:
+        if given.resets and given.boot is None:
+            raise ValueError("--resets says of --boot that it resets the board")
+        entry, colon, leave = (given.boot or "").partition(":")
+        if colon and given.after is not None:
+            raise ValueError("--after, and a ':' in --boot: one of them says how the board is left")
+    given.boot = read_sequence(entry)
+    given.after = read_sequence(leave if given.after is None else given.after)
+
+
+def joined(words):
+    """The words with each sequence made one with its option: it may begin with '-', which would be taken for an option."""
+    words = list(words)
+    for at in reversed(range(len(words) - 1)):
+        if words[at] in ("--boot", "--after"):
+            words[at:at + 2] = [words[at] + "=" + words[at + 1]]
+    return words

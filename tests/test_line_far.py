@@ -1,0 +1,242 @@
+"""stmflash-line on ports that another machine has: over pyserial's far end, ser2net, and a plain connection of ours."""
+
+import concurrent.futures
+import os
+import re
+import shutil
+import signal
+import socket
+import subprocess
+import termios
+import unittest
+
+from boards import PYTHON, STAND_INS, LinePlace
+from place import COUNTING, PATIENCE, Said
+
+NO_RFC2217 = "speaks no RFC 2217; the bytes of a port alone are socket://HOST:PORT"
+UNKNOWN = "parity, speed and errors are the far end's: a byte that came with an error may be handed on"
+TELLS = "the far end tells of bytes that came with an error, but may hand them on before"
+SILENT = "the far end doesn't tell of bytes that came with an error, and may hand them on"
+CLOSED = "the far end closed the line; `stmflash undo` takes back what was begun"
+
+
+class FarPlace(LinePlace):
+    def told(self, url, *texts):
+        """What the companion says, line by line."""
+        return "".join(f"stmflash-line: {url}: {text}\n" for text in texts).encode()
+
+    def serve_far(self, url, *words):
+        started = self.start(url, "--socket", "board", *words)
+        self.until(lambda: started.poll() is not None or self.listens(), "the companion doesn't listen")
+        return started
+
+    def exchange(self, client, sent, count):
+        """So many bytes that come back for these."""
+        client.sendall(sent)
+        held = b""
+        while len(held) < count and (data := client.recv(count - len(held))):
+            held += data
+        return held
+
+
+class Plain(FarPlace):
+    """socket://, whose other end is ours."""
+
+    def setUp(self):
+        super().setUp()
+        self.listener = socket.create_server(("127.0.0.1", 0))
+        self.addCleanup(self.listener.close)
+        self.listener.settimeout(PATIENCE)
+        self.url = f"socket://127.0.0.1:{self.listener.getsockname()[1]}"
+
+    def taken(self):
+        end, _ = self.listener.accept()
+        self.addCleanup(end.close)
+        end.settimeout(PATIENCE)
+        return end
+
+    def test_bytes_both_ways(self):
+        started = self.serve_far(self.url)
+        end, client, data = self.taken(), self.connect(), bytes(range(256)) * 100
+        client.sendall(data)
+        self.assertEqual(end.recv(len(data), socket.MSG_WAITALL), data)
+        end.sendall(data)
+        self.assertEqual(client.recv(len(data), socket.MSG_WAITALL), data)
+        started.terminate()
+        self.assertEqual(self.ended(started), Said(0, b"", self.told(self.url, UNKNOWN)))
+        self.assertEqual(end.recv(1), b"")
+
+    def test_an_end_that_goes(self):
+        started = self.serve_far(self.url)
+        end, client = self.taken(), self.connect()
+        client.sendall(b"?")
+        self.assertEqual(end.recv(1), b"?")
+        end.close()
+        self.assertEqual(client.recv(1), b"")
+        self.assertEqual(self.ended(started), Said(1, b"", self.told(self.url, UNKNOWN, CLOSED)))
+
+    def test_moves_nothing(self):
+        for words, name in ((("--wiring", "dtr-reset"), "DTR"), (("--boot", ",rts"), "RTS"), (("--after", "brk"), "BRK")):
+            said = self.line(self.url, *words, "--", "true")
+            text = f"has no {name}; leave --wiring, --boot and --after out"
+            self.assertEqual(said, Said(1, b"", self.told(self.url, UNKNOWN, text)))
+
+    def test_what_waits_to_go_out_at_that_speed(self):
+        """The end is told only when the bytes had the time of a line: 60 of them at 300 baud take two seconds."""
+        script = "import socket, sys; s = socket.socket(socket.AF_UNIX); s.connect(sys.argv[1]); s.sendall(bytes(60))"
+        started = self.start(self.url, "--baud", "300", "--", "python3", "-c", script, "{}")
+        end = self.taken()
+        self.assertEqual(end.recv(60, socket.MSG_WAITALL), bytes(60))
+        end.settimeout(1)
+        with self.assertRaises(TimeoutError):
+            end.recv(1)
+        self.assertEqual(self.ended(started).status, 0)
+
+    def test_words_that_name_no_far_port(self):
+        for url in ("socket://", "socket://here", "socket://:1", "rfc2217://here:0", "rfc2217://here:65536",
+                    "rfc2217://here:1?logging=debug", "socket://here:1/", "socket://user@here:1"):
+            kind = url.partition(":")[0]
+            self.assertLineFault(self.line(url, "--", "true"), f"{url}: is no far port: {kind}://HOST:PORT is")
+
+    def test_nobody_there(self):
+        port = self.listener.getsockname()[1]
+        self.listener.close()
+        for url in (self.url, f"rfc2217://127.0.0.1:{port}"):
+            self.assertLineFault(self.line(url, "--", "true"), f"{url}: Connection refused")
+
+
+class Rfc2217(FarPlace):
+    """rfc2217://, whose other end is pyserial's (tests/stand_ins/far_end.py)."""
+
+    def far_end(self, *words):
+        started = subprocess.Popen([PYTHON, "-W", "ignore", os.path.join(STAND_INS, "stand_ins", "far_end.py"), *words],
+                                   stdout=subprocess.PIPE, stderr=subprocess.PIPE)
+        self.addCleanup(started.communicate, timeout=PATIENCE)
+        self.addCleanup(started.kill)
+        self.url = f"rfc2217://127.0.0.1:{started.stdout.readline().decode().strip()}"
+        return started
+
+    def noted(self, end):
+        return end.communicate(timeout=PATIENCE)[0].decode().splitlines()
+
+    def test_asks_for_the_mode_and_moves_the_signals(self):
+        end = self.far_end()
+        said = self.line(self.url, "--baud", "57600", "--wiring", "dtr-reset,rts-boot0", "--", "sh", "-c", "echo $STMFLASH_FRESH")
+        self.assertEqual(said, Said(0, b"1\n", self.told(self.url, TELLS)))
+        noted = self.noted(end)
+        for setting in ("baudrate 57600", "parity E", "mask 30"):
+            self.assertIn(setting, noted)
+        sizes = {line for line in noted if line.startswith(("bytesize", "stopbits"))}
+        self.assertEqual(sizes, {"bytesize 8", "stopbits 1"})
+        moves = [line for line in noted if line.startswith(("rts ", "dtr "))]
+        self.assertEqual(moves, ["rts True", "dtr True", "rts False", "dtr False", "rts True", "dtr True", "dtr False"])
+
+    def test_bytes_both_ways(self):
+        """Each of them, also the one that telnet takes for its own."""
+        self.far_end()
+        started = self.serve_far(self.url)
+        data = bytes(set(range(256)) - set(b"!.")) * 20
+        with self.connect() as client:
+            self.assertEqual(self.exchange(client, data, len(data)), data)
+        started.terminate()
+        self.assertEqual(self.ended(started), Said(0, b"", self.told(self.url, TELLS)))
+
+    def test_an_error_that_is_told_of_ends_the_line(self):
+        self.far_end()
+        started = self.serve_far(self.url)
+        with self.connect() as client:
+            self.assertIn(self.exchange(client, b"!", 5), (b"", b"ab"))
+        with self.connect() as client:
+            self.assertEqual(self.exchange(client, b"on", 2)[-2:], b"on")
+        started.terminate()
+        bad = "1 bytes came with an error at 115200 baud: look at speed, wiring and ground"
+        self.assertEqual(self.ended(started), Said(0, b"", self.told(self.url, TELLS, bad)))
+
+    def test_an_end_that_goes(self):
+        self.far_end()
+        started = self.serve_far(self.url)
+        with self.connect() as client:
+            self.assertEqual(self.exchange(client, b"ab", 2), b"ab")
+            self.assertEqual(self.exchange(client, b".", 1), b"")
+        self.assertEqual(self.ended(started), Said(1, b"", self.told(self.url, TELLS, CLOSED)))
+
+    def test_an_end_that_tells_of_no_errors(self):
+        self.far_end("silent")
+        self.assertEqual(self.line(self.url, "--", "true"), Said(0, b"", self.told(self.url, SILENT)))
+
+
+@unittest.skipIf(shutil.which("ser2net") is None, "ser2net is not installed")
+class Ser2net(FarPlace):
+    """Debian's ser2net before pseudo-terminals with boards behind."""
+
+    def setUp(self):
+        super().setUp()
+        self.boards, urls, text = [], [], "%YAML 1.1\n---\n"
+        for kind, name, accepter in (("rfc2217", "a", "telnet(rfc2217),tcp"), ("socket", "b", "tcp")):
+            self.store(name + ".flash", COUNTING)
+            self.boards.append(self.board(name))
+            port = free_port()
+            urls.append(f"{kind}://127.0.0.1:{port}")
+            text += f"connection: &{name}\n  accepter: {accepter},127.0.0.1,{port}\n" \
+                    f"  connector: serialdev,{self.path(name)},9600n81,local\n"
+        self.store("ser2net.yaml", text.encode())
+        started = subprocess.Popen(["ser2net", "-n", "-c", self.path("ser2net.yaml"), "-P", self.path("ser2net.pid")],
+                                   stdin=subprocess.DEVNULL, stdout=subprocess.DEVNULL, stderr=subprocess.DEVNULL)
+        self.addCleanup(started.wait, PATIENCE)
+        self.addCleanup(started.kill)
+        self.rfc2217, self.socket = urls
+        for url in urls:
+            self.until(lambda: is_listened_at(int(url.rpartition(":")[2])) or started.poll() is not None, "ser2net doesn't listen")
+        self.assertIsNone(started.poll())
+
+    def test_a_write_and_its_undo(self):
+        self.store("image", b"\xff\x00" * 1000)
+
+        def use(board, url):
+            journal = url[:3]
+            write = self.stmflash("write", "-v", "-f", "-S", "0x08000000", "image", journal=journal)
+            written = self.once_free(url, "--", *write), board.store()
+            return *written, self.once_free(url, "--", *self.stmflash("undo", journal=journal)), board.store()
+
+        with concurrent.futures.ThreadPoolExecutor(2) as pool:
+            used = list(pool.map(use, self.boards, (self.rfc2217, self.socket)))
+        for (written, flash, undone, back), url, text in zip(used, (self.rfc2217, self.socket), (SILENT, UNKNOWN)):
+            with self.subTest(url=url):
+                self.assertEqual(written, Said(0, b"segment 1: 2 pages written\nverified 2000 bytes\n", self.told(url, text)))
+                self.assertEqual(undone, Said(0, b"undone 1\n", self.told(url, text)))
+                self.assertTrue(flash == b"\xff\x00" * 1000 + COUNTING[2000:] and back == COUNTING)
+
+    def once_free(self, url, *words):
+        """A call, again where ser2net hasn't yet let go of the client before."""
+        for _ in range(20):
+            said = self.line(url, *words)
+            if b"speaks no RFC" not in said.err and b"far end closed" not in said.err:
+                break
+        return said
+
+    def test_the_speed_is_set(self):
+        started = self.start(self.rfc2217, "--baud", "57600", "--", "sh", "-c", "echo; exec sleep 1000")
+        self.assertEqual(started.stdout.readline(), b"\n")
+        self.assertEqual(termios.tcgetattr(self.boards[0].master)[5], termios.B57600)
+        started.send_signal(signal.SIGTERM)
+        self.ended(started)
+
+    def test_a_port_without_signals(self):
+        said = self.line(self.rfc2217, "--wiring", "dtr-reset,rts-boot0", "--", "true")
+        text = "has no RTS; leave --wiring, --boot and --after out"
+        self.assertEqual(said, Said(1, b"", self.told(self.rfc2217, SILENT, text)))
+
+    def test_one_that_speaks_no_rfc2217(self):
+        url = self.socket.replace("socket", "rfc2217")
+        self.assertLineFault(self.line(url, "--", "true"), f"{url}: {NO_RFC2217}")
+
+
+def free_port():
+    with socket.create_server(("127.0.0.1", 0)) as listener:
+        return listener.getsockname()[1]
+
+
+def is_listened_at(port):
+    """Whether somebody listens, without a connection that he would take for a client."""
+    with open("/proc/net/tcp", encoding="ascii") as table:
+        return re.search(rf":{port:04X} 00000000:0000 0A ", table.read()) is not None

@@ -1,0 +1,394 @@
+"""Whether a board is fresh from reset, which stmflash-line says by an explicit word alone: wirings, --resets, and what both bring
+to clients; each wiring's moves beside those of stm32flash."""
+
+import concurrent.futures
+import os
+import random
+import re
+import shutil
+import signal
+import subprocess
+import tempfile
+import time
+import tty
+import unittest
+
+from boards import LINE, PYTHON, LinePlace, WiredPlace
+from place import COUNTING, ERASED, PATIENCE, TOP
+from stmflash_line.sequences import DELAY, read_sequence, read_wiring
+
+STOPS = int(os.environ.get("STMFLASH_LINE_STOPS", "12"))
+# the sequences into the bootloader, and out of it
+WIRINGS = {
+    "dtr-reset,rts-boot0": ("-rts&dtr,-dtr,,", "rts&dtr,-dtr"),
+    "dtr-reset,inverted-rts-boot0": ("rts&dtr,-dtr,,", "-rts&dtr,-dtr"),
+    "inverted-dtr-reset,rts-boot0": ("-rts&-dtr,dtr,,", "rts&-dtr,dtr"),
+    "inverted-dtr-reset,inverted-rts-boot0": ("rts&-dtr,dtr,,", "-rts&-dtr,dtr"),
+    "rts-reset,dtr-boot0": ("-dtr&rts,-rts,,", "dtr&rts,-rts"),
+    "rts-reset,inverted-dtr-boot0": ("dtr&rts,-rts,,", "-dtr&rts,-rts"),
+    "inverted-rts-reset,dtr-boot0": ("-dtr&-rts,rts,,", "dtr&-rts,rts"),
+    "inverted-rts-reset,inverted-dtr-boot0": ("dtr&-rts,rts,,", "-dtr&-rts,rts"),
+    "dtr-reset": ("dtr,-dtr,,", ""),
+    "rts-reset": ("rts,-rts,,", ""),
+    "inverted-dtr-reset": ("-dtr,dtr,,", ""),
+    "inverted-rts-reset": ("-rts,rts,,", ""),
+}
+EXAMPLE = "dtr-reset,rts-boot0"
+# the calls of the stand-in port at the example's entry
+ENTRY = ["RTS inactive", "DTR active", "DTR inactive"]
+TELL = ("sh", "-c", "echo ${STMFLASH_FRESH-no}")
+
+
+class Pins:
+    """A board's two pins, behind a wiring: a signal that is raised is low at the adapter's pin, and an inverter turns it."""
+
+    def __init__(self, wiring):
+        self.hangs = {}
+        for part in wiring.split(","):
+            signal, pin = part.removeprefix("inverted-").split("-")
+            self.hangs[pin] = (signal, part.startswith("inverted-"))
+        self.raised = {"rts": True, "dtr": True}
+        self.began = None
+
+    def is_high(self, pin):
+        signal, is_inverted = self.hangs[pin]
+        return self.raised[signal] == is_inverted
+
+    def play(self, text):
+        """What the board began last: it reads BOOT0 where its reset is let go of."""
+        held = 0.0
+        for name, value in read_sequence(text):
+            if name == "wait":
+                held += value
+                continue
+            was_high = self.is_high("reset")
+            self.raised[name] = value
+            if self.is_high("reset") and not was_high:
+                is_boot = "boot0" in self.hangs and self.is_high("boot0")
+                self.began = ("bootloader" if is_boot else "program", held >= DELAY)
+            if self.is_high("reset") != was_high:
+                held = 0.0
+
+
+class Wirings(unittest.TestCase):
+    def test_sequences(self):
+        for wiring, sequences in WIRINGS.items():
+            with self.subTest(wiring=wiring):
+                self.assertEqual(read_wiring(wiring), sequences)
+        self.assertEqual(read_wiring("rts-boot0,dtr-reset"), WIRINGS[EXAMPLE])
+
+    def test_what_they_do_at_the_pins(self):
+        """A reset of 100 ms with BOOT0 high, and one with BOOT0 low, wherever the signals were; reset isn't held behind."""
+        for wiring in WIRINGS:
+            for rts, dtr in ((False, False), (False, True), (True, False), (True, True)):
+                with self.subTest(wiring=wiring, rts=rts, dtr=dtr):
+                    pins = Pins(wiring)
+                    pins.raised = {"rts": rts, "dtr": dtr}
+                    entry, leave = read_wiring(wiring)
+                    pins.play(entry)
+                    self.assertEqual(pins.began, ("bootloader" if "boot0" in pins.hangs else "program", True))
+                    self.assertTrue(pins.is_high("reset"))
+                    if leave:
+                        pins.began = None
+                        pins.play(leave)
+                        self.assertEqual(pins.began, ("program", True))
+                        self.assertFalse(pins.is_high("boot0"))
+                        self.assertTrue(pins.is_high("reset"))
+
+    def test_no_wirings(self):
+        for text in ("", "dtr", "reset", "rts-boot0", "inverted-dtr-boot0", "dtr-reset,dtr-boot0", "dtr-reset,rts-reset",
+                     "brk-reset", "dtr-reset,rts-boot1", "dtr-reset,", ",dtr-reset", "dtr-reset rts-boot0", "-dtr-reset", "DTR-reset",
+                     "dtr-reset,rts-boot0,rts-boot0", "inverted-inverted-dtr-reset"):
+            with self.subTest(text=text), self.assertRaises(ValueError):
+                read_wiring(text)
+
+
+class Words(WiredPlace):
+    def test_who_says_that_the_board_is_fresh(self):
+        """--resets and --wiring alone: no move does. The caller's own word is handed on."""
+        for boot in ("rts,-dtr", "-rts&rts", "-rts&dtr,-dtr", "rts,dtr", ",", "brk"):
+            with self.subTest(boot=boot):
+                self.assertTold(self.play("--boot", boot, "--", *TELL), "no\n")
+        self.assertTold(self.play("--after", "-rts", "--", *TELL), "no\n")
+        for words in (("--boot", "-rts&dtr,-dtr", "--resets"), ("--boot", "dtr", "--resets"), ("--wiring", EXAMPLE)):
+            with self.subTest(words=words):
+                self.assertTold(self.play(*words, "--", *TELL), "1\n")
+        self.assertTold(self.play("--", *TELL, STMFLASH_FRESH="1"), "1\n")
+
+    def test_what_a_wiring_plays(self):
+        """Into the bootloader before COMMAND, and out of it behind; --after has another way out."""
+        for wiring in (EXAMPLE, "inverted-rts-reset,dtr-boot0", "dtr-reset"):
+            with self.subTest(wiring=wiring):
+                entry, leave = WIRINGS[wiring]
+                self.assertSilent(self.play("--wiring", wiring, "--", "cp", "calls", "before"))
+                self.assertEqual(self.calls("before")[0], calls_of(entry))
+                self.assertEqual(self.calls()[0], calls_of(entry) + calls_of(leave))
+                self.remove("calls")
+        self.assertSilent(self.play("--wiring", EXAMPLE, "--after", "rts", "--", "true"))
+        self.assertEqual(self.calls()[0], ENTRY + ["RTS active"])
+
+    def test_bad_words(self):
+        for words in (("--resets",), ("--wiring", EXAMPLE, "--resets"), ("--wiring", EXAMPLE, "--boot", "dtr"),
+                      ("--wiring", "rts-boot0"), ("--wiring", ""), ("--wiring",)):
+            with self.subTest(words=words):
+                said = self.play(*words, "--", "true")
+                self.assertEqual((said.status, said.out), (2, b""))
+                self.assertIn(b"stmflash-line: error: ", said.err)
+                self.assertEqual(self.calls()[0], [])
+
+
+def calls_of(text):
+    """The calls of the stand-in port at a sequence."""
+    return [f"{name.upper()} {'active' if value else 'inactive'}" for name, value in read_sequence(text) if name != "wait"]
+
+
+# connects to a socket, sends so many bytes of one value, and takes as many as it is told; then it ends
+CLIENT = "import socket, sys; s = socket.socket(socket.AF_UNIX); s.connect(sys.argv[1]); " \
+         "s.sendall(sys.argv[2].encode() * int(sys.argv[3])); s.recv(int(sys.argv[4]), socket.MSG_WAITALL)"
+
+
+def client(value, count, taken=0):
+    return f"python3 -c '{CLIENT}' \"$STMFLASH_DEVICE\" {value} {count} {taken}"
+
+
+class Clients(WiredPlace):
+    def reset_count(self):
+        calls = self.calls()[0]
+        self.assertEqual(calls, ENTRY * (len(calls) // 3) + ENTRY[:len(calls) % 3])
+        return -(-len(calls) // 3)
+
+    def test_each_one_of_a_command_finds_the_board_fresh(self):
+        """Behind the last byte of the one before it, and before its own first; one that says nothing resets nothing."""
+        size = 200_000
+        script = f"{client('a', size)}; {client('-', 0)}; {client('b', 1)}"
+        started = self.begin("--wiring", EXAMPLE, "--after", "", "--", "sh", "-c", script)
+        self.read_from(self.master, size // 2)
+        self.assertEqual(self.reset_count(), 1)
+        self.assertEqual(set(self.read_from(self.master, size - size // 2)), {ord("a")})
+        self.assertEqual(self.read_from(self.master, 1), b"b")
+        self.assertEqual(self.reset_count(), 2)
+        self.assertSilent(self.ended(started))
+
+    def test_one_that_is_gone_before_its_turn_too(self):
+        """Also where COMMAND has ended, and the port has not yet taken what the client before has sent."""
+        size = 150_000
+        script = f"{client('a', size)}; {client('b', 1)}; echo"
+        started = self.begin("--wiring", EXAMPLE, "--after", "", "--", "sh", "-c", script)
+        self.assertEqual(started.stdout.readline(), b"\n")
+        self.read_from(self.master, size // 4)
+        self.assertEqual(self.reset_count(), 1)
+        self.assertEqual(set(self.read_from(self.master, size - size // 4)), {ord("a")})
+        self.assertEqual(self.read_from(self.master, 1), b"b")
+        self.assertSilent(self.ended(started))
+        self.assertEqual(self.reset_count(), 2)
+
+    def test_what_the_board_said_before_is_dropped(self):
+        script = f"{client('a', 1)}; echo next; read word; {client('b', 1, 3)}"
+        started = self.begin("--wiring", EXAMPLE, "--after", "", "--", "sh", "-c", script, reads=True)
+        self.assertEqual(self.read_from(self.master, 1), b"a")
+        self.assertEqual(started.stdout.readline(), b"next\n")
+        os.write(self.master, b"old")
+        started.stdin.write(b"on\n")
+        started.stdin.flush()
+        self.assertEqual(self.read_from(self.master, 1), b"b")
+        os.write(self.master, b"new")
+        self.assertSilent(self.ended(started))
+
+    def test_each_one_of_a_socket_where_the_sequence_resets(self):
+        """One that resets is played for each; another once."""
+        for words, due in ((("--resets",), (2, 3)), ((), (1, 1))):
+            with self.subTest(words=words):
+                started = self.begin("--socket", "board", "--boot", "-rts&dtr,-dtr", *words)
+                self.until(self.listens, "the companion doesn't listen")
+                for count in due:
+                    with self.connect() as one:
+                        for _ in range(2):
+                            one.sendall(b"?")
+                            self.assertEqual(self.read_from(self.master, 1), b"?")
+                            self.assertEqual(self.reset_count(), count)
+                started.terminate()
+                self.assertSilent(self.ended(started))
+                self.remove("calls")
+
+    def test_a_signal_in_the_midst_of_a_reset(self):
+        """The reset is let go of, and the client's bytes don't go out."""
+        started = self.begin("--socket", "board", "--boot", "dtr" + 5000 * "," + "-dtr", "--resets")
+        self.until(lambda: self.held("calls"), "nothing is played")
+        started.terminate()
+        self.assertSilent(self.ended(started))
+        self.assertEqual(self.calls()[0], ["DTR active", "DTR inactive"])
+        self.remove("calls")
+        script = f"{client('a', 1)}; {client('b', 1, 1)}"
+        started = self.begin("--boot", "dtr,-dtr" + 50 * ",", "--resets", "--", "sh", "-c", script)
+        self.until(lambda: len(self.calls()[0]) == 4, "the second client brings no reset")
+        started.terminate()
+        self.assertEqual(self.ended(started).status, 128 + signal.SIGTERM)
+        self.assertEqual(self.read_from(self.master, 1), b"a")
+        os.set_blocking(self.master, False)
+        with self.assertRaises(OSError):
+            os.read(self.master, 1)
+
+
+class Fresh(WiredPlace):
+    def port(self):
+        self.made = self.board()
+
+    def test_a_board_that_was_reset(self):
+        """The program takes the word that the board is fresh, and the session goes through."""
+        self.assertEqual(self.made.store(), ERASED)
+        said = self.play("--wiring", EXAMPLE, "--", *self.stmflash("info"))
+        self.assertEqual((said.status, said.out.split(b"\n")[0], said.err), (0, b"id 0412", b""))
+
+
+class Unwired(LinePlace):
+    """Boards whose reset hangs on nothing, though a sequence moves RTS and DTR: what was stopped is taken back by a call with the
+    same words. STMFLASH_LINE_STOPS says how many stops, 12 without it."""
+
+    def test_a_stop_is_taken_back_by_the_same_words(self):
+        seed = time.time_ns()
+        with concurrent.futures.ThreadPoolExecutor(4) as pool:
+            for number, told in enumerate(pool.map(lambda number: self.stop_and_undo(f"{seed} {number}"), range(STOPS))):
+                self.assertIsNone(told, f"stop {number} of seed {seed}")
+        # what the killed have left in the folder for what is temporary goes with the next call
+        self.plain("last")
+        self.line("last", "--", "true")
+
+    def moved(self, name, *words):
+        """Runs COMMAND on this port, which has RTS and DTR, behind a sequence that moves them."""
+        port = f"wired://{self.path(name)}?file={self.path('calls-' + name)}"
+        return WiredPlace.begin_on(self, port, "--boot", "-rts&dtr,-dtr", "--", *words)
+
+    def stop_and_undo(self, seed):
+        """A write of which the board got so many bytes: what is wrong behind its undo."""
+        chance = random.Random(seed)
+        name, place, journal = (f"{kind}-{seed.replace(' ', '-')}" for kind in ("port", "image", "journal"))
+        self.store(name + ".flash", COUNTING)
+        self.store(place, chance.randbytes(3000))
+        board = self.board(name)
+        count = chance.randint(1, 4200)
+        board.hear(count)
+        write = self.stmflash("write", "-f", "-S", "0x08001000", place, journal=journal, wait="300")
+        started = self.moved(name, "sh", "-c", 'echo $$; exec "$@"', "sh", *write)
+        child = int(started.stdout.readline())
+        self.until(lambda: board.left == 0 or not os.path.exists(f"/proc/{child}"), "the write neither stops nor ends")
+        started.kill()
+        started.communicate(timeout=PATIENCE)
+        self.until(lambda: not os.path.exists(f"/proc/{child}"), "the program goes on")
+        board.hear(None)
+        board.renew()
+        if self.is_there(journal):
+            # an answer that a busy machine brings too late is a fault of the line
+            for _ in range(5):
+                undo = self.ended(self.moved(name, *self.stmflash("undo", journal=journal, wait="300")))
+                if undo.status == 0:
+                    break
+            if undo.status != 0:
+                return f"after {count} bytes: {undo}"
+        flash = board.store()
+        board.stop()
+        return None if flash == COUNTING else f"after {count} bytes: the flash isn't what it was"
+
+    def test_page_127_stays(self):
+        """A device that waits for the page of an erase would take 7F for it, and the next 7F for the check."""
+        flash = bytes(i % 249 for i in range(128 * 1024))
+        self.store("table", b'[[chip]]\nid = 0x410\nbase = 0x08000000\npages = [[128, 1024]]\nerase = "page"\n')
+        self.store("ttyUSB0.flash", flash)
+        self.store("ttyUSB0.flash.line", b"rest 43BC00\n")
+        kept = flash[5 * 1024:6 * 1024].hex().upper().encode()
+        self.store("journal", b"stmjournal 2 0410\nopen 1\npage 5 " + kept + b"\nerase 5\n")
+        board = self.board(chip="0410")
+        said = self.ended(self.moved("ttyUSB0", *self.stmflash("undo")))
+        self.assertTold(said, "undone 1\n")
+        self.assertTrue(board.store() == flash)
+
+
+def find_recorder():
+    """Builds the recorder of signals, and answers its path."""
+    path = os.path.join(tempfile.mkdtemp(prefix="stmflash-signals-"), "signals.so")
+    source = os.path.join(TOP, "tests", "signals.c")
+    words = ["gcc", "-shared", "-fPIC", "-O1", source, "-o", path, "-ldl"]
+    ran = subprocess.run(words, stderr=subprocess.PIPE, timeout=PATIENCE)
+    if ran.returncode:
+        raise AssertionError(ran.stderr.decode())
+    return path
+
+
+@unittest.skipIf(shutil.which("stm32flash") is None, "stm32flash is not installed")
+@unittest.skipIf(shutil.which("gcc") is None or not os.path.exists("/usr/include/stdio.h"), "gcc or libc6-dev is not installed")
+class BesideStm32flash(LinePlace):
+    """The moves of a port, recorded below both programs: the same ones in the same order, each no earlier than the notation has
+    it."""
+
+    def setUp(self):
+        super().setUp()
+        self.recorder = find_recorder()
+        self.addCleanup(shutil.rmtree, os.path.dirname(self.recorder))
+
+    def recorded(self, *words):
+        """The moves of a program on a port, with what it said, and when each was made."""
+        master, slave = os.openpty()
+        tty.setraw(slave)
+        port = os.ttyname(slave)
+        log = self.path("moves-" + os.path.basename(port))
+        os.close(slave)
+        variables = {"PATH": os.environ["PATH"], "TMPDIR": self.path("temporary"), "LD_PRELOAD": self.recorder, "SIGNALS": log}
+        ran = subprocess.run([word.replace("PORT", port) for word in words], env=variables, stdin=subprocess.DEVNULL,
+                             capture_output=True, timeout=PATIENCE)
+        moves = [line.split() for line in (self.held(log) or b"").decode().splitlines()]
+        if moves:
+            os.remove(log)
+        os.close(master)
+        return ran, [move for _, move in moves], [int(when) for when, _ in moves]
+
+    def all_recorded(self, calls):
+        with concurrent.futures.ThreadPoolExecutor(4) as pool:
+            return list(pool.map(lambda words: self.recorded(*words), calls))
+
+    def test_moves(self):
+        """Each wiring by its name and by its sequence, and others. stm32flash finds no device, and leaves it all the same."""
+        named = [(f"{entry}:{leave}", ("--wiring", wiring)) for wiring, (entry, leave) in WIRINGS.items()]
+        others = ("rts,-dtr:-rts,dtr", "-rts,,,,dtr&rts:brk,-dtr", "brk&-brk,rts")
+        named += [(sequence, ("--boot", sequence)) for sequence in others]
+        theirs = self.all_recorded([("stm32flash", "-m", "8n1", "-i", sequence, "PORT") for sequence, _ in named])
+        by_boot = self.all_recorded([(PYTHON, LINE, "PORT", "--boot", sequence, "--", "true") for sequence, _ in named])
+        by_name = self.all_recorded([(PYTHON, LINE, "PORT", *words, "--", "true") for _, words in named])
+        for (sequence, _), *runs in zip(named, theirs, by_boot, by_name):
+            for ran, moves, times in runs:
+                with self.subTest(sequence=sequence, words=ran.args):
+                    self.assertEqual(moves, runs[0][1])
+                    self.assertNoEarlier(sequence.replace(":", "&"), moves, times)
+            for ran, _, _ in runs[1:]:
+                self.assertEqual((ran.returncode, ran.stderr), (0, b""))
+
+    def assertNoEarlier(self, sequence, moves, times):
+        """Between two moves lies at least what the notation has; a signal that stands so already doesn't move."""
+        raised, due, waited = {"rts": True, "dtr": True}, [], 0.0
+        for name, value in read_sequence(sequence):
+            if name == "wait":
+                waited += value
+            elif raised.get(name) != value:
+                due.append((name if value else "-" + name, waited))
+                waited = 0.0
+                if name != "brk":
+                    raised[name] = value
+        self.assertEqual(moves, [move for move, _ in due])
+        for (_, least), before, after in zip(due[1:], times, times[1:]):
+            # times are noted in whole milliseconds
+            self.assertGreaterEqual(after - before, least * 1000 - 1)
+
+
+class Pages(unittest.TestCase):
+    """One example of a wiring, and one sequence, wherever one is shown."""
+
+    def test_one_example(self):
+        entry, leave = WIRINGS[EXAMPLE]
+        for place in ("README.md", "docs/LINE.md", "docs/FLEET.md", "line/stmflash-line.1", "line/stmflash_line/words.py",
+                      "packaging/stmflash-line@.service"):
+            with self.subTest(place=place):
+                with open(os.path.join(TOP, place), encoding="utf-8") as held:
+                    text = held.read().replace("\\-", "-")
+                self.assertTrue(f"--wiring {EXAMPLE}" in text, "no example of a wiring")
+                # more than ten adapters are found, too
+                self.assertNotIn("ttyUSB?", text)
+                for sequence in re.findall(r"--boot[ =]'?([-a-z&]+,[-a-z&,:]+)", text):
+                    self.assertEqual(sequence, f"{entry}:{leave}")

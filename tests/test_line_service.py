@@ -1,0 +1,120 @@
+"""What serves a port for many: clients that say nothing, the package's unit and its udev rule."""
+
+import os
+import re
+import shlex
+import shutil
+import signal
+import subprocess
+
+from boards import WAIT, LinePlace, end_with
+from place import PATIENCE, TOP, Place, Said
+
+UNIT = os.path.join(TOP, "packaging", "stmflash-line@.service")
+RULES = os.path.join(TOP, "packaging", "70-stmflash.rules")
+
+
+def read(path):
+    with open(path, encoding="utf-8") as held:
+        return held.read()
+
+
+class Idle(LinePlace):
+    TEXT = "stmflash-line: ttyUSB0: let go of a client that sent nothing for 1 s\n"
+
+    def test_a_client_that_says_nothing_is_let_go_of(self):
+        """Whatever the board sends it meanwhile; whoever comes next has the line."""
+        master = self.plain()
+        started = self.serve("--idle", "1")
+        for said in (b"", b"?"):
+            with self.connect() as client, self.connect() as following:
+                client.sendall(said)
+                self.assertEqual(self.read_from(master, len(said)), said)
+                os.write(master, b"noise")
+                following.sendall(b"next")
+                while client.recv(9):
+                    pass
+                self.assertEqual(self.read_from(master, 4), b"next")
+                following.close()
+        self.assertEqual(end_with(started, signal.SIGTERM), 0)
+        self.assertEqual(started.stderr.read().decode(), 2 * self.TEXT)
+
+    def test_one_that_goes_on_is_not(self):
+        """Each of its bytes counts anew, and so does a port that takes none of them."""
+        master = self.plain()
+        self.serve("--idle", "2")
+        client = self.connect()
+        for _ in range(6):
+            client.sendall(b"?")
+            self.assertEqual(self.read_from(master, 1), b"?")
+            with self.assertRaises(TimeoutError):
+                client.settimeout(0.5)
+                client.recv(1)
+        client.settimeout(PATIENCE)
+        client.sendall(b"a" * 150_000)
+        with self.assertRaises(TimeoutError):
+            client.settimeout(3)
+            client.recv(1)
+        self.assertEqual(len(self.read_from(master, 150_000)), 150_000)
+
+    def test_how_long(self):
+        """A minute where a socket is served, and for ever behind --; 0 is for ever."""
+        from stmflash_line.words import read_words
+        for words, idle in ((["P", "--socket", "s"], 60), (["P", "--", "c"], 0), (["P", "--socket", "s", "--idle", "0"], 0),
+                            (["P", "--idle", "7", "--", "c"], 7), (["P", "--socket", "s", "--idle", "9"], 9)):
+            self.assertEqual(read_words(words).idle, idle)
+        for idle in ("-1", "1.5", "x", ""):
+            self.assertEqual(self.line("ttyUSB0", "--socket", "board", "--idle", idle).status, 2)
+
+
+class Unit(LinePlace):
+    def words_of_call(self, options=""):
+        """The words of the unit's call for ttyUSB0, with its port and socket here."""
+        text = re.search("^ExecStart=(.*)$", read(UNIT), re.M)[1]
+        text = text.replace("$LINE_OPTIONS", options).replace("/dev/%I", self.path("ttyUSB0"))
+        program, *words = shlex.split(text.replace("/run/stmflash-%i/socket", self.path("board")))
+        self.assertEqual(program, "/usr/bin/stmflash-line")
+        return words
+
+    def test_its_call(self):
+        """It serves the board, without options and with those that the unit shows."""
+        self.board()
+        for options in ("", "--baud 57600"):
+            with self.subTest(options=options):
+                started = self.start(*self.words_of_call(options))
+                self.until(lambda: started.poll() is not None or self.listens(), "the companion doesn't listen")
+                said = self.use("info", "--wait", WAIT, device="board")
+                self.assertEqual((said.status, said.err), (0, b""))
+                started.terminate()
+                self.assertEqual(self.ended(started), Said(0, b"", b""))
+        shown = re.search('LINE_OPTIONS=(--.*)"$', read(UNIT), re.M)[1]
+        said = self.line(*self.words_of_call(shown))
+        self.assertLineFault(said, f"{self.path('ttyUSB0')}: has no RTS; leave --wiring, --boot and --after out")
+
+
+class Confinement(Place):
+    def test_the_unit_is_confined(self):
+        """A user of its own, no capability, one port; systemd reckons its exposure at 2.0 of 10 at the most."""
+        lines = read(UNIT).splitlines()
+        for line in ("DynamicUser=yes", "Group=dialout", "CapabilityBoundingSet=", "NoNewPrivileges=yes", "ProtectSystem=strict",
+                     "DevicePolicy=closed", "DeviceAllow=/dev/%I rw", "SystemCallFilter=@system-service",
+                     "RestrictAddressFamilies=AF_UNIX"):
+            self.assertIn(line, lines)
+        self.assertFalse([line for line in lines if line.startswith(("User=", "AmbientCapabilities=", "PermissionsStartOnly="))])
+        tool = shutil.which("systemd-analyze")
+        if tool is None:
+            self.skipTest("systemd-analyze is not installed")
+        unit = self.path("stmflash-line@ttyUSB0.service")
+        shutil.copy(UNIT, unit)
+        ran = subprocess.run([tool, "security", "--offline=true", "--threshold=20", unit], capture_output=True, text=True,
+                             timeout=PATIENCE)
+        self.assertEqual(ran.returncode, 0, ran.stdout[-300:] + ran.stderr)
+
+    def test_the_rule_is_for_tagged_adapters_alone(self):
+        rules = [line for line in read(RULES).splitlines() if line and not line.startswith("#")]
+        self.assertEqual(len(rules), 2)
+        for rule in rules:
+            parts = rule.split(", ")
+            self.assertEqual(parts[:3], ['ACTION!="remove"', 'SUBSYSTEM=="tty"', 'TAG=="stmflash"'])
+        # one port is hidden from ModemManager, and no device with all that it has
+        self.assertNotIn("ID_MM_DEVICE_IGNORE", "".join(rules))
