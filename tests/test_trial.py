@@ -18,7 +18,8 @@ import time
 import tomllib
 import unittest
 
-from place import PATIENCE, TOP, Place, Said, program
+from boards import LinePlace
+from place import PATIENCE, TOP, Place, Said
 from served import Served
 
 PLANTED = os.path.join(TOP, "tests", "planted")
@@ -94,10 +95,10 @@ class TrialPlace(Served):
 
 
 class Simulators(TrialPlace):
-    def holds_on(self, number, pages):
+    def holds_on(self, number, size, erased=b"\xff"):
         """Each row that needs no hand holds on a chip of the table, and its flash is as it was."""
         self.store("table", self.chips())
-        before = random.Random(number).randbytes(pages // 3 * 2)
+        before = random.Random(number).randbytes(size // 3 * 2).ljust(size, erased)
         self.store("flash", before)
         self.serve(1, number=number)
         said = self.trial("--device", "board", *QUICK)
@@ -107,8 +108,7 @@ class Simulators(TrialPlace):
         self.assertEqual(names_of(found, "differs"), set())
         self.assertEqual(names_of(found, "not tried"), {"get-version", "size-register", "map", "reset-in-frame", "fresh-other", "power"})
         self.assertTrue(verdict.startswith(f"{FOLLOWS}: "), verdict)
-        held = self.held("flash")
-        self.assertTrue(held == self.held("saved") and held.startswith(before), "the flash isn't what it was")
+        self.assertTrue(self.held("flash") == self.held("saved") == before, "the flash isn't what it was")
 
     def chips(self):
         with open(os.path.join(TOP, "chips.toml"), "rb") as file:
@@ -124,7 +124,7 @@ class Simulators(TrialPlace):
         self.holds_on("0A01", 65536)
 
     def test_0416_which_erases_to_00(self):
-        self.holds_on("0416", 131072)
+        self.holds_on("0416", 131072, b"\x00")
 
 
 class Boards(Place):
@@ -310,6 +310,49 @@ class Words(TrialPlace):
         self.assertEqual(said.err.decode().splitlines(), [f"row {n + 1} of {count}: {name}" for n, name in enumerate(row_names())])
 
 
+class Ports(LinePlace):
+    """Through stmflash-line, on a pseudo-terminal with a simulated board behind it."""
+
+    WORDS = ("--table", "table", "--save", "saved", *QUICK)
+
+    def assertHolds(self, said, board):
+        self.assertEqual((said.status, said.err), (0, b""), said.out)
+        self.assertEqual(names_of(rows_of(said)[0], "differs"), set())
+        self.assertTrue(self.held("saved") == board.store() == self.before)
+
+    def setUp(self):
+        super().setUp()
+        self.before = random.Random(5).randbytes(32768)
+        self.store("ttyUSB0.flash", self.before)
+
+    def test_under_the_line(self):
+        """As the line's command; the board's way stands in STMFLASH_DEVICE, and its status is handed on."""
+        board = self.board()
+        self.assertHolds(self.line("ttyUSB0", "--", sys.executable, TRIAL, *self.WORDS), board)
+        said = self.line("ttyUSB0", "--", sys.executable, TRIAL, *self.WORDS)
+        self.assertEqual((said.status, said.out), (2, b""))
+
+    def test_it_opens_the_port(self):
+        board = self.board()
+        self.assertHolds(self.line("--port", "ttyUSB0", *self.WORDS, line=(TRIAL,)), board)
+        said = self.line("--port", "none", *self.WORDS, "--save", "other", line=(TRIAL,))
+        self.assertEqual((said.status, said.out), (2, b""))
+        self.assertTrue(said.err.endswith(b"stmflash-trial: stmflash-line didn't open the port\n"), said.err)
+
+    def test_killed_it_gives_the_port_back(self):
+        board = self.board()
+        started = self.start("--port", "ttyUSB0", *self.WORDS, line=(TRIAL,))
+        while b"saved in " not in started.stdout.readline():
+            self.assertIsNone(started.poll())
+        started.kill()
+        started.wait()
+        board.renew()
+        for folder in os.listdir(self.path("temporary")):
+            # stmflash-line has removed its socket, and what is left is empty
+            self.until(lambda folder=folder: not os.listdir(self.path(f"temporary/{folder}")), "the socket is left")
+            os.rmdir(self.path(f"temporary/{folder}"))
+
+
 class Told(TrialPlace):
     def test_the_file(self):
         """What it has, and that no byte of the flash, no path and no name of a file is in it, also where reads went wrong."""
@@ -319,7 +362,7 @@ class Told(TrialPlace):
         for name in ("none", "flips-a-bit-now-and-then", "any-count", "loses-each-10000th-down", "read-protected"):
             with self.subTest(name=name), planted(self.folder, name, "--pages", str(PAGES)) as board:
                 words = ("--device", "board", "--part", 'an "F0"', *QUICK, "--reset", f"kill -USR1 {board.pid}")
-                self.trial("--out", "found.toml", *words)
+                run(self.folder, "--table", "table", "--save", "kept-here", "--out", "found.toml", *words)
                 self.assertEqual(board.wait(PATIENCE), 0)
             text = self.held("found.toml").decode()
             found = tomllib.loads(text)
@@ -327,10 +370,9 @@ class Told(TrialPlace):
                              (1, 'an "F0"', 0x440, 0x31, 4000000))
             self.assertEqual([row["name"] for row in found["row"]], row_names())
             self.assertLessEqual({row["result"] for row in found["row"]}, {"holds", "differs", "not tried"})
-            for word in ("D7", "d7", "215", self.folder, "saved", "board", "kill", "/"):
-                self.assertNotIn(word, re.sub(r'(?m)^(found|reason) = ".*(the board|the saved file).*"$', "", text))
-            self.assertEqual([file for file in os.listdir(self.folder) if file.startswith("found.toml.")], [])
-            self.remove("board", *(["saved"] if self.is_there("saved") else []))
+            for word in ("D7", "d7", "215", "/", "kept-here", "found.toml", "kill"):
+                self.assertNotIn(word, text)
+            self.remove("board", *(["kept-here"] if self.is_there("kept-here") else []))
 
     def test_the_file_that_cannot_be_written(self):
         self.store("table", table("44"))

@@ -65,10 +65,10 @@ class Board:
         due = self.put(data)
         begun = time.monotonic() + len(data) * self.byte_time
         first = patience or (LONG_PATIENCE if name == "erase" else PATIENCE)
-        got = self.line.read(1, first if due else self.wait, 1)
+        got = self.line.read(1, first if due else self.wait, 2)
         if got and due and due[0] in (None, got[0]):
             self.note_time(name, time.monotonic() - begun)
-            got += self.line.read(len(due) - 1, 1 + len(due) * self.byte_time, 1)
+            got += self.line.read(len(due) - 1, 2 + len(due) * self.byte_time, 2)
         if len(got) != len(due) or any(want not in (None, byte) for want, byte in zip(due, got)):
             got += self.drain()
             sent = f"{len(data)} bytes" if name == "write" else frame_told(data)

@@ -27,7 +27,11 @@ class Line:
         self.socket = self.companion = self.folder = None
         if words.port:
             self.folder = tempfile.mkdtemp(prefix="stmflash-trial-")
-        self.open()
+        try:
+            self.open()
+        except Refused:
+            self.close()
+            raise
 
     def open(self):
         path = self.words.device
@@ -44,7 +48,8 @@ class Line:
             shutil.rmtree(self.folder, ignore_errors=True)
 
     def leave(self):
-        self.socket.close()
+        if self.socket:
+            self.socket.close()
         if self.companion:
             self.companion.terminate()
             self.companion.wait()

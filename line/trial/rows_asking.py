@@ -10,7 +10,7 @@ from row import NOTE, OPTION, row
 # how often each question is asked
 TIMES = 10
 # so many 7F a board may take that is connected, or fresh, or was left inside a question
-CONTACTS = 16
+CONTACTS = 12
 # batches as long as those of settling, of a byte that is no code
 BATCHES, BATCH, NO_CODE = 40, 256, 0x55
 NO_FRESH = "no --fresh (env -u STMFLASH_FRESH)"
@@ -29,7 +29,7 @@ def contact(board):
     odd, was = None, "connected"
     for number in range(1, CONTACTS + 1):
         board.line.write(bytes([CONNECT]))
-        came = board.line.read(1, max(1.0 if number == 1 else 0.5, board.wait), 1)
+        came = board.line.read(1, max(2 if number == 1 else 1, board.wait), 1)
         came += board.drain() if came else b""
         if came == bytes([NACK]):
             board.was_contacted = True
@@ -81,7 +81,7 @@ def identify(board):
     numbers = set()
     for _ in range(TIMES):
         board.line.write(bytes([GET_ID, GET_ID ^ 0xFF]))
-        came = board.line.read(5, 5, 0.5)
+        came = board.line.read(5, 5, 1)
         came += board.drain()
         if len(came) != 5 or came[:2] != bytes([ACK, 1]) or came[4] != ACK:
             raise Differs(f"Get ID is answered by {len(came)} bytes, where 5 are due: {told(came)}")
@@ -150,7 +150,7 @@ def refuse_count(board):
 def loss_up(board):
     for number in range(1, BATCHES + 1):
         board.put([NO_CODE] * BATCH)
-        came = board.line.read(BATCH // 2, 5, max(board.wait, 1))
+        came = board.line.read(BATCH // 2, 5, max(board.wait, 2))
         if came != bytes([NACK]) * (BATCH // 2):
             board.refusal = board.harm = "bytes are lost: a lower --baud, another cable or adapter, and try again"
             raise Differs(f"batch {number}: 128 times 1F are due, and {len(came)} bytes came")

@@ -40,8 +40,8 @@ class Settling:
         self.board, self.byte, self.limit = board, byte, limit
         self.count = self.misses = 0
         self.is_same, self.has_lost = True, False
-        # a reply may be late on a busy machine
-        self.patience = max(board.wait, 0.5)
+        # a reply that is due may be late on a busy machine: for the first of some, and for one behind another
+        self.patience, self.gap = max(board.wait, 2), max(board.wait, 0.7)
 
     def run(self):
         self.board.drain()
@@ -65,7 +65,7 @@ class Settling:
         if due:
             # behind 43 BC a page is named as often as its number says
             work = 2 + board.usual_time("erase") * (len(board.model.sizes) + 2) if ACK in due else 0
-            got = board.line.read(len(due), self.patience + work + took, self.patience)
+            got = board.line.read(len(due), self.patience + work + took, self.gap)
             got += board.line.read(4096, 0.002, board.wait)
         else:
             # nothing is due, unless the board has done otherwise already

@@ -118,8 +118,10 @@ def main():
     if words.flash and flash is None:
         store(words.flash, board)
     with socket.socket(socket.AF_UNIX, socket.SOCK_STREAM) as listener:
-        listener.bind(words.socket)
+        # whoever sees the name can connect
+        listener.bind(words.socket + ".unready")
         listener.listen()
+        os.rename(words.socket + ".unready", words.socket)
         for _ in range(words.clients):
             client, _ = listener.accept()
             with client:

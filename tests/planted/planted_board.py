@@ -229,7 +229,7 @@ class PlantedBoard:
         is_good = check == fold(body) ^ fold(less.to_bytes(width, "big")) or bool(self.sets["any_check"])
         pages = [int.from_bytes(body[at:at + width], "big") for at in range(0, len(body), width)]
         if self.sets["wraps"]:
-            pages = [page % 8 if page >= len(self.sizes) else page for page in pages]
+            pages = [page & 3 if page >= len(self.sizes) else page for page in pages]
         if max(pages) >= len(self.sizes) and not (self.sets["absent_ok"] and is_good):
             return False
         if not is_good and not self.sets["erase_first"]:
