@@ -61,8 +61,8 @@ def get(board):
         board.note_time("get", time.monotonic() - begun)
         came += board.line.read(came[1] + 2, 1, 1) if len(came) == 2 else b""
         more = board.drain()
-        # who answers late is waited for longer
-        board.wait = max(board.wait, 3 * board.usual_time("get"))
+        # who answers late each time is waited for longer
+        board.wait = max(board.wait, 3 * min(board.times["get"]))
         if len(came) < 4 or len(came) != came[1] + 4 or came[0] != ACK or came[-1] != ACK or more:
             raise Differs(f"Get is answered by {len(came) + len(more)} bytes: {told(came + more)}")
         lists.add(came)

@@ -34,7 +34,7 @@ def differing(board):
 
 def is_back(board, page):
     place = board.model.page(page)
-    return bytes(board.model.flash[place]) == board.saved[place]
+    return list(board.model.flash[place]) == list(board.saved[place])
 
 
 def is_blank(board, page):
@@ -56,8 +56,11 @@ def rewrite(board, page, grain):
 
 
 def put_back(board, settle):
-    """Puts back what was saved, and answers the pages that weren't as they were. An erase that does something else than it is
-    asked may spoil a page that was right: so the last ones are first, and all of them are looked at again, some times."""
+    """Puts back what was saved: the pages of which the model knows that they are otherwise, and then, where a reading of the whole
+    flash finds others, these, some times. Answers what that first reading found. An erase that does something else than it is
+    asked may spoil a page that was right: so the last pages are first."""
+    for page in reversed([page for page in range(len(board.model.sizes)) if not is_back(board, page)]):
+        put_page_back(board, page, settle)
     first = wrong = differing(board)
     for _ in range(PASSES):
         for page in reversed(wrong):
