@@ -7,8 +7,8 @@ import time
 
 import told
 from board import Board, pages_told
-from faults import Differs, Ended, Forbidden, NotTried, Odd, Refused
-from line import Line, ask
+from faults import Differs, Ended, NotTried, Odd, Refused
+from line import Line
 from progress import Progress
 from row import NOTE
 from rows import BACK, CONTACT, ERASED_BYTE, QUIET, ROWS, SAVE, TOLD
@@ -49,10 +49,10 @@ class Trial:
         if self.words.yes or self.words.only_read or self.board.model is None:
             return
         self.progress.clear()
-        ask_text = f"The flash is saved to {self.words.save}; page {pages_told(self.words.pages)} is erased, written and put back.\n" \
+        question = f"The flash is saved to {self.words.save}; page {pages_told(self.words.pages)} is erased, written and put back.\n" \
                    "Go on? yes or no:"
         try:
-            answer = input(ask_text + " ")
+            answer = input(question + " ")
         except EOFError:
             answer = ""
         if answer.strip().lower() not in ("y", "yes"):
