@@ -17,7 +17,7 @@
 #   make wrong-bodies
 #               has the prover refuse the wrong bodies of the gate and those that it leaves out (tools/wrong-bodies)
 #   make install PREFIX=/usr/local DESTDIR=
-#               what `make` left at bin/stmflash, the line to a serial port, manual pages, chips.toml, completions, unit, udev rule;
+#               what `make` left at bin/stmflash, the line to a serial port, the trial of a board, manual pages, chips.toml, completions, unit, udev rule;
 #               it proves and builds nothing, so that it needs no `rt`, also under sudo
 #   make deb    a Debian package of the proved program, in bin/ (dpkg-deb, binutils); of another one: STMFLASH_BINARY=
 #   make pictures
@@ -125,8 +125,14 @@ install:
 	install -d $(share)/stmflash/stmflash_line
 	install -m 644 line/stmflash_line/*.py $(share)/stmflash/stmflash_line
 	install -m 644 line/stmflash-line.1 $(share)/man/man1/stmflash-line.1
+	install -m 755 line/stmflash-trial $(DESTDIR)$(PREFIX)/bin/stmflash-trial
+	install -m 644 line/stmflash-trial.1 $(share)/man/man1/stmflash-trial.1
+	install -d $(share)/stmflash/trial
+	install -m 644 line/trial/*.py $(share)/stmflash/trial
 	ln -sf stmflash $(share)/bash-completion/completions/stmflash-line
+	ln -sf stmflash $(share)/bash-completion/completions/stmflash-trial
 	install -m 644 $(completions)/stmflash-line.fish $(share)/fish/vendor_completions.d/stmflash-line.fish
+	install -m 644 $(completions)/stmflash-trial.fish $(share)/fish/vendor_completions.d/stmflash-trial.fish
 	install -d $(lib)/systemd/system $(lib)/udev/rules.d
 	sed 's|/usr/bin/|$(PREFIX)/bin/|' packaging/stmflash-line@.service > $(lib)/systemd/system/stmflash-line@.service
 	install -m 644 packaging/70-stmflash.rules $(lib)/udev/rules.d/70-stmflash.rules

@@ -15,6 +15,7 @@ from place import PATIENCE, TOP, Place
 
 FOLDER = os.path.join(TOP, "packaging", "completions")
 LINE = os.path.join(TOP, "line", "stmflash-line")
+TRIAL = os.path.join(TOP, "line", "stmflash-trial")
 KINDS = {"write-unprotect", "readout-protect", "readout-unprotect"}
 # runs the completion of the words after the second, and prints what it offers
 BASH = '''. "$1"; shift; function=$1; shift
@@ -43,6 +44,13 @@ class Completions(Place):
         ran = subprocess.run([sys.executable, LINE, "--help"], capture_output=True, text=True, timeout=PATIENCE)
         self.assertEqual((ran.returncode, ran.stderr), (0, ""))
         return options(ran.stdout)
+
+    def trial_options(self):
+        ran = subprocess.run([sys.executable, TRIAL, "--help"], capture_output=True, text=True, timeout=PATIENCE)
+        self.assertEqual((ran.returncode, ran.stderr), (0, ""))
+        found = options(ran.stdout)
+        self.assertGreater(len(found), 20)
+        return found
 
     def shell(self, name, *words):
         """What a shell prints; the test is left out where it isn't installed."""
@@ -130,6 +138,18 @@ class Completions(Place):
         self.assertEqual(self.bash("stmflash-line", "-", function="_stmflash_line") - {"--"}, taken)
         offered = self.bash("stmflash-line", "/dev/ttyUSB0", "--", "stmflash", "ver", function="_stmflash_line")
         self.assertEqual(offered, {"verify"})
+
+    def test_all_offer_what_the_trial_takes(self):
+        """And its manual page has it."""
+        taken = self.trial_options()
+        with open(os.path.join(TOP, "line", "stmflash-trial.1"), encoding="utf-8") as file:
+            manual = file.read().replace("\\", "")
+        self.assertEqual([option for option in taken - {"-h", "--help"} if f" {option}" not in manual], [])
+        with open(os.path.join(FOLDER, "_stmflash"), encoding="utf-8") as file:
+            part = file.read().split("$service == stmflash-trial")[1].split("    fi\n")[0]
+        self.assertEqual(set(re.findall(r"(?<=')--[a-z-]+(?=\[)|(?<=\()-h|--help(?=\))", part)), taken)
+        self.assertEqual(self.bash("stmflash-trial", "-", function="_stmflash_trial"), taken)
+        self.assertEqual(self.fish("stmflash-trial -", "stmflash-trial.fish"), taken)
 
     def test_fish_offers_what_the_program_takes(self):
         subcommands = self.subcommands()

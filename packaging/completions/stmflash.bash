@@ -1,4 +1,4 @@
-# Completion of stmflash and stmflash-line for bash.
+# Completion of stmflash, stmflash-line and stmflash-trial for bash.
 
 _stmflash_files() { mapfile -t COMPREPLY < <(compgen -f -- "$1"); }
 _stmflash_words() { mapfile -t COMPREPLY < <(compgen -W "$2" -- "$1"); }
@@ -57,6 +57,7 @@ _stmflash_line() {
             case $COMP_CWORD:${COMP_WORDS[0]##*/} in
                 0:*) mapfile -t COMPREPLY < <(compgen -c -- "$word") ;;
                 *:stmflash) _stmflash ;;
+                *:stmflash-trial) _stmflash_trial ;;
                 *) _stmflash_files "$word" ;;
             esac
             return
@@ -75,5 +76,19 @@ _stmflash_line() {
     fi
 }
 
+_stmflash_trial() {
+    local word=${COMP_WORDS[COMP_CWORD]} before=${COMP_WORDS[COMP_CWORD-1]}
+    local where="--device --port --boot --baud --table --pages --skip --save --out --part --reset --wait --pause"
+    COMPREPLY=()
+    case $before in
+        --device | --table | --save | --out) _stmflash_files "$word"; return ;;
+        --port) _stmflash_ports "${word:-/dev/tty}"; return ;;
+        --baud) _stmflash_words "$word" "9600 19200 38400 57600 115200"; return ;;
+        --boot | --pages | --skip | --part | --reset | --wait | --pause) return ;;
+    esac
+    _stmflash_words "$word" "$where --map --every-byte --patient --only-read --yes --progress --quiet --rows --help -h"
+}
+
 complete -o filenames -F _stmflash stmflash
+complete -o filenames -F _stmflash_trial stmflash-trial
 complete -o filenames -F _stmflash_line stmflash-line

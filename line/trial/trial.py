@@ -1,0 +1,170 @@
+"""A trial: each row on one board, one after another, and what is told in the end."""
+
+import contextlib
+import os
+import signal
+import time
+
+import told
+from board import Board, pages_told
+from faults import Differs, Ended, NotTried, Odd, Refused
+from line import Line
+from progress import Progress
+from row import NOTE
+from rows import BACK, CONTACT, ERASED_BYTE, QUIET, ROWS, SAVE, TOLD
+from settling import recover
+
+# an erase that takes longer ends what changes something, without --patient, in seconds
+SLOW = 10
+ENDING = (signal.SIGINT, signal.SIGTERM, signal.SIGHUP)
+
+
+class Trial:
+    def __init__(self, words):
+        self.words = words
+        self.progress = Progress(words, len(ROWS))
+        self.board = Board(Line(words), words, self.progress)
+        self.found = []
+        # why no further row is tried; why this trial isn't whole, and in which row that came
+        self.dead, self.ended, self.broken = None, None, None
+        self.begun = time.monotonic()
+
+    def run(self):
+        """Tries all rows, and answers the exit status."""
+        try:
+            with signals(self.stop):
+                for row in ROWS:
+                    self.progress.begin(row.name)
+                    if row is SAVE:
+                        self.ask()
+                    self.take(row)
+        finally:
+            self.progress.clear()
+            with contextlib.suppress(Ended, Refused):
+                self.board.line.close()
+        return self.tell()
+
+    def ask(self):
+        """Asks once, where somebody can answer, before anything is kept or changed."""
+        if self.words.yes or self.words.only_read or self.board.model is None:
+            return
+        self.progress.clear()
+        question = f"The flash is saved to {self.words.save}; page {pages_told(self.words.pages)} is erased, written and put back.\n" \
+                   "Go on? yes or no:"
+        try:
+            answer = input(question + " ")
+        except EOFError:
+            answer = ""
+        if answer.strip().lower() not in ("y", "yes"):
+            raise Refused("nothing was changed")
+
+    def stop(self, number, _):
+        """A signal ends the row; what was changed is still put back. A second one ends everything."""
+        for ending in ENDING:
+            signal.signal(ending, signal.SIG_DFL)
+        self.ended = f"signal {signal.Signals(number).name}"
+        raise Ended(self.ended)
+
+    def take(self, row):
+        """Tries a row, and keeps what came of it."""
+        result, text, means = told.HOLDS, "", row.means
+        try:
+            try:
+                self.need(row)
+                text = row.act(self.board) or ""
+                if self.board.model and row not in TOLD:
+                    self.board.hush()
+            except Differs as error:
+                result, text = told.DIFFERS, str(error)
+                means = NOTE if isinstance(error, Odd) else means
+                self.regain(row)
+        except NotTried as reason:
+            result, text = told.NOT_TRIED, str(reason)
+        except Ended as error:
+            result, text = told.DIFFERS if result == told.DIFFERS else told.NOT_TRIED, text or str(error)
+            self.ended, self.dead, self.broken = self.ended or str(error), self.dead or str(error), self.broken or row
+        self.add(told.Found(row, result, text, means))
+        if row is SAVE and self.board.saved is not None:
+            self.say(f"saved in {self.words.save}: whatever comes, reset the board, and `stmflash write -v -f {self.words.save}` "
+                     "puts its flash back")
+
+    def regain(self, row):
+        """Gets the board back behind a row that differs."""
+        if self.board.model:
+            recover(self.board, row.intent)
+        elif row is not QUIET and not (row is CONTACT and self.board.was_contacted):
+            self.dead = self.dead or "no device of the model"
+
+    def need(self, row):
+        """NotTried where a row can't be tried here, or isn't to be."""
+        board = self.board
+        if row.name in self.words.skip:
+            raise NotTried("left out")
+        if row in TOLD:
+            return
+        if row is BACK:
+            if board.saved is None or not board.is_touched:
+                raise NotTried("nothing was changed")
+            # it is tried whatever came, as long as there is a board
+            if self.broken:
+                recover(board, self.broken.intent)
+            return
+        if self.dead:
+            raise NotTried(self.dead)
+        if row.changes == "nothing" or row is ERASED_BYTE:
+            return
+        if self.words.only_read or board.saved is None:
+            raise NotTried("only reads" if self.words.only_read else "the flash wasn't saved")
+        if board.harm:
+            raise NotTried(board.harm)
+        if board.usual_time("erase") > SLOW and not self.words.patient:
+            board.refusal = "its erases are slow: --patient tries the rest"
+            raise NotTried(board.refusal)
+
+    def add(self, found):
+        self.found.append(found)
+        self.say(found.line())
+
+    def say(self, text):
+        self.progress.clear()
+        print(text, flush=True)
+
+    def tell(self):
+        """Writes the file, says the verdict, and answers the exit status."""
+        seconds = time.monotonic() - self.begun
+        verdict, reason = told.judge(self.board, self.found, self.ended)
+        text = told.file_text(self.board, self.found, verdict, reason, seconds)
+        counts = [sum(one.result == result for one in self.found) for result in (told.HOLDS, told.DIFFERS, told.NOT_TRIED)]
+        self.say(f"{counts[0]} hold, {counts[1]} differ, {counts[2]} not tried, in {seconds:.1f} s")
+        status = 0 if verdict == told.FOLLOWS else 1
+        try:
+            write_anew(self.words.out, text)
+        except OSError as error:
+            self.say(f"what was found couldn't be written to {self.words.out}: {error.strerror}")
+            status = 1
+        self.say(told.verdict_line(verdict, reason))
+        return status
+
+
+@contextlib.contextmanager
+def signals(handler):
+    before = {number: signal.getsignal(number) for number in ENDING}
+    for number, held in before.items():
+        # one that was ignored when we began stays so
+        if held is not signal.SIG_IGN:
+            signal.signal(number, handler)
+    try:
+        yield
+    finally:
+        for number, held in before.items():
+            signal.signal(number, held)
+
+
+def write_anew(path, text):
+    """The file is the old one or the new one, whatever comes."""
+    unready = path + ".new"
+    with open(unready, "w", encoding="utf-8") as file:
+        file.write(text)
+        file.flush()
+        os.fsync(file.fileno())
+    os.replace(unready, path)

@@ -1,0 +1,104 @@
+"""The words of a call, and what they ask for."""
+
+import argparse
+import datetime
+import os
+import sys
+import tomllib
+
+from faults import Refused
+from rows import NAMES
+
+TABLES = ("/usr/local/share/stmflash/chips.toml", "/usr/share/stmflash/chips.toml")
+DESCRIPTION = """Tries, row by row, whether a board follows the model that stmflash's promises rest on. It saves the whole flash
+to a file, erases and writes the named pages, puts back what it changed, and tells what it found."""
+ENDS = """status: 0 it follows the model; 1 it doesn't, or the trial wasn't ended; 2 the words can't be done, or the answer was no, and
+nothing was changed"""
+
+
+def pages_of(text):
+    pages = [int(word) for word in text.split(",")]
+    if min(pages) < 0:
+        raise ValueError
+    return sorted(set(pages))
+
+
+def names_of(text):
+    names = set(text.split(","))
+    if names - set(NAMES):
+        raise argparse.ArgumentTypeError(f"no row is named {', '.join(sorted(names - set(NAMES)))}; --rows has their names")
+    return names
+
+
+def parser():
+    made = argparse.ArgumentParser(prog="stmflash-trial", allow_abbrev=False, description=DESCRIPTION, epilog=ENDS,
+                                   usage="stmflash-trial [--device SOCKET | --port PORT [--boot SEQUENCE]] [OPTION..]")
+    add = made.add_argument
+    add("--device", metavar="SOCKET", help="where the board is; without it and --port what STMFLASH_DEVICE names")
+    add("--port", metavar="PORT", help="a serial port, which stmflash-line opens")
+    add("--boot", default="", metavar="SEQUENCE", help="for stmflash-line; it also resets the board in the midst")
+    add("--baud", type=int, default=115200, metavar="N", help="the line's speed; 115200 without it")
+    add("--table", metavar="FILE", help="the chip table; without it that of STMFLASH_TABLE, else the installed one")
+    add("--pages", type=pages_of, default=[], metavar="N,N", help="the pages to work on; the last two without it")
+    add("--skip", type=names_of, default=set(), metavar="ROW,ROW", help="rows that are left out, by name")
+    add("--save", metavar="FILE", help="where the flash is saved; a new name of the date without it")
+    add("--out", default="trial.toml", metavar="FILE", help="what was found; trial.toml without it")
+    add("--part", default="", metavar="TEXT", help="which part it is, for that file")
+    add("--reset", metavar="COMMAND", help="a shell's command that resets the board into its bootloader")
+    add("--wait", type=int, default=50, metavar="MS", help="silence that means that nothing more comes; 50 without it")
+    add("--pause", type=float, default=1.0, metavar="SECONDS", help="how long the row pause pauses; 1 without it")
+    add("--map", action="store_true", help="erase and write every page, not the named ones alone")
+    add("--every-byte", action="store_true", help="stop at each byte of a write's frame")
+    add("--patient", action="store_true", help="go on where the board takes very long")
+    add("--only-read", action="store_true", help="leave out what changes something")
+    add("--yes", action="store_true", help="don't ask, and leave out what needs a hand")
+    add("--progress", action="store_true", help="a line for each row, also where it is no terminal")
+    add("--quiet", action="store_true", help="no progress")
+    add("--rows", action="store_true", help="print the rows, and do nothing")
+    return made
+
+
+def read(words, folder):
+    """What a call asks for. `folder` is where stmflash-trial stands."""
+    made = parser()
+    given = made.parse_args(words)
+    given.folder = folder
+    if given.rows:
+        return given
+    if given.port and given.device:
+        made.error("either --device or --port")
+    given.device = None if given.port else given.device or os.environ.get("STMFLASH_DEVICE")
+    if not given.port and not given.device:
+        made.error("no board: --device, --port, or under stmflash-line PORT -- stmflash-trial ..")
+    if given.boot and not given.port:
+        made.error("--boot is for --port; stmflash-line has its own")
+    if not 1 <= given.wait <= 60000 or not 0 <= given.pause <= 60 or not 1 <= given.baud <= 4000000:
+        made.error("--wait is 1 to 60000, --pause 0 to 60, --baud 1 to 4000000")
+    is_terminal = sys.stdin.isatty()
+    if not (given.yes or given.only_read or is_terminal):
+        made.error("it changes pages of the board: --yes, where nobody can be asked")
+    given.by_hand = is_terminal and not given.yes
+    given.save = given.save or f"flash-{datetime.datetime.now():%Y%m%d-%H%M%S}.bin"
+    if os.path.lexists(given.save):
+        raise Refused(f"{given.save}: is there already; give --save another name")
+    given.chips = read_table(given.table or os.environ.get("STMFLASH_TABLE"))
+    return given
+
+
+def read_table(path):
+    """The chips of a table. That a chip is within stmflash's limits is asked where it counts."""
+    path = path or next(filter(os.path.exists, TABLES), TABLES[0])
+    try:
+        with open(path, "rb") as file:
+            chips = tomllib.load(file)["chip"]
+        for chip in chips:
+            erase, pages = chip["erase"], [(int(count), int(size)) for count, size in chip["pages"]]
+            if erase not in ("page", "extended") or chip["id"] < 0 or chip["base"] < 0 or chip.get("erased", 0xFF) not in (0, 0xFF):
+                raise ValueError
+            if any(count < 1 or size < 256 or size % 256 for count, size in pages) or sum(c * s for c, s in pages) > 1 << 21:
+                raise ValueError
+        return chips
+    except OSError as error:
+        raise Refused(f"{path}: {error.strerror}") from None
+    except (ValueError, TypeError, KeyError):
+        raise Refused(f"{path}: is no chip table") from None

@@ -1,0 +1,516 @@
+"""stmflash-trial: its rows hold on simulators, and each fails on a board that is planted for it; the verdict of each such board; what
+it says, keeps and never sends; killed at random moments, the file that it saved gives the flash back.
+
+STMFLASH_LONG=1 tries each planted board with both erase commands, also those that take minutes, and kills 40 times.
+"""
+
+import concurrent.futures
+import contextlib
+import os
+import pty
+import random
+import re
+import select
+import signal
+import subprocess
+import sys
+import time
+import tomllib
+import unittest
+
+from boards import LinePlace
+from place import PATIENCE, TOP, Place, Said
+from served import Served
+
+PLANTED = os.path.join(TOP, "tests", "planted")
+sys.path.insert(0, PLANTED)
+
+from deviations import DEVIATIONS, FOLLOWS, NONE  # noqa: E402
+
+TRIAL = os.path.join(TOP, "line", "stmflash-trial")
+IS_LONG = os.environ.get("STMFLASH_LONG") == "1"
+KILLS = 40 if IS_LONG else 5
+# boards mostly wait: so many are tried at once
+AT_ONCE = 10
+# short waits where nothing is due: a late reply is waited for all the same
+QUICK = ("--yes", "--wait", "20", "--pause", "0.2", "--baud", "4000000")
+PAGES, SIZE = 8, 1024
+
+
+def table(code, pages=PAGES, size=SIZE):
+    erase = "page" if code == "43" else "extended"
+    return f'[[chip]]\nid = 0x440\nbase = 0x08000000\npages = [[{pages}, {size}]]\nerase = "{erase}"\n'.encode()
+
+
+def run(folder, *words):
+    ran = subprocess.run([sys.executable, TRIAL, *words], cwd=folder, env={"PATH": os.environ["PATH"]}, stdin=subprocess.DEVNULL,
+                         capture_output=True, timeout=PATIENCE)
+    return Said(ran.returncode, ran.stdout, ran.stderr)
+
+
+def rows_of(said):
+    """The result of each row, by its name; and the verdict."""
+    lines = said.out.decode().splitlines()
+    found = {line.split()[0]: re.match(r"holds|differs|not tried", line[18:])[0] for line in lines
+             if re.match(r"\S+ +(holds|differs|not tried)\b", line)}
+    return found, lines[-1] if lines else ""
+
+
+def names_of(found, result):
+    return {name for name, held in found.items() if held == result}
+
+
+@contextlib.contextmanager
+def planted(folder, name, *words):
+    """A planted board on the socket `board` of a folder, whose flash is the file `flash`."""
+    call = [sys.executable, PLANTED, "board", "--plant", name, "--flash", "flash", *words]
+    with subprocess.Popen(call, cwd=folder, stdin=subprocess.DEVNULL) as board:
+        try:
+            until = time.monotonic() + PATIENCE
+            while not os.path.exists(os.path.join(folder, "board")):
+                if board.poll() is not None or time.monotonic() > until:
+                    raise AssertionError("the planted board doesn't start")
+                time.sleep(0.01)
+            yield board
+        finally:
+            if board.poll() is None:
+                board.kill()
+
+
+def program_rows():
+    said = run(TOP, "--rows")
+    return said.out.decode()
+
+
+def row_names():
+    return [line.split("|")[1].strip() for line in program_rows().splitlines()[2:]]
+
+
+class TrialPlace(Served):
+    def trial(self, *words):
+        return run(self.folder, "--table", "table", "--save", "saved", *words)
+
+    def assertStatus(self, said, status):
+        self.assertEqual((said.status, said.err), (status, b""), said.out.decode())
+
+
+class Simulators(TrialPlace):
+    def holds_on(self, number, size, erased=b"\xff"):
+        """Each row that needs no hand holds on a chip of the table, and its flash is as it was."""
+        self.store("table", self.chips())
+        before = random.Random(number).randbytes(size // 3 * 2).ljust(size, erased)
+        self.store("flash", before)
+        self.serve(1, number=number)
+        said = self.trial("--device", "board", *QUICK)
+        self.assertServed()
+        self.assertStatus(said, 0)
+        found, verdict = rows_of(said)
+        self.assertEqual(names_of(found, "differs"), set())
+        self.assertEqual(names_of(found, "not tried"), {"get-version", "size-register", "map", "reset-in-frame", "fresh-other", "power"})
+        self.assertTrue(verdict.startswith(f"{FOLLOWS}: "), verdict)
+        self.assertTrue(self.held("flash") == self.held("saved") == before, "the flash isn't what it was")
+
+    def chips(self):
+        with open(os.path.join(TOP, "chips.toml"), "rb") as file:
+            return file.read()
+
+    def test_0412(self):
+        self.holds_on("0412", 32768)
+
+    def test_0440(self):
+        self.holds_on("0440", 65536)
+
+    def test_0A01(self):
+        self.holds_on("0A01", 65536)
+
+    def test_0416_which_erases_to_00(self):
+        self.holds_on("0416", 131072, b"\x00")
+
+
+class Boards(Place):
+    """Each planted board, and none."""
+
+    def try_board(self, name, code):
+        """What is wrong with the trial of a planted board; nothing where all is right."""
+        deviation = DEVIATIONS[name]
+        folder = self.path(f"{name}-{code}")
+        os.mkdir(folder)
+        # a board that answers late has few blocks
+        pages, size = (4, 256) if deviation.is_long else (PAGES, SIZE)
+        with open(os.path.join(folder, "table"), "wb") as file:
+            file.write(table(code, pages, size))
+        with planted(folder, name, "--pages", str(pages), "--size", str(size), "--erase", code) as board:
+            with open(os.path.join(folder, "flash"), "rb") as file:
+                before = file.read()
+            said = run(folder, "--device", "board", "--table", "table", "--save", "saved", *QUICK,
+                       "--reset", f"kill -USR1 {board.pid}", *deviation.words)
+            status = board.wait(PATIENCE)
+        with open(os.path.join(folder, "flash"), "rb") as file:
+            after = file.read()
+        return [f"{name}, erased by {code}: {fault}" for fault in faults(deviation, said, status, before, after)]
+
+    def try_all(self, boards):
+        with concurrent.futures.ThreadPoolExecutor(AT_ONCE) as pool:
+            found = list(pool.map(lambda board: self.try_board(*board), boards))
+        self.assertEqual([fault for each in found for fault in each], [])
+
+    def test_each_is_found_and_judged(self):
+        # what needs a hand is in a test of its own
+        names = [name for name, deviation in DEVIATIONS.items() if "power" not in deviation.rows]
+        self.assertGreater(len(names), 43)
+        if IS_LONG:
+            self.try_all([(name, "44") for name in names])
+        else:
+            self.try_all([(name, "44") for name in names if not DEVIATIONS[name].is_long])
+
+    def test_erased_by_43(self):
+        names = [name for name, deviation in DEVIATIONS.items() if not {"power", "settle-erase"} & set(deviation.rows)]
+        some = ("none", "erases-two-pages", "erases-before-check", "absent-page-wraps", "loses-while-busy", "76-before-an-ack")
+        self.try_all([(name, "43") for name in (names if IS_LONG else some)])
+
+
+def faults(deviation, said, board_status, before, after):
+    found, verdict = rows_of(said)
+    differ = names_of(found, "differs")
+    if said.err:
+        yield f"it said {said.err.decode()}"
+    if board_status != 0:
+        yield f"the board ended with {board_status}: what is never sent was sent"
+    if deviation.rows and not differ & set(deviation.rows):
+        yield f"not found: {sorted(differ)} differ"
+    if not deviation.rows and differ:
+        yield f"{sorted(differ)} differ"
+    if not verdict.startswith(deviation.verdict):
+        yield f"its verdict is {verdict!r}"
+    if said.status != (0 if deviation.verdict == FOLLOWS else 1):
+        yield f"the status is {said.status}"
+    if before != after and not deviation.is_lasting:
+        yield "its flash isn't what it was"
+
+
+class Terminal(TrialPlace):
+    """Trials that may ask: on a pseudo-terminal."""
+
+    def answer(self, words, answers):
+        """Runs a trial whose questions are answered, each by a text and what is done before it; its status, and what it said."""
+        process, terminal = pty.fork()
+        if process == 0:
+            os.chdir(self.folder)
+            os.execv(sys.executable, [sys.executable, TRIAL, "--table", "table", "--save", "saved", *words])
+        said, left, until = b"", list(answers), time.monotonic() + PATIENCE
+        while time.monotonic() < until:
+            if not select.select([terminal], [], [], 1)[0]:
+                continue
+            try:
+                came = os.read(terminal, 65536)
+            except OSError:
+                came = b""
+            if not came:
+                break
+            said += came
+            if left and left[0][0] in said:
+                question, act, text = left.pop(0)
+                said = said.replace(question, b"?", 1)
+                act()
+                os.write(terminal, text)
+        os.close(terminal)
+        _, status = os.waitpid(process, 0)
+        self.assertEqual(left, [], said)
+        return os.waitstatus_to_exitcode(status), said.decode()
+
+    def test_it_asks_once_and_no_changes_nothing(self):
+        self.store("table", table("44"))
+        for text, due in ((b"no\n", 2), (b"\n", 2), (b"yes\n", 0)):
+            with self.subTest(text=text), planted(self.folder, "none", "--pages", str(PAGES)) as board:
+                skipped = "--skip=power,reset-in-frame,fresh-other"
+                status, said = self.answer(["--device", "board", skipped, *QUICK[1:]], [(b"yes or no:", lambda: None, text)])
+                self.assertEqual((status, board.wait(PATIENCE)), (due, 0), said)
+                self.assertEqual(self.is_there("saved"), due == 0)
+                self.assertEqual(self.is_there("trial.toml"), due == 0)
+            self.remove("board")
+
+    def test_power_is_taken_by_hand(self):
+        for name, due in (("none", 0), ("power-spoils-all", 1)):
+            self.store("table", table("44"))
+            with self.subTest(name=name), planted(self.folder, name, "--pages", str(PAGES)) as board:
+                def lose(board=board):
+                    # it has to have heard what was sent
+                    time.sleep(0.5)
+                    board.send_signal(signal.SIGUSR2)
+                    time.sleep(0.2)
+
+                answers = [(b"yes or no:", lambda: None, b"yes\n"), (b"power now", lose, b"\n")]
+                status, said = self.answer(["--device", "board", "--skip=reset-in-frame,fresh-other", *QUICK[1:]], answers)
+                self.assertEqual((status, board.wait(PATIENCE)), (due, 0), said)
+                self.assertRegex(said, r"power +" + ("differs" if due else "holds"))
+                if due:
+                    self.assertIn("don't use, because power: a way back doesn't lead back", said)
+                self.assertTrue(self.held("flash") == self.held("saved"))
+            self.remove("board", "saved", "flash", "trial.toml")
+
+
+class Words(TrialPlace):
+    def assertRefused(self, said, text):
+        self.assertEqual((said.status, said.out), (2, b""))
+        self.assertIn(text.encode(), said.err)
+        self.assertFalse(self.is_there("trial.toml"))
+
+    def test_words_that_cannot_be_done(self):
+        self.store("table", table("44"))
+        self.store("here", b"kept")
+        self.store("bad", b"[[chip]]\nid = 1\n")
+        for words, text in (
+            ((), "no board"),
+            (("--device", "none", "--yes"), "stmflash-trial: none: No such file or directory\n"),
+            (("--device", "none"), "--yes, where nobody can be asked"),
+            (("--device", "none", "--port", "none"), "either --device or --port"),
+            (("--device", "none", "--boot", "rts"), "--boot is for --port"),
+            (("--device", "none", "--yes", "--skip", "erase,nothing"), "no row is named nothing"),
+            (("--device", "none", "--yes", "--pages", "1,-2"), "--pages"),
+            (("--device", "none", "--yes", "--wait", "0"), "--wait is 1 to 60000"),
+            (("--device", "none", "--yes", "--save", "here"), "here: is there already; give --save another name\n"),
+            (("--device", "none", "--yes", "--table", "bad"), "bad: is no chip table\n"),
+            (("--device", "none", "--yes", "--table", "gone"), "gone: No such file or directory\n"),
+        ):
+            with self.subTest(words=words):
+                self.assertRefused(self.trial(*words), text)
+        self.assertFile("here", b"kept")
+
+    def test_a_page_that_is_not_there(self):
+        self.store("table", table("44"))
+        with planted(self.folder, "none", "--pages", str(PAGES)) as board:
+            said = self.trial("--device", "board", "--pages", "8", *QUICK)
+            self.assertEqual((said.status, board.wait(PATIENCE)), (2, 0))
+        self.assertEqual(said.err, b"stmflash-trial: --pages: this chip's are 0 to 7, but for 255\n")
+        self.assertFalse(self.is_there("saved"))
+
+    def test_only_reads(self):
+        self.store("table", table("44"))
+        with planted(self.folder, "none", "--pages", str(PAGES)) as board:
+            said = self.trial("--device", "board", "--only-read", *QUICK[1:])
+            self.assertEqual(board.wait(PATIENCE), 0)
+        self.assertStatus(said, 0)
+        found, verdict = rows_of(said)
+        self.assertLessEqual({"erase", "write", "settle-erase", "put-back"}, names_of(found, "not tried"))
+        self.assertIn("; not tried: ", verdict)
+
+    def test_named_rows_are_left_out(self):
+        self.store("table", table("44"))
+        with planted(self.folder, "erases-before-check", "--pages", str(PAGES)):
+            said = self.trial("--device", "board", "--skip", "refuse-erase,pause,reset-in-frame", *QUICK)
+        self.assertStatus(said, 0)
+        self.assertIn("refuse-erase      not tried  left out\n", said.out.decode())
+        self.assertIn("not tried: pause, refuse-erase, reset-in-frame", said.out.decode())
+
+    def test_progress(self):
+        self.store("table", table("44"))
+        with planted(self.folder, "silent", "--pages", str(PAGES)):
+            said = self.trial("--device", "board", "--progress", *QUICK)
+        count = len(row_names())
+        self.assertEqual(said.err.decode().splitlines(), [f"row {n + 1} of {count}: {name}" for n, name in enumerate(row_names())])
+
+
+class Ports(LinePlace):
+    """Through stmflash-line, on a pseudo-terminal with a simulated board behind it."""
+
+    WORDS = ("--table", "table", "--save", "saved", *QUICK)
+
+    def assertHolds(self, said, board):
+        self.assertEqual((said.status, said.err), (0, b""), said.out)
+        self.assertEqual(names_of(rows_of(said)[0], "differs"), set())
+        self.assertTrue(self.held("saved") == board.store() == self.before)
+
+    def setUp(self):
+        super().setUp()
+        self.before = random.Random(5).randbytes(32768)
+        self.store("ttyUSB0.flash", self.before)
+
+    def test_under_the_line(self):
+        """As the line's command; the board's way stands in STMFLASH_DEVICE, and its status is handed on."""
+        board = self.board()
+        self.assertHolds(self.line("ttyUSB0", "--", sys.executable, TRIAL, *self.WORDS), board)
+        said = self.line("ttyUSB0", "--", sys.executable, TRIAL, *self.WORDS)
+        self.assertEqual((said.status, said.out), (2, b""))
+
+    def test_it_opens_the_port(self):
+        board = self.board()
+        self.assertHolds(self.line("--port", "ttyUSB0", *self.WORDS, line=(TRIAL,)), board)
+        said = self.line("--port", "none", *self.WORDS, "--save", "other", line=(TRIAL,))
+        self.assertEqual((said.status, said.out), (2, b""))
+        self.assertTrue(said.err.endswith(b"stmflash-trial: stmflash-line didn't open the port\n"), said.err)
+
+    def test_killed_it_gives_the_port_back(self):
+        board = self.board()
+        started = self.start("--port", "ttyUSB0", *self.WORDS, line=(TRIAL,))
+        while b"saved in " not in started.stdout.readline():
+            self.assertIsNone(started.poll())
+        started.kill()
+        started.wait()
+        board.renew()
+        for folder in os.listdir(self.path("temporary")):
+            # stmflash-line has removed its socket, and what is left is empty
+            self.until(lambda folder=folder: not os.listdir(self.path(f"temporary/{folder}")), "the socket is left")
+            os.rmdir(self.path(f"temporary/{folder}"))
+
+
+class Told(TrialPlace):
+    def test_the_file(self):
+        """What it has, and that no byte of the flash, no path and no name of a file is in it, also where reads went wrong."""
+        self.store("table", table("44"))
+        # a byte that no code, address, count or number has
+        self.store("flash", b"\xd7" * PAGES * SIZE)
+        for name in ("none", "flips-a-bit-now-and-then", "any-count", "loses-each-10000th-down", "read-protected"):
+            with self.subTest(name=name), planted(self.folder, name, "--pages", str(PAGES)) as board:
+                words = ("--device", "board", "--part", 'an "F0"', *QUICK, "--reset", f"kill -USR1 {board.pid}")
+                run(self.folder, "--table", "table", "--save", "kept-here", "--out", "found.toml", *words)
+                self.assertEqual(board.wait(PATIENCE), 0)
+            text = self.held("found.toml").decode()
+            found = tomllib.loads(text)
+            self.assertEqual((found["trial"], found["part"], found["id"], found["version"], found["baud"]),
+                             (1, 'an "F0"', 0x440, 0x31, 4000000))
+            self.assertEqual([row["name"] for row in found["row"]], row_names())
+            self.assertLessEqual({row["result"] for row in found["row"]}, {"holds", "differs", "not tried"})
+            for word in ("D7", "d7", "215", "/", "kept-here", "found.toml", "kill"):
+                self.assertNotIn(word, text)
+            self.remove("board", *(["kept-here"] if self.is_there("kept-here") else []))
+
+    def test_the_file_that_cannot_be_written(self):
+        self.store("table", table("44"))
+        with planted(self.folder, "none", "--pages", str(PAGES)):
+            said = self.trial("--device", "board", "--out", "none/found.toml", "--only-read", *QUICK)
+        self.assertEqual(said.status, 1)
+        self.assertIn("couldn't be written to none/found.toml: No such file or directory\n", said.out.decode())
+
+    def test_the_table_of_the_page(self):
+        with open(os.path.join(TOP, "docs", "TRIAL.md"), encoding="utf-8") as file:
+            self.assertIn("\n" + program_rows(), file.read())
+
+    def test_each_row_fails_on_a_planted_board(self):
+        self.assertEqual(NONE.rows, ())
+        self.assertEqual({row for deviation in DEVIATIONS.values() for row in deviation.rows}, set(row_names()))
+
+
+class Premises(unittest.TestCase):
+    """Each premise of HEADLINE and each rule of MODEL is in the list of docs/TRIAL.md, with rows that there are, or with what a
+    hand has to do."""
+
+    def setUp(self):
+        self.listed = {}
+        part = page("TRIAL.md").split("## What each premise and each rule has")[1].split("\n## ")[0]
+        for line in part.splitlines():
+            cells = [cell.strip() for cell in line.strip("|").split("|")]
+            if len(cells) == 2 and not cells[0].startswith(("---", "Premise")):
+                self.listed[cells[0]] = cells[1]
+
+    def test_each_is_listed(self):
+        due = premises() | rules()
+        self.assertGreater(len(due), 40)
+        self.assertEqual(set(self.listed), due)
+
+    def test_each_has_a_row_or_a_hand(self):
+        names, named = set(row_names()), set()
+        for rule, held in self.listed.items():
+            with self.subTest(rule=rule):
+                rows = set(re.findall(r"`([^`]+)`", held))
+                named |= rows
+                self.assertLessEqual(rows, names)
+                self.assertTrue(rows or re.match(r"By hand: .{20}|No board: .{20}", held), held)
+        self.assertEqual(names - named, {"get-version", "size-register"})
+
+
+def page(name):
+    with open(os.path.join(TOP, "docs", name), encoding="utf-8") as file:
+        return file.read()
+
+
+def part_of(text, title):
+    return text.split(f"\n## {title}\n")[1].split("\n## ")[0]
+
+
+def cells_of(text):
+    """The first cell of each row of the tables of a text, without their heads."""
+    rows = re.findall(r"^\| (.*?) \|", text, re.M)
+    heads = re.findall(r"^\| (.*?) \|.*\n\|---", text, re.M)
+    return [cell for cell in rows if cell not in heads]
+
+
+def sentences_of(text):
+    """The sentences of a text's paragraphs, but for tables."""
+    paragraphs = re.split(r"\n\n", "\n".join(line for line in text.splitlines() if not line.startswith(("|", "```"))))
+    words = [" ".join(paragraph.split()) for paragraph in paragraphs]
+    return [sentence for text in words for sentence in re.split(r"(?<=[.:]) (?=[A-Z`*])", text) if sentence]
+
+
+def opening(sentence):
+    """A sentence by its first words: the list in TRIAL.md is read beside the page."""
+    return " ".join(sentence.split()[:8]).rstrip(".,:;")
+
+
+def premises():
+    """The first words of each premise of HEADLINE."""
+    return {opening(cell) for cell in cells_of(part_of(page("HEADLINE.md"), "Premises"))}
+
+
+def rules():
+    """The first words of each rule of MODEL: rows of the tables of phases and verdicts, and sentences about what a device is and does."""
+    text = page("MODEL.md")
+    found = set()
+    for title in ("What a device has", "Verdicts", "Effects", "What a stop leaves", "What a loss of power leaves"):
+        part = part_of(text, title)
+        found |= {opening(cell) for cell in cells_of(part)} | {opening(sentence) for sentence in sentences_of(part)}
+    return found
+
+
+class Ends(TrialPlace):
+    """Signals and kills: what was changed is put back, by the trial or by what it saved."""
+
+    def start_trial(self):
+        words = ["--device", "board", "--table", "table", "--save", "saved", "--yes", "--wait", "20", "--pause", "0.2"]
+        started = subprocess.Popen([sys.executable, TRIAL, *words], cwd=self.folder, env={}, stdin=subprocess.DEVNULL,
+                                   stdout=subprocess.PIPE, stderr=subprocess.PIPE)
+        self.addCleanup(started.communicate)
+        self.addCleanup(started.kill)
+        while b"saved in " not in started.stdout.readline():
+            self.assertIsNone(started.poll())
+        # it is on the disk before anything is changed
+        self.assertTrue(self.held("saved") == self.before)
+        return started
+
+    def test_a_signal_puts_back(self):
+        self.before = random.Random(3).randbytes(32768)
+        for number in (signal.SIGTERM, signal.SIGINT):
+            self.store("flash", self.before)
+            self.serve(1)
+            started = self.start_trial()
+            time.sleep(2.5)
+            started.send_signal(number)
+            out, err = started.communicate(timeout=PATIENCE)
+            self.assertServed()
+            self.assertEqual((started.returncode, err), (1, b""))
+            self.assertRegex(out.decode(), r"(?m)^put-back +holds")
+            self.assertTrue(out.decode().endswith(f"don't use, because the trial wasn't ended: signal {number.name}\n"), out)
+            self.assertTrue(self.held("flash") == self.before)
+            self.remove("saved", "flash", "flash.line")
+
+    def test_killed_the_saved_file_puts_back(self):
+        """At random moments: the board is reset, and the file is written."""
+        seed = time.time_ns()
+        chance = random.Random(seed)
+        self.before = chance.randbytes(32768)
+        changed = 0
+        for turn in range(KILLS):
+            with self.subTest(turn=turn, seed=seed):
+                self.store("flash", self.before)
+                self.serve(1)
+                started = self.start_trial()
+                time.sleep(chance.uniform(0.2, 6.5))
+                started.kill()
+                started.wait()
+                self.assertServed()
+                changed += self.held("flash") != self.before
+                # a reset
+                self.remove("flash.line")
+                self.assertEqual(self.use("write", "-v", "-f", "saved").status, 0)
+                self.assertTrue(self.held("flash") == self.before, "the flash isn't what it was")
+                self.remove("saved", "journal")
+        self.assertGreater(changed, 0, seed)
