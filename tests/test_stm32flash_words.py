@@ -181,6 +181,11 @@ Wrote and verified address 0x080005dc (100.00%) Done.
         self.well("-w", "-", "-S", "0x08002000:3", given=b"piped")
         held[8192:8195] = b"pip"
         self.assertEqual(board.store(), held)
+        # what a HEX text leaves out stays, also where it is moved; it comes by a pipe that can be read but once
+        self.store("gaps.hex", b":0100000041BE\n:0100080042B5\n:00000001FF\n")
+        self.well("-w", "/dev/stdin", "-S", "0x08000804", given=self.held("gaps.hex"))
+        held[2052], held[2060] = 0x41, 0x42
+        self.assertEqual(board.store(), held)
 
     def test_an_image_that_doesnt_fit_is_refused(self):
         board = self.flash(COUNTING)

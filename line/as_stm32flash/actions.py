@@ -5,7 +5,7 @@ import os
 from . import part as parts
 from .crc import crc
 from .fault import Failed, Fault
-from .image import HEX, Image
+from .image import Image
 from .told import note
 
 CHANGED_BACK = "the flash is as it was before this call"
@@ -69,8 +69,8 @@ class Actions:
 
     def write(self):
         image = Image(self.words)
-        place = image.place(self.words) or self.chip.base
-        part = parts.Part(place, place + len(image.data))
+        place = image.start or self.chip.base
+        part = parts.Part(place, place + image.size)
         if not self.chip.holds(place) or part.end > self.chip.end:
             told = f"ERROR: the image, 0x{part.start:08x} to 0x{part.end:08x}, doesn't lie in the flash"
             raise Fault(f"{told}, 0x{self.chip.base:08x} to 0x{self.chip.end:08x}")
@@ -80,22 +80,21 @@ class Actions:
         self.told.line("Write to memory\nErasing memory")
         what = "Wrote and verified" if self.words.verify else "Wrote"
         self.change(lambda: self.write_once(image, part, what))
-        if image.data:
+        if image.size:
             self.told.far(what, part.end, 1)
         self.told.line("Done.")
 
     def write_once(self, image, part, what):
-        words = ["-v"] * self.words.verify
-        if image.parser != HEX or not image.is_as_it_stands(self.words):
-            words += ["-S", f"0x{part.start:08X}"]
+        options, data = image.at(part.start, self.words.force)
+        options += ["-v"] * self.words.verify
         show = self.told.progress(("Wrote", what), part, self.chip)
-        if image.is_as_it_stands(self.words):
-            return self.board.use("write", *["-f"] * self.words.force, *words, image.path, show=show)
+        if data is None:
+            return self.board.use("write", *options, image.path, show=show)
         held = os.memfd_create("image")
         with open(held, "r+b") as file:
-            file.write(image.data)
+            file.write(data)
             file.flush()
-            return self.board.use("write", "-f", *words, f"/proc/self/fd/{held}", show=show, files=(held,))
+            return self.board.use("write", *options, f"/proc/self/fd/{held}", show=show, files=(held,))
 
     def erase(self):
         part = parts.of(self.words, self.chip)

@@ -13,8 +13,8 @@ from .patience import UNKNOWN
 GIVE_UP = 5
 PR_SET_PDEATHSIG = 1
 NO_PROTOCOL = "device does not follow the protocol"
-# the sessions that can be done again as long as they have begun nothing
-AGAIN = ("info", "read", "write", "erase")
+# the sessions that can be done again as long as they have begun nothing; a program that a Go did start doesn't answer the next
+AGAIN = ("info", "read", "write", "erase", "go")
 
 
 class Board:

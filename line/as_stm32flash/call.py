@@ -31,10 +31,6 @@ def main(program, given):
     except KeyboardInterrupt:
         note("stopped; what was begun is taken back by the next call at this port")
         return 1
-    except BrokenPipeError:
-        # whoever reads what we tell has gone
-        os.dup2(os.open(os.devnull, os.O_WRONLY), 1)
-        return 1
 
 
 # ---- outside
@@ -55,9 +51,8 @@ def outside(program, given):
         told = Told(asked)
         told.banner()
         if asked.action == "w":
-            if asked.file == "-":
-                image.keep_input()
-            told.lines(image.Image(asked).lines(asked))
+            image.keep(asked.file)
+            told.lines(image.Image(asked).lines())
     journals.make()
     os.environ[WORDS] = json.dumps(given)
     line = [below.line, asked.port, "--baud", str(asked.baud)]
@@ -82,7 +77,6 @@ def refuse(asked, below):
 def show_log(board):
     """What can be taken back at a port, the newest journal first."""
     journals = board.journals
-    journals.end_keeping()
     paths = [path for path in (journals.live, *reversed(journals.kept())) if os.path.exists(path)]
     for path in paths:
         print(f"journal {path}")

@@ -1,19 +1,17 @@
-"""Intel HEX, as far as it is needed here: where an image begins, how long it is, and its bytes where they are moved elsewhere.
+"""Intel HEX, as far as it is needed here: where an image begins, how long it is, and its text with other addresses.
 
-What is written is read by stmflash itself, from the same text, wherever the addresses are taken as they stand.
+What is written stmflash reads itself, from this text or the one that is made here, and decides what it means.
 """
 
 import re
 
 from .fault import Fault
 
-# no flash is longer: an image that spans more can't be written
-MOST = 4 << 20
 RECORD, DIGITS = re.compile(rb":([0-9A-Fa-f]{2})"), re.compile(rb"[0-9A-Fa-f]*")
 
 
 def read(text):
-    """The address of an image's first byte and its bytes, FF where none is given; (0, b"") where it has none."""
+    """The pieces of an image, each an address and its bytes, in the text's order."""
     pieces, upper, segment = [], 0, None
     for count, record in enumerate(records(text), 1):
         kind, offset, data = record[3], int.from_bytes(record[1:3], "big"), record[4:-1]
@@ -23,7 +21,7 @@ def read(text):
                 raise bad(f"record {count}: passes the end of its addresses")
             pieces.append(((upper if segment is None else segment) + offset, data))
         elif kind == 1:
-            return joined([piece for piece in pieces if piece[1]])
+            return [piece for piece in pieces if piece[1]]
         elif kind == 2 and len(data) == 2:
             segment = int.from_bytes(data, "big") * 16
         elif kind == 4 and len(data) == 2:
@@ -57,17 +55,27 @@ def records(text):
         at, count = end, count + 1
 
 
-def joined(pieces):
-    """The pieces as one, FF between them."""
+def span(pieces):
+    """The address of the first byte, and of the one behind the last."""
     if not pieces:
-        return 0, b""
-    base, end = min(at for at, _ in pieces), max(at + len(data) for at, data in pieces)
-    if end - base > MOST:
-        raise Fault(f"Intel HEX ERROR: the image spans 0x{base:08x} to 0x{end:08x}, more than any flash")
-    whole, known = bytearray(b"\xff" * (end - base)), bytearray(end - base)
+        return 0, 0
+    return min(at for at, _ in pieces), max(at + len(data) for at, data in pieces)
+
+
+def moved(pieces, by, end):
+    """The text of these pieces at addresses that are greater by a number, without what lies at `end` or behind it then."""
+    lines = []
     for at, data in pieces:
-        place = slice(at - base, at - base + len(data))
-        if any(known[place]) and any(k and old != new for k, old, new in zip(known[place], whole[place], data)):
-            raise bad("an address is given two bytes")
-        whole[place], known[place] = data, b"\x01" * len(data)
-    return base, bytes(whole)
+        at += by
+        data = data[:max(0, end - at)]
+        while data:
+            # a record ends where the upper 16 bits of an address change
+            count = min(len(data), 32, 65536 - at % 65536)
+            lines += [record(4, 0, (at >> 16).to_bytes(2, "big")), record(0, at % 65536, data[:count])]
+            at, data = at + count, data[count:]
+    return b"".join([*lines, record(1, 0, b"")])
+
+
+def record(kind, offset, data):
+    whole = bytes([len(data)]) + offset.to_bytes(2, "big") + bytes([kind]) + data
+    return b":" + (whole + bytes([-sum(whole) % 256])).hex().upper().encode("ascii") + b"\n"

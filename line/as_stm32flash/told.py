@@ -1,5 +1,6 @@
 """What is told while a call goes on: stm32flash's lines on standard output, notes of our own on standard error."""
 
+import os
 import re
 import sys
 
@@ -22,7 +23,7 @@ class Told:
             self.line(text)
 
     def line(self, text, end="\n"):
-        print(text, end=end, file=self.stream, flush=True)
+        put(self.stream, text + end)
 
     def progress(self, what, part, chip, stream=None):
         """A function for the lines that stmflash shows: each page that is done is told as how far `what` has come."""
@@ -36,8 +37,17 @@ class Told:
         return show
 
     def far(self, what, address, share, stream=None, end=""):
-        print(f"\r{what} address 0x{address:08x} ({100 * share:.2f}%) ", end=end, file=stream or self.stream, flush=True)
+        put(stream or self.stream, f"\r{what} address 0x{address:08x} ({100 * share:.2f}%) {end}")
 
 
 def note(text):
-    print("stm32flash: " + text, file=sys.stderr, flush=True)
+    put(sys.stderr, f"stm32flash: {text}\n")
+
+
+def put(stream, text):
+    """Tells something. Where whoever reads it has gone, the work goes on all the same."""
+    try:
+        stream.write(text)
+        stream.flush()
+    except BrokenPipeError:
+        os.dup2(os.open(os.devnull, os.O_WRONLY), stream.fileno())
