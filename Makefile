@@ -72,6 +72,7 @@ test:
 	python3 tools/large-images crates/hex_bench/out/hex_bench
 	python3 tools/take-back-stored
 	sh packaging/try-deb crates/stmflash/out/stmflash
+	sh packaging/try-deb-as-stm32flash crates/stmflash/out/stmflash
 	sh tools/demo.sh
 	python3 tests/run crates/stmflash/out/stmflash --brief crates/stmflash/out/stmflash.by-rattle bin/stmflash-unproved \
 	    --without $(WITHOUT)
@@ -79,6 +80,7 @@ test:
 	python3 tools/kills bin/stmflash-unproved 60
 	python3 tools/soak bin/stmflash-unproved --sessions 300 --jobs $(JOBS)
 	python3 tools/soak crates/stmflash/out/stmflash --sessions 2000 --jobs $(JOBS)
+	python3 tools/beside-stm32flash crates/stmflash/out/stmflash --sample 24 --kills 2 --jobs $(JOBS)
 
 wrong-bodies:
 	python3 tools/wrong-bodies --by-hand
