@@ -5,12 +5,13 @@ import importlib
 import io
 import os
 import re
+import signal
 import subprocess
 import sys
 import unittest
 import unittest.mock
 
-from boards import LinePlace, pty_boards
+from boards import LinePlace, default_signals, pty_boards
 from place import COUNTING, ERASED, PATIENCE, SIZE, TOP, Said, program
 
 WORDS = os.path.join(TOP, "line", "stm32flash")
@@ -40,11 +41,13 @@ class Words(LinePlace):
 
     def words(self, *words, port="ttyUSB0", given=None, **settings):
         """Runs stm32flash on these words and a port. The wait is a short one, which stmflash's own follows where it fails."""
-        settings = {"PATH": self.path("bin") + ":" + os.environ["PATH"], "TMPDIR": self.path("temporary"), "HOME": self.folder,
-                    "STMFLASH_TABLE": self.path("table"), "STMFLASH_WAIT": "100", **settings}
-        ran = subprocess.run([WORDS, *words, *([port] if port else [])], cwd=self.folder, env=settings, input=given,
-                             timeout=PATIENCE, capture_output=True, stdin=None if given is not None else subprocess.DEVNULL)
+        ran = subprocess.run([WORDS, *words, *([port] if port else [])], cwd=self.folder, env=self.settings(**settings),
+                             input=given, timeout=PATIENCE, capture_output=True, stdin=None if given is not None else subprocess.DEVNULL)
         return Said(ran.returncode, ran.stdout, ran.stderr)
+
+    def settings(self, **more):
+        return {"PATH": self.path("bin") + ":" + os.environ["PATH"], "TMPDIR": self.path("temporary"), "HOME": self.folder,
+                "STMFLASH_TABLE": self.path("table"), "STMFLASH_WAIT": "100", **more}
 
     def well(self, *words, **more):
         """The same, which ends well; what it said."""
@@ -240,6 +243,27 @@ class TakingBack(Words):
         self.well("--undo")
         self.assertEqual(board.store(), back)
 
+    def test_a_signal_in_the_midst(self):
+        """The call is ended while it writes; the next one gives the flash back."""
+        self.store("image", b"new" * 1000)
+        self.store("ttyUSB0.flash", COUNTING)
+        board = pty_boards.PtyBoard(program(), self.path("ttyUSB0"), "0412", self.path("table"), baud=57600)
+        self.addCleanup(board.stop)
+        journal = os.path.join(self.folder_of_port(), "journal")
+        for number, status in ((signal.SIGTERM, 143), (signal.SIGKILL, -9)):
+            with self.subTest(signal=number):
+                with subprocess.Popen([WORDS, "-m", "8n1", "-w", "image", "ttyUSB0"], cwd=self.folder, env=self.settings(),
+                                      stdin=subprocess.DEVNULL, stdout=subprocess.DEVNULL, stderr=subprocess.DEVNULL,
+                                      preexec_fn=default_signals) as started:
+                    self.until(lambda: b"\nprogram " in (self.held(journal) or b""), "nothing is written")
+                    started.send_signal(number)
+                self.assertEqual(started.returncode, status)
+                said = self.well("-w", "-", "-S", "0x08007000", given=b"next")
+                self.assertIn(b"that is taken back first", said.err)
+                self.assertEqual(board.store(), COUNTING[:28672] + b"next" + COUNTING[28676:])
+                self.well("--undo")
+                self.remove(journal)
+
     def test_what_cant_be_taken_back_ends_the_call(self):
         board = self.flash(COUNTING)
         self.stopped()
@@ -367,6 +391,16 @@ class Parts(unittest.TestCase):
         self.assertEqual(tries(0, one), (1, 1, False))
         self.assertEqual(tries(10, one, one), (2, 2, False))
         self.assertEqual(tries(10, "device does not follow the protocol"), (1, 0, False))
+
+    def test_a_port_is_where_its_adapter_is_plugged_in(self):
+        journals = module("journals")
+        links = {"/dev/serial/by-path/pci-usb-0:2": "/dev/ttyUSB3", "/dev/serial/by-path/pci-usbv2-0:2": "/dev/ttyUSB3",
+                 "/dev/serial/by-id/adapter": "/dev/ttyUSB3"}
+        with unittest.mock.patch.object(journals.os.path, "realpath", lambda path: links.get(path, path)), \
+                unittest.mock.patch.object(journals.os, "listdir", lambda _: ["pci-usbv2-0:2", "pci-usb-0:2"]), \
+                unittest.mock.patch.object(journals, "is_pty", lambda _: False):
+            names = [journals.name_of(port) for port in ("/dev/ttyUSB3", "/dev/serial/by-id/adapter", "/dev/ttyS0")]
+        self.assertEqual(names, ["pci-usb-0:2", "pci-usb-0:2", "ttyS0"])
 
     def test_old_journals_are_dropped(self):
         journals = module("journals")

@@ -5,6 +5,7 @@ import os
 import re
 import signal
 import subprocess
+import time
 
 from .fault import Failed
 from .patience import UNKNOWN
@@ -12,9 +13,11 @@ from .patience import UNKNOWN
 # after how many seconds without an answer a board is given up; an undo has stmflash's own patience
 GIVE_UP = 5
 PR_SET_PDEATHSIG = 1
+# how long a program that was told to end may take to let its journal go, in seconds
+RELEASED = 5
 NO_PROTOCOL = "device does not follow the protocol"
 # the sessions that can be done again as long as they have begun nothing; a program that a Go did start doesn't answer the next
-AGAIN = ("info", "read", "write", "erase", "go")
+AGAIN = ("info", "read", "write", "erase", "go", "undo")
 
 
 class Board:
@@ -34,7 +37,9 @@ class Board:
             return self.session(name, words, wait or self.wait, **more)
         except Failed as fault:
             is_short = wait is None and self.wait < UNKNOWN and name in AGAIN
-            if str(fault) != NO_PROTOCOL or not is_short or self.journals.size() != before:
+            # an undo goes on where it was stopped
+            begun = name != "undo" and self.journals.size() != before
+            if str(fault) != NO_PROTOCOL or not is_short or begun:
                 raise
             self.wait = UNKNOWN
             return self.session(name, words, self.wait, **more)
@@ -51,7 +56,18 @@ class Board:
         """A call that needs no device."""
         return self.run([name, "--journal", self.journals.live, *words])
 
-    def run(self, words, show=None, out=subprocess.PIPE, files=()):
+    def run(self, words, *more):
+        """A call of stmflash. One that was killed just now may still have the journal for a moment."""
+        until = time.monotonic() + RELEASED
+        while True:
+            try:
+                return self.run_once(words, *more)
+            except Failed as fault:
+                if str(fault) != "journal is in use" or time.monotonic() > until:
+                    raise
+                time.sleep(0.05)
+
+    def run_once(self, words, show=None, out=subprocess.PIPE, files=()):
         with subprocess.Popen([self.tools.stmflash, *words], env=self.settings, stdin=subprocess.DEVNULL, pass_fds=files,
                               stdout=out, stderr=subprocess.PIPE, preexec_fn=tie()) as started:
             try:
