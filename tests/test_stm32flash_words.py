@@ -1,4 +1,5 @@
-"""line/stm32flash: what it refuses, and that what it does can be taken back. tools/beside-stm32flash has it beside the real one."""
+"""line/stm32flash: what it refuses, and that what it does can be taken back. tools/beside-stm32flash has it beside the real
+one."""
 
 import contextlib
 import importlib
@@ -41,8 +42,9 @@ class Words(LinePlace):
 
     def words(self, *words, port="ttyUSB0", given=None, **settings):
         """Runs stm32flash on these words and a port. The wait is a short one, which stmflash's own follows where it fails."""
+        end = {"stdin": subprocess.DEVNULL} if given is None else {"input": given}
         ran = subprocess.run([WORDS, *words, *([port] if port else [])], cwd=self.folder, env=self.settings(**settings),
-                             input=given, timeout=PATIENCE, capture_output=True, stdin=None if given is not None else subprocess.DEVNULL)
+                             timeout=PATIENCE, capture_output=True, **end)
         return Said(ran.returncode, ran.stdout, ran.stderr)
 
     def settings(self, **more):
@@ -175,7 +177,8 @@ Wrote and verified address 0x080005dc (100.00%) Done.
         self.store("at500.hex", b":020000040800F2\n:0405000011121314AD\n:00000001FF\n")
         held = bytearray(ERASED)
         for words, at, data in [(("image", "-S", "0x08000800:100"), 2048, bytes(range(100))), (("at0.hex",), 0, b"\1\2\3\4"),
-                                (("at500.hex",), 0x500, b"\x11\x12\x13\x14"), (("at500.hex", "-S", "0x08001000:2"), 4096, b"\x11\x12"),
+                                (("at500.hex",), 0x500, b"\x11\x12\x13\x14"),
+                                (("at500.hex", "-S", "0x08001000:2"), 4096, b"\x11\x12"),
                                 (("at0.hex", "-f", "-S", "0x08001400"), 5120, self.held("at0.hex"))]:
             with self.subTest(words=words):
                 self.well("-w", *words)
