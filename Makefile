@@ -19,6 +19,8 @@
 #   make install PREFIX=/usr/local DESTDIR=
 #               what `make` left at bin/stmflash, the line to a serial port, the trial of a board, manual pages, chips.toml, completions, unit, udev rule;
 #               it proves and builds nothing, so that it needs no `rt`, also under sudo
+#   make install-as-stm32flash PREFIX=/usr/local DESTDIR=
+#               the words of stm32flash over what `make install` installs (docs/SWITCH.md): a program of that name, never unasked
 #   make deb    a Debian package of the proved program, in bin/ (dpkg-deb, binutils); of another one: STMFLASH_BINARY=
 #   make pictures
 #               draws docs/pictures/ from runs of the program and from the figures that `make bench` left (python3)
@@ -44,7 +46,7 @@ CHECKS ?= $(shell awk -v most=$(JOBS) '/^MemAvailable/ { n = int($$2 / 5000000) 
 WITHOUT ?=
 SOAKED = $(if $(wildcard bin/stmflash),bin/stmflash,bin/stmflash-unproved)
 
-.PHONY: all demo tests check try test wrong-bodies soak install deb pictures bench beside clean
+.PHONY: all demo tests check try test wrong-bodies soak install install-as-stm32flash deb pictures bench beside clean
 
 all:
 	cd crates/stmflash && rt check
@@ -91,6 +93,7 @@ test:
 	python3 tools/large-images crates/hex_bench/out/hex_bench
 	python3 tools/take-back-stored
 	sh packaging/try-deb crates/stmflash/out/stmflash
+	sh packaging/try-deb-as-stm32flash crates/stmflash/out/stmflash
 	sh tools/demo.sh
 	python3 tests/run crates/stmflash/out/stmflash --brief crates/stmflash/out/stmflash.by-rattle bin/stmflash-unproved \
 	    --without $(WITHOUT)
@@ -98,6 +101,7 @@ test:
 	python3 tools/kills bin/stmflash-unproved 60
 	python3 tools/soak bin/stmflash-unproved --sessions 300 --jobs $(JOBS)
 	python3 tools/soak crates/stmflash/out/stmflash --sessions 2000 --jobs $(JOBS)
+	python3 tools/beside-stm32flash crates/stmflash/out/stmflash --sample 24 --kills 2 --jobs $(JOBS)
 
 wrong-bodies:
 	python3 tools/wrong-bodies --by-hand
@@ -136,6 +140,14 @@ install:
 	install -d $(lib)/systemd/system $(lib)/udev/rules.d
 	sed 's|/usr/bin/|$(PREFIX)/bin/|' packaging/stmflash-line@.service > $(lib)/systemd/system/stmflash-line@.service
 	install -m 644 packaging/70-stmflash.rules $(lib)/udev/rules.d/70-stmflash.rules
+
+words = $(share)/stmflash-as-stm32flash/as_stm32flash
+
+install-as-stm32flash:
+	install -d $(DESTDIR)$(PREFIX)/bin $(words) $(share)/man/man1
+	install -m 755 line/stm32flash $(DESTDIR)$(PREFIX)/bin/stm32flash
+	install -m 644 line/as_stm32flash/*.py $(words)
+	install -m 644 line/stmflash-as-stm32flash.1 $(share)/man/man1/stmflash-as-stm32flash.1
 
 deb: $(STMFLASH_BINARY)
 	@mkdir -p bin

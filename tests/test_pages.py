@@ -50,7 +50,7 @@ class Pages(Place):
         version = re.fullmatch(r"stmflash (\d+\.\d+\.\d+)\n", said)[1]
         self.assertEqual(re.search(r"^## (\S+) ", held("CHANGELOG.md"), re.M)[1], version)
         self.assertEqual(re.match(r"stmflash \((.*)-\d+\) ", held("packaging", "changelog"))[1], version)
-        for page in ("stmflash.1", os.path.join("line", "stmflash-line.1"), os.path.join("line", "stmflash-trial.1")):
+        for page in ("stmflash.1", *(os.path.join("line", f"stmflash-{it}.1") for it in ("line", "trial", "as-stm32flash"))):
             self.assertRegex(held(page).split("\n")[0],
                              rf'^\.TH STMFLASH\S* 1 \d{{4}}-\d\d-\d\d "stmflash {re.escape(version)}" "User Commands"$')
 

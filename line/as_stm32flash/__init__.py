@@ -1,0 +1,1 @@
+"""The words of stm32flash 0.7 over stmflash."""

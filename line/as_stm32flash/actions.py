@@ -1,0 +1,170 @@
+"""What is done with a board, one function an action."""
+
+import os
+
+from . import part as parts
+from .crc import crc
+from .fault import Failed, Fault
+from .image import Image
+from .told import note
+
+CHANGED_BACK = "the flash is as it was before this call"
+NEXT_CALL = "what was begun is taken back by the next call at this port"
+
+
+class Actions:
+    """A call at a board whose chip is known."""
+
+    def __init__(self, words, board, told, chip):
+        self.words, self.board, self.told, self.chip = words, board, told, chip
+
+    def do(self):
+        """The action, if there is one."""
+        action = {"": lambda: None, "r": self.read, "w": self.write, "o": self.erase, "C": self.sum}
+        action |= dict.fromkeys("ujk", self.protect)
+        action[self.words.action]()
+
+    # ---- that change nothing
+
+    def read(self):
+        part = parts.of(self.words, self.chip)
+        self.told.line("Memory read")
+        name = self.words.file
+        if name == "-":
+            self.fetch(part, "-", out=1)
+        else:
+            folder = os.path.dirname(os.path.abspath(name))
+            if not os.path.isdir(folder):
+                raise Fault(f"Raw BINARY ERROR: System Error\n{name}: No such file or directory")
+            self.fetch(part, os.path.abspath(name))
+        self.told.far("Read", part.end, 1, end="Done.\n")
+
+    def fetch(self, part, *words, what="Read", stream=None, **more):
+        """Reads a part of the flash, as `stmflash read` does."""
+        show = self.told.progress((what,), part, self.chip, stream)
+        try:
+            self.board.use("read", "-S", part.word(), *words, show=show, **more)
+        except Failed as fault:
+            at = f"Failed to read memory at address 0x{part.start:08x}, target write-protected?"
+            raise Fault(f"{at}\n{fault}") from None
+
+    def sum(self):
+        """The CRC, of what is read: the number that the chip's own unit has for it."""
+        part = parts.of(self.words, self.chip)
+        self.told.line("CRC computation")
+        if part.start % 4 or part.end % 4:
+            raise Fault("Start and end addresses must be 4 byte aligned\nFailed to read CRC")
+        held = os.memfd_create("read")
+        with open(held, "rb") as file:
+            try:
+                self.fetch(part, "-", what="CRC", stream=self.told.errors, out=held)
+            except Fault as fault:
+                raise Fault(f"{fault}\nFailed to read CRC") from None
+            self.told.far("CRC", part.end, 1, self.told.errors, end="Done.\n")
+            file.seek(0)
+            value = crc(file.read())
+        self.told.line(f"CRC(0x{part.start:08x}-0x{part.end:08x}) = 0x{value:08x}")
+
+    # ---- that can be taken back
+
+    def write(self):
+        image = Image(self.words)
+        place = image.start or self.chip.base
+        part = parts.Part(place, place + image.size)
+        if not self.chip.holds(place) or part.end > self.chip.end:
+            told = f"ERROR: the image, 0x{part.start:08x} to 0x{part.end:08x}, doesn't lie in the flash"
+            raise Fault(f"{told}, 0x{self.chip.base:08x} to 0x{self.chip.end:08x}")
+        for option, value in (("-s", self.words.page), ("-e", self.words.pages)):
+            if value is not None:
+                note(f"{option} says nothing here: just the pages that the image touches are erased, and the rest of them stays")
+        self.told.line("Write to memory\nErasing memory")
+        what = "Wrote and verified" if self.words.verify else "Wrote"
+        self.change(lambda: self.write_once(image, part, what))
+        if image.size:
+            self.told.far(what, part.end, 1)
+        self.told.line("Done.")
+
+    def write_once(self, image, part, what):
+        options, data = image.at(part.start, self.words.force)
+        options += ["-v"] * self.words.verify
+        show = self.told.progress(("Wrote", what), part, self.chip)
+        if data is None:
+            return self.board.use("write", *options, image.path, show=show)
+        held = os.memfd_create("image")
+        with open(held, "r+b") as file:
+            file.write(data)
+            file.flush()
+            return self.board.use("write", *options, f"/proc/self/fd/{held}", show=show, files=(held,))
+
+    def erase(self):
+        part = parts.of(self.words, self.chip)
+        self.told.line("Erasing flash")
+        wanted = parts.pages(part, self.chip)
+        if (part.start, part.end) == (self.chip.base, self.chip.end):
+            wanted = ["--all"]
+        if wanted:
+            self.change(lambda: self.board.use("erase", *wanted))
+
+    def change(self, act):
+        """Writes or erases. A write that differs is taken back and done again, as often as -n says, unless it differs at the
+        same byte; another fault is taken back, where the board can still be reached."""
+        if self.board.journals.is_large():
+            self.board.put_aside()
+        left, before = self.words.retries, None
+        while True:
+            try:
+                return act()
+            except Failed as fault:
+                at = fault.differs_at()
+                back = self.give_back(fault)
+                if at is None or not left or at == before:
+                    raise Fault(f"{self.failure(fault)}\n{back}") from None
+                left, before = left - 1, at
+                note(f"{fault}: taken back, and done again")
+
+    def give_back(self, fault):
+        """Takes back what a failed command has done, and says what stands."""
+        if fault.differs_at() is None and not self.board.is_unfinished():
+            return f"stm32flash: {CHANGED_BACK}"
+        if not fault.is_of_the_line():
+            try:
+                self.board.take_back()
+                return f"stm32flash: {CHANGED_BACK}"
+            except Failed:
+                pass
+        return f"stm32flash: {NEXT_CALL}"
+
+    def failure(self, fault):
+        at = fault.differs_at()
+        if at is not None:
+            return f"Failed to verify at address 0x{at:08x}"
+        return f"Failed to {'erase' if self.words.action == 'o' else 'write'} memory\n{fault}"
+
+    # ---- behind which nothing of before is sure
+
+    def protect(self):
+        kind, doing, failed = {
+            "u": ("write-unprotect", "Write-unprotecting", "write-unprotect"),
+            "j": ("readout-protect", "Read-Protecting", "read-protect"),
+            "k": ("readout-unprotect", "Read-UnProtecting", "read-unprotect")}[self.words.action]
+        self.told.line(f"{doing} flash")
+        self.board.put_aside()
+        if self.words.action == "k":
+            # the whole chip is erased: no page is what a journal knows
+            self.board.journals.set_apart()
+        try:
+            self.board.use("protect", kind)
+        except Failed as fault:
+            raise Fault(f"Failed to {failed} flash\n{fault}") from None
+        self.told.line("Done.")
+
+    def start(self, address):
+        """Starts a program. What was done stays, and its journal is put aside: as long as the program leaves the flash alone,
+        that can still be taken back."""
+        self.board.put_aside()
+        try:
+            self.board.use("go", f"0x{address:08X}")
+        except Failed as fault:
+            note(str(fault))
+            return False
+        return True

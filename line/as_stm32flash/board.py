@@ -1,0 +1,133 @@
+"""Sessions of stmflash with the board at a port, and its journal."""
+
+import ctypes
+import os
+import re
+import signal
+import subprocess
+import time
+
+from .fault import Failed
+from .patience import UNKNOWN
+
+# after how many seconds without an answer a board is given up; an undo has stmflash's own patience
+GIVE_UP = 5
+PR_SET_PDEATHSIG = 1
+# how long a program that was told to end may take to let its journal go, in seconds
+RELEASED = 5
+NO_PROTOCOL = "device does not follow the protocol"
+# the sessions that can be done again as long as they have begun nothing; a program that a Go did start doesn't answer the next
+AGAIN = ("info", "read", "write", "erase", "go", "undo")
+
+
+class Board:
+    """The board behind a socket that STMFLASH_DEVICE names, and the journal of its port."""
+
+    def __init__(self, tools, journals, wait):
+        self.tools, self.journals, self.wait = tools, journals, wait
+        # that a reset was claimed isn't believed: a sequence may move signals that no reset hangs on
+        self.settings = {name: value for name, value in os.environ.items()
+                         if name not in ("STMFLASH_FRESH", "STMFLASH_JOURNAL", "STMFLASH_TABLE", "STMFLASH_WAIT")}
+
+    def use(self, name, *words, wait=None, **more):
+        """One session; what it printed. Where a wait that is shorter than stmflash's own has proved too short, and nothing was
+        begun, it is done once more with that."""
+        before = self.journals.size()
+        try:
+            return self.session(name, words, wait or self.wait, **more)
+        except Failed as fault:
+            is_short = wait is None and self.wait < UNKNOWN and name in AGAIN
+            # an undo goes on where it was stopped
+            begun = name != "undo" and self.journals.size() != before
+            if str(fault) != NO_PROTOCOL or not is_short or begun:
+                raise
+            self.wait = UNKNOWN
+            return self.session(name, words, self.wait, **more)
+
+    def session(self, name, words, wait, show=None, out=subprocess.PIPE, files=()):
+        """One session; what it printed, unless that goes to the descriptor `out`. `show` is called with each line of its
+        progress; `files` are descriptors that it may read."""
+        common = ["--table", self.tools.table, "--journal", self.journals.live, "--wait", str(wait)]
+        common += ["--progress" if show else "--quiet"]
+        common += [] if name == "undo" else ["--give-up", str(GIVE_UP)]
+        return self.run([name, *common, *words], show, out, files)
+
+    def look(self, name, *words):
+        """A call that needs no device."""
+        return self.run([name, "--journal", self.journals.live, *words])
+
+    def run(self, words, *more):
+        """A call of stmflash. One that was killed just now may still have the journal for a moment."""
+        until = time.monotonic() + RELEASED
+        while True:
+            try:
+                return self.run_once(words, *more)
+            except Failed as fault:
+                if str(fault) != "journal is in use" or time.monotonic() > until:
+                    raise
+                time.sleep(0.05)
+
+    def run_once(self, words, show=None, out=subprocess.PIPE, files=()):
+        with subprocess.Popen([self.tools.stmflash, *words], env=self.settings, stdin=subprocess.DEVNULL, pass_fds=files,
+                              stdout=out, stderr=subprocess.PIPE, preexec_fn=tie()) as started:
+            try:
+                # what is printed to a pipe is a few lines, and has room there
+                told = list(follow(started.stderr, show))
+                printed = started.stdout.read().decode(errors="replace") if started.stdout else ""
+            except BaseException:
+                started.terminate()
+                raise
+        if started.returncode:
+            raise Failed(told[-1] if told else f"stmflash ended with status {started.returncode}")
+        return printed
+
+    # ---- the journal
+
+    def is_unfinished(self):
+        return os.path.exists(self.journals.live) and "unfinished, undo first" in self.look("log")
+
+    def undoable(self):
+        """How many writes and erases the journal in use has that can be taken back."""
+        found = re.search("^([0-9]+) can be undone$", self.look("log"), re.M) if os.path.exists(self.journals.live) else None
+        return int(found[1]) if found else 0
+
+    def put_aside(self):
+        """Ends the journal in use, and keeps it as the newest that was put aside."""
+        if os.path.exists(self.journals.live):
+            if self.undoable():
+                self.look("keep", self.journals.next_kept())
+                self.journals.drop_old()
+            else:
+                self.look("keep")
+
+    # ---- sessions
+
+    def information(self):
+        """What the device says of itself."""
+        return dict(line.split(" ", 1) for line in self.use("info").splitlines() if " " in line)
+
+    def take_back(self, fresh=False):
+        """Takes back the newest write or erase. What was stopped may leave the board busy: it is waited for as stmflash does."""
+        self.use("undo", *["--fresh"] * fresh, "1", wait=max(self.wait, UNKNOWN) if self.is_unfinished() else None)
+
+
+def follow(pipe, show):
+    """The faults that come from a pipe, without the program's name; `show` is handed each other line as it comes."""
+    for line in pipe:
+        text = line.decode(errors="replace").strip()
+        if text.startswith("stmflash: "):
+            yield text.removeprefix("stmflash: ")
+        elif show:
+            show(text)
+
+
+def tie():
+    """What a program does before it begins: it is told to end where we are killed."""
+    system, ourselves = ctypes.CDLL(None), os.getpid()
+
+    def begin():
+        system.prctl(PR_SET_PDEATHSIG, signal.SIGTERM)
+        if os.getppid() != ourselves:
+            os._exit(1)
+
+    return begin

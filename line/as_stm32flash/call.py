@@ -1,0 +1,165 @@
+"""One call: outside, where the words are read and what can't be done is refused; and inside, where stmflash-line has the port
+open and has run us again as its command."""
+
+import json
+import os
+import sys
+
+from . import chip as chips
+from . import image, leaving, sequence, tools, usage, words
+from .actions import Actions
+from .board import Board
+from .fault import Failed, Fault
+from .journals import Journals
+from .patience import is_pty, wait
+from .told import Told, note
+
+INSIDE = "--through"
+# the words of a call, for its inside: stmflash-line would put a socket's path for each {} of its command
+WORDS = "STM32FLASH_WORDS"
+# that the entry sequence of -i resets the board, which its user says
+RESETS = "STM32FLASH_RESETS"
+
+
+def main(program, given):
+    try:
+        return inside(program) if given == [INSIDE] and WORDS in os.environ else outside(program, given)
+    except Fault as fault:
+        sys.stdout.flush()
+        print(str(fault) + ("\n" + usage.USAGE if fault.usage else ""), file=sys.stderr, flush=True)
+        return 1
+    except KeyboardInterrupt:
+        note("stopped; what was begun is taken back by the next call at this port")
+        return 1
+
+
+# ---- outside
+
+def outside(program, given):
+    asked = words.read(given)
+    if asked is None:
+        sys.stderr.write(usage.USAGE)
+        return 0
+    below = tools.find(program)
+    journals = Journals(asked.port)
+    if asked.action == "log":
+        return show_log(Board(below, journals, 0))
+    refuse(asked, below)
+    for text in asked.notes:
+        print(text, file=sys.stderr, flush=True)
+    if asked.action != "undo":
+        told = Told(asked)
+        told.banner()
+        if asked.action == "w":
+            image.keep(asked.file)
+            told.lines(image.Image(asked).lines())
+    journals.make()
+    os.environ[WORDS] = json.dumps(given)
+    line = [below.line, asked.port, "--baud", str(asked.baud)]
+    if asked.sequence is not None:
+        leave = asked.leave()
+        line.append(f"--boot={asked.entry()}" + ("" if leave is None else f":{leave}"))
+    sys.stdout.flush()
+    os.execv(below.line, [*line, "--", sys.executable, program, INSIDE])
+
+
+def refuse(asked, below):
+    """What can be seen without the board that it can't be done."""
+    if asked.mode != "8e1" and not is_pty(asked.port):
+        raise Fault(f"ERROR: -m {asked.mode}: isn't there; 8e1 is, which the bootloader of every STM32 has")
+    table = chips.read_table(below.table)
+    if asked.address is not None:
+        chips.refuse_outside(table, asked.address, "-S")
+    if asked.start_at:
+        chips.refuse_outside(table, asked.start_at, "-g")
+
+
+def show_log(board):
+    """What can be taken back at a port, the newest journal first."""
+    journals = board.journals
+    paths = [path for path in (journals.live, *reversed(journals.kept())) if os.path.exists(path)]
+    for path in paths:
+        print(f"journal {path}")
+        print(board.run(["log", "--journal", path]), end="")
+    if not paths:
+        print(f"nothing was written or erased yet; journals would stand in {journals.folder}")
+    return 0
+
+
+# ---- inside
+
+def inside(program):
+    asked = words.read(json.loads(os.environ[WORDS]))
+    below = tools.find(program)
+    told = Told(asked)
+    board = Board(below, Journals(asked.port), wait(asked.port, asked.baud))
+    board.journals.end_keeping()
+    if asked.action == "undo":
+        return undo(board, asked)
+    told.line(f"Interface serial_posix: {asked.baud} {asked.mode.upper()}")
+    if asked.entry():
+        told.lines(sequence.lines(asked.entry()))
+    try:
+        take_back_first(board, asked)
+        actions = Actions(asked, board, told, greet(board, told, chips.read_table(below.table)))
+        refuse_start(asked, actions.chip)
+        actions.do()
+        return leaving.leave(actions)
+    finally:
+        told.line("")
+
+
+def take_back_first(board, asked):
+    """What an earlier call has begun at this port and never ended is taken back before anything else."""
+    if not board.is_unfinished():
+        return
+    note("an earlier call was stopped in the midst of a write, an erase or an undo: that is taken back first")
+    try:
+        board.take_back(fresh=was_reset(asked))
+    except Failed as fault:
+        kept = f"its journal is {board.journals.live}"
+        raise Fault(f"{fault}\nERROR: what an earlier call has begun can't be taken back now; {kept}") from None
+
+
+def was_reset(asked):
+    """Whether the board was reset when this call began, as its user says."""
+    return os.environ.get(RESETS) == "1" and bool(asked.entry())
+
+
+def greet(board, told, table):
+    """Asks the device who it is, tells that, and answers its chip."""
+    try:
+        information = board.information()
+    except Failed as fault:
+        if str(fault) == "journal belongs to another device":
+            board.put_aside()
+            note("a chip of another kind was at this port before: its journal is put aside")
+            information = board.information()
+        elif str(fault) == "no answer from the device":
+            raise Fault("Failed to init device, timeout.") from None
+        elif str(fault).startswith("unknown chip "):
+            raise Fault(f"Unknown/unsupported device (Device ID: 0x{str(fault)[13:]})") from None
+        else:
+            raise Fault(f"Failed to init device.\n{fault}") from None
+    chip = table[int(information["id"], 16)]
+    told.line(f"Version      : 0x{information['version'].lower()}")
+    told.lines(chip.lines())
+    return chip
+
+
+def refuse_start(asked, chip):
+    if asked.start_at and not chip.holds(asked.start_at):
+        raise Fault(f"ERROR: -g 0x{asked.start_at:08x}: not in the flash of this chip, which ends at 0x{chip.end:08x}")
+
+
+def undo(board, asked):
+    """Takes back the newest write or erase at this port, also of a journal that was put aside."""
+    while not board.is_unfinished() and not board.undoable():
+        if not board.journals.take_newest():
+            raise Fault("ERROR: nothing that was written or erased at this port can be taken back")
+    try:
+        board.take_back(fresh=board.is_unfinished() and was_reset(asked))
+    except Failed as fault:
+        raise Fault(f"{fault}\nERROR: not taken back; the journal is {board.journals.live}") from None
+    print("Taken back: the newest write or erase at this port.", flush=True)
+    return 0

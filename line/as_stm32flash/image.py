@@ -1,0 +1,82 @@
+"""The file of -w: what it is, how long, and where it lies."""
+
+import os
+import stat
+
+from . import hex_text
+from .fault import Fault
+
+RAW, HEX = "Raw BINARY", "Intel HEX"
+# says to the inside of a call that the file's bytes stand at standard input
+KEPT = "STM32FLASH_IMAGE_KEPT"
+
+
+class Image:
+    """An image. `start` is its own address, or None, `size` the count of its bytes from the first to the last, and `path` a file
+    that can be read again and holds it; None where there is none."""
+
+    def __init__(self, words):
+        self.is_input = words.file == "-"
+        self.path = None if os.environ.get(KEPT) else os.path.abspath(words.file)
+        self.text = read_kept() if self.path is None else read_file(words.file)
+        # standard input is raw bytes, as for stm32flash, and an empty file is an empty text
+        is_hex = not words.force and not self.is_input and self.text[:1] in (b":", b"")
+        self.parser = HEX if is_hex else RAW
+        self.pieces = hex_text.read(self.text) if is_hex and self.text else []
+        start, end = hex_text.span(self.pieces) if is_hex else (0, len(self.text))
+        # a text whose addresses begin at 0 is placed as raw bytes are
+        self.own, self.start = start, words.address or start or None
+        self.size = end - start if words.length is None else min(end - start, words.length)
+        self.is_whole = self.size == end - start
+
+    def lines(self):
+        """What is told of it."""
+        told = [f"Using Parser : {self.parser}"]
+        if not self.is_input:
+            told += [f"Location     : {self.start:#08x}"] if self.start else []
+            told += [f"Size         : {self.size}"]
+        return told
+
+    def at(self, place, force):
+        """It at a place, as stmflash is given it: options, and the bytes of a file, or None where its own file will do."""
+        if self.parser == HEX:
+            if self.is_whole and place == self.own:
+                return [], None if self.path else self.text
+            return [], hex_text.moved(self.pieces, place - self.own, place + self.size)
+        options = ["-S", f"0x{place:08X}"]
+        if self.is_whole and self.path:
+            return [*options, *["-f"] * force], None
+        return [*options, "-f"], self.text[:self.size]
+
+
+def read_file(name):
+    try:
+        with open(name, "rb") as file:
+            return file.read()
+    except OSError as error:
+        raise Fault(f"Intel HEX ERROR: System Error\n{name}: {error.strerror}") from None
+
+
+def keep(name):
+    """Where a file can be read but once, standard input or another pipe, it is read now and put where the inside of the call finds
+    it."""
+    os.environ.pop(KEPT, None)
+    try:
+        if name != "-" and (not os.path.exists(name) or stat.S_ISREG(os.stat(name).st_mode) or os.path.isdir(name)):
+            return
+        with open(0 if name == "-" else name, "rb", closefd=name != "-") as given:
+            text = given.read()
+    except OSError as error:
+        raise Fault(f"Intel HEX ERROR: System Error\n{name}: {error.strerror}") from None
+    held = os.memfd_create("image")
+    with open(held, "wb", closefd=False) as file:
+        file.write(text)
+    os.dup2(held, 0)
+    os.close(held)
+    os.environ[KEPT] = "1"
+
+
+def read_kept():
+    os.lseek(0, 0, os.SEEK_SET)
+    with open(0, "rb", closefd=False) as given:
+        return given.read()

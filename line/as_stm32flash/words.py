@@ -1,0 +1,178 @@
+"""The command line: the options of stm32flash 0.7, and what is refused of them before a byte is sent."""
+
+import dataclasses
+import getopt
+import re
+
+from .fault import Fault
+from .sequence import refuse_unknown
+
+OPTIONS = "a:b:m:r:w:e:vn:g:jkfcChuos:S:F:i:R"
+OWN = ["undo", "log"]
+RATES = (1200, 1800, 2400, 4800, 9600, 14400, 19200, 38400, 56000, 57600, 115200, 128000, 230400, 256000, 460800, 500000, 576000,
+         921600, 1000000, 1152000, 1500000, 2000000, 2500000, 3000000, 3500000, 4000000)
+ACTIONS = {"r": "memory read", "w": "memory write", "u": "write unprotect", "j": "read protect", "k": "read unprotect",
+           "o": "flash erase", "C": "memory crc"}
+# the least and the largest frames, without the count and the checksum
+LEAST_RX, LEAST_TX, MOST_RX, MOST_TX = 20, 6, 256, 257
+PAGES_OR_ADDRESS = "ERROR: Invalid options, can't specify start page / num pages and start address/length"
+
+
+@dataclasses.dataclass
+class Words:
+    """What a call asks for."""
+
+    port: str = ""
+    # a letter of ACTIONS, "undo", "log", or nothing
+    action: str = ""
+    # of -r and -w
+    file: str = ""
+    baud: int = 57600
+    mode: str = "8e1"
+    verify: bool = False
+    retries: int = 10
+    # where the program is started; 0 is the flash's start
+    start_at: int | None = None
+    # of -S, of which either may be left out
+    address: int | None = None
+    length: int | None = None
+    # of -s and -e
+    page: int | None = None
+    pages: int | None = None
+    force: bool = False
+    resume: bool = False
+    reset: bool = False
+    # both sequences of -i, or nothing
+    sequence: str | None = None
+    notes: list[str] = dataclasses.field(default_factory=list)
+
+    def entry(self):
+        """The sequence that is played at first."""
+        return "" if self.resume else (self.sequence or "").partition(":")[0]
+
+    def leave(self):
+        """The sequence that is played in the end; None where there is none."""
+        _, colon, text = (self.sequence or "").partition(":")
+        return text if colon else None
+
+
+def number(text):
+    """A number as the C library reads one: 0x is hexadecimal, a leading 0 octal."""
+    if not re.fullmatch(r"0[xX][0-9a-fA-F]+|0[0-7]*|[1-9][0-9]*", text):
+        raise Fault(f"ERROR: {text} is no number")
+    value = int(text, 8) if re.fullmatch("0[0-7]+", text) else int(text, 0)
+    if value >= 1 << 32:
+        raise Fault(f"ERROR: {text} is too large")
+    return value
+
+
+def read(words):
+    """What these words ask for, or None where it is the help."""
+    try:
+        options, rest = getopt.gnu_getopt(words, OPTIONS, OWN)
+    except getopt.GetoptError as error:
+        raise Fault(f"stm32flash: {error}", usage=True) from None
+    asked = Words()
+    for name, value in options:
+        if name == "-h":
+            return None
+        take(asked, name.lstrip("-"), value)
+    if not rest:
+        raise Fault("ERROR: Device not specified", usage=True)
+    if len(rest) > 1:
+        raise Fault("ERROR: Invalid parameter specified", usage=True)
+    asked.port = rest[0]
+    if asked.verify and asked.action != "w":
+        raise Fault("ERROR: Invalid usage, -v is only valid when writing", usage=True)
+    if asked.port.startswith("/dev/i2c-"):
+        raise Fault(f"ERROR: {asked.port}: I2C isn't there; the real stm32flash has it")
+    return asked
+
+
+def take(asked, name, value):
+    """One option more."""
+    if name in ACTIONS or name in OWN:
+        if asked.action:
+            first, second = (ACTIONS.get(action, "--" + action) for action in (asked.action, name))
+            raise Fault(f'ERROR: Invalid options !\n\tCan\'t execute "{first}" and "{second}" at the same time.')
+        asked.action = name
+        asked.file = value if name in "rw" else ""
+    elif name in FLAGS:
+        setattr(asked, FLAGS[name], True)
+    elif name in TAKERS:
+        TAKERS[name](asked, value)
+
+
+FLAGS = {"v": "verify", "f": "force", "c": "resume", "R": "reset"}
+
+
+def take_baud(asked, value):
+    if not value.isdigit() or int(value) not in RATES:
+        raise Fault("\n ".join(["Invalid baud rate, valid options are:", *map(str, RATES)]))
+    asked.baud = int(value)
+
+
+def take_mode(asked, value):
+    if not re.fullmatch("[5-8][neoNEO][12]", value):
+        raise Fault("Invalid serial mode")
+    asked.mode = value.lower()
+
+
+def take_retries(asked, value):
+    asked.retries = number(value)
+
+
+def take_start(asked, value):
+    asked.start_at = number(value)
+    if asked.start_at % 4:
+        raise Fault("ERROR: Execution address must be word-aligned")
+
+
+def take_page(asked, value):
+    asked.page = count_of_pages(asked, value)
+
+
+def take_pages(asked, value):
+    asked.pages = count_of_pages(asked, value)
+
+
+def count_of_pages(asked, value):
+    if asked.address is not None or asked.length is not None:
+        raise Fault(PAGES_OR_ADDRESS)
+    if value.startswith("-") or number(value) > 0xFFFF:
+        raise Fault("ERROR: You need to specify a page count between 0 and 0xffff")
+    return number(value)
+
+
+def take_range(asked, value):
+    if asked.page is not None or asked.pages is not None:
+        raise Fault(PAGES_OR_ADDRESS)
+    address, colon, length = value.partition(":")
+    asked.address = number(address) if address or not colon else None
+    if asked.address is not None and asked.address % 4:
+        raise Fault("ERROR: Start address must be word-aligned")
+    asked.length = number(length) if colon else None
+    if asked.length == 0:
+        raise Fault("ERROR: Invalid options, can't specify zero length")
+
+
+def take_frames(asked, value):
+    """Frames are of 256 bytes, whatever is asked for; what stm32flash itself refuses is refused."""
+    sizes = value.split(":")
+    if any(size.startswith("-") for size in sizes):
+        raise Fault("ERROR: Invalid negative value for option -F")
+    limits = (("RX", LEAST_RX, MOST_RX), ("TX", LEAST_TX, MOST_TX))
+    for size, (name, least, most) in zip(map(number, sizes), limits):
+        if size < least:
+            raise Fault(f"ERROR: current code cannot work with small frames.\nmin(RX) = {LEAST_RX}, min(TX) = {LEAST_TX}")
+        if size != most:
+            asked.notes.append(f"WARNING: Ignore {name} length in option -F")
+
+
+def take_sequence(asked, value):
+    refuse_unknown(value)
+    asked.sequence = value
+
+
+TAKERS = {"b": take_baud, "m": take_mode, "n": take_retries, "g": take_start, "s": take_page, "e": take_pages, "S": take_range,
+          "F": take_frames, "i": take_sequence}

@@ -1,0 +1,422 @@
+"""line/stm32flash: what it refuses, and that what it does can be taken back. tools/beside-stm32flash has it beside the real
+one."""
+
+import contextlib
+import importlib
+import io
+import os
+import re
+import signal
+import subprocess
+import sys
+import unittest
+import unittest.mock
+
+from boards import LinePlace, default_signals, pty_boards
+from place import COUNTING, ERASED, PATIENCE, SIZE, TOP, Said, program
+
+WORDS = os.path.join(TOP, "line", "stm32flash")
+FLASH = 0x08000000
+NOTHING = b"ERROR: nothing that was written or erased at this port can be taken back\n"
+# page 5 of a flash of 55 is to be erased, and was not yet
+STOPPED = "stmjournal 2 0412\nopen 1\npage 5 " + "55" * 1024 + "\nerase 5\n"
+
+
+def module(name):
+    """A module of the folder line/as_stm32flash."""
+    folder = os.path.join(TOP, "line")
+    before, sys.dont_write_bytecode = sys.dont_write_bytecode, True
+    sys.path.insert(0, folder)
+    try:
+        return importlib.import_module("as_stm32flash." + name)
+    finally:
+        sys.path.remove(folder)
+        sys.dont_write_bytecode = before
+
+
+class Words(LinePlace):
+    def setUp(self):
+        super().setUp()
+        os.mkdir(self.path("bin"))
+        os.symlink(program(), self.path("bin/stmflash"))
+
+    def words(self, *words, port="ttyUSB0", given=None, **settings):
+        """Runs stm32flash on these words and a port. The wait is a short one, which stmflash's own follows where it fails."""
+        end = {"stdin": subprocess.DEVNULL} if given is None else {"input": given}
+        ran = subprocess.run([WORDS, *words, *([port] if port else [])], cwd=self.folder, env=self.settings(**settings),
+                             timeout=PATIENCE, capture_output=True, **end)
+        return Said(ran.returncode, ran.stdout, ran.stderr)
+
+    def settings(self, **more):
+        return {"PATH": self.path("bin") + ":" + os.environ["PATH"], "TMPDIR": self.path("temporary"), "HOME": self.folder,
+                "STMFLASH_TABLE": self.path("table"), "STMFLASH_WAIT": "100", **more}
+
+    def well(self, *words, **more):
+        """The same, which ends well; what it said."""
+        said = self.words("-m", "8n1", *words, **more)
+        self.assertEqual(said.status, 0, said)
+        return said
+
+    def flash(self, data, name="ttyUSB0"):
+        """A board whose flash holds these bytes."""
+        self.store(name + ".flash", data)
+        return self.board(name)
+
+    def reset(self, board):
+        """The board as its reset leaves it, on a new pseudo-terminal of the same name."""
+        board.store()
+        board.stop()
+        self.remove("ttyUSB0.flash.line")
+        return self.board()
+
+    def folder_of_port(self):
+        return os.path.join(".local", "state", "stmflash", "ports", module("journals").name_of(self.path("ttyUSB0")))
+
+    def journals(self):
+        return sorted(os.listdir(self.path(self.folder_of_port())))
+
+
+class Refusals(Words):
+    def test_what_cant_be_is_refused_by_name_and_no_byte_is_sent(self):
+        self.store("bad.hex", b":0400000001020304F3\n:00000001FF\n")
+        self.store("cut.hex", b":04000000010203\n")
+        self.store("image", b"abc")
+        cases = [
+            (("-a", "1", "/dev/i2c-0"), "ERROR: /dev/i2c-0: I2C isn't there; the real stm32flash has it"),
+            (("-m", "8n1", "/dev/null"), "ERROR: -m 8n1: isn't there; 8e1 is, which the bootloader of every STM32 has"),
+            (("-m", "9e1"), "Invalid serial mode"),
+            (("-b", "12345"), "Invalid baud rate, valid options are:"),
+            (("-i", "5,-6"), "ERROR: -i 5: pins of the machine can't be moved; rts, dtr and brk can"),
+            (("-i", "rts:foo"), "ERROR: -i foo: no signal; rts, dtr and brk are"),
+            (("-r", "a", "-w", "image"), "ERROR: Invalid options !"),
+            (("-u", "-k"), "ERROR: Invalid options !"),
+            (("-v",), "ERROR: Invalid usage, -v is only valid when writing"),
+            (("-g", "2"), "ERROR: Execution address must be word-aligned"),
+            (("-g", "0x20000000"), "ERROR: -g 0x20000000: not in the flash; RAM, option bytes and system memory aren't reached"),
+            (("-g", "start"), "ERROR: start is no number"),
+            (("-r", "a", "-S", "0x1ffff7e8:12"),
+             "ERROR: -S 0x1ffff7e8: not in the flash; RAM, option bytes and system memory aren't reached"),
+            (("-S", "0x08000002"), "ERROR: Start address must be word-aligned"),
+            (("-S", "0x08000000:0"), "ERROR: Invalid options, can't specify zero length"),
+            (("-S", "0x08000000", "-s", "1"), module("words").PAGES_OR_ADDRESS),
+            (("-e", "2", "-S", "0x08000000"), module("words").PAGES_OR_ADDRESS),
+            (("-e", "70000"), "ERROR: You need to specify a page count between 0 and 0xffff"),
+            (("-F", "10"), "ERROR: current code cannot work with small frames."),
+            (("-Z",), "stm32flash: option -Z not recognized"),
+            (("other",), "ERROR: Invalid parameter specified"),
+            (("-w", "missing"), "Intel HEX ERROR: System Error"),
+            (("-w", "bad.hex"), "Intel HEX ERROR: Invalid File"),
+            (("-w", "cut.hex"), "Intel HEX ERROR: Invalid File"),
+        ]
+        end = self.plain()
+        for words, line in cases:
+            with self.subTest(words=words):
+                said = self.words(*words, port=None if words[-1].startswith("/dev/") else "ttyUSB0")
+                self.assertEqual((said.status, said.err.decode().splitlines()[0]), (1, line))
+        os.set_blocking(end, False)
+        with contextlib.suppress(BlockingIOError, OSError):
+            self.assertEqual(os.read(end, 1), b"")
+
+    def test_help_and_no_port(self):
+        said = self.words("-h", port=None)
+        self.assertEqual((said.status, said.out, said.err[:6]), (0, b"", b"Usage:"))
+        said = self.words("-r", "a", port=None)
+        self.assertEqual((said.status, said.err.splitlines()[0]), (1, b"ERROR: Device not specified"))
+
+    def test_a_port_that_isnt_there(self):
+        said = self.words(port="missing")
+        self.assertEqual(said.status, 1)
+        self.assertIn(b"no such port", said.err)
+
+    def test_tools_that_arent_there(self):
+        os.remove(self.path("bin/stmflash"))
+        said = self.words(PATH="/nowhere:/usr/bin", port="ttyUSB0")
+        self.assertEqual((said.status, said.err), (1, b"ERROR: stmflash isn't there, neither beside stm32flash nor in PATH\n"))
+
+    def test_a_silent_board(self):
+        self.plain()
+        said = self.words("-m", "8n1")
+        self.assertEqual((said.status, said.err), (1, b"Failed to init device, timeout.\n"))
+
+
+class Doing(Words):
+    def test_a_write_is_told_as_by_stm32flash_and_taken_back(self):
+        board = self.flash(COUNTING)
+        self.store("image", b"new" * 500)
+        said = self.well("-w", "image", "-v")
+        shown = re.sub(r"\r.*\r", "", said.out.decode())
+        self.assertEqual(shown, f"""stm32flash 0.7
+
+http://stm32flash.sourceforge.net/
+
+Using Parser : Raw BINARY
+Size         : 1500
+Interface serial_posix: 57600 8N1
+Version      : 0x22
+Device ID    : 0x0412 ()
+- Flash      : Up to 32KiB (size first sector: 1x1024)
+Write to memory
+Erasing memory
+Wrote and verified address 0x080005dc (100.00%) Done.
+
+""")
+        self.assertEqual(said.err, b"")
+        self.assertEqual(board.store(), b"new" * 500 + COUNTING[1500:])
+        log = self.words("--log").out.decode()
+        self.assertIn("segment 1: ended, 2 pages: 0-1\n1 can be undone\n", log)
+        said = self.well("--undo")
+        self.assertEqual(said.out, b"Taken back: the newest write or erase at this port.\n")
+        self.assertEqual(board.store(), COUNTING)
+        said = self.words("--undo")
+        self.assertEqual((said.status, said.err), (1, NOTHING))
+
+    def test_images_lie_where_stm32flash_puts_them(self):
+        board = self.flash(ERASED)
+        self.store("image", bytes(range(200)))
+        self.store("at0.hex", b":0400000001020304F2\n:00000001FF\n")
+        self.store("at500.hex", b":020000040800F2\n:0405000011121314AD\n:00000001FF\n")
+        held = bytearray(ERASED)
+        for words, at, data in [(("image", "-S", "0x08000800:100"), 2048, bytes(range(100))), (("at0.hex",), 0, b"\1\2\3\4"),
+                                (("at500.hex",), 0x500, b"\x11\x12\x13\x14"),
+                                (("at500.hex", "-S", "0x08001000:2"), 4096, b"\x11\x12"),
+                                (("at0.hex", "-f", "-S", "0x08001400"), 5120, self.held("at0.hex"))]:
+            with self.subTest(words=words):
+                self.well("-w", *words)
+                held[at:at + len(data)] = data
+                self.assertEqual(board.store(), held)
+        self.well("-w", "-", "-S", "0x08002000:3", given=b"piped")
+        held[8192:8195] = b"pip"
+        self.assertEqual(board.store(), held)
+        # what a HEX text leaves out stays, also where it is moved; it comes by a pipe that can be read but once
+        self.store("gaps.hex", b":0100000041BE\n:0100080042B5\n:00000001FF\n")
+        self.well("-w", "/dev/stdin", "-S", "0x08000804", given=self.held("gaps.hex"))
+        held[2052], held[2060] = 0x41, 0x42
+        self.assertEqual(board.store(), held)
+
+    def test_an_image_that_doesnt_fit_is_refused(self):
+        board = self.flash(COUNTING)
+        self.store("image", b"x" * (SIZE + 1))
+        said = self.words("-m", "8n1", "-w", "image")
+        self.assertEqual(said.status, 1)
+        self.assertIn(b"doesn't lie in the flash", said.err)
+        self.assertEqual(board.store(), COUNTING)
+
+    def test_reads_and_the_crc(self):
+        self.flash(COUNTING)
+        self.well("-r", "out")
+        self.assertFile("out", COUNTING)
+        said = self.well("-r", "-", "-S", "0x08000400:100")
+        self.assertEqual(said.out, COUNTING[1024:1124])
+        self.assertIn(b"Memory read\n", said.err)
+        value = 0xFFFFFFFF
+        for at in range(0, 2048, 4):
+            value ^= int.from_bytes(COUNTING[1024 + at:1028 + at], "little")
+            for _ in range(32):
+                value = value * 2 % (1 << 32) ^ (0x04C11DB7 if value >> 31 else 0)
+        said = self.well("-C", "-s", "1", "-e", "2")
+        self.assertIn(f"CRC computation\nCRC(0x08000400-0x08000c00) = 0x{value:08x}\n", said.out.decode())
+
+    def test_erases_by_pages(self):
+        board = self.flash(COUNTING)
+        said = self.words("-m", "8n1", "-o", "-S", "0x08000400:1000")
+        self.assertEqual((said.status, said.err), (1, b"Specified start & length are invalid (must be page aligned)\n"))
+        self.well("-o", "-s", "1", "-e", "2")
+        self.assertEqual(board.store(), COUNTING[:1024] + ERASED[:2048] + COUNTING[3072:])
+        self.well("-o")
+        self.assertEqual(board.store(), ERASED)
+        self.well("--undo")
+        self.well("--undo")
+        self.assertEqual(board.store(), COUNTING)
+
+
+class TakingBack(Words):
+    def stopped(self):
+        os.makedirs(self.path(self.folder_of_port()), exist_ok=True)
+        self.store(os.path.join(self.folder_of_port(), "journal"), STOPPED.encode())
+
+    def test_what_never_ended_is_taken_back_before_anything_else(self):
+        board = self.flash(COUNTING)
+        self.stopped()
+        self.store("image", b"new")
+        said = self.well("-w", "image")
+        self.assertEqual(said.err, b"stm32flash: an earlier call was stopped in the midst of a write, an erase or an undo: that is"
+                                   b" taken back first\n")
+        back = COUNTING[:5120] + b"\x55" * 1024 + COUNTING[6144:]
+        self.assertEqual(board.store(), b"new" + back[3:])
+        self.well("--undo")
+        self.assertEqual(board.store(), back)
+
+    def test_a_signal_in_the_midst(self):
+        """The call is ended while it writes; the next one gives the flash back."""
+        self.store("image", b"new" * 1000)
+        self.store("ttyUSB0.flash", COUNTING)
+        board = pty_boards.PtyBoard(program(), self.path("ttyUSB0"), "0412", self.path("table"), baud=57600)
+        self.addCleanup(board.stop)
+        journal = os.path.join(self.folder_of_port(), "journal")
+        for number, status in ((signal.SIGTERM, 143), (signal.SIGKILL, -9)):
+            with self.subTest(signal=number):
+                with subprocess.Popen([WORDS, "-m", "8n1", "-w", "image", "ttyUSB0"], cwd=self.folder, env=self.settings(),
+                                      stdin=subprocess.DEVNULL, stdout=subprocess.DEVNULL, stderr=subprocess.DEVNULL,
+                                      preexec_fn=default_signals) as started:
+                    self.until(lambda: b"\nprogram " in (self.held(journal) or b""), "nothing is written")
+                    started.send_signal(number)
+                self.assertEqual(started.returncode, status)
+                said = self.well("-w", "-", "-S", "0x08007000", given=b"next")
+                self.assertIn(b"that is taken back first", said.err)
+                self.assertEqual(board.store(), COUNTING[:28672] + b"next" + COUNTING[28676:])
+                self.well("--undo")
+                self.remove(journal)
+
+    def test_what_cant_be_taken_back_ends_the_call(self):
+        board = self.flash(COUNTING)
+        self.stopped()
+        name = os.path.join(self.folder_of_port(), "journal")
+        self.store("table", self.held("table") + self.held("table").replace(b"412", b"410"))
+        self.store(name, STOPPED.replace("0412", "0410").encode())
+        self.store("image", b"new")
+        said = self.words("-m", "8n1", "-w", "image")
+        self.assertEqual(said.status, 1)
+        self.assertIn(b"journal belongs to another device\nERROR: what an earlier call has begun can't be taken back now", said.err)
+        self.assertEqual(board.store(), COUNTING)
+
+    def test_go_keeps_the_way_back(self):
+        board = self.flash(COUNTING)
+        self.store("image", b"new")
+        said = self.well("-w", "image", "-v", "-g", "0x0")
+        self.assertIn(b"\nStarting execution at address 0x08000000... done.\n", said.out)
+        self.assertEqual(self.journals(), ["kept-000001"])
+        board = self.reset(board)
+        self.assertEqual(board.store(), b"new" + COUNTING[3:])
+        self.well("--undo")
+        self.assertEqual(board.store(), COUNTING)
+        self.assertEqual(self.journals(), ["journal"])
+
+    def test_a_killed_keep_is_ended(self):
+        self.flash(COUNTING)
+        self.store("image", b"new")
+        self.well("-w", "image")
+        folder = self.path(self.folder_of_port())
+        os.link(os.path.join(folder, "journal"), os.path.join(folder, "kept-000001"))
+        self.well()
+        self.assertEqual(self.journals(), ["kept-000001"])
+
+    def test_protections_give_the_way_back_up(self):
+        board = self.flash(COUNTING)
+        self.store("image", b"new")
+        self.well("-w", "image")
+        self.well("-u")
+        self.assertEqual(self.journals(), ["kept-000001"])
+        board = self.reset(board)
+        said = self.well("-k")
+        self.assertIn(b"Read-UnProtecting flash\nDone.\n", said.out)
+        self.assertEqual(self.journals(), ["ended-000001"])
+        board = self.reset(board)
+        self.assertEqual(board.store(), ERASED)
+        self.assertEqual(self.words("-m", "8n1", "--undo").err, NOTHING)
+
+    def test_another_chip_begins_a_journal_of_its_own(self):
+        self.flash(COUNTING)
+        os.makedirs(self.path(self.folder_of_port()))
+        self.store(os.path.join(self.folder_of_port(), "journal"), b"stmjournal 2 0410\nopen 1\nend 1\n")
+        said = self.well()
+        self.assertIn(b"a chip of another kind was at this port before: its journal is put aside", said.err)
+        self.assertEqual(self.journals(), ["kept-000001"])
+
+    def test_no_reset_is_claimed_unless_the_user_does(self):
+        """Where it was claimed, a board that wasn't reset would take the connecting byte for one of a command."""
+        os.remove(self.path("bin/stmflash"))
+        self.store("bin/stmflash", f'#!/bin/sh\necho "$STMFLASH_FRESH $*" >> {self.path("called")}\n'
+                                   f'exec {program()} "$@"\n'.encode())
+        os.chmod(self.path("bin/stmflash"), 0o755)
+        board = self.flash(COUNTING)
+        for settings, claimed in (({}, False), ({"STM32FLASH_RESETS": "1"}, True)):
+            self.stopped()
+            self.store("called", b"")
+            self.well("-i", "brk", STMFLASH_FRESH="1", **settings)
+            called = self.held("called").decode().splitlines()
+            self.assertEqual([line for line in called if not line.startswith(" ")], [])
+            self.assertEqual([line.split()[0] for line in called if "--fresh" in line], ["undo"] * claimed)
+            board = self.reset(board)
+
+
+class Parts(unittest.TestCase):
+    """What needs no board."""
+
+    def test_the_line_is_asked_for_with_both_sequences(self):
+        call = module("call")
+        asked = []
+        with unittest.mock.patch.object(call.os, "execv", lambda path, words: asked.append(words[1:])), \
+                unittest.mock.patch.object(call.tools, "find", lambda _: module("tools").Tools("stmflash", "line", "chips")), \
+                unittest.mock.patch.object(call.chips, "read_table", lambda _: {}), \
+                unittest.mock.patch.object(call.Journals, "make", lambda _: None), \
+                unittest.mock.patch.dict(os.environ), contextlib.redirect_stdout(io.StringIO()):
+            for words in (("-b", "115200"), ("-i", "-rts,dtr:rts"), ("-i", "-rts,dtr"), ("-c", "-i", "-rts,dtr:rts")):
+                call.outside("here", [*words, "/dev/ttyUSB0"])
+        boots = [words[:words.index("--")] for words in asked]
+        self.assertEqual(boots, [["/dev/ttyUSB0", "--baud", "115200"],
+                                 *(["/dev/ttyUSB0", "--baud", "57600", boot]
+                                   for boot in ("--boot=-rts,dtr:rts", "--boot=-rts,dtr", "--boot=:rts"))])
+
+    def test_the_wait_is_what_is_known_of_the_port(self):
+        patience = module("patience")
+        with unittest.mock.patch.object(patience, "hold", lambda _: 1), unittest.mock.patch.dict(os.environ):
+            os.environ.pop("STMFLASH_WAIT", None)
+            self.assertEqual([patience.wait("a", baud) for baud in (4000000, 115200, 57600, 9600)], [100, 103, 152, 641])
+            os.environ["STMFLASH_WAIT"] = "77"
+            self.assertEqual(patience.wait("a", 115200), 77)
+            os.environ["STMFLASH_WAIT"] = "soon"
+            self.assertRaises(module("fault").Fault, patience.wait, "a", 115200)
+        with unittest.mock.patch.object(patience, "hold", lambda _: None), unittest.mock.patch.dict(os.environ):
+            os.environ.pop("STMFLASH_WAIT", None)
+            self.assertEqual(patience.wait("a", 115200), 500)
+
+    def test_a_write_that_differs_is_done_again_as_often_as_is_asked(self):
+        fault, actions = module("fault"), module("actions")
+
+        def tries(retries, *faults):
+            """How often it was done and taken back, and whether it ended well."""
+            board = unittest.mock.Mock()
+            board.journals.is_large.return_value = board.is_unfinished.return_value = False
+            act = unittest.mock.Mock(side_effect=[*map(fault.Failed, faults), "done"])
+            asked = module("words").Words(action="w", retries=retries)
+            try:
+                with contextlib.redirect_stderr(io.StringIO()):
+                    actions.Actions(asked, board, None, None).change(act)
+                ended = True
+            except fault.Fault:
+                ended = False
+            return act.call_count, board.take_back.call_count, ended
+
+        one, other = "differs at 08000000", "differs at 08000400"
+        self.assertEqual(tries(10), (1, 0, True))
+        self.assertEqual(tries(10, one, other), (3, 2, True))
+        self.assertEqual(tries(1, one, other), (2, 2, False))
+        self.assertEqual(tries(0, one), (1, 1, False))
+        self.assertEqual(tries(10, one, one), (2, 2, False))
+        self.assertEqual(tries(10, "device does not follow the protocol"), (1, 0, False))
+
+    def test_a_port_is_where_its_adapter_is_plugged_in(self):
+        journals = module("journals")
+        links = {"/dev/serial/by-path/pci-usb-0:2": "/dev/ttyUSB3", "/dev/serial/by-path/pci-usbv2-0:2": "/dev/ttyUSB3",
+                 "/dev/serial/by-id/adapter": "/dev/ttyUSB3"}
+        with unittest.mock.patch.object(journals.os.path, "realpath", lambda path: links.get(path, path)), \
+                unittest.mock.patch.object(journals.os, "listdir", lambda _: ["pci-usbv2-0:2", "pci-usb-0:2"]), \
+                unittest.mock.patch.object(journals, "is_pty", lambda _: False):
+            names = [journals.name_of(port) for port in ("/dev/ttyUSB3", "/dev/serial/by-id/adapter", "/dev/ttyS0")]
+        self.assertEqual(names, ["pci-usb-0:2", "pci-usb-0:2", "ttyS0"])
+
+    def test_old_journals_are_dropped(self):
+        journals = module("journals")
+        with unittest.mock.patch.object(journals.os, "listdir", lambda _: [f"kept-{i:06d}" for i in range(1, 12)] + ["other"]), \
+                unittest.mock.patch.object(journals.os, "remove") as removed:
+            held = journals.Journals("/dev/ttyUSB0")
+            held.drop_old()
+            self.assertEqual([call.args[0][-6:] for call in removed.call_args_list], ["000001", "000002", "000003"])
+            self.assertTrue(held.next_kept().endswith("kept-000012"))
+
+    def test_the_manual_page_has_every_option(self):
+        with open(os.path.join(TOP, "line", "stmflash-as-stm32flash.1"), encoding="ascii") as file:
+            page = file.read().replace("\\", "")
+        words = module("words")
+        options = ["-" + letter for letter in words.OPTIONS if letter != ":"] + ["--" + name for name in words.OWN]
+        self.assertEqual([option for option in options if not re.search(rf"\.(B|BI|BR) {option}\b", page)], [])
