@@ -12,13 +12,13 @@
 #               images of 2 MiB, an erase on a stored simulator without power, a Debian package that is packed, installed,
 #               used and removed (left out where there is no dpkg), the demo, the tests of the program (whole on the proved one,
 #               without those that wait on the demo's and on the one that Rattle's own compiler made), the program and the
-#               simulator over a real socket, 60 kills of the program there, and random sessions: 300, and 2,000 of the proved
-#               one (python3)
+#               simulator over a real socket, 60 kills of the program there, 300 states that a crash of the PC may leave (strace),
+#               random sessions, 300, and 2,000 of the proved one, and calls of stm32flash's words beside the real one (python3)
 #   make wrong-bodies
 #               has the prover refuse the wrong bodies of the gate and those that it leaves out (tools/wrong-bodies)
 #   make install PREFIX=/usr/local DESTDIR=
-#               what `make` left at bin/stmflash, the line to a serial port, the trial of a board, manual pages, chips.toml, completions, unit, udev rule;
-#               it proves and builds nothing, so that it needs no `rt`, also under sudo
+#               what `make` left at bin/stmflash, the line to a serial port, the trial of a board, manual pages, chips.toml,
+#               completions, unit, udev rule; it proves and builds nothing, so that it needs no `rt`, also under sudo
 #   make install-as-stm32flash PREFIX=/usr/local DESTDIR=
 #               the words of stm32flash over what `make install` installs (docs/SWITCH.md): a program of that name, never unasked
 #   make deb    a Debian package of the proved program, in bin/ (dpkg-deb, binutils); of another one: STMFLASH_BINARY=
@@ -99,6 +99,7 @@ test:
 	    --without $(WITHOUT)
 	sh tools/socket.sh bin/stmflash-unproved
 	python3 tools/kills bin/stmflash-unproved 60
+	python3 tools/crashes crates/stmflash/out/stmflash --states 300 --plants
 	python3 tools/soak bin/stmflash-unproved --sessions 300 --jobs $(JOBS)
 	python3 tools/soak crates/stmflash/out/stmflash --sessions 2000 --jobs $(JOBS)
 	python3 tools/beside-stm32flash crates/stmflash/out/stmflash --sample 24 --kills 2 --jobs $(JOBS)
