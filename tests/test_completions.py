@@ -64,9 +64,9 @@ class Completions(Place):
         return self.shell("bash", "-c", BASH, "bash", os.path.join(FOLDER, "stmflash.bash"), function, *words)
 
     def fish(self, words):
-        """What fish offers, where the completions of both programs are installed."""
-        script = 'source $argv[1]; source $argv[2]; complete -C $argv[3]'
-        files = [os.path.join(FOLDER, name) for name in ("stmflash.fish", "stmflash-line.fish")]
+        """What fish offers, where the completions of all programs are installed."""
+        script = 'source $argv[1]; source $argv[2]; source $argv[3]; complete -C $argv[4]'
+        files = [os.path.join(FOLDER, name) for name in ("stmflash.fish", "stmflash-line.fish", "stmflash-trial.fish")]
         return {line.split("\t")[0] for line in self.shell("fish", "--no-config", "-c", script, *files, words)}
 
     def zsh_makes(self, typed, made):
@@ -149,7 +149,7 @@ class Completions(Place):
             part = file.read().split("$service == stmflash-trial")[1].split("    fi\n")[0]
         self.assertEqual(set(re.findall(r"(?<=')--[a-z-]+(?=\[)|(?<=\()-h|--help(?=\))", part)), taken)
         self.assertEqual(self.bash("stmflash-trial", "-", function="_stmflash_trial"), taken)
-        self.assertEqual(self.fish("stmflash-trial -", "stmflash-trial.fish"), taken)
+        self.assertEqual(self.fish("stmflash-trial -"), taken)
 
     def test_fish_offers_what_the_program_takes(self):
         subcommands = self.subcommands()
