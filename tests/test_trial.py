@@ -264,7 +264,7 @@ class Words(TrialPlace):
             (("--device", "none", "--yes"), "stmflash-trial: none: No such file or directory\n"),
             (("--device", "none"), "--yes, where nobody can be asked"),
             (("--device", "none", "--port", "none"), "either --device or --port"),
-            (("--device", "none", "--boot", "rts"), "--boot is for --port"),
+            (("--device", "none", "--wiring", "dtr-reset"), "--wiring is for --port"),
             (("--device", "none", "--yes", "--skip", "erase,nothing"), "no row is named nothing"),
             (("--device", "none", "--yes", "--pages", "1,-2"), "--pages"),
             (("--device", "none", "--yes", "--wait", "0"), "--wait is 1 to 60000"),

@@ -42,7 +42,7 @@ class Line:
         self.buffer.clear()
 
     def close(self):
-        """Gives the board up; stmflash-line leaves it as --boot says."""
+        """Gives the board up; stmflash-line leaves it as --wiring says."""
         self.leave()
         if self.folder:
             shutil.rmtree(self.folder, ignore_errors=True)
@@ -56,15 +56,15 @@ class Line:
             self.companion = None
 
     def can_reset(self):
-        return bool(self.words.reset or self.words.port and self.words.boot or self.words.by_hand)
+        return bool(self.words.reset or self.words.port and self.words.wiring or self.words.by_hand)
 
     def reset(self):
         """Resets the board into its bootloader. can_reset is true."""
         if self.words.reset:
             if subprocess.run(self.words.reset, shell=True, stdin=subprocess.DEVNULL).returncode:
                 raise Ended("the command of --reset failed")
-        elif self.words.port and self.words.boot:
-            # what --boot does is done anew
+        elif self.words.port and self.words.wiring:
+            # what --wiring does is done anew
             self.leave()
             self.open()
         else:
@@ -118,7 +118,7 @@ def start_companion(words, path):
         system.prctl(PR_SET_PDEATHSIG, signal.SIGTERM)
 
     try:
-        return subprocess.Popen(call + ([f"--boot={words.boot}"] if words.boot else []), stdin=subprocess.DEVNULL, preexec_fn=tie)
+        return subprocess.Popen(call + ([f"--wiring={words.wiring}"] if words.wiring else []), stdin=subprocess.DEVNULL, preexec_fn=tie)
     except OSError as error:
         raise Refused(f"stmflash-line: {error.strerror}") from None
 

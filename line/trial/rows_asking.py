@@ -3,7 +3,7 @@
 import time
 
 from board import told
-from faults import Differs, NotTried, Refused
+from faults import Differs, NotTried, Odd, Refused
 from model import ACK, CONNECT, ERASE, EXTENDED_ERASE, GET, GET_ID, GET_VERSION, NACK, NEVER, READ, WRITE, Model
 from row import NOTE, OPTION, row
 
@@ -24,28 +24,30 @@ def quiet(board):
 
 
 @row("contact", "7F brings one 79 where the board is fresh; two 7F bring one 1F where it is connected",
-     "phase fresh; verdict of `c x`", "no session begins; where 7F brings two 79, `--fresh` takes one for the next reply", OPTION)
+     "phase fresh; verdict of `c x`", "no session begins; of two 79 for one 7F a session takes both", OPTION)
 def contact(board):
-    odd, was = None, "connected"
+    odds, was = [], "connected"
     for number in range(1, CONTACTS + 1):
         board.line.write(bytes([CONNECT]))
         came = board.line.read(1, max(2 if number == 1 else 1, board.wait), 1)
         came += board.drain() if came else b""
         if came == bytes([NACK]):
             board.was_contacted = True
-            if odd:
+            if len(odds) == 1 and board.greeting == bytes([ACK, ACK]):
+                raise Odd(odds[0])
+            if odds:
                 board.options["fresh"] = NO_FRESH
-                raise Differs(odd)
+                raise Differs(odds[0])
             return f"{was}, refused the 7F number {number}"
         if came == bytes([ACK]) and number == 1:
             was = "fresh"
         elif came:
-            odd = odd or f"7F number {number} is answered {told(came)}"
+            odds.append(f"7F number {number} is answered {told(came)}")
             if number == 1 and set(came) == {ACK}:
                 was, board.greeting = "fresh", came
-    if odd or was == "fresh":
+    if odds or was == "fresh":
         board.refusal = "no session begins"
-        raise Differs(odd or "7F was acknowledged, and two further 7F aren't refused")
+        raise Differs(odds[0] if odds else "7F was acknowledged, and two further 7F aren't refused")
     board.refusal = "nothing answers: reset it into its bootloader (BOOT0 high); are RX and TX crossed, is the parity even?"
     raise Differs("no answer")
 

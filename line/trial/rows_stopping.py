@@ -8,7 +8,7 @@ from settling import byte_of, cut_and_settle, need_reset
 
 # the places of a write's frame at which it is stopped without --every-byte
 PLACES = (*range(1, 12), 16, 100, 200, 255, 260, 262, 263, 264)
-RESET = "press reset, with BOOT0 as it is, each time it asks; or --reset COMMAND, or --port with --boot"
+RESET = "press reset, with BOOT0 as it is, each time it asks; or --reset COMMAND, or --port with --wiring"
 POWER = "take the board's power while page P is erased, and give it again with BOOT0 high, when it asks"
 
 

@@ -131,4 +131,4 @@ def cut_and_settle(board, cuts, intent):
 
 def need_reset(board):
     if not board.line.can_reset():
-        raise NotTried("the board can't be reset from here: --reset, --port with --boot, or a terminal")
+        raise NotTried("the board can't be reset from here: --reset, --port with --wiring, or a terminal")

@@ -32,11 +32,11 @@ def names_of(text):
 
 def parser():
     made = argparse.ArgumentParser(prog="stmflash-trial", allow_abbrev=False, description=DESCRIPTION, epilog=ENDS,
-                                   usage="stmflash-trial [--device SOCKET | --port PORT [--boot SEQUENCE]] [OPTION..]")
+                                   usage="stmflash-trial [--device SOCKET | --port PORT [--wiring WIRING]] [OPTION..]")
     add = made.add_argument
     add("--device", metavar="SOCKET", help="where the board is; without it and --port what STMFLASH_DEVICE names")
     add("--port", metavar="PORT", help="a serial port, which stmflash-line opens")
-    add("--boot", default="", metavar="SEQUENCE", help="for stmflash-line; it also resets the board in the midst")
+    add("--wiring", default="", metavar="WIRING", help="for stmflash-line; it also resets the board in the midst")
     add("--baud", type=int, default=115200, metavar="N", help="the line's speed; 115200 without it")
     add("--table", metavar="FILE", help="the chip table; without it that of STMFLASH_TABLE, else the installed one")
     add("--pages", type=pages_of, default=[], metavar="N,N", help="the pages to work on; the last two without it")
@@ -70,8 +70,8 @@ def read(words, folder):
     given.device = None if given.port else given.device or os.environ.get("STMFLASH_DEVICE")
     if not given.port and not given.device:
         made.error("no board: --device, --port, or under stmflash-line PORT -- stmflash-trial ..")
-    if given.boot and not given.port:
-        made.error("--boot is for --port; stmflash-line has its own")
+    if given.wiring and not given.port:
+        made.error("--wiring is for --port; stmflash-line has its own")
     if not 1 <= given.wait <= 60000 or not 0 <= given.pause <= 60 or not 1 <= given.baud <= 4000000:
         made.error("--wait is 1 to 60000, --pause 0 to 60, --baud 1 to 4000000")
     is_terminal = sys.stdin.isatty()

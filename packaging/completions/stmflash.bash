@@ -78,13 +78,13 @@ _stmflash_line() {
 
 _stmflash_trial() {
     local word=${COMP_WORDS[COMP_CWORD]} before=${COMP_WORDS[COMP_CWORD-1]}
-    local where="--device --port --boot --baud --table --pages --skip --save --out --part --reset --wait --pause"
+    local where="--device --port --wiring --baud --table --pages --skip --save --out --part --reset --wait --pause"
     COMPREPLY=()
     case $before in
         --device | --table | --save | --out) _stmflash_files "$word"; return ;;
         --port) _stmflash_ports "${word:-/dev/tty}"; return ;;
         --baud) _stmflash_words "$word" "9600 19200 38400 57600 115200"; return ;;
-        --boot | --pages | --skip | --part | --reset | --wait | --pause) return ;;
+        --wiring | --pages | --skip | --part | --reset | --wait | --pause) return ;;
     esac
     _stmflash_words "$word" "$where --map --every-byte --patient --only-read --yes --progress --quiet --rows --help -h"
 }
