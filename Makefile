@@ -78,7 +78,7 @@ check:
 	cd crates/$(NAMED) && rt check
 
 try:
-	$(if $(filter stm_words stmflash,$(NAMED)),sh tools/demo.sh && python3 tests/run bin/stmflash-unproved,\
+	$(if $(filter stm_words stmflash,$(NAMED)),sh tools/demo.sh && python3 tests/run bin/stmflash-unproved --without $(WITHOUT),\
 	    cd crates/$(or $(TESTS_$(NAMED)),$(NAMED)) && rt try --test)
 
 # `rt ci` leaves the program that it proved at crates/stmflash/out/, as each of two compilers built it: stmflash by LLVM,
