@@ -1,6 +1,7 @@
 -- The code and the address of a command that reads or writes.
 use Rattle.std.proofs.Common.{◌≡◌, ◌⊎◌, inl, inr, ℕ, ◌/◌, ◌%◌, Bool, ◌&&◌, ◌==◌, List, [], ◌∷◌, ◌++◌, Option, None, IsTrue, refl, sym, ◌∙◌, ap₂, subst, arith, if◌then◌else◌, eq-eqb}
-use Rattle.stm_wire.specs.Chip.{ChipData, is_inside}
+use Rattle.stm_wire.specs.Chip.{ChipData}
+use Rattle.stm_wire.specs.Telling.{takes_at}
 use Rattle.stm_wire.specs.declared.verdict.Verdict.{Verdict}
 use Rattle.stm_wire.specs.declared.verdict.Verdict.TheVariants.{Refused}
 use Rattle.stm_wire.specs.Exchange.{verdict, command_verdict, after_address, at_end, is_listed, complement, number_of, xor, read_verdict, write_verdict}
@@ -22,19 +23,19 @@ verdict-listed chip codes code rest listed =
 pub command-waits : (chip : ChipData) (codes : List ℕ) (code : ℕ) → IsTrue (is_listed codes code) → command_verdict chip code [] ≡ None → OpenAlong chip codes [] (command code)
 command-waits chip codes code listed none = (refl, (verdict-listed chip codes code [] listed ∙ none, tt))
 
-pub after_address-right : (chip : ChipData) (next : ℕ → List ℕ → Option Verdict) (address : ℕ) (rest : List ℕ) → IsTrue (is_inside chip address)
-    → after_address chip next (with_checksum (address_bytes address) ++ rest) ≡ next address rest
-after_address-right chip next address rest inside =
+pub after_address-right : (takes : ℕ → Bool) (next : ℕ → List ℕ → Option Verdict) (address : ℕ) (rest : List ℕ) → IsTrue (takes address)
+    → after_address takes next (with_checksum (address_bytes address) ++ rest) ≡ next address rest
+after_address-right takes next address rest inside =
     let n = number_of (address / 16777216) (address / 65536 % 256) (address / 256 % 256) (address % 256) in
     let x = xor (address_bytes address) in
     let choose : Bool → Bool → ℕ → Option Verdict = λ t i a. if t && i then next a rest else at_end Refused rest in
-    let P : ℕ → Type 0 = λ a. choose (x == x) (is_inside chip a) a ≡ next address rest in
+    let P : ℕ → Type 0 = λ a. choose (x == x) (takes a) a ≡ next address rest in
     subst P (sym (number_of-address_bytes address)) (ap₂ (λ t i. choose t i address) (eq-eqb x x refl) inside)
 
 -- the code is followed by an address
 pub record Addressed (chip : ChipData) (code : ℕ) : Type 0 where
   pub next : ℕ → List ℕ → Option Verdict
-  pub goes_on : (rest : List ℕ) → command_verdict chip code rest ≡ after_address chip next rest
+  pub goes_on : (rest : List ℕ) → command_verdict chip code rest ≡ after_address (takes_at chip code) next rest
   pub waits : (address : ℕ) → next address [] ≡ None
 
 pub addressed : (chip : ChipData) (code : ℕ) → (code ≡ 0x11) ⊎ (code ≡ 0x31) → Addressed chip code
@@ -45,7 +46,7 @@ addressed chip code (inr e) =
     let P : ℕ → Type 0 = λ c. Addressed chip c in
     subst P (sym e) (record { next = write_verdict chip; goes_on = λ rest. refl; waits = λ address. refl })
 
-pub address-waits : (chip : ChipData) (codes : List ℕ) (code address : ℕ) → IsTrue (is_listed codes code) → Addressed chip code → IsTrue (is_inside chip address)
+pub address-waits : (chip : ChipData) (codes : List ℕ) (code address : ℕ) → IsTrue (is_listed codes code) → Addressed chip code → IsTrue (takes_at chip code address)
     → OpenAlong chip codes (command code) (with_checksum (address_bytes address))
 address-waits chip codes code address listed a inside =
     let at = λ (rest : List ℕ). verdict-listed chip codes code rest listed ∙ a.goes_on rest in (
@@ -54,7 +55,7 @@ address-waits chip codes code address listed a inside =
         at (address / 16777216 ∷ address / 65536 % 256 ∷ []),
         (
           at (address / 16777216 ∷ address / 65536 % 256 ∷ address / 256 % 256 ∷ []),
-          (at (address_bytes address), (at (with_checksum (address_bytes address) ++ []) ∙ after_address-right chip a.next address [] inside ∙ a.waits address, tt)),
+          (at (address_bytes address), (at (with_checksum (address_bytes address) ++ []) ∙ after_address-right (takes_at chip code) a.next address [] inside ∙ a.waits address, tt)),
         ),
       ),
     )

@@ -1,7 +1,8 @@
 -- Each byte fed to a harmless device ends its exchange by a refusal, or brings that nearer.
-use Rattle.std.proofs.Common.{lit≤, lit<, ◌≡◌, ℕ, ◌+◌, ◌-◌, ◌<◌, ◌≤◌, ◌⊎◌, inl, inr, ⊎_elim, Bool, true, false, IsTrue, cond, ◌||◌, eqb, List, [], ◌∷◌, ◌++◌, length, drop, refl, sym, ap, ◌∙◌, subst, arith, Option, Some, None}
+use Rattle.std.proofs.Common.{lit≤, lit<, ◌≡◌, ℕ, ◌+◌, ◌<◌, ◌≤◌, ◌⊎◌, inl, inr, ⊎_elim, Bool, true, false, IsTrue, cond, ◌||◌, eqb, List, [], ◌∷◌, ◌++◌, length, refl, sym, ap, ◌∙◌, subst, arith, Option, Some, None}
 use Rattle.std.proofs.lemmas.Bool.{cond_both, eq-eqb, ne_eqb, cases_lt, cases_eq}
-use Rattle.std.proofs.lemmas.List.{append-nil, length_push, take-append-le, take_all, length-append, length-take}
+use Rattle.std.proofs.lemmas.List.{append-nil, length_push, take-append-le, take_all, length-append}
+use Rattle.stm_wire.proofs.Tellings.{readable-few}
 use Rattle.stm_wire.specs.Chip.{ChipData}
 use Rattle.stm_wire.specs.declared.verdict.Verdict.{Verdict}
 use Rattle.stm_wire.specs.declared.verdict.Verdict.TheVariants.{Done, Refused, Loose}
@@ -114,7 +115,10 @@ due_done chip codes byte (c ∷ []) e = ⊎_elim
 due_done chip codes byte (c ∷ x ∷ rest) e = refl
 
 read_small : (chip : ChipData) (flash bytes : List ℕ) → IsBytes bytes → length (read_answer chip flash bytes) ≤ 258
-read_small chip flash (a ∷ b ∷ c ∷ d ∷ x ∷ n ∷ rest) by = let l = length-take (n + 1) (drop (number_of a b c d - chip.base) flash) in let small = by.1.1.1.1.1.0 in omega arith
+read_small chip flash (a ∷ b ∷ c ∷ d ∷ x ∷ n ∷ rest) by =
+    let small = by.1.1.1.1.1.0 in
+    let few = readable-few chip flash (number_of a b c d) (n + 1) in
+    omega arith
 read_small chip flash _ by = lit≤ tt
 
 answer_small : (d : Device) → IsDevice d → (bytes : List ℕ) → IsBytes bytes → length (answer d.chip d.version d.codes d.flash bytes) ≤ 258

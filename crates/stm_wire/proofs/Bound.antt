@@ -5,6 +5,7 @@ use Rattle.std.proofs.lemmas.List.Elements.{All-tail}
 use Rattle.std.proofs.lemmas.Bool.{and_parts, cond_both, eq-eqb, eqb-true, leb-false, cases_lt}
 use Rattle.std.proofs.lemmas.List.{length-take-le}
 use Rattle.stm_wire.specs.Chip.{ChipData, is_inside, fits_inside}
+use Rattle.stm_wire.specs.Telling.{can_read, is_readable}
 use Rattle.stm_wire.specs.declared.verdict.Verdict.{Verdict}
 use Rattle.stm_wire.specs.declared.verdict.Verdict.TheVariants.{Done, Refused, Loose}
 use Rattle.stm_wire.specs.Settling.{longest_list}
@@ -40,17 +41,17 @@ never_cond false f g n ys a b = b
 opens_more : (f : List ℕ → Option Verdict) (m n : ℕ) (ys : List ℕ) → m ≤ n → Opens f m ys → Opens f n ys
 opens_more f m n ys le o none = let h = o none in omega arith
 
-opens_address : (chip : ChipData) (next : ℕ → List ℕ → Option Verdict) (n : ℕ) → ((a : ℕ) (ys : List ℕ) → IsBytes ys → Opens (next a) n ys) →
-    (ys : List ℕ) → IsBytes ys → Opens (after_address chip next) (5 + n) ys
-opens_address chip next n f (a ∷ b ∷ c ∷ d ∷ x ∷ ys) by = λ none.
+opens_address : (takes : ℕ → Bool) (next : ℕ → List ℕ → Option Verdict) (n : ℕ) → ((a : ℕ) (ys : List ℕ) → IsBytes ys → Opens (next a) n ys) →
+    (ys : List ℕ) → IsBytes ys → Opens (after_address takes next) (5 + n) ys
+opens_address takes next n f (a ∷ b ∷ c ∷ d ∷ x ∷ ys) by = λ none.
     let h : length ys ≤ n =
-    never_cond (eqb x (xor (a ∷ b ∷ c ∷ d ∷ [])) && is_inside chip (number_of a b c d)) _ _ n ys
+    never_cond (eqb x (xor (a ∷ b ∷ c ∷ d ∷ [])) && takes (number_of a b c d)) _ _ n ys
     (f (number_of a b c d) ys by.1.1.1.1.1) (opens_end Refused n ys) (λ j. none (suc (suc (suc (suc (suc j))))))
     in omega arith
-opens_address chip next n f _ by = λ none. omega arith
+opens_address takes next n f _ by = λ none. omega arith
 
 opens_read : (chip : ChipData) (a : ℕ) (ys : List ℕ) → IsBytes ys → Opens (read_verdict chip a) 1 ys
-opens_read chip a (n ∷ x ∷ ys) by = λ none. absurd (some≢none (done_if (eqb x (complement n) && fits_inside chip a (n + 1))) (none 2))
+opens_read chip a (n ∷ x ∷ ys) by = λ none. absurd (some≢none (done_if (eqb x (complement n) && can_read chip a (n + 1))) (none 2))
 opens_read chip a _ by = λ none. omega arith
 
 -- a test of the length that the list of this length passes
@@ -118,9 +119,9 @@ opens_command : (chip : ChipData) (c n : ℕ) (ys : List ℕ) → IsBytes ys →
 opens_command chip c n ys by most extended =
     never_cond (eqb c 0x00) _ _ n ys (opens_end Done n ys)
     (never_cond (eqb c 0x02) _ _ n ys (opens_end Done n ys)
-    (never_cond (eqb c 0x11) _ _ n ys (opens_more (after_address chip (read_verdict chip)) 6 n ys (omega arith) (opens_address chip (read_verdict chip) 1 (opens_read chip) ys by))
-    (never_cond (eqb c 0x21) _ _ n ys (opens_more (after_address chip (λ a zs. at_end Done zs)) 5 n ys (omega arith) (opens_address chip (λ a zs. at_end Done zs) 0 (λ a zs b. opens_end Done 0 zs) ys by))
-    (never_cond (eqb c 0x31) _ _ n ys (opens_more (after_address chip (write_verdict chip)) 262 n ys most (opens_address chip (write_verdict chip) 257 (opens_write chip) ys by))
+    (never_cond (eqb c 0x11) _ _ n ys (opens_more (after_address (is_readable chip) (read_verdict chip)) 6 n ys (omega arith) (opens_address (is_readable chip) (read_verdict chip) 1 (opens_read chip) ys by))
+    (never_cond (eqb c 0x21) _ _ n ys (opens_more (after_address (is_inside chip) (λ a zs. at_end Done zs)) 5 n ys (omega arith) (opens_address (is_inside chip) (λ a zs. at_end Done zs) 0 (λ a zs b. opens_end Done 0 zs) ys by))
+    (never_cond (eqb c 0x31) _ _ n ys (opens_more (after_address (is_inside chip) (write_verdict chip)) 262 n ys most (opens_address (is_inside chip) (write_verdict chip) 257 (opens_write chip) ys by))
     (never_cond (eqb c 0x43) _ _ n ys (opens_more (erase_verdict chip) 258 n ys (omega arith) (opens_erase chip ys by))
     (never_when (eqb c 0x44) _ _ n ys (λ is. opens_more (extended_verdict chip) longest n ys (extended is) (opens_extended chip ys by)) (opens_end Loose n ys)))))))
 

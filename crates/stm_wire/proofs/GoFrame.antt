@@ -1,5 +1,6 @@
 -- Go: the code, and the address at whose checksum it is done.
 use Rattle.std.proofs.Common.{◌≡◌, ℕ, ◌/◌, ◌%◌, List, [], ◌∷◌, ◌++◌, Some, refl, sym, ◌∙◌, ap, subst}
+use Rattle.stm_wire.specs.Chip.{is_inside}
 use Rattle.stm_wire.specs.declared.verdict.Verdict.TheVariants.{Done}
 use Rattle.stm_wire.specs.Exchange.{verdict, at_end, xor}
 use Rattle.stm_wire.specs.Frames.{command, with_checksum, address_bytes}
@@ -19,7 +20,7 @@ module _ (address : ℕ) (d : Device) (can : CanGo address d) where
       (at (address / 16777216 ∷ []), (at (address / 16777216 ∷ address / 65536 % 256 ∷ []), (at (address / 16777216 ∷ address / 65536 % 256 ∷ address / 256 % 256 ∷ []), (at (address_bytes address), tt))))
 
   done : verdict d.chip d.codes (command 0x21 ++ with_checksum (address_bytes address)) ≡ Some Done
-  done = verdict-listed d.chip d.codes 0x21 (with_checksum (address_bytes address)) can.listed ∙ after_address-right d.chip (λ n end. at_end Done end) address [] can.inside
+  done = verdict-listed d.chip d.codes 0x21 (with_checksum (address_bytes address)) can.listed ∙ after_address-right (is_inside d.chip) (λ n end. at_end Done end) address [] can.inside
 
   after : (old new : Device) → old ≡ with_rest (command 0x21) d → Fed (with_checksum (address_bytes address)) old new → new ≡ record d { flash = new.flash; owed = ack ∷ []; phase = Gone }
   after old new here f =

@@ -5,6 +5,7 @@ mod Awaited
 mod Bound
 mod Checks
 mod Closed
+mod Cutting
 mod EraseHigh
 mod ErasePage
 mod ErasePair
@@ -24,6 +25,7 @@ mod PowerLosses
 mod Protecting
 mod Reading
 mod Receiving
+mod RefusableReads
 mod SentLists
 mod SettlingCalls
 mod SettlingFaults
@@ -33,7 +35,9 @@ mod Stopped
 mod StoppedFrames
 mod Stops
 mod Talking
+mod Tellings
 mod Turns
+mod UniqueIds
 mod Verdicts
 mod WriteData
 mod Writing

@@ -2,7 +2,8 @@
 use Rattle.std.proofs.Common.{◌≡◌, ℕ, zero, suc, ◌+◌, ◌-◌, Bool, true, ◌&&◌, eqb, List, [], ◌∷◌, ◌++◌, take, replicate, refl, arith, Option, Some}
 use Rattle.std.specs.Prelude.{IsTrue}
 use Rattle.std.proofs.lemmas.Bool.{cond_both, eqb-true, and_parts}
-use Rattle.stm_wire.specs.Chip.{ChipData, fits_inside, is_inside}
+use Rattle.stm_wire.specs.Chip.{ChipData}
+use Rattle.stm_wire.specs.Telling.{can_read, is_readable}
 use Rattle.stm_wire.specs.declared.verdict.Verdict.{Verdict}
 use Rattle.stm_wire.specs.declared.verdict.Verdict.TheVariants.{Done, Refused}
 use Rattle.stm_wire.specs.Exchange.{complement, at_end, done_if, command_verdict, after_address, read_verdict, is_listed, xor, number_of}
@@ -11,16 +12,16 @@ use Rattle.stm_wire.proofs.Mild.{Fits, FitsAll, Mild, fits_end, after_pair, mild
 pub fits_done_if : (chip : ChipData) (pages bytes : List ℕ) (test : Bool) → Fits chip pages bytes (Some Done) → Fits chip pages bytes (Some (done_if test))
 fits_done_if chip pages bytes test f = cond_both test Done Refused (λ v. Fits chip pages bytes (Some v)) (λ _. f) (λ _. tt)
 
-pub fits_address : (chip : ChipData) (pages bytes : List ℕ) (next : ℕ → List ℕ → Option Verdict) →
-    ((address : ℕ) (rest : List ℕ) → Fits chip pages bytes (next address rest)) → (rest : List ℕ) → Fits chip pages bytes (after_address chip next rest)
-fits_address chip pages bytes next f (a ∷ b ∷ c ∷ d ∷ x ∷ rest) =
-    cond_both (eqb x (xor (a ∷ b ∷ c ∷ d ∷ [])) && is_inside chip (number_of a b c d)) (next (number_of a b c d) rest) (at_end Refused rest) (Fits chip pages bytes)
+pub fits_address : (chip : ChipData) (takes : ℕ → Bool) (pages bytes : List ℕ) (next : ℕ → List ℕ → Option Verdict) →
+    ((address : ℕ) (rest : List ℕ) → Fits chip pages bytes (next address rest)) → (rest : List ℕ) → Fits chip pages bytes (after_address takes next rest)
+fits_address chip takes pages bytes next f (a ∷ b ∷ c ∷ d ∷ x ∷ rest) =
+    cond_both (eqb x (xor (a ∷ b ∷ c ∷ d ∷ [])) && takes (number_of a b c d)) (next (number_of a b c d) rest) (at_end Refused rest) (Fits chip pages bytes)
     (λ _. f (number_of a b c d) rest) (λ _. fits_end chip pages bytes Refused tt rest)
-fits_address chip pages bytes next f _ = tt
+fits_address chip takes pages bytes next f _ = tt
 
 read_fits : (chip : ChipData) (pages : List ℕ) (x : ℕ) (bytes : List ℕ) (address : ℕ) (rest : List ℕ) → Fits chip pages (0x11 ∷ x ∷ bytes) (read_verdict chip address rest)
 read_fits chip pages x bytes address (n ∷ check ∷ rest) =
-    let test = eqb check (complement n) && fits_inside chip address (n + 1) in
+    let test = eqb check (complement n) && can_read chip address (n + 1) in
     fits_end chip pages (0x11 ∷ x ∷ bytes) (done_if test) (fits_done_if chip pages (0x11 ∷ x ∷ bytes) test (refl, tt)) rest
 read_fits chip pages x bytes address _ = tt
 
@@ -34,7 +35,7 @@ fits_id chip codes pages (x ∷ rest) = after_pair chip codes pages 0x02 x rest 
 
 fits_read : (chip : ChipData) (codes pages rest : List ℕ) → FitsAll chip codes pages (0x11 ∷ rest)
 fits_read chip codes pages [] = tt
-fits_read chip codes pages (x ∷ rest) = after_pair chip codes pages 0x11 x rest (fits_address chip pages (0x11 ∷ x ∷ rest) (read_verdict chip) (read_fits chip pages x rest) rest)
+fits_read chip codes pages (x ∷ rest) = after_pair chip codes pages 0x11 x rest (fits_address chip (is_readable chip) pages (0x11 ∷ x ∷ rest) (read_verdict chip) (read_fits chip pages x rest) rest)
 
 -- the first j bytes of a list that begins so
 pub mild_get : (chip : ChipData) (codes : List ℕ) (byte : ℕ) (pages rest : List ℕ) (j : ℕ) → Mild chip codes byte pages (take j (0x00 ∷ rest))

@@ -1,15 +1,14 @@
 -- The end of a read: the count, and the bytes.
-use Rattle.std.proofs.Common.{◌≡◌, inl, ℕ, ◌+◌, ◌-◌, ◌/◌, ◌%◌, ◌≤◌, Bool, ◌&&◌, ◌==◌, List, [], ◌∷◌, ◌++◌, length, take, drop, Option, Some, IsTrue, refl, sym, ◌∙◌, ap, ap₂, subst, arith, eq-eqb, length-take, length-drop}
-use Rattle.std.proofs.lemmas.Bool.Decides.{nat_tests}
-use Rattle.stm_wire.specs.Chip.{ChipData, fits_inside, is_inside}
-use Rattle.stm_wire.specs.PageLaws.{fits-end}
+use Rattle.std.proofs.Common.{◌≡◌, inl, ℕ, ◌+◌, ◌-◌, ◌/◌, ◌%◌, ◌≤◌, Bool, ◌&&◌, ◌==◌, List, [], ◌∷◌, ◌++◌, length, take, drop, Option, Some, IsTrue, refl, sym, ◌∙◌, ap, ap₂, subst, arith, eq-eqb}
+use Rattle.stm_wire.specs.Telling.{can_read, is_readable, readable_bytes}
+use Rattle.stm_wire.proofs.Tellings.{flash-readable, flash-told, length-readable, readable-address}
 use Rattle.stm_wire.specs.declared.verdict.Verdict.{Verdict}
 use Rattle.stm_wire.specs.declared.verdict.Verdict.TheVariants.{Done}
 use Rattle.stm_wire.specs.Exchange.{verdict, complement, number_of, done_if, read_verdict}
 use Rattle.stm_wire.specs.Frames.{command, with_checksum, address_bytes}
 use Rattle.stm_wire.specs.Reply.{ack}
 use Rattle.stm_wire.specs.Device.{Device, Connected, Fed, IsDevice}
-use Rattle.stm_wire.specs.Command.{owing, LeavesFirst, with_rest, TakesAddress, CanRead, HasRead}
+use Rattle.stm_wire.specs.Command.{owing, LeavesFirst, with_rest, TakesAddress, CanRead, CanTell, HasRead, told_bytes}
 use Rattle.std.proofs.Common.{replicate, append-nil}
 use Rattle.std.proofs.lemmas.List.{length-replicate}
 use Rattle.stm_wire.specs.declared.fault.WireFault.{WireFault}
@@ -22,61 +21,61 @@ use Rattle.stm_wire.proofs.Receiving.{answered}
 use Rattle.stm_wire.proofs.Steps.{OpenAlong, fed-done}
 use Rattle.stm_wire.proofs.Address.{verdict-listed, after_address-right, number_of-address_bytes}
 
--- the bytes from this address
-abbrev pub read_bytes : ℕ → ℕ → Device → List ℕ
-read_bytes address size d = take size (drop (address - d.chip.base) d.flash)
+pub takes-address : (address size : ℕ) (d : Device) → 1 ≤ size → CanTell address size d → TakesAddress 0x11 address d
+takes-address address size d some can = record { settled = can.settled; takes = inl refl; inside = readable-address d.chip address size some can.readable }
 
-pub fits-inside : (chip : ChipData) (address size : ℕ) → 1 ≤ size → IsTrue (fits_inside chip address size) → IsTrue (is_inside chip address)
-fits-inside chip address size some fits = grind (arith, nat_tests)
+-- what lies in the flash is told
+pub tells : (address size : ℕ) (d : Device) → CanRead address size d → CanTell address size d
+tells address size d can = record { settled = can.settled; readable = flash-readable d.chip address size can.inside }
 
-pub takes-address : (address size : ℕ) (d : Device) → 1 ≤ size → CanRead address size d → TakesAddress 0x11 address d
-takes-address address size d some can = record { settled = can.settled; takes = inl refl; inside = fits-inside d.chip address size some can.inside }
-
-module _ (address size : ℕ) (d : Device) (some : 1 ≤ size) (is : IsDevice d) (can : CanRead address size d) where
+module _ (address size : ℕ) (d : Device) (some : 1 ≤ size) (is : IsDevice d) (can : CanTell address size d) where
   head : List ℕ
   head = command 0x11 ++ with_checksum (address_bytes address)
 
-  inside : IsTrue (is_inside d.chip address)
-  inside = fits-inside d.chip address size some can.inside
+  inside : IsTrue (is_readable d.chip address)
+  inside = readable-address d.chip address size some can.readable
 
   count-waits : OpenAlong d.chip d.codes (command 0x11 ++ with_checksum (address_bytes address)) ((size - 1) ∷ [])
-  count-waits = (verdict-listed d.chip d.codes 0x11 (with_checksum (address_bytes address) ++ (size - 1) ∷ []) is.read ∙ after_address-right d.chip (read_verdict d.chip) address ((size - 1) ∷ []) inside, tt)
+  count-waits = (verdict-listed d.chip d.codes 0x11 (with_checksum (address_bytes address) ++ (size - 1) ∷ []) is.read ∙ after_address-right (is_readable d.chip) (read_verdict d.chip) address ((size - 1) ∷ []) inside, tt)
 
   count-done : verdict d.chip d.codes ((command 0x11 ++ with_checksum (address_bytes address) ++ (size - 1) ∷ []) ++ complement (size - 1) ∷ []) ≡ Some Done
   count-done =
       let e : (size - 1) + 1 ≡ size = omega arith in
-      let P : ℕ → Type 0 = λ n. Some (done_if (complement (size - 1) == complement (size - 1) && fits_inside d.chip address n)) ≡ Some Done in
+      let P : ℕ → Type 0 = λ n. Some (done_if (complement (size - 1) == complement (size - 1) && can_read d.chip address n)) ≡ Some Done in
       let choose : Bool → Bool → Option Verdict = λ x y. Some (done_if (x && y)) in
       verdict-listed d.chip d.codes 0x11 (with_checksum (address_bytes address) ++ (size - 1) ∷ complement (size - 1) ∷ []) is.read
-      ∙ after_address-right d.chip (read_verdict d.chip) address ((size - 1) ∷ complement (size - 1) ∷ []) inside
-      ∙ subst P (sym e) (ap₂ choose (eq-eqb (complement (size - 1)) (complement (size - 1)) refl) can.inside)
+      ∙ after_address-right (is_readable d.chip) (read_verdict d.chip) address ((size - 1) ∷ complement (size - 1) ∷ []) inside
+      ∙ subst P (sym e) (ap₂ choose (eq-eqb (complement (size - 1)) (complement (size - 1)) refl) can.readable)
 
   after : (old new : Device) → old ≡ with_rest (command 0x11 ++ with_checksum (address_bytes address)) d → Fed (command (size - 1)) old new
-      → new ≡ record d { owed = ack ∷ read_bytes address size d; phase = Connected [] }
+      → new ≡ record d { owed = ack ∷ told_bytes address size d; phase = Connected [] }
   after old new here f =
       let P : Device → Type 0 = λ e. Fed (command (size - 1)) e new in
       let done = fed-done ((size - 1) ∷ []) (complement (size - 1)) (command 0x11 ++ with_checksum (address_bytes address)) d new count-waits refl count-done (subst P here f) in
-      let make : List ℕ → ℕ → ℕ → Device = λ flash n a. record d { flash = flash; owed = ack ∷ take n (drop (a - d.chip.base) d.flash); phase = Connected [] } in
+      let make : List ℕ → ℕ → ℕ → Device = λ flash n a. record d { flash = flash; owed = ack ∷ readable_bytes d.chip d.flash a n; phase = Connected [] } in
       let e : (size - 1) + 1 ≡ size = omega arith in
       let number = number_of (address / 16777216) (address / 65536 % 256) (address / 256 % 256) (address % 256) in
       done.2 ∙ ap (λ (flash : List ℕ). make flash ((size - 1) + 1) number) done.1 ∙ ap₂ (make d.flash) e (number_of-address_bytes address)
 
   pub count-first : (old : Device) → old ≡ with_rest (command 0x11 ++ with_checksum (address_bytes address)) d → LeavesFirst ack (command (size - 1)) old
-  count-first old here new f = (read_bytes address size d, ap (λ (e : Device). e.owed) (after old new here f))
+  count-first old here new f = (told_bytes address size d, ap (λ (e : Device). e.owed) (after old new here f))
 
   pub count-step : (old new : Device) → old ≡ with_rest (command 0x11 ++ with_checksum (address_bytes address)) d → Fed (command (size - 1)) old (owing (ack ∷ []) new)
-      → new ≡ record d { owed = read_bytes address size d; phase = Connected [] }
+      → new ≡ record d { owed = told_bytes address size d; phase = Connected [] }
   count-step old new here f = ap (λ (e : Device). let r : Device = record e { owed = drop 1 e.owed } in r) (after old (owing (ack ∷ []) new) here f)
 
-  pub length-read_bytes : length (read_bytes address size d) ≡ size
-  length-read_bytes =
-      let e = fits-end d.chip address size can.inside in
-      simp (length-take, length-drop) (omega (arith, is.size, e.0, e.1))
+  pub length-told : length (told_bytes address size d) ≡ size
+  length-told = length-readable d.chip d.flash address size is.size can.readable
 
-  pub has_read : (buf : List ℕ) (old new : Device) → length buf ≡ size → old ≡ record d { owed = read_bytes address size d; phase = Connected [] } → old ≡ owing buf new → HasRead address buf d new
-  has_read buf old new full before taken =
-      let all = answered (read_bytes address size d) buf d old new can.settled before taken (full ∙ sym length-read_bytes) in
-      record { same = all.1; read = all.0 ∙ ap (λ n. read_bytes address n d) (sym full) }
+  pub has_told : (buf : List ℕ) (old new : Device) → length buf ≡ size → old ≡ record d { owed = told_bytes address size d; phase = Connected [] } → old ≡ owing buf new → (buf ≡ told_bytes address size d) × (new ≡ d)
+  has_told buf old new full before taken = answered (told_bytes address size d) buf d old new can.settled before taken (full ∙ sym length-told)
+
+-- the flash's bytes were told
+pub has_read : (address size : ℕ) (d : Device) (some : 1 ≤ size) (is : IsDevice d) (can : CanRead address size d) (buf : List ℕ) (old new : Device) → length buf ≡ size
+    → old ≡ record d { owed = told_bytes address size d; phase = Connected [] } → old ≡ owing buf new → HasRead address buf d new
+has_read address size d some is can buf old new full before taken =
+    let all = has_told address size d some is (tells address size d can) buf old new full before taken in
+    record { same = all.1; read = all.0 ∙ flash-told d.chip d.flash address size can.inside ∙ ap (λ n. take n (drop (address - d.chip.base) d.flash)) (sym full) }
 
 -- a read that was broken off before its bytes came could have brought any
 pub read_broken : (fault : WireFault) (address n : ℕ) (a b : RigState) → BreaksOff fault (command 0x11 ++ with_checksum (address_bytes address)) (address_turns 0x11 address) a b

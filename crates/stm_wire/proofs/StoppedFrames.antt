@@ -1,5 +1,5 @@
 -- The frames of a session are open all along and done at their last byte, so that a stop in them leaves a harmless device.
-use Rattle.std.proofs.Common.{◌≡◌, ℕ, ◌+◌, ◌-◌, ◌/◌, ◌%◌, ◌<◌, ◌≤◌, Bool, true, false, ◌&&◌, ◌==◌, List, [], ◌∷◌, ◌++◌, length, take, drop, get_or, Option, Some, None, IsTrue, lit≤, refl, sym, ap, ap₂, ◌∙◌, subst, arith, eq-eqb, ne_eqb, lt-ltb, inl, inr, if◌then◌else◌, length-append, length-take}
+use Rattle.std.proofs.Common.{◌≡◌, ℕ, ◌+◌, ◌-◌, ◌/◌, ◌%◌, ◌<◌, ◌≤◌, Bool, true, false, ◌&&◌, ◌==◌, List, [], ◌∷◌, ◌++◌, length, take, get_or, Option, Some, None, IsTrue, lit≤, refl, sym, ap, ap₂, ◌∙◌, subst, arith, eq-eqb, ne_eqb, lt-ltb, inl, inr, if◌then◌else◌, length-append}
 use Rattle.std.proofs.Math.Seq.{take-append_seam, get_or-append_seam}
 use Rattle.std.specs.List.{Contains}
 use Rattle.stm_wire.specs.declared.intent.Intent.{Intent}
@@ -8,6 +8,7 @@ use Rattle.stm_wire.specs.declared.chip.EraseKind.{EraseKind}
 use Rattle.stm_wire.specs.declared.chip.EraseKind.TheVariants.{Page, Extended}
 use Rattle.stm_wire.specs.declared.verdict.Verdict.{Verdict}
 use Rattle.stm_wire.specs.declared.verdict.Verdict.TheVariants.{Done}
+use Rattle.stm_wire.specs.Telling.{can_read, is_readable}
 use Rattle.stm_wire.specs.Chip.{ChipData, page_count, page_limit, fits_inside, is_inside}
 use Rattle.stm_wire.specs.Exchange.{done_if, read_verdict, write_verdict, complement, number_of, xor, pair_of}
 use Rattle.stm_wire.specs.Device.{Device, IsDevice, IsSettled, ListsKind}
@@ -18,7 +19,7 @@ use Rattle.stm_wire.specs.Stopped.{IsQuestion, get, get_id, read, asks, erases, 
 use Rattle.stm_wire.proofs.Steps.{OpenAlong}
 use Rattle.stm_wire.proofs.Address.{verdict-listed, command-waits, after_address-right, addressed, address-waits}
 use Rattle.stm_wire.proofs.Writing.{data-waits}
-use Rattle.stm_wire.proofs.Reading.{fits-inside}
+use Rattle.stm_wire.proofs.Tellings.{fits-inside, readable-address, readable-few}
 use Rattle.stm_wire.proofs.Mild.{Mild}
 use Rattle.stm_wire.proofs.Stopped.{byte_of, fewer, fewer_outside, erasable, one_erasable, mild_get_frame, mild_id_frame, mild_read_frame, mild_erase_frame, mild_write_frame}
 use Rattle.stm_wire.specs.FlashLaws.{same_all}
@@ -36,9 +37,9 @@ module _ (d : Device) (is : IsDevice d) where
   id_whole : IsWhole d (0x02 ∷ []) 0xFD
   id_whole = record { along = (refl, tt); done = verdict-listed d.chip d.codes 0x02 [] is.get_id; few = lit≤ tt }
 
-  module _ (address size : ℕ) (some : 1 ≤ size) (most : size ≤ 256) (fits : IsTrue (fits_inside d.chip address size)) where
-    inside : IsTrue (is_inside d.chip address)
-    inside = fits-inside d.chip address size some fits
+  module _ (address size : ℕ) (some : 1 ≤ size) (most : size ≤ 256) (fits : IsTrue (can_read d.chip address size)) where
+    inside : IsTrue (is_readable d.chip address)
+    inside = readable-address d.chip address size some fits
 
     to_address : OpenAlong d.chip d.codes [] (command 0x11 ++ with_checksum (address_bytes address))
     to_address = along-append d.chip d.codes [] (command 0x11) (with_checksum (address_bytes address)) (command-waits d.chip d.codes 0x11 is.read refl)
@@ -47,15 +48,15 @@ module _ (d : Device) (is : IsDevice d) where
     read_whole : IsWhole d (command 0x11 ++ with_checksum (address_bytes address) ++ (size - 1) ∷ []) (complement (size - 1))
     read_whole =
         let e : (size - 1) + 1 ≡ size = omega arith in
-        let P : ℕ → Type 0 = λ n. Some (done_if (complement (size - 1) == complement (size - 1) && fits_inside d.chip address n)) ≡ Some Done in
+        let P : ℕ → Type 0 = λ n. Some (done_if (complement (size - 1) == complement (size - 1) && can_read d.chip address n)) ≡ Some Done in
         let choose : Bool → Bool → Option Verdict = λ x y. Some (done_if (x && y)) in
         record {
           along = along-append d.chip d.codes [] (command 0x11 ++ with_checksum (address_bytes address)) ((size - 1) ∷ []) to_address
-              (verdict-listed d.chip d.codes 0x11 (with_checksum (address_bytes address) ++ (size - 1) ∷ []) is.read ∙ after_address-right d.chip (read_verdict d.chip) address ((size - 1) ∷ []) inside, tt);
+              (verdict-listed d.chip d.codes 0x11 (with_checksum (address_bytes address) ++ (size - 1) ∷ []) is.read ∙ after_address-right (is_readable d.chip) (read_verdict d.chip) address ((size - 1) ∷ []) inside, tt);
           done = verdict-listed d.chip d.codes 0x11 (with_checksum (address_bytes address) ++ (size - 1) ∷ complement (size - 1) ∷ []) is.read
-              ∙ after_address-right d.chip (read_verdict d.chip) address ((size - 1) ∷ complement (size - 1) ∷ []) inside
+              ∙ after_address-right (is_readable d.chip) (read_verdict d.chip) address ((size - 1) ∷ complement (size - 1) ∷ []) inside
               ∙ subst P (sym e) (ap₂ choose (eq-eqb (complement (size - 1)) (complement (size - 1)) refl) fits);
-          few = omega (arith, e, length-take ((size - 1) + 1) (drop (number_of (address / 16777216) (address / 65536 % 256) (address / 256 % 256) (address % 256) - d.chip.base) d.flash));
+          few = omega (arith, e, readable-few d.chip d.flash (number_of (address / 16777216) (address / 65536 % 256) (address / 256 % 256) (address % 256)) ((size - 1) + 1));
         }
 
   module _ (address : ℕ) (sent : List ℕ) (some : 1 ≤ length sent) (most : length sent ≤ 256) (fits : IsTrue (fits_inside d.chip address (length sent))) where
@@ -81,7 +82,7 @@ module _ (d : Device) (is : IsDevice d) where
         (along-append d.chip d.codes [] head (count ∷ [])
         (along-append d.chip d.codes [] (command 0x31) (with_checksum (address_bytes address)) (command-waits d.chip d.codes 0x31 is.write refl)
         (address-waits d.chip d.codes 0x31 address is.write (addressed d.chip 0x31 (inr refl)) is_in))
-        (verdict-listed d.chip d.codes 0x31 (with_checksum (address_bytes address) ++ count ∷ []) is.write ∙ after_address-right d.chip (write_verdict d.chip) address (count ∷ []) is_in ∙ count_waits, tt))
+        (verdict-listed d.chip d.codes 0x31 (with_checksum (address_bytes address) ++ count ∷ []) is.write ∙ after_address-right (is_inside d.chip) (write_verdict d.chip) address (count ∷ []) is_in ∙ count_waits, tt))
         (data-waits d.chip d.codes address count is.write is_in [] sent (omega (arith, counts)))
 
     abbrev check : ℕ
@@ -101,7 +102,7 @@ module _ (d : Device) (is : IsDevice d) where
     write_whole = record {
       along = write_along;
       done = verdict-listed d.chip d.codes 0x31 (with_checksum (address_bytes address) ++ count ∷ (sent ++ check ∷ [])) is.write
-          ∙ after_address-right d.chip (write_verdict d.chip) address (count ∷ (sent ++ check ∷ [])) is_in ∙ write_done;
+          ∙ after_address-right (is_inside d.chip) (write_verdict d.chip) address (count ∷ (sent ++ check ∷ [])) is_in ∙ write_done;
       few = omega (arith, most);
     }
 

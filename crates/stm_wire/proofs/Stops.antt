@@ -24,12 +24,12 @@ along-append chip codes rest [] ys a b = subst (λ (r : List ℕ). OpenAlong chi
 along-append chip codes rest (x ∷ xs) ys a b =
     (a.0, along-append chip codes (rest ++ x ∷ []) xs ys a.1 (subst (λ (r : List ℕ). OpenAlong chip codes r ys) (sym (append_assoc rest (x ∷ []) xs)) b))
 
-along-take : (chip : ChipData) (codes rest xs : List ℕ) (n : ℕ) → OpenAlong chip codes rest xs → OpenAlong chip codes rest (take n xs)
+pub along-take : (chip : ChipData) (codes rest xs : List ℕ) (n : ℕ) → OpenAlong chip codes rest xs → OpenAlong chip codes rest (take n xs)
 along-take chip codes rest xs zero a = tt
 along-take chip codes rest [] (suc n) a = tt
 along-take chip codes rest (x ∷ xs) (suc n) a = (a.0, along-take chip codes (rest ++ x ∷ []) xs n a.1)
 
-replies-few : (rest bytes : List ℕ) → length (replies_along rest bytes) ≤ length bytes
+pub replies-few : (rest bytes : List ℕ) → length (replies_along rest bytes) ≤ length bytes
 replies-few rest [] = omega arith
 replies-few rest (x ∷ bytes) =
     let first = step_reply (rest ++ x ∷ []) in

@@ -2,7 +2,8 @@
 use Rattle.std.proofs.Common.{◌≡◌, ℕ, ◌+◌, ◌*◌, Bool, true, false, ◌&&◌, ◌==◌, nat_le, List, [], ◌∷◌, ◌++◌, length, Option, Some, None, refl, sym, subst, arith, if◌then◌else◌, eqb-true, ne_eqb, length-append}
 use Rattle.stm_wire.specs.declared.verdict.Verdict.{Verdict}
 use Rattle.stm_wire.specs.declared.verdict.Verdict.TheVariants.{Done, Refused, Loose}
-use Rattle.stm_wire.specs.Chip.{ChipData, fits_inside, is_inside}
+use Rattle.stm_wire.specs.Chip.{ChipData, is_inside}
+use Rattle.stm_wire.specs.Telling.{can_read, is_readable}
 use Rattle.stm_wire.specs.Exchange.{verdict, command_verdict, after_address, read_verdict, write_verdict, all_verdict, erase_verdict, extended_verdict, at_end, done_if, complement, is_listed, number_of, pair_of, xor}
 
 -- where the first has a verdict the second has none
@@ -30,21 +31,21 @@ module _ (byte : ℕ) (more : List ℕ) where
       let P : Bool → Type 0 = λ c. (if c then y else None) ≡ None in
       subst P (sym (ne_eqb (length (rest ++ byte ∷ more)) n ne)) refl
 
-  address-ends : (chip : ChipData) (next : ℕ → List ℕ → Option Verdict) → ((address : ℕ) (rest : List ℕ) → Ends (next address rest) (next address (rest ++ byte ∷ more)))
-      → (rest : List ℕ) → Ends (after_address chip next rest) (after_address chip next (rest ++ byte ∷ more))
-  address-ends chip next ends [] = none-ends _
-  address-ends chip next ends (a ∷ []) = none-ends _
-  address-ends chip next ends (a ∷ b ∷ []) = none-ends _
-  address-ends chip next ends (a ∷ b ∷ c ∷ []) = none-ends _
-  address-ends chip next ends (a ∷ b ∷ c ∷ d ∷ []) = none-ends _
-  address-ends chip next ends (a ∷ b ∷ c ∷ d ∷ check ∷ rest) =
-      pick (check == xor (a ∷ b ∷ c ∷ d ∷ []) && is_inside chip (number_of a b c d)) (next (number_of a b c d) rest) (next (number_of a b c d) (rest ++ byte ∷ more))
+  address-ends : (takes : ℕ → Bool) (next : ℕ → List ℕ → Option Verdict) → ((address : ℕ) (rest : List ℕ) → Ends (next address rest) (next address (rest ++ byte ∷ more)))
+      → (rest : List ℕ) → Ends (after_address takes next rest) (after_address takes next (rest ++ byte ∷ more))
+  address-ends takes next ends [] = none-ends _
+  address-ends takes next ends (a ∷ []) = none-ends _
+  address-ends takes next ends (a ∷ b ∷ []) = none-ends _
+  address-ends takes next ends (a ∷ b ∷ c ∷ []) = none-ends _
+  address-ends takes next ends (a ∷ b ∷ c ∷ d ∷ []) = none-ends _
+  address-ends takes next ends (a ∷ b ∷ c ∷ d ∷ check ∷ rest) =
+      pick (check == xor (a ∷ b ∷ c ∷ d ∷ []) && takes (number_of a b c d)) (next (number_of a b c d) rest) (next (number_of a b c d) (rest ++ byte ∷ more))
       (at_end Refused rest) (at_end Refused (rest ++ byte ∷ more)) (ends (number_of a b c d) rest) (end-ends Refused rest)
 
   read-ends : (chip : ChipData) (address : ℕ) (rest : List ℕ) → Ends (read_verdict chip address rest) (read_verdict chip address (rest ++ byte ∷ more))
   read-ends chip address [] = none-ends _
   read-ends chip address (n ∷ []) = none-ends _
-  read-ends chip address (n ∷ check ∷ rest) = end-ends (done_if (check == complement n && fits_inside chip address (n + 1))) rest
+  read-ends chip address (n ∷ check ∷ rest) = end-ends (done_if (check == complement n && can_read chip address (n + 1))) rest
 
   write-ends : (chip : ChipData) (address : ℕ) (rest : List ℕ) → Ends (write_verdict chip address rest) (write_verdict chip address (rest ++ byte ∷ more))
   write-ends chip address [] = none-ends _
@@ -70,9 +71,9 @@ module _ (byte : ℕ) (more : List ℕ) where
   command-ends chip code rest =
       pick (code == 0x00) _ _ _ _ (end-ends Done rest)
       (pick (code == 0x02) _ _ _ _ (end-ends Done rest)
-      (pick (code == 0x11) _ _ _ _ (address-ends chip (read_verdict chip) (read-ends chip) rest)
-      (pick (code == 0x21) _ _ _ _ (address-ends chip (λ address end. at_end Done end) (λ address. end-ends Done) rest)
-      (pick (code == 0x31) _ _ _ _ (address-ends chip (write_verdict chip) (write-ends chip) rest)
+      (pick (code == 0x11) _ _ _ _ (address-ends (is_readable chip) (read_verdict chip) (read-ends chip) rest)
+      (pick (code == 0x21) _ _ _ _ (address-ends (is_inside chip) (λ address end. at_end Done end) (λ address. end-ends Done) rest)
+      (pick (code == 0x31) _ _ _ _ (address-ends (is_inside chip) (write_verdict chip) (write-ends chip) rest)
       (pick (code == 0x43) _ _ _ _ (erase-ends chip rest)
       (pick (code == 0x44) _ _ _ _ (extended-ends chip rest) (end-ends Loose rest)))))))
 

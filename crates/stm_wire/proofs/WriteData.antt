@@ -44,7 +44,7 @@ module _ (chip : ChipData) (codes pages : List ℕ) where
       (λ _. two_data bytes at k) (λ _. fits_end chip pages bytes Refused tt rest))
 
   -- fewer than five bytes behind the pair
-  shorter : (rest : List ℕ) → after_address chip (write_verdict chip) rest ≡ None → Mild chip codes 2 pages (0x31 ∷ 0xCE ∷ rest ++ 2 ∷ []) → Mild chip codes 2 pages (0x31 ∷ 0xCE ∷ rest)
+  shorter : (rest : List ℕ) → after_address (is_inside chip) (write_verdict chip) rest ≡ None → Mild chip codes 2 pages (0x31 ∷ 0xCE ∷ rest ++ 2 ∷ []) → Mild chip codes 2 pages (0x31 ∷ 0xCE ∷ rest)
   shorter rest e m = mild_less chip codes 2 pages (0x31 ∷ 0xCE ∷ rest) (after_pair chip codes pages 0x31 0xCE rest (rw e tt)) m
 
   after_four : (a b c d : ℕ) → Mild chip codes 2 pages (0x31 ∷ 0xCE ∷ a ∷ b ∷ c ∷ d ∷ [])

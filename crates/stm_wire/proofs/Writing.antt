@@ -14,7 +14,7 @@ use Rattle.stm_wire.specs.Device.{Device, Connected, Fed, IsDevice}
 use Rattle.stm_wire.specs.Command.{owing, LeavesFirst, with_rest, TakesAddress, CanWrite, HasWritten}
 use Rattle.stm_wire.proofs.Steps.{OpenAlong, replies_along, fed-done}
 use Rattle.stm_wire.proofs.Address.{verdict-listed, after_address-right, number_of-address_bytes, settled-is}
-use Rattle.stm_wire.proofs.Reading.{fits-inside}
+use Rattle.stm_wire.proofs.Tellings.{fits-inside}
 
 -- too few bytes have no verdict
 short : (chip : ChipData) (address n : ℕ) (rest : List ℕ) → length rest < n + 2 → write_verdict chip address (n ∷ rest) ≡ None
@@ -29,7 +29,7 @@ module _ (chip : ChipData) (codes : List ℕ) (address n : ℕ) (listed : IsTrue
   data-waits so_far (byte ∷ bytes) h =
       let e = length-append so_far (byte ∷ []) in (
         verdict-listed chip codes 0x31 (with_checksum (address_bytes address) ++ n ∷ (so_far ++ byte ∷ [])) listed
-            ∙ after_address-right chip (write_verdict chip) address (n ∷ (so_far ++ byte ∷ [])) inside ∙ short chip address n (so_far ++ byte ∷ []) (omega (arith, e, h)),
+            ∙ after_address-right (is_inside chip) (write_verdict chip) address (n ∷ (so_far ++ byte ∷ [])) inside ∙ short chip address n (so_far ++ byte ∷ []) (omega (arith, e, h)),
         data-waits (so_far ++ byte ∷ []) bytes (omega (arith, e, h)),
       )
 
@@ -67,7 +67,7 @@ module _ (address : ℕ) (bytes : List ℕ) (d : Device) (some : 1 ≤ length by
   waits : OpenAlong d.chip d.codes (command 0x31 ++ with_checksum (address_bytes address)) ((length bytes - 1) ∷ bytes)
   waits = (
     verdict-listed d.chip d.codes 0x31 (with_checksum (address_bytes address) ++ (length bytes - 1) ∷ []) is.write
-        ∙ after_address-right d.chip (write_verdict d.chip) address ((length bytes - 1) ∷ []) inside ∙ short d.chip address (length bytes - 1) [] (omega (arith, some)),
+        ∙ after_address-right (is_inside d.chip) (write_verdict d.chip) address ((length bytes - 1) ∷ []) inside ∙ short d.chip address (length bytes - 1) [] (omega (arith, some)),
     data-waits d.chip d.codes address (length bytes - 1) is.write inside [] bytes (omega (arith, some)),
   )
 
@@ -78,7 +78,7 @@ module _ (address : ℕ) (bytes : List ℕ) (d : Device) (some : 1 ≤ length by
   done =
       let data_step = (length bytes - 1) ∷ (bytes ++ xor ((length bytes - 1) ∷ bytes) ∷ []) in
       verdict-listed d.chip d.codes 0x31 (with_checksum (address_bytes address) ++ data_step) is.write
-      ∙ after_address-right d.chip (write_verdict d.chip) address data_step inside ∙ data-verdict d.chip address bytes some can.inside
+      ∙ after_address-right (is_inside d.chip) (write_verdict d.chip) address data_step inside ∙ data-verdict d.chip address bytes some can.inside
 
   after : (old new : Device) → old ≡ with_rest (command 0x31 ++ with_checksum (address_bytes address)) d → Fed (with_checksum ((length bytes - 1) ∷ bytes)) old new
       → (flash : List ℕ) × Effect d.chip (Write address bytes) d.flash flash × (new ≡ record d { flash = flash; owed = ack ∷ []; phase = Connected [] })

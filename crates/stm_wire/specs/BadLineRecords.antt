@@ -1,12 +1,12 @@
 -- Each call of a bad line stands in its record, as the record of any Rig has it.
-use Rattle.std.proofs.Common.{◌≡◌, ◌⊎◌, inl, inr, ⊎_elim, ℕ, ◌+◌, ◌-◌, List, [], ◌∷◌, ◌++◌}
+use Rattle.std.proofs.Common.{◌≡◌, inl, inr, ⊎_elim, ℕ, ◌-◌, List, [], ◌∷◌, ◌++◌}
 use Rattle.std.proofs.Common.{length, take}
 use Rattle.std.proofs.Common.{Option, Some, None, Result, Ok, Err, refl, sym, ◌∙◌, ap, ap₂, arith}
 use Rattle.std.proofs.Common.{append-nil, length-append}
-use Rattle.stm_wire.specs.BadLines.{ListData, ListsLineCall, ListsJournalCall, ListsAppend}
+use Rattle.stm_wire.specs.BadLines.{ListData, ListsLineCall, ListsAppend}
 use Rattle.stm_wire.specs.BadLines.{GetsFromList, FetchesNothing, GoesUnlisted, FlipData, PutsOn}
 use Rattle.stm_wire.specs.BadLines.{GetsOn, AppendsOn, FetchesOn}
-use Rattle.stm_wire.specs.Call.{Call, Put, Get, Append, Fetch}
+use Rattle.stm_wire.specs.Call.{Call, Put, Append, Fetch}
 use Rattle.stm_wire.specs.declared.fault.RigFault.{RigFault}
 use Rattle.stm_wire.specs.declared.fault.RigFault.TheVariants.{Line, File, Stopped}
 use Rattle.stm_wire.specs.declared.rig.RigCall.{RigCall}

@@ -1,6 +1,11 @@
 -- A chip, and its flash: one list of bytes from the chip's base on, parted into pages.
 use Rattle.std.specs.Prelude.{◌≡◌, ℕ, ◌+◌, ◌%◌, ◌^◌, ◌<◌, ◌≤◌, ◌⊎◌, Bool, ◌&&◌, nat_lt, nat_le}
-use Rattle.std.specs.Prelude.{List, ◌++◌, length, take, drop, replicate, slice_index, sum, All}
+use Rattle.std.specs.Prelude.{◌||◌, true, IsTrue, Option, None, Some}
+use Rattle.std.specs.Prelude.{List, [], ◌++◌, length, take, drop, replicate, slice_index, sum, All}
+use Rattle.stm_wire.specs.UniqueId.{IsUniqueId, is_unique_length}
+use Rattle.stm_wire.specs.Places.{no_places}
+use Rattle.stm_wire.specs.declared.places.BoardPlaces.{BoardPlaces}
+use Rattle.stm_wire.specs.declared.places.UniquePlace.{UniquePlace}
 use Rattle.stm_wire.specs.declared.chip.EraseKind.{EraseKind}
 use Rattle.stm_wire.specs.declared.chip.EraseKind.TheVariants.{Page, Extended}
 
@@ -13,10 +18,30 @@ pub record ChipData : Type 0 where
   pub kind : EraseKind
   -- what an erased place holds
   pub erased : ℕ
+  -- where a device of this kind tells its board
+  pub places : BoardPlaces
+  -- the number that this very device has, where it told it, and else none
+  pub unique : List ℕ
 
+-- a chip of which no place is known, and whose device told no number
 abbrev pub chip_of : ℕ → ℕ → List ℕ → EraseKind → ℕ → ChipData
-chip_of id base sizes kind erased =
-    record { id = id; base = base; sizes = sizes; kind = kind; erased = erased }
+chip_of id base sizes kind erased = record {
+  id = id;
+  base = base;
+  sizes = sizes;
+  kind = kind;
+  erased = erased;
+  places = no_places;
+  unique = [];
+}
+
+-- the chip that tells its board at these places
+abbrev pub at_places : BoardPlaces → ChipData → ChipData
+at_places places chip = record chip { places = places }
+
+-- the chip of a device that told this number
+abbrev pub of_board : List ℕ → ChipData → ChipData
+of_board unique chip = record chip { unique = unique }
 
 abbrev pub page_count : ChipData → ℕ
 page_count chip = length chip.sizes
@@ -59,6 +84,27 @@ fits_inside chip address n =
 abbrev pub is_inside : ChipData → ℕ → Bool
 is_inside chip address = nat_le chip.base address && nat_lt address (chip.base + flash_size chip)
 
+-- n bytes from this address lie outside the flash, and end at 2^32 at the latest
+abbrev pub is_outside : ChipData → ℕ → ℕ → Bool
+is_outside chip address n =
+    nat_le (address + n) (2 ^ 32)
+    && (nat_le (address + n) chip.base || nat_le (chip.base + flash_size chip) address)
+
+-- a unique id may stand there
+abbrev pub is_unique_place : ChipData → Option UniquePlace → Bool
+is_unique_place chip None = true
+is_unique_place chip (Some place) =
+    is_unique_length place.length && is_outside chip place.address place.length
+
+-- the size of the flash may stand there
+abbrev pub is_size_place : ChipData → Option ℕ → Bool
+is_size_place chip None = true
+is_size_place chip (Some address) = is_outside chip address 2
+
+-- a chip may tell its board there
+abbrev pub are_places : ChipData → BoardPlaces → Bool
+are_places chip places = is_unique_place chip places.unique && is_size_place chip places.size
+
 -- an erased place has each of its bits set, or none
 abbrev pub IsErasedByte : ℕ → Type 0
 IsErasedByte byte = (byte ≡ 0) ⊎ (byte ≡ 0xFF)
@@ -82,3 +128,5 @@ pub record IsChip (chip : ChipData) : Type 0 where
   pub aligned : chip.base % 256 ≡ 0
   pub end : chip.base + flash_size chip ≤ 2 ^ 32
   pub erased : IsErasedByte chip.erased
+  pub places : IsTrue (are_places chip chip.places)
+  pub unique : IsUniqueId chip.unique

@@ -6,6 +6,7 @@ use Rattle.stm_wire.specs.declared.fault.WireFault.TheVariants.{Line}
 use Rattle.stm_wire.specs.Device.{Device, Connected, Fed, IsSettled}
 use Rattle.stm_wire.specs.declared.chip.EraseKind.{EraseKind}
 use Rattle.stm_wire.specs.Chip.{page_count, fits_inside, is_inside}
+use Rattle.stm_wire.specs.Telling.{can_read, readable_bytes, takes_at}
 use Rattle.stm_wire.specs.Exchange.{is_listed}
 use Rattle.stm_wire.specs.Effect.{Effect, Write, erased_pages}
 
@@ -38,12 +39,21 @@ with_rest rest d = record d { owed = []; phase = Connected rest }
 pub record TakesAddress (code address : ℕ) (d : Device) : Type 0 where
   pub settled : IsSettled d
   pub takes : (code ≡ 0x11) ⊎ (code ≡ 0x31)
-  pub inside : IsTrue (is_inside d.chip address)
+  pub inside : IsTrue (takes_at d.chip code address)
 
 -- it can read as many bytes from there
 pub record CanRead (address size : ℕ) (d : Device) : Type 0 where
   pub settled : IsSettled d
   pub inside : IsTrue (fits_inside d.chip address size)
+
+-- it tells as many bytes from there, of its flash or of its board
+pub record CanTell (address size : ℕ) (d : Device) : Type 0 where
+  pub settled : IsSettled d
+  pub readable : IsTrue (can_read d.chip address size)
+
+-- what it tells then
+abbrev pub told_bytes : ℕ → ℕ → Device → List ℕ
+told_bytes address size d = readable_bytes d.chip d.flash address size
 
 -- the buffer holds the flash's bytes from there, and nothing changed
 pub record HasRead (address : ℕ) (bytes : List ℕ) (old new : Device) : Type 0 where

@@ -2,8 +2,9 @@
 -- from.
 use Rattle.std.specs.Prelude.{◌≡◌, ℕ, List, [], ◌∷◌, replicate, Some, None, refl}
 use Rattle.stm_wire.specs.declared.chip.EraseKind.TheVariants.{Page, Extended}
-use Rattle.stm_wire.specs.Chip.{ChipData}
+use Rattle.stm_wire.specs.Chip.{ChipData, at_places, chip_of, of_board}
 use Rattle.stm_wire.specs.declared.verdict.Verdict.TheVariants.{Done, Refused, Loose}
+use Rattle.stm_wire.specs.Telling.{can_read, is_readable}
 use Rattle.stm_wire.specs.Exchange.{verdict}
 use Rattle.stm_wire.specs.Effect.{change_of, ErasePages, EraseAll, Write}
 use Rattle.stm_wire.specs.Reply.{reply}
@@ -11,33 +12,18 @@ use Rattle.stm_wire.specs.Frames.{read_frame, write_frame, erase_frame}
 
 -- 32 pages of 1 KiB, erased by 43
 abbrev pub medium_chip : ChipData
-medium_chip =
-    record { id = 0x412; base = 0x08000000; sizes = replicate 32 1024; kind = Page; erased = 0xFF }
+medium_chip = chip_of 0x412 0x08000000 (replicate 32 1024) Page 0xFF
 
 abbrev pub medium_codes : List ℕ
 medium_codes = 0x00 ∷ 0x02 ∷ 0x11 ∷ 0x21 ∷ 0x31 ∷ 0x43 ∷ 0x73 ∷ 0x82 ∷ 0x92 ∷ []
 
 -- 256 pages of 256 bytes, erased by 44
 abbrev pub extended_chip : ChipData
-extended_chip =
-    record {
-      id = 0xA01;
-      base = 0x08000000;
-      sizes = replicate 256 256;
-      kind = Extended;
-      erased = 0xFF;
-    }
+extended_chip = chip_of 0xA01 0x08000000 (replicate 256 256) Extended 0xFF
 
 -- 512 pages of 256 bytes, erased by 44
 abbrev pub large_chip : ChipData
-large_chip =
-    record {
-      id = 0xA02;
-      base = 0x08000000;
-      sizes = replicate 512 256;
-      kind = Extended;
-      erased = 0xFF;
-    }
+large_chip = chip_of 0xA02 0x08000000 (replicate 512 256) Extended 0xFF
 
 abbrev pub extended_codes : List ℕ
 extended_codes = 0x00 ∷ 0x02 ∷ 0x11 ∷ 0x21 ∷ 0x31 ∷ 0x44 ∷ 0x73 ∷ 0x82 ∷ 0x92 ∷ []
@@ -61,15 +47,52 @@ read_code = refl
 
 read_address : reply medium_chip 0x22 medium_codes some_flash
     (0x11 ∷ 0xEE ∷ 0x08 ∷ 0x00 ∷ 0x00 ∷ 0x00 ∷ 0x08 ∷ []) ≡ 0x79 ∷ []
+unfolding is_readable
 read_address = refl
 
 read_four_bytes : reply medium_chip 0x22 medium_codes some_flash (read_frame 0x08000000 4)
     ≡ 0x79 ∷ 1 ∷ 2 ∷ 3 ∷ 4 ∷ []
+unfolding is_readable can_read
 read_four_bytes = refl
 
 read_four_bytes_sent : read_frame 0x08000000 4
     ≡ 0x11 ∷ 0xEE ∷ 0x08 ∷ 0x00 ∷ 0x00 ∷ 0x00 ∷ 0x08 ∷ 0x03 ∷ 0xFC ∷ []
 read_four_bytes_sent = refl
+
+-- A chip that tells its board: its unique id of 12 bytes, and the size of its flash of 32 KiB.
+abbrev pub telling_chip : ChipData
+telling_chip = of_board (0x41 ∷ 0x42 ∷ 0x43 ∷ 0x44 ∷ 0x45 ∷ 0x46 ∷ 0x47 ∷ 0x48 ∷ 0x49 ∷ 0x4A ∷ 0x4B ∷ 0x4C ∷ [])
+    (at_places (record {
+      unique = Some (record { address = 0x1FFFF7E8; length = 12 });
+      size = Some 0x1FFFF7E0;
+    }) medium_chip)
+
+read_unique_id : reply telling_chip 0x22 medium_codes some_flash (read_frame 0x1FFFF7E8 12)
+    ≡ 0x79 ∷ 0x41 ∷ 0x42 ∷ 0x43 ∷ 0x44 ∷ 0x45 ∷ 0x46 ∷ 0x47 ∷ 0x48 ∷ 0x49 ∷ 0x4A ∷ 0x4B ∷ 0x4C ∷ []
+unfolding is_readable can_read
+read_unique_id = refl
+
+read_size : reply telling_chip 0x22 medium_codes some_flash (read_frame 0x1FFFF7E0 2)
+    ≡ 0x79 ∷ 0x20 ∷ 0x00 ∷ []
+unfolding is_readable can_read
+read_size = refl
+
+-- a part of the unique id isn't told, and neither is what lies beside its place
+read_part_of_id : reply telling_chip 0x22 medium_codes some_flash (read_frame 0x1FFFF7E8 4)
+    ≡ 0x1F ∷ []
+unfolding is_readable can_read
+read_part_of_id = refl
+
+read_beside : reply telling_chip 0x22 medium_codes some_flash
+    (0x11 ∷ 0xEE ∷ 0x1F ∷ 0xFF ∷ 0xF7 ∷ 0xE9 ∷ 0xFE ∷ []) ≡ 0x1F ∷ []
+unfolding is_readable
+read_beside = refl
+
+-- a chip without such places tells nothing outside its flash
+read_outside : reply medium_chip 0x22 medium_codes some_flash
+    (0x11 ∷ 0xEE ∷ 0x1F ∷ 0xFF ∷ 0xF7 ∷ 0xE8 ∷ 0xFF ∷ []) ≡ 0x1F ∷ []
+unfolding is_readable
+read_outside = refl
 
 -- Go, 3.5: the list ends with the address
 go : verdict medium_chip medium_codes (0x21 ∷ 0xDE ∷ 0x08 ∷ 0x00 ∷ 0x00 ∷ 0x00 ∷ 0x08 ∷ [])

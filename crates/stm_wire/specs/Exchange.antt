@@ -8,6 +8,7 @@ use Rattle.std.specs.List.{list_all, list_any}
 use Rattle.stm_wire.specs.declared.verdict.Verdict.{Verdict}
 use Rattle.stm_wire.specs.declared.verdict.Verdict.TheVariants.{Done, Refused, Loose}
 use Rattle.stm_wire.specs.Chip.{ChipData, page_count, fits_inside, is_inside}
+use Rattle.stm_wire.specs.Telling.{can_read, is_readable}
 
 abbrev pub complement : ℕ → ℕ
 complement byte = 255 - byte
@@ -43,18 +44,18 @@ abbrev pub at_end : Verdict → List ℕ → Option Verdict
 at_end v [] = Some v
 at_end v (byte ∷ rest) = None
 
--- an address, its check, and what this says of the rest
-abbrev pub after_address : ChipData → (ℕ → List ℕ → Option Verdict) → List ℕ → Option Verdict
-after_address chip next (a ∷ b ∷ c ∷ d ∷ check ∷ rest) =
-    if check == xor (a ∷ b ∷ c ∷ d ∷ []) && is_inside chip (number_of a b c d)
+-- an address that is taken, its check, and what this says of the rest
+abbrev pub after_address : (ℕ → Bool) → (ℕ → List ℕ → Option Verdict) → List ℕ → Option Verdict
+after_address takes next (a ∷ b ∷ c ∷ d ∷ check ∷ rest) =
+    if check == xor (a ∷ b ∷ c ∷ d ∷ []) && takes (number_of a b c d)
     then next (number_of a b c d) rest
     else at_end Refused rest
-after_address chip next bytes = None
+after_address takes next bytes = None
 
 -- n, ~n
 abbrev pub read_verdict : ChipData → ℕ → List ℕ → Option Verdict
 read_verdict chip address (n ∷ check ∷ rest) =
-    at_end (done_if (check == complement n && fits_inside chip address (n + 1))) rest
+    at_end (done_if (check == complement n && can_read chip address (n + 1))) rest
 read_verdict chip address bytes = None
 
 -- n, n + 1 bytes, a check
@@ -108,9 +109,9 @@ abbrev pub command_verdict : ChipData → ℕ → List ℕ → Option Verdict
 command_verdict chip code rest =
     if code == 0x00 then at_end Done rest
     else (if code == 0x02 then at_end Done rest
-    else (if code == 0x11 then after_address chip (read_verdict chip) rest
-    else (if code == 0x21 then after_address chip (λ address end. at_end Done end) rest
-    else (if code == 0x31 then after_address chip (write_verdict chip) rest
+    else (if code == 0x11 then after_address (is_readable chip) (read_verdict chip) rest
+    else (if code == 0x21 then after_address (is_inside chip) (λ address end. at_end Done end) rest
+    else (if code == 0x31 then after_address (is_inside chip) (write_verdict chip) rest
     else (if code == 0x43 then erase_verdict chip rest
     else (if code == 0x44 then extended_verdict chip rest
     else at_end Loose rest))))))

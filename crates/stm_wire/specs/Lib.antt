@@ -1,4 +1,10 @@
+pub mod UniqueId
+pub mod UniqueIdFields
+pub mod UniqueIdLaws
+pub mod Places
 pub mod Chip
+pub mod Cut
+pub mod Telling
 pub mod PageLaws
 pub mod Exchange
 pub mod Effect
@@ -13,6 +19,7 @@ pub mod Parts
 pub mod PartJoins
 pub mod PartLaws
 pub mod Stopped
+pub mod Refused
 pub mod Settling
 pub mod SettlingCalls
 pub mod Call

@@ -1,7 +1,8 @@
 -- What a device owes after the last byte of a list.
-use Rattle.std.specs.Prelude.{ℕ, ◌+◌, ◌-◌, ◌/◌, ◌%◌, ◌||◌, ◌==◌, if◌then◌else◌, List}
-use Rattle.std.specs.Prelude.{[], ◌∷◌, ◌++◌, length, take, drop, Option, Some, None}
+use Rattle.std.specs.Prelude.{ℕ, ◌+◌, ◌/◌, ◌%◌, ◌||◌, ◌==◌, if◌then◌else◌, List}
+use Rattle.std.specs.Prelude.{[], ◌∷◌, ◌++◌, length, Option, Some, None}
 use Rattle.stm_wire.specs.Chip.{ChipData}
+use Rattle.stm_wire.specs.Telling.{readable_bytes}
 use Rattle.stm_wire.specs.declared.verdict.Verdict.{Verdict}
 use Rattle.stm_wire.specs.declared.verdict.Verdict.TheVariants.{Done, Refused, Loose}
 use Rattle.stm_wire.specs.Exchange.{number_of, verdict}
@@ -23,7 +24,7 @@ id_answer chip = 1 ∷ chip.id / 256 ∷ chip.id % 256 ∷ ack ∷ []
 -- after 11 EE: the bytes from the address
 abbrev pub read_answer : ChipData → List ℕ → List ℕ → List ℕ
 read_answer chip flash (a ∷ b ∷ c ∷ d ∷ check ∷ n ∷ rest) =
-    take (n + 1) (drop (number_of a b c d - chip.base) flash)
+    readable_bytes chip flash (number_of a b c d) (n + 1)
 read_answer chip flash bytes = []
 
 -- the data that follow the acknowledgement of a done list

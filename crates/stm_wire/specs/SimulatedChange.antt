@@ -4,7 +4,7 @@ use Rattle.std.proofs.Common.{if◌then◌else◌, List, [], ◌∷◌, length, 
 use Rattle.std.proofs.Common.{IsTrue, refl, sym, subst, arith, get_or, eqb-true, length-take}
 use Rattle.std.proofs.lemmas.List.Elements.{All-take}
 use Rattle.stm_wire.specs.declared.verdict.Verdict.TheVariants.{Done, Refused}
-use Rattle.stm_wire.specs.Chip.{ChipData, fits_inside}
+use Rattle.stm_wire.specs.Chip.{ChipData, fits_inside, is_inside}
 use Rattle.stm_wire.specs.Exchange.{verdict, command_verdict, after_address}
 use Rattle.stm_wire.specs.Exchange.{write_verdict, at_end, done_if, complement}
 use Rattle.stm_wire.specs.Exchange.{is_listed, number_of, pair_of, pairs_of, xor}
@@ -47,7 +47,7 @@ write-address chip a b c d check (n ∷ rest) true e =
     write-tail chip (number_of a b c d) n rest (length rest == n + 2) refl e
 
 write-rest : (chip : ChipData) (rest : List ℕ)
-    → after_address chip (write_verdict chip) rest ≡ Some Done → Fits chip (write_change rest)
+    → after_address (is_inside chip) (write_verdict chip) rest ≡ Some Done → Fits chip (write_change rest)
 write-rest chip [] e = tt
 write-rest chip (a ∷ []) e = tt
 write-rest chip (a ∷ b ∷ []) e = tt

@@ -5,6 +5,7 @@ use Rattle.std.specs.Prelude.{Contains, Option, Some, None, IsTrue}
 use Rattle.stm_wire.specs.declared.intent.Intent.{Intent}
 use Rattle.stm_wire.specs.declared.intent.Intent.TheVariants.{Erase, Program}
 use Rattle.stm_wire.specs.Chip.{ChipData, page_count, flash_size, fits_inside}
+use Rattle.stm_wire.specs.Telling.{can_read}
 use Rattle.stm_wire.specs.Device.{Device, Fresh, Connected, IsDevice, IsReadyRest}
 use Rattle.stm_wire.specs.Device.{IsSettled, Feeds, LosesOwed, reset}
 use Rattle.stm_wire.specs.Harmless.{Harmless, SameOutside}
@@ -37,7 +38,7 @@ FreshIsHarmless =
 pub data IsQuestion (chip : ChipData) (frame : List ℕ) : Type 0 where
   get : frame ≡ command 0x00 → IsQuestion chip frame
   get_id : frame ≡ command 0x02 → IsQuestion chip frame
-  read : (address size : ℕ) → 1 ≤ size → size ≤ 256 → IsTrue (fits_inside chip address size)
+  read : (address size : ℕ) → 1 ≤ size → size ≤ 256 → IsTrue (can_read chip address size)
       → frame ≡ read_frame address size → IsQuestion chip frame
 
 -- a frame that may be sent under this intent

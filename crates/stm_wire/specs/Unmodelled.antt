@@ -1,5 +1,6 @@
 -- A line of which nothing is promised: it follows no model and keeps no record.
 use Rattle.std.specs.Prelude.{ℕ, [], None}
+use Rattle.stm_wire.specs.Chip.{chip_of}
 use Rattle.stm_wire.specs.declared.chip.EraseKind.TheVariants.{Page}
 use Rattle.stm_wire.specs.Device.{Device, Gone}
 use Rattle.stm_wire.specs.Rig.{RigState}
@@ -8,7 +9,7 @@ use Rattle.stm_wire.specs.Rig.{RigState}
 abbrev pub no_device : Device
 no_device =
     record {
-      chip = record { id = 0; base = 0; sizes = []; kind = Page; erased = 0xFF };
+      chip = chip_of 0 0 [] Page 0xFF;
       version = 0;
       codes = [];
       flash = [];

@@ -1,10 +1,15 @@
-// A chip: its number, where its flash begins, and the sizes of the flash's pages.
+// A chip: its number, where its flash begins, the sizes of the flash's pages, where it tells its
+// board, and which board it is.
 ghost use Rattle.std.specs.Prelude.{◌≡◌, ◌+◌, ◌^◌, ◌<◌, ◌≤◌, ◌↔◌, IsTrue, sum, All};
 ghost use Rattle.std.specs.Option.{SomeIff};
-ghost use Rattle.stm_wire.specs.Chip.{ChipData, chip_of, erased_byte, IsChip};
+ghost use Rattle.stm_wire.specs.Chip.{ChipData, chip_of, of_board, at_places, erased_byte, IsChip};
 ghost use Rattle.stm_wire.specs.Chip.{IsErasedByte, IsPageSize, page_count};
+ghost use Rattle.stm_wire.specs.Chip.{is_outside, are_places};
 ghost use Rattle.stm_wire.specs.Chip.{page_size, page_offset, page_limit, flash_size};
 
+mod cut;
+
+use crate::{BoardPlaces, UniqueId};
 use std::alloc::AllocError;
 use std::marker::Model;
 
@@ -77,19 +82,24 @@ pub struct Chip {
     total: u32,
     kind: EraseKind,
     erased: u8,
+    places: BoardPlaces,
+    unique: UniqueId,
 }
 
 impl Model for Chip {
     ghost Value = { ChipData };
 
-    ghost view = { λ c. chip_of c.id c.base c.sizes.items c.kind c.erased };
+    ghost view = { λ c. of_board c.unique
+        (at_places c.places (chip_of c.id c.base c.sizes.items c.kind c.erased)) };
 
-    ghost invariant = { λ c. IsChip (chip_of c.id c.base c.sizes.items c.kind c.erased)
+    ghost invariant = { λ c. IsChip (of_board c.unique
+        (at_places c.places (chip_of c.id c.base c.sizes.items c.kind c.erased)))
         × (c.total ≡ sum c.sizes.items) };
 }
 
 impl Chip {
-    /// A chip of these values, or None where one of its limits is broken.
+    /// A chip of these values, which tells its board at no place that is known and whose device
+    /// told no unique id, or None where one of its limits is broken.
     ///
     /// `base` is the address of the flash's first byte, `sizes` has the bytes of each page from
     /// there on, and `erased` is what an erased place holds: FF, or 00.
@@ -117,7 +127,62 @@ impl Chip {
             total,
             kind,
             erased,
+            places: BoardPlaces::none(),
+            unique: UniqueId::none(),
         })
+    }
+
+    /// Whether these bytes lie outside the flash, and end at 2^32 at the latest.
+    fn is_outside(&self, address: u32, length: u32) -> bool
+        ensures { result ≡ is_outside self.now address length }
+    {
+        let start = u64::from(address);
+        let end = start + u64::from(length);
+        end <= 0x1_0000_0000 && (end <= u64::from(self.base) || self.end() <= start)
+    }
+
+    /// The chip that tells its board at these places, or None where one of them lies in its flash or
+    /// ends behind 2^32, or where the unique id has fewer than 8 bytes or more than 32.
+    pub fn at_places(self, places: BoardPlaces) -> Option<Chip>
+        ensures { SomeIff result (IsTrue (are_places self places)) (at_places places self) }
+    {
+        let unique = match places.unique {
+            None => true,
+            Some(place) => {
+                UniqueId::is_length(usize::from(place.length))
+                    && self.is_outside(place.address, u32::from(place.length))
+            }
+        };
+        let size = match places.size {
+            None => true,
+            Some(address) => self.is_outside(address, 2),
+        };
+        if unique && size {
+            Some(Chip { places, ..self })
+        } else {
+            None
+        }
+    }
+
+    /// Where it tells its board.
+    pub fn places(&self) -> BoardPlaces
+        ensures { result ≡ self.now.places }
+    {
+        self.places
+    }
+
+    /// The chip of a device that told this unique id.
+    pub fn of_board(self, unique: UniqueId) -> Chip
+        ensures { result ≡ of_board unique self }
+    {
+        Chip { unique, ..self }
+    }
+
+    /// The unique id that its device told, or none.
+    pub fn unique(&self) -> UniqueId
+        ensures { result ≡ self.now.unique }
+    {
+        self.unique
     }
 
     pub fn id(&self) -> u16
@@ -209,6 +274,8 @@ impl Clone for Chip {
             total: self.total,
             kind: self.kind,
             erased: self.erased,
+            places: self.places,
+            unique: self.unique,
         })
     }
 }

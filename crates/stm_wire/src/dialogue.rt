@@ -1,6 +1,7 @@
 // The steps that every command is made of: bytes sent, and the reply bytes that have to come.
-ghost use Rattle.std.specs.Prelude.{◌++◌, ◌≡◌, ◌≤◌, ◌∷◌, [], ℕ, List};
+ghost use Rattle.std.specs.Prelude.{◌++◌, ◌≡◌, ◌≢◌, ◌≤◌, ◌∷◌, [], ℕ, List};
 ghost use Rattle.std.specs.Prelude.{length, OnOk, IfOk, IfErr, Some};
+ghost use Rattle.stm_wire.specs.declared.fault.WireFault.TheVariants.{Nack};
 ghost use Rattle.stm_wire.specs.Device.{Fed};
 ghost use Rattle.stm_wire.specs.Dialogue.{says, learns, step_turns, Expects};
 ghost use Rattle.stm_wire.specs.Sending.{Holds, BreaksOff};
@@ -40,6 +41,7 @@ pub(crate) fn receive<R: Rig>(rig: &mut R) -> Result<u8, WireFault>
     ensures broken { IfErr result
         (λ fault. (byte : ℕ)
         → BreaksOff fault [] (learns (byte ∷ [])) (R.view rig.old) (R.view rig.new)) }
+    ensures unrefused { IfErr result (λ fault. fault ≢ Nack) }
     ensures byte { (R.view rig.old).is_honest
         → IfOk result
         (λ byte. (R.view rig.old).device ≡ owing (byte ∷ []) (R.view rig.new).device) }
@@ -97,6 +99,7 @@ pub(crate) fn fill<R: Rig>(rig: &mut R, buf: &mut [u8]) -> Result<(), WireFault>
     ensures broken { IfErr result
         (λ fault. (answer : List ℕ) × (length answer ≡ length buf.old)
         × BreaksOff fault [] (learns answer) (R.view rig.old) (R.view rig.new)) }
+    ensures unrefused { IfErr result (λ fault. fault ≢ Nack) }
     ensures bytes { (R.view rig.old).is_honest
         → OnOk result ((R.view rig.old).device ≡ owing buf.new (R.view rig.new).device) }
     ensures line { (R.view rig.old).is_honest

@@ -8,7 +8,7 @@ use crate::dialogue::{fill, send_address, send_step};
 use crate::{Rig, WireFault};
 
 /// The code of the command.
-const READ_MEMORY: u8 = 0x11;
+pub(crate) const READ_MEMORY: u8 = 0x11;
 
 /// Reads 1 to 256 bytes of flash from an address into the buffer.
 ///

@@ -5,8 +5,10 @@ ghost use Rattle.stm_wire.specs.Exchange.{after_address, read_verdict, write_ver
 ghost use Rattle.stm_wire.specs.Exchange.{erase_verdict, extended_verdict, pages_verdict};
 ghost use Rattle.stm_wire.specs.Exchange.{pairs_of, all_exist, complement, pair_of, is_listed};
 ghost use Rattle.stm_wire.specs.Chip.{fits_inside, is_inside};
+ghost use Rattle.stm_wire.specs.Telling.{can_read, is_readable};
 
 use crate::Chip;
+use crate::telling::{can_read, is_readable};
 
 /// What becomes of a list of bytes.
 #[derive(Clone, Copy, Debug, PartialEq, Eq)]
@@ -43,7 +45,7 @@ fn xor_from(first: u8, bytes: &[u8]) -> u8
     bytes.iter().fold(first, |check, byte| check ^ *byte)
 }
 
-fn is_inside(chip: &Chip, address: u32) -> bool
+pub fn is_inside(chip: &Chip, address: u32) -> bool
     ensures { result ≡ is_inside chip.now address }
 {
     chip.base() <= address && u64::from(address) < chip.end()
@@ -60,7 +62,7 @@ fn read_verdict(chip: &Chip, address: u32, bytes: &[u8]) -> Option<Verdict>
 {
     match bytes {
         [n, check, rest @ ..] => at_end(
-            done_if(*check == !*n && fits_inside(chip, address, u16::from(*n) + 1)),
+            done_if(*check == !*n && can_read(chip, address, u16::from(*n) + 1)),
             rest,
         ),
         _ => None,
@@ -169,27 +171,41 @@ fn command_verdict(chip: &Chip, code: u8, bytes: &[u8]) -> Option<Verdict>
 {
     match code {
         0x00 | 0x02 => at_end(Verdict::Done, bytes),
-        0x11 | 0x21 | 0x31 => address_verdict(chip, code, bytes),
+        0x11 => read_command_verdict(chip, bytes),
+        0x21 | 0x31 => address_verdict(chip, code, bytes),
         0x43 => erase_verdict(chip, bytes),
         0x44 => extended_verdict(chip, bytes),
         _ => at_end(Verdict::Loose, bytes),
     }
 }
 
+fn read_command_verdict(chip: &Chip, bytes: &[u8]) -> Option<Verdict>
+    ensures { result ≡ after_address (is_readable chip.now) (read_verdict chip.now) bytes.now }
+{
+    match bytes {
+        [a, b, c, d, check, rest @ ..] => {
+            let address = u32::from_be_bytes([*a, *b, *c, *d]);
+            if *check == *a ^ *b ^ *c ^ *d && is_readable(chip, address) {
+                read_verdict(chip, address, rest)
+            } else {
+                at_end(Verdict::Refused, rest)
+            }
+        }
+        _ => None,
+    }
+}
+
 fn address_verdict(chip: &Chip, code: u8, bytes: &[u8]) -> Option<Verdict>
-    ensures read { code ≡ 0x11
-        → result ≡ after_address chip.now (read_verdict chip.now) bytes.now }
     ensures go { code ≡ 0x21 → result
-        ≡ after_address chip.now (λ address rest. at_end Verdict.Done rest) bytes.now }
+        ≡ after_address (is_inside chip.now) (λ address rest. at_end Verdict.Done rest) bytes.now }
     ensures write { code ≡ 0x31
-        → result ≡ after_address chip.now (write_verdict chip.now) bytes.now }
+        → result ≡ after_address (is_inside chip.now) (write_verdict chip.now) bytes.now }
 {
     match bytes {
         [a, b, c, d, check, rest @ ..] => {
             let address = u32::from_be_bytes([*a, *b, *c, *d]);
             if *check == *a ^ *b ^ *c ^ *d && is_inside(chip, address) {
                 match code {
-                    0x11 => read_verdict(chip, address, rest),
                     0x31 => write_verdict(chip, address, rest),
                     _ => at_end(Verdict::Done, rest),
                 }

@@ -2,9 +2,12 @@
 ghost use Rattle.std.specs.Prelude.{◌≡◌, ◌+◌, ◌≤◌, ◌∷◌, [], ◌++◌, length};
 ghost use Rattle.std.specs.VecDeque.{deque_len, deque_capacity};
 ghost use Rattle.stm_wire.specs.Reply.{ack, answer, commands_answer, id_answer, read_answer};
+ghost use Rattle.stm_wire.specs.Telling.{asks_unique, kib_bytes, readable_bytes};
 
 use crate::Chip;
 use crate::bytes::part;
+use crate::telling::{asks_unique, kib_bytes};
+use crate::verdict::fits_inside;
 use std::collections::VecDeque;
 
 /// The longest reply: 79, and the 256 bytes of a Read Memory.
@@ -48,8 +51,15 @@ fn answer_read_memory(owed: &mut VecDeque<u8>, chip: &Chip, flash: &[u8], bytes:
 {
     if let [a, b, c, d, _, n, ..] = bytes {
         let address = u32::from_be_bytes([*a, *b, *c, *d]);
-        let at = address.saturating_sub(chip.base()) as usize;
-        push_all(owed, part(flash, at, usize::from(*n) + 1));
+        let n = u16::from(*n) + 1;
+        if fits_inside(chip, address, n) {
+            let at = address.saturating_sub(chip.base()) as usize;
+            push_all(owed, part(flash, at, usize::from(n)));
+        } else if asks_unique(chip, address, n) {
+            push_all(owed, chip.unique().as_bytes());
+        } else {
+            push_all(owed, &kib_bytes(chip));
+        }
     }
 }
 

@@ -7,7 +7,7 @@ use Rattle.stm_wire.specs.Frames.{read_frame, read_turns}
 use Rattle.stm_wire.specs.Command.{HasRead, owing}
 use Rattle.stm_wire.proofs.Holding.{on_fault, if_err_weaker}
 use Rattle.stm_wire.proofs.Answering.{does_line, does_last}
-use Rattle.stm_wire.proofs.Reading.{takes-address, count-first, count-step, length-read_bytes, has_read, read_broken, read_broken-2, read_broken-3, read_held}
+use Rattle.stm_wire.proofs.Reading.{tells, takes-address, count-first, count-step, length-told, has_read, read_broken, read_broken-2, read_broken-3, read_held}
 use Rattle.stm_wire.proofs.read_memory.read.Goals as goal
 
 pub returns-in_err-send_address-clause-broken : goal.returns-in_err-send_address-clause-broken
@@ -24,7 +24,7 @@ returns-in_err-send_address-clause-honest g c h can =
     let n = length c.args.buf.now in
     let P : Unit {0} → Type 0 = λ _. HasRead c.args.address c.args.buf.now (V c.args.rig.now).device (V c.send_address.new.rig).device in
     does_line P c.from_residual.result c.in_err-send_address.field-0.0 c.from_residual.ensures.1
-    (c.in_err-send_address.ensures.line h (takes-address c.args.address n (V c.args.rig.now).device c.requires.some can))
+    (c.in_err-send_address.ensures.line h (takes-address c.args.address n (V c.args.rig.now).device c.requires.some (tells c.args.address n (V c.args.rig.now).device can)))
 
 pub returns-in_err-send_step-clause-broken : goal.returns-in_err-send_step-clause-broken
 returns-in_err-send_step-clause-broken g c =
@@ -41,10 +41,10 @@ returns-in_err-send_step-clause-honest g c h can =
     let n = length c.args.buf.now in
     let d = (V c.args.rig.now).device in
     let is = (g.met.R.Rig.model c.args.rig.now h).device in
-    let one = c.in_ok-send_address.ensures.waits h (takes-address c.args.address n d c.requires.some can) in
+    let one = c.in_ok-send_address.ensures.waits h (takes-address c.args.address n d c.requires.some (tells c.args.address n d can)) in
     let P : Unit {0} → Type 0 = λ _. HasRead c.args.address c.args.buf.now d (V c.send_step.new.rig).device in
     does_line P c.from_residual-in_err-send_step.result c.in_err-send_step.field-0.0 c.from_residual-in_err-send_step.ensures.1
-    (c.in_err-send_step.ensures.line (c.in_ok-send_address.ensures.held.honestly h).honest (count-first c.args.address n d c.requires.some is can (V c.send_address.new.rig).device one))
+    (c.in_err-send_step.ensures.line (c.in_ok-send_address.ensures.held.honestly h).honest (count-first c.args.address n d c.requires.some is (tells c.args.address n d can) (V c.send_address.new.rig).device one))
 
 pub returns-clause-held : goal.returns-clause-held
 returns-clause-held g c =
@@ -72,12 +72,12 @@ returns-clause-honest g c h can =
     let d = (V c.args.rig.now).device in
     let is = (g.met.R.Rig.model c.args.rig.now h).device in
     let some = c.requires.some in
-    let one = c.in_ok-send_address.ensures.waits h (takes-address c.args.address n d some can) in
+    let one = c.in_ok-send_address.ensures.waits h (takes-address c.args.address n d some (tells c.args.address n d can)) in
     let h1 = (c.in_ok-send_address.ensures.held.honestly h).honest in
     let h2 = (c.in_ok-send_step.ensures.held.honestly h1).honest in
-    let two = count-step c.args.address n d some is can (V c.send_address.new.rig).device (V c.send_step.new.rig).device one (c.in_ok-send_step.ensures.acknowledged h1) in
+    let two = count-step c.args.address n d some is (tells c.args.address n d can) (V c.send_address.new.rig).device (V c.send_step.new.rig).device one (c.in_ok-send_step.ensures.acknowledged h1) in
     let full : length c.fill.new.buf ≡ n = search rules in
-    let many : n ≤ length (V c.send_step.new.rig).device.owed = rw two (le_of_eq (sym (length-read_bytes c.args.address n d some is can))) in
+    let many : n ≤ length (V c.send_step.new.rig).device.owed = rw two (le_of_eq (sym (length-told c.args.address n d some is (tells c.args.address n d can)))) in
     let P : Unit {0} → Type 0 = λ _. HasRead c.args.address c.fill.new.buf d (V c.fill.new.rig).device in
     let Q : Type 0 = (V c.send_step.new.rig).device ≡ owing c.fill.new.buf (V c.fill.new.rig).device in
     does_last P Q c.fill.result (c.fill.ensures.line h2 many) (c.fill.ensures.bytes h2)

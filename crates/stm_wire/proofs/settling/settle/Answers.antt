@@ -1,4 +1,4 @@
-use Rattle.std.proofs.Common.{◌≡◌, ◌+◌, ◌*◌, arith, []}
+use Rattle.std.proofs.Common.{◌≡◌, ◌+◌, ◌*◌, arith, [], rules}
 use Rattle.std.proofs.lemmas.Result.{on_ok_weaker}
 use Rattle.stm_wire.specs.SentList.{settling_run}
 use Rattle.stm_wire.specs.SettlingCalls.{EndsQuiet, EndsGarbled, IsUnanswered}
@@ -45,6 +45,18 @@ returns-clause-fails g c =
     (λ p. past_after byte 0 limit limit 4097 IsUnanswered a b e all drained p)
     (λ p. garbled_after byte 0 limit limit 4097 a b e all drained p)
     c.send_bytes.ensures.fails
+
+pub returns-in_err-drain-clause-awaited : goal.returns-in_err-drain-clause-awaited
+returns-in_err-drain-clause-awaited g c h many pages harmless few =
+    let a = g.R.Rig.view c.args.rig.now in
+    let k = c.drain.ensures.keeps h c.args.byte pages a.device (settling_start c.args.byte pages a.device harmless few) in
+    let line = c.in_err-drain.ensures.line h in
+    record { keeps = k; ok = search rules; fails = search (rules, line) }
+
+pub returns-in_err-drain-clause-honest : goal.returns-in_err-drain-clause-honest
+returns-in_err-drain-clause-honest g c h many pages harmless few =
+    let most = awaited_most c.args.byte (g.R.Rig.view c.args.rig.now).device in
+    returns-in_err-drain-clause-awaited g c h (omega (arith, most, many)) pages harmless few
 
 pub returns-clause-awaited : goal.returns-clause-awaited
 returns-clause-awaited g c h many pages harmless few =
