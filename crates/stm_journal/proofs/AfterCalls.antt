@@ -15,7 +15,7 @@ use Rattle.stm_journal.specs.declared.header.JournalHeader.{JournalHeader}
 use Rattle.stm_journal.specs.declared.entry.Entry.{Entry}
 use Rattle.stm_journal.specs.declared.entry.Entry.TheVariants.{Names, Opens, Keeps, Erases, Programs, Ends, Undoes}
 use Rattle.stm_journal.specs.Entries.{line_of}
-use Rattle.stm_journal.specs.States.{StateData, SegmentData, newest_has, newest_keeps, newest_may_keep, keeps, is_open_stage, is_ended_stage, intent_of, intent_at, stage_with, on_newest, keeping, kept_in, intending, ending, fresh_segment, allows, after_entry, AllEnded, EndedBelow, IsSound}
+use Rattle.stm_journal.specs.States.{StateData, SegmentData, newest_has, newest_keeps, newest_may_keep, keeps, is_open_stage, is_ended_stage, intent_of, intent_at, stage_with, on_newest, keeping, kept_in, intending, ending, fresh_segment, allows, after_entry, is_other_board, header_board, AllEnded, EndedBelow, IsSound}
 use Rattle.stm_journal.specs.Newest.{KeepsSame, HasBegun, HasKept, HasIntended, HasEnded, HasUndone}
 use Rattle.stm_journal.specs.Added.{HasAdded}
 use Rattle.stm_journal.specs.Blank.{blank}
@@ -221,11 +221,13 @@ HasKept-after n bytes l may =
     (HasKept-entry (capped ((past_mark l).lines + 1)) (capped ((past_mark l).size + length (line_of (Keeps n bytes)))) n (blank (length bytes)) l.state may)
 
 -- a segment more
-pub HasBegun-opened : (id k : ℕ) (header : Option JournalHeader) (stack : List SegmentData) (old : StateData) → option_map (λ h. h.id) header ≡ Some id → old.stack ≡ stack
-    → HasBegun id old (record { header = header; stack = fresh_segment ∷ stack })
-HasBegun-opened id k header stack old named same =
+pub HasBegun-opened : (id k : ℕ) (unique : List ℕ) (header : Option JournalHeader) (stack : List SegmentData) (old : StateData) → option_map (λ h. h.id) header ≡ Some id
+    → is_other_board unique (option_and_then header_board header) ≡ false → old.stack ≡ stack
+    → HasBegun id unique old (record { header = header; stack = fresh_segment ∷ stack })
+HasBegun-opened id k unique header stack old named board same =
     record {
       named = named;
+      board = board;
       stack = ap (λ (xs : List SegmentData). fresh_segment ∷ xs) (sym same);
       depth = omega (arith, ap (λ (xs : List SegmentData). length xs) same);
       is_open = refl;
@@ -244,8 +246,8 @@ is-some n h = grind (arith, nat_tests)
 
 -- what an entry that is allowed makes of the text's state
 pub HasAdded-entry : (line ends : ℕ) (s : StateData) (e : Entry) → IsSound s → IsTrue (allows s e) → HasAdded e s (after_entry line ends s e)
-HasAdded-entry line ends s (Names version id) sound may = record { named = refl; written = refl; stack = refl }
-HasAdded-entry line ends s (Opens k) sound may = (refl, λ id named. HasBegun-opened id k s.header s.stack s named refl)
+HasAdded-entry line ends s (Names version id unique) sound may = record { named = refl; board = refl; written = refl; stack = refl }
+HasAdded-entry line ends s (Opens k) sound may = (refl, λ id unique named mine. HasBegun-opened id k unique s.header s.stack s named mine refl)
 HasAdded-entry line ends s (Keeps n bytes) sound may = HasKept-entry line ends n bytes s (all-of (is_some s.header) (newest_may_keep n s) may).1
 HasAdded-entry line ends s (Erases n) sound may = HasIntended-entry_erase line ends n s (all-of (is_some s.header) (newest_keeps n s) may).1
 HasAdded-entry line ends s (Programs n) sound may = HasIntended-entry_program line ends n s (all-of (is_some s.header) (newest_keeps n s) may).1

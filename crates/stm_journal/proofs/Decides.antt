@@ -1,5 +1,5 @@
 -- A summary decides its line.
-use Rattle.std.proofs.Common.{◌≡◌, ◌≢◌, ◌≤◌, ◌<◌, ℕ, zero, suc, ◌+◌, ◌-◌, ◌/◌, ◌%◌, Bool, true, false, not, ◌==◌, ◌&&◌, nat_le, nat_lt, if◌then◌else◌, cond, List, [], ◌∷◌, length, take, drop, get_or, codes, Option, Some, None, option_map, refl, sym, ◌∙◌, ap, inl, inr, ⊎_elim, arith, take_all, length-drop}
+use Rattle.std.proofs.Common.{◌≡◌, ◌≢◌, ◌≤◌, ◌<◌, ℕ, zero, suc, ◌+◌, ◌-◌, ◌/◌, ◌%◌, Bool, true, false, not, ◌==◌, ◌&&◌, nat_le, nat_lt, if◌then◌else◌, cond, List, [], ◌∷◌, length, take, drop, codes, Option, Some, None, option_map, refl, sym, ◌∙◌, ap, inl, inr, ⊎_elim, arith, take_all, length-drop}
 use Rattle.std.specs.Prelude.{option_and_then, position, bytes_eq}
 use Rattle.std.specs.List.{list_all, position_or_len}
 use Rattle.std.proofs.lemmas.Bool.{cases_Bool, cases_lt}
@@ -8,11 +8,11 @@ use Rattle.std.proofs.lemmas.List.{take-take, drop-take, drop-drop, take-append-
 use Rattle.std.proofs.lemmas.List.Folds.{list_all-append}
 use Rattle.stm_journal.specs.declared.entry.Entry.{Entry}
 use Rattle.stm_journal.specs.declared.entry.Entry.TheVariants.{Names, Opens, Keeps, Erases, Programs, Ends, Undoes}
-use Rattle.stm_journal.specs.Text.{is_void}
-use Rattle.stm_journal.specs.Entries.{is_upper_digit, number_of, number_of_pair, hex_bytes_of, behind, entry_of, worded, page_of, page_at, page_of_fields, header_of, numbered_entry_of}
+use Rattle.stm_journal.specs.Entries.{is_upper_digit, number_of, number_of_pair, hex_bytes_of, behind, entry_of, worded, page_of, page_at, page_of_fields, header_of, id_of, unique_of, board_at, board_of_fields, board_header_of, numbered_entry_of}
+use Rattle.stm_wire.specs.UniqueId.{is_unique_length}
 use Rattle.stm_journal.specs.Blank.{blank}
 use Rattle.stm_journal.specs.InMemory.{forget_entry}
-use Rattle.stm_journal.specs.Summary.{summary_of, void_by, said_by, long_page, long_at, page_with}
+use Rattle.stm_journal.specs.Summary.{summary_of, said_by, long_page, long_at, page_with}
 use Rattle.stm_journal.proofs.Long.{number_of-long}
 use Rattle.stm_journal.proofs.Upper.{hex_bytes_of-even, hex_bytes_of-odd, hex_bytes_of-lower}
 
@@ -121,36 +121,36 @@ position-some xs lt = let t : nat_lt (space_in xs) (length xs) ≡ true = is-lt 
     is-lt : (a b : ℕ) → a < b → nat_lt a b ≡ true
     is-lt a b lt = grind (arith, nat_tests)
 
-long-rest : (rest : List ℕ) → 12 < length rest
-    → option_map forget_entry (page_of rest) ≡ (if list_all is_upper_digit (drop 12 rest) then long_at (take 12 rest) (length rest - 12) (position (λ b. b == 32) (take 12 rest)) else None)
-long-rest rest many = ⊎_elim near far (cases_lt (space_in rest) 12)
+long-rest : (rest : List ℕ) → 77 < length rest
+    → option_map forget_entry (page_of rest) ≡ (if list_all is_upper_digit (drop 77 rest) then long_at (take 77 rest) (length rest - 77) (position (λ b. b == 32) (take 77 rest)) else None)
+long-rest rest many = ⊎_elim near far (cases_lt (space_in rest) 77)
   where
     i : ℕ
     i = space_in rest
 
-    short : length (take 12 rest) ≡ 12
-    short = length-take-le 12 rest (omega (arith, many))
+    short : length (take 77 rest) ≡ 77
+    short = length-take-le 77 rest (omega (arith, many))
 
-    near : space_in rest < 12 → option_map forget_entry (page_of rest) ≡ (if list_all is_upper_digit (drop 12 rest) then long_at (take 12 rest) (length rest - 12) (position (λ b. b == 32) (take 12 rest)) else None)
+    near : space_in rest < 77 → option_map forget_entry (page_of rest) ≡ (if list_all is_upper_digit (drop 77 rest) then long_at (take 77 rest) (length rest - 77) (position (λ b. b == 32) (take 77 rest)) else None)
     near lt =
-        let k : ℕ = 12 - (i + 1) in
+        let k : ℕ = 77 - (i + 1) in
         let ds : List ℕ = drop (i + 1) rest in
-        let twelve : (i + 1) + k ≡ 12 = omega (arith, lt) in
-        let front : drop (i + 1) (take 12 rest) ≡ take k ds = ap (λ (n : ℕ). drop (i + 1) (take n rest)) (sym twelve) ∙ drop-take (i + 1) k rest in
-        let back : drop k ds ≡ drop 12 rest = drop-drop k (i + 1) rest ∙ ap (λ (n : ℕ). drop n rest) twelve in
-        let count : length (take k ds) + (length rest - 12) ≡ length ds = omega (arith, many, lt, length-drop (i + 1) rest, length-take-le k ds (omega (arith, many, lt, length-drop (i + 1) rest))) in
+        let whole : (i + 1) + k ≡ 77 = omega (arith, lt) in
+        let front : drop (i + 1) (take 77 rest) ≡ take k ds = ap (λ (n : ℕ). drop (i + 1) (take n rest)) (sym whole) ∙ drop-take (i + 1) k rest in
+        let back : drop k ds ≡ drop 77 rest = drop-drop k (i + 1) rest ∙ ap (λ (n : ℕ). drop n rest) whole in
+        let count : length (take k ds) + (length rest - 77) ≡ length ds = omega (arith, many, lt, length-drop (i + 1) rest, length-take-le k ds (omega (arith, many, lt, length-drop (i + 1) rest))) in
         let some : 0 < length ds = omega (arith, many, lt, length-drop (i + 1) rest) in
-        let found : position (λ b. b == 32) (take 12 rest) ≡ Some i = position-some (take 12 rest) (omega (arith, lt, short, space-take 12 rest lt)) ∙ ap (λ (n : ℕ). Some n) (space-take 12 rest lt) in
-        let number : take i (take 12 rest) ≡ take i rest = take-take i 12 rest (omega (arith, lt)) in
+        let found : position (λ b. b == 32) (take 77 rest) ≡ Some i = position-some (take 77 rest) (omega (arith, lt, short, space-take 77 rest lt)) ∙ ap (λ (n : ℕ). Some n) (space-take 77 rest lt) in
+        let number : take i (take 77 rest) ≡ take i rest = take-take i 77 rest (omega (arith, lt)) in
         ap (λ (o : Option ℕ). option_map forget_entry (page_at rest o)) (position-some rest (omega (arith, many, lt)))
-        ∙ forgets i ds (length (take k ds) + (length rest - 12)) some count (number_of (take i rest))
-        ∙ split-upper k ds (page_with (number_of (take i rest)) (length (take k ds) + (length rest - 12)))
-        ∙ ap (λ (xs : List ℕ). if list_all is_upper_digit xs then (if list_all is_upper_digit (take k ds) then page_with (number_of (take i rest)) (length (take k ds) + (length rest - 12)) else None) else None) back
-        ∙ sym (ap (λ (o : Option ℕ). if list_all is_upper_digit (drop 12 rest) then long_at (take 12 rest) (length rest - 12) o else None) found
-        ∙ ap (λ (xs : List ℕ). if list_all is_upper_digit (drop 12 rest) then (if list_all is_upper_digit xs then page_with (number_of (take i (take 12 rest))) (length xs + (length rest - 12)) else None) else None) front
-        ∙ ap (λ (xs : List ℕ). if list_all is_upper_digit (drop 12 rest) then (if list_all is_upper_digit (take k ds) then page_with (number_of xs) (length (take k ds) + (length rest - 12)) else None) else None) number)
+        ∙ forgets i ds (length (take k ds) + (length rest - 77)) some count (number_of (take i rest))
+        ∙ split-upper k ds (page_with (number_of (take i rest)) (length (take k ds) + (length rest - 77)))
+        ∙ ap (λ (xs : List ℕ). if list_all is_upper_digit xs then (if list_all is_upper_digit (take k ds) then page_with (number_of (take i rest)) (length (take k ds) + (length rest - 77)) else None) else None) back
+        ∙ sym (ap (λ (o : Option ℕ). if list_all is_upper_digit (drop 77 rest) then long_at (take 77 rest) (length rest - 77) o else None) found
+        ∙ ap (λ (xs : List ℕ). if list_all is_upper_digit (drop 77 rest) then (if list_all is_upper_digit xs then page_with (number_of (take i (take 77 rest))) (length xs + (length rest - 77)) else None) else None) front
+        ∙ ap (λ (xs : List ℕ). if list_all is_upper_digit (drop 77 rest) then (if list_all is_upper_digit (take k ds) then page_with (number_of xs) (length (take k ds) + (length rest - 77)) else None) else None) number)
 
-    said-none : 12 ≤ space_in rest → option_map forget_entry (page_of rest) ≡ None
+    said-none : 77 ≤ space_in rest → option_map forget_entry (page_of rest) ≡ None
     said-none le = ⊎_elim
         (λ lt.
         let long : number_of (take i rest) ≡ None = number_of-long (take i rest) (omega (arith, le, lt, length-take-le i rest (omega (arith, lt)))) in
@@ -160,10 +160,10 @@ long-rest rest many = ⊎_elim near far (cases_lt (space_in rest) 12)
         (λ ge. ap (λ (o : Option ℕ). option_map forget_entry (page_at rest o)) (position-none rest ge))
         (cases_lt (space_in rest) (length rest))
 
-    far : 12 ≤ space_in rest → option_map forget_entry (page_of rest) ≡ (if list_all is_upper_digit (drop 12 rest) then long_at (take 12 rest) (length rest - 12) (position (λ b. b == 32) (take 12 rest)) else None)
+    far : 77 ≤ space_in rest → option_map forget_entry (page_of rest) ≡ (if list_all is_upper_digit (drop 77 rest) then long_at (take 77 rest) (length rest - 77) (position (λ b. b == 32) (take 77 rest)) else None)
     far le =
-        let lost : position (λ b. b == 32) (take 12 rest) ≡ None = position-none (take 12 rest) (omega (arith, short, space-far 12 rest le (omega (arith, many)))) in
-        said-none le ∙ sym (ap (λ (o : Option ℕ). if list_all is_upper_digit (drop 12 rest) then long_at (take 12 rest) (length rest - 12) o else None) lost ∙ if-none (list_all is_upper_digit (drop 12 rest)))
+        let lost : position (λ b. b == 32) (take 77 rest) ≡ None = position-none (take 77 rest) (omega (arith, short, space-far 77 rest le (omega (arith, many)))) in
+        said-none le ∙ sym (ap (λ (o : Option ℕ). if list_all is_upper_digit (drop 77 rest) then long_at (take 77 rest) (length rest - 77) o else None) lost ∙ if-none (list_all is_upper_digit (drop 77 rest)))
 
 -- what is no page line says nothing where it is long
 behind-long : (word line : List ℕ) (k : ℕ) (rest : List ℕ) → length word ≡ k → behind word line ≡ Some rest → rest ≡ drop k line
@@ -183,7 +183,7 @@ worded-none word said line other none left = at (behind word line) none
     at None h = left
     at (Some rest) h = h rest refl
 
-numbered-none : (word : List ℕ) (line : List ℕ) (k : ℕ) (f : ℕ → Entry) → length word ≡ k → k ≤ 11 → 17 < length line → (rest : List ℕ) → behind word line ≡ Some rest → option_map f (number_of rest) ≡ None
+numbered-none : (word : List ℕ) (line : List ℕ) (k : ℕ) (f : ℕ → Entry) → length word ≡ k → k ≤ 11 → 82 < length line → (rest : List ℕ) → behind word line ≡ Some rest → option_map f (number_of rest) ≡ None
 numbered-none word line k f size few many rest is =
     let e : rest ≡ drop k line = behind-long word line k rest size is in
     let long : 6 ≤ length rest = omega (arith, many, few, ap (λ (xs : List ℕ). length xs) e, length-drop k line) in
@@ -195,92 +195,149 @@ long-pair (a ∷ []) many = refl
 long-pair (a ∷ b ∷ []) many = absurd (omega (arith, many))
 long-pair (a ∷ b ∷ c ∷ bytes) many = refl
 
-header-none : (version : ℕ) (rest : List ℕ) → 4 < length rest → header_of version rest ≡ None
-header-none version rest many = elim (cases_Bool (list_all is_upper_digit rest)) [
-  | inl upper ↦ elim (cases_Bool (length rest % 2 == 0)) [
+is-even : (m : ℕ) → (m % 2 == 0) ≡ true → m % 2 ≡ 0
+is-even m h = grind (arith, nat_tests)
+
+is-odd : (m : ℕ) → (m % 2 == 0) ≡ false → m % 2 ≡ 1
+is-odd m h = let z : m % 2 ≢ 0 = grind (arith, nat_tests) in omega (arith, z)
+
+-- more digits than four are no id
+id-none : (digits : List ℕ) → 4 < length digits → id_of digits ≡ None
+id-none digits many = elim (cases_Bool (list_all is_upper_digit digits)) [
+  | inl upper ↦ elim (cases_Bool (length digits % 2 == 0)) [
     | inl even ↦
-        let b = hex_bytes_of-even rest (omega (arith, many)) (is-even (length rest) even) upper in
-        ap (λ (o : Option (List ℕ)). option_map (λ id. Names version id) (option_and_then number_of_pair o)) b.1
-        ∙ ap (λ (o : Option ℕ). option_map (λ id. Names version id) o) (long-pair b.0 (omega (arith, many, b.2, is-even (length rest) even)))
-    | inr odd ↦ ap (λ (o : Option (List ℕ)). option_map (λ id. Names version id) (option_and_then number_of_pair o)) (hex_bytes_of-odd rest (is-odd (length rest) odd))
+        let b = hex_bytes_of-even digits (omega (arith, many)) (is-even (length digits) even) upper in
+        ap (λ (o : Option (List ℕ)). option_and_then number_of_pair o) b.1 ∙ long-pair b.0 (omega (arith, many, b.2, is-even (length digits) even))
+    | inr odd ↦ ap (λ (o : Option (List ℕ)). option_and_then number_of_pair o) (hex_bytes_of-odd digits (is-odd (length digits) odd))
   ]
-  | inr lower ↦ ap (λ (o : Option (List ℕ)). option_map (λ id. Names version id) (option_and_then number_of_pair o)) (hex_bytes_of-lower rest lower)
+  | inr lower ↦ ap (λ (o : Option (List ℕ)). option_and_then number_of_pair o) (hex_bytes_of-lower digits lower)
+]
+
+header-none : (version : ℕ) (rest : List ℕ) → 4 < length rest → header_of version rest ≡ None
+header-none version rest many = ap (λ (o : Option ℕ). option_map (λ id. Names version id []) o) (id-none rest many)
+
+-- more digits than 64 are no unique id
+long-unique : (bytes : List ℕ) → 32 < length bytes → (if is_unique_length (length bytes) then Some bytes else None) ≡ None
+long-unique bytes many = ap (λ (b : Bool). if b then Some bytes else None) (not-unique (length bytes) many)
+  where
+    not-unique : (n : ℕ) → 32 < n → is_unique_length n ≡ false
+    not-unique n many = grind (arith, nat_tests)
+
+unique-none : (digits : List ℕ) → 64 < length digits → unique_of digits ≡ None
+unique-none digits many = elim (cases_Bool (list_all is_upper_digit digits)) [
+  | inl upper ↦ elim (cases_Bool (length digits % 2 == 0)) [
+    | inl even ↦
+        let b = hex_bytes_of-even digits (omega (arith, many)) (is-even (length digits) even) upper in
+        ap sized b.1 ∙ long-unique b.0 (omega (arith, many, b.2, is-even (length digits) even))
+    | inr odd ↦ ap sized (hex_bytes_of-odd digits (is-odd (length digits) odd))
+  ]
+  | inr lower ↦ ap sized (hex_bytes_of-lower digits lower)
 ]
   where
-    is-even : (m : ℕ) → (m % 2 == 0) ≡ true → m % 2 ≡ 0
-    is-even m h = grind (arith, nat_tests)
+    sized : Option (List ℕ) → Option (List ℕ)
+    sized o = option_and_then (λ bytes. if is_unique_length (length bytes) then Some bytes else None) o
 
-    is-odd : (m : ℕ) → (m % 2 == 0) ≡ false → m % 2 ≡ 1
-    is-odd m h = let z : m % 2 ≢ 0 = grind (arith, nat_tests) in omega (arith, z)
+no-id : (u : Option (List ℕ)) → board_of_fields None u ≡ None
+no-id u = refl
+
+no-unique : (o : Option ℕ) → board_of_fields o None ≡ None
+no-unique None = refl
+no-unique (Some id) = refl
+
+-- a header of version 3 is never so long
+board-none : (rest : List ℕ) → 69 < length rest → board_header_of rest ≡ None
+board-none rest many = ⊎_elim
+    (λ lt. ap (λ (o : Option ℕ). board_at rest o) (position-some rest lt) ∙ ⊎_elim (far lt) near (cases_lt 4 i))
+    (λ ge. ap (λ (o : Option ℕ). board_at rest o) (position-none rest ge))
+    (cases_lt (space_in rest) (length rest))
+  where
+    i : ℕ
+    i = space_in rest
+
+    far : space_in rest < length rest → 4 < space_in rest → board_at rest (Some (space_in rest)) ≡ None
+    far lt long =
+        ap (λ (o : Option ℕ). board_of_fields o (unique_of (drop (i + 1) rest)))
+        (id-none (take i rest) (omega (arith, long, length-take-le i rest (omega (arith, lt)))))
+        ∙ no-id (unique_of (drop (i + 1) rest))
+
+    near : space_in rest ≤ 4 → board_at rest (Some (space_in rest)) ≡ None
+    near few =
+        ap (λ (u : Option (List ℕ)). board_of_fields (id_of (take i rest)) u) (unique-none (drop (i + 1) rest) (omega (arith, few, many, length-drop (i + 1) rest)))
+        ∙ no-unique (id_of (take i rest))
 
 -- what follows the words of a page line
 abbrev other_of : List ℕ → Option Entry
-other_of line = worded (codes "stmjournal 1 ") (header_of 1) line (worded (codes "stmjournal 2 ") (header_of 2) line (numbered_entry_of line))
+other_of line =
+    worded (codes "stmjournal 1 ") (header_of 1) line (worded (codes "stmjournal 2 ") (header_of 2) line (worded (codes "stmjournal 3 ") board_header_of line (numbered_entry_of line)))
 
-other-none : (line : List ℕ) → 17 < length line → other_of line ≡ None
+other-none : (line : List ℕ) → 82 < length line → other_of line ≡ None
 other-none line many =
-    worded-none (codes "stmjournal 1 ") (header_of 1) line (worded (codes "stmjournal 2 ") (header_of 2) line (numbered_entry_of line))
+    worded-none (codes "stmjournal 1 ") (header_of 1) line (worded (codes "stmjournal 2 ") (header_of 2) line (worded (codes "stmjournal 3 ") board_header_of line (numbered_entry_of line)))
     (λ rest is.
     let e : rest ≡ drop 13 line = behind-long (codes "stmjournal 1 ") line 13 rest refl is in
     header-none 1 rest (omega (arith, many, ap (λ (xs : List ℕ). length xs) e, length-drop 13 line)))
-    (worded-none (codes "stmjournal 2 ") (header_of 2) line (numbered_entry_of line)
+    (worded-none (codes "stmjournal 2 ") (header_of 2) line (worded (codes "stmjournal 3 ") board_header_of line (numbered_entry_of line))
     (λ rest is.
     let e : rest ≡ drop 13 line = behind-long (codes "stmjournal 2 ") line 13 rest refl is in
     header-none 2 rest (omega (arith, many, ap (λ (xs : List ℕ). length xs) e, length-drop 13 line)))
+    (worded-none (codes "stmjournal 3 ") board_header_of line (numbered_entry_of line)
+    (λ rest is.
+    let e : rest ≡ drop 13 line = behind-long (codes "stmjournal 3 ") line 13 rest refl is in
+    board-none rest (omega (arith, many, ap (λ (xs : List ℕ). length xs) e, length-drop 13 line)))
     (worded-none (codes "open ") _ line _ (numbered-none (codes "open ") line 5 (λ n. Opens n) refl (omega arith) many)
     (worded-none (codes "erase ") _ line _ (numbered-none (codes "erase ") line 6 (λ n. Erases n) refl (omega arith) many)
     (worded-none (codes "program ") _ line _ (numbered-none (codes "program ") line 8 (λ n. Programs n) refl (omega arith) many)
     (worded-none (codes "end ") _ line _ (numbered-none (codes "end ") line 4 (λ n. Ends n) refl (omega arith) many)
-    (worded-none (codes "undone ") _ line None (numbered-none (codes "undone ") line 7 (λ n. Undoes n) refl (omega arith) many) refl))))))
+    (worded-none (codes "undone ") _ line None (numbered-none (codes "undone ") line 7 (λ n. Undoes n) refl (omega arith) many) refl)))))))
 
 -- a long line
 abbrev long_by : List ℕ → Option Entry
-long_by line = if list_all is_upper_digit (drop 17 line) then long_page (take 17 line) (length line - 17) else None
+long_by line = if list_all is_upper_digit (drop 82 line) then long_page (take 82 line) (length line - 82) else None
 
-long-line : (line : List ℕ) → 17 < length line → option_map forget_entry (entry_of line) ≡ long_by line
+long-line : (line : List ℕ) → 82 < length line → option_map forget_entry (entry_of line) ≡ long_by line
 long-line line many = elim (cases_Bool (bytes_eq (take 5 line) (codes "page "))) [
   | inl is ↦
       let rest : List ℕ = drop 5 line in
-      let cut : take 5 (take 17 line) ≡ take 5 line = take-take 5 17 line (omega arith) in
+      let cut : take 5 (take 82 line) ≡ take 5 line = take-take 5 82 line (omega arith) in
       let here : behind (codes "page ") line ≡ Some rest = ap (λ (b : Bool). if b then Some rest else None) is in
-      let there : behind (codes "page ") (take 17 line) ≡ Some (take 12 rest) =
-      ap (λ (xs : List ℕ). if bytes_eq xs (codes "page ") then Some (drop 5 (take 17 line)) else None) cut
-      ∙ ap (λ (b : Bool). if b then Some (drop 5 (take 17 line)) else None) is
-      ∙ ap (λ (xs : List ℕ). Some xs) (drop-take 5 12 line)
+      let there : behind (codes "page ") (take 82 line) ≡ Some (take 77 rest) =
+      ap (λ (xs : List ℕ). if bytes_eq xs (codes "page ") then Some (drop 5 (take 82 line)) else None) cut
+      ∙ ap (λ (b : Bool). if b then Some (drop 5 (take 82 line)) else None) is
+      ∙ ap (λ (xs : List ℕ). Some xs) (drop-take 5 77 line)
       in
-      let back : drop 12 rest ≡ drop 17 line = drop-drop 12 5 line in
-      let count : length rest - 12 ≡ length line - 17 = omega (arith, length-drop 5 line) in
+      let back : drop 77 rest ≡ drop 82 line = drop-drop 77 5 line in
+      let count : length rest - 77 ≡ length line - 82 = omega (arith, length-drop 5 line) in
       ap (λ (o : Option (List ℕ)). option_map forget_entry (elim o as (λ _. Option Entry) [ None ↦ other_of line | Some r ↦ page_of r ])) here
       ∙ long-rest rest (omega (arith, many, length-drop 5 line))
-      ∙ ap (λ (xs : List ℕ). if list_all is_upper_digit xs then long_at (take 12 rest) (length rest - 12) (position (λ b. b == 32) (take 12 rest)) else None) back
-      ∙ ap (λ (n : ℕ). if list_all is_upper_digit (drop 17 line) then long_at (take 12 rest) n (position (λ b. b == 32) (take 12 rest)) else None) count
-      ∙ sym (ap (λ (o : Option (List ℕ)). if list_all is_upper_digit (drop 17 line) then (elim o as (λ _. Option Entry) [ None ↦ None | Some r ↦ long_at r (length line - 17) (position (λ b. b == 32) r) ]) else None) there)
+      ∙ ap (λ (xs : List ℕ). if list_all is_upper_digit xs then long_at (take 77 rest) (length rest - 77) (position (λ b. b == 32) (take 77 rest)) else None) back
+      ∙ ap (λ (n : ℕ). if list_all is_upper_digit (drop 82 line) then long_at (take 77 rest) n (position (λ b. b == 32) (take 77 rest)) else None) count
+      ∙ sym (ap (λ (o : Option (List ℕ)). if list_all is_upper_digit (drop 82 line) then (elim o as (λ _. Option Entry) [ None ↦ None | Some r ↦ long_at r (length line - 82) (position (λ b. b == 32) r) ]) else None) there)
   | inr isnt ↦
-      let cut : take 5 (take 17 line) ≡ take 5 line = take-take 5 17 line (omega arith) in
+      let cut : take 5 (take 82 line) ≡ take 5 line = take-take 5 82 line (omega arith) in
       let here : behind (codes "page ") line ≡ None = ap (λ (b : Bool). if b then Some (drop 5 line) else None) isnt in
-      let there : behind (codes "page ") (take 17 line) ≡ None =
-      ap (λ (xs : List ℕ). if bytes_eq xs (codes "page ") then Some (drop 5 (take 17 line)) else None) cut
-      ∙ ap (λ (b : Bool). if b then Some (drop 5 (take 17 line)) else None) isnt
+      let there : behind (codes "page ") (take 82 line) ≡ None =
+      ap (λ (xs : List ℕ). if bytes_eq xs (codes "page ") then Some (drop 5 (take 82 line)) else None) cut
+      ∙ ap (λ (b : Bool). if b then Some (drop 5 (take 82 line)) else None) isnt
       in
       ap (λ (o : Option (List ℕ)). option_map forget_entry (elim o as (λ _. Option Entry) [ None ↦ other_of line | Some r ↦ page_of r ])) here
       ∙ ap (λ (o : Option Entry). option_map forget_entry o) (other-none line many)
-      ∙ sym (ap (λ (o : Option (List ℕ)). if list_all is_upper_digit (drop 17 line) then (elim o as (λ _. Option Entry) [ None ↦ None | Some r ↦ long_at r (length line - 17) (position (λ b. b == 32) r) ]) else None) there
-      ∙ if-none (list_all is_upper_digit (drop 17 line)))
+      ∙ sym (ap (λ (o : Option (List ℕ)). if list_all is_upper_digit (drop 82 line) then (elim o as (λ _. Option Entry) [ None ↦ None | Some r ↦ long_at r (length line - 82) (position (λ b. b == 32) r) ]) else None) there
+      ∙ if-none (list_all is_upper_digit (drop 82 line)))
 ]
 
 pub said_by-line : (line : List ℕ) → option_map forget_entry (entry_of line) ≡ said_by (summary_of line)
 said_by-line line = ⊎_elim
     (λ many.
-    let t : nat_le (length line) 17 ≡ false = not-le (length line) many in
-    long-line line many ∙ sym (ap (λ (b : Bool). if b then option_map forget_entry (entry_of (take 17 line)) else long_by line) t))
+    let t : nat_le (length line) 82 ≡ false = not-le (length line) many in
+    long-line line many ∙ sym (ap (λ (b : Bool). if b then option_map forget_entry (entry_of (take 82 line)) else long_by line) t))
     (λ few.
-    let t : nat_le (length line) 17 ≡ true = is-le (length line) few in
-    let whole : take 17 line ≡ line = take_all 17 line few in
-    sym (ap (λ (b : Bool). if b then option_map forget_entry (entry_of (take 17 line)) else long_by line) t ∙ ap (λ (xs : List ℕ). option_map forget_entry (entry_of xs)) whole))
-    (cases_lt 17 (length line))
+    let t : nat_le (length line) 82 ≡ true = is-le (length line) few in
+    let whole : take 82 line ≡ line = take_all 82 line few in
+    sym (ap (λ (b : Bool). if b then option_map forget_entry (entry_of (take 82 line)) else long_by line) t ∙ ap (λ (xs : List ℕ). option_map forget_entry (entry_of xs)) whole))
+    (cases_lt 82 (length line))
   where
-    not-le : (n : ℕ) → 17 < n → nat_le n 17 ≡ false
+    not-le : (n : ℕ) → 82 < n → nat_le n 82 ≡ false
     not-le n lt = grind (arith, nat_tests)
 
-    is-le : (n : ℕ) → n ≤ 17 → nat_le n 17 ≡ true
+    is-le : (n : ℕ) → n ≤ 82 → nat_le n 82 ≡ true
     is-le n le = grind (arith, nat_tests)

@@ -67,7 +67,7 @@ is_plain b = not (b == 10) && (not (b == 33) && not (b == 32))
 upper-plain : (c : ℕ) → is_upper_digit c ≡ true → is_plain c ≡ true
 upper-plain c is = grind (arith, nat_tests)
 
-all-weaker : (p q : ℕ → Bool) → ((c : ℕ) → p c ≡ true → q c ≡ true) → (xs : List ℕ) → list_all p xs ≡ true → list_all q xs ≡ true
+pub all-weaker : (p q : ℕ → Bool) → ((c : ℕ) → p c ≡ true → q c ≡ true) → (xs : List ℕ) → list_all p xs ≡ true → list_all q xs ≡ true
 all-weaker p q w [] h = refl
 all-weaker p q w (x ∷ xs) h = both (q x) (list_all q xs) (w x (first-true (p x) (list_all p xs) h)) (all-weaker p q w xs (second-true (p x) (list_all p xs) h))
 
@@ -93,7 +93,7 @@ plain-space c is = grind (arith, nat_tests)
 plain-LF : (c : ℕ) → is_plain c ≡ true → (c == 10) ≡ false
 plain-LF c is = grind (arith, nat_tests)
 
-plain-bang : (c : ℕ) → is_plain c ≡ true → not (c == 33) ≡ true
+pub plain-bang : (c : ℕ) → is_plain c ≡ true → not (c == 33) ≡ true
 plain-bang c is = grind (arith, nat_tests)
 
 pub HasNoLF-plain : (xs : List ℕ) → list_all is_plain xs ≡ true → HasNoLF xs

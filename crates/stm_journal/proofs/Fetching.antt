@@ -7,7 +7,7 @@ use Rattle.stm_wire.specs.Rig.{RigState, IsModel}
 use Rattle.stm_wire.specs.Moments.{LeavesOnly}
 use Rattle.stm_wire.specs.MomentLaws.{started, joined}
 use Rattle.stm_journal.specs.declared.fault.JournalFault.{JournalFault}
-use Rattle.stm_journal.specs.declared.fault.JournalFault.TheVariants.{File, Bad, OtherDevice, Memory}
+use Rattle.stm_journal.specs.declared.fault.JournalFault.TheVariants.{File, Bad, OtherDevice, OtherBoard, Memory}
 use Rattle.stm_journal.specs.Summary.{Summary}
 use Rattle.stm_journal.specs.Journals.{Loaded, IsLoaded, journal_of}
 use Rattle.stm_wire.specs.Call.{Call, Put, Get, Append, Fetch}
@@ -94,12 +94,14 @@ kept-device : (a c : RigState) (e : JournalFault) → IsLoadFault e → c.device
 kept-device a c File is same = absurd is
 kept-device a c (Bad line) is same = same
 kept-device a c OtherDevice is same = absurd is
+kept-device a c OtherBoard is same = absurd is
 kept-device a c Memory is same = same
 
 fault-of : (bytes rest journal : List ℕ) (e : JournalFault) → IsLoadFault e → 0 < length journal → bytes ++ rest ≡ journal → StopsAt bytes e → IsFaultOf journal e
 fault-of bytes rest journal File is some whole stops = absurd is
 fault-of bytes rest journal (Bad line) is some whole stops = ap (λ (xs : List ℕ). journal_of xs) (sym whole) ∙ stops rest
 fault-of bytes rest journal OtherDevice is some whole stops = absurd is
+fault-of bytes rest journal OtherBoard is some whole stops = absurd is
 fault-of bytes rest [] Memory is some whole stops = absurd (omega (arith, some))
 fault-of bytes rest (x ∷ journal) Memory is some whole stops = tt
 

@@ -38,7 +38,7 @@ drop-forgets [] = refl
 drop-forgets (segment ∷ below) = refl
 
 pub after-forgets : (line ends : ℕ) (s : StateData) (e : Entry) → after_entry line ends (forget_state s) (forget_entry e) ≡ forget_state (after_entry line ends s e)
-after-forgets line ends s (Names version id) = refl
+after-forgets line ends s (Names version id unique) = refl
 after-forgets line ends s (Opens k) = refl
 after-forgets line ends s (Keeps n bytes) =
     ap (λ (stack : List SegmentData). let x : StateData = record { header = s.header; stack = stack } in x)

@@ -1,12 +1,13 @@
 -- What an append made of the state that the text comes to.
-use Rattle.std.proofs.Common.{inr, ◌≡◌, ◌≤◌, ℕ, Option, Some, None, List, [], ◌∷◌, ◌++◌, refl, sym, ◌∙◌, ap, subst, arith, IsTrue}
-use Rattle.std.specs.Prelude.{option_map}
+use Rattle.std.proofs.Common.{◌≡◌, ◌≤◌, ℕ, false, Option, Some, None, List, [], ◌∷◌, ◌++◌, refl, sym, ◌∙◌, ap, subst, arith, IsTrue}
+use Rattle.std.specs.Prelude.{option_map, option_and_then}
+use Rattle.stm_wire.specs.UniqueId.{IsUniqueId}
 use Rattle.stm_journal.specs.declared.header.JournalHeader.{JournalHeader}
 use Rattle.stm_journal.specs.declared.entry.Entry.{Entry}
-use Rattle.stm_journal.specs.declared.entry.Entry.TheVariants.{Names, Opens}
-use Rattle.stm_journal.specs.States.{StateData, SegmentData, empty_state, allows}
+use Rattle.stm_journal.specs.States.{StateData, SegmentData, empty_state, allows, is_other_board, header_board}
 use Rattle.stm_journal.specs.InMemory.{forget_entry, forget_state}
-use Rattle.stm_journal.specs.Journals.{Loaded, IsLoaded, IsPrintable, journal_of, good, added_bytes}
+use Rattle.stm_journal.specs.Journals.{Loaded, IsLoaded, IsPrintable, journal_of, good, added_bytes, first_entries, version_for}
+use Rattle.stm_journal.specs.CallEntries.{header-for, own-board}
 use Rattle.stm_journal.specs.Newest.{HasBegun}
 use Rattle.stm_journal.specs.Calls.{InText}
 use Rattle.stm_journal.specs.Added.{HasAdded, HasOpened}
@@ -43,22 +44,25 @@ none-kept s e = at s.header s.stack (ap (λ (t : StateData). t.header) e) (ap (�
     at header [] h e = ap (λ (x : Option JournalHeader). let t : StateData = record { header = x; stack = [] } in t) h
     at header (segment ∷ below) h e = absurd (empty _ _ e)
 
-pub InText-first : (l : Loaded) (id : ℕ) (old new : List ℕ) → IsLoaded l old → l.state ≡ empty_state → id ≤ 65535
-    → new ≡ old ++ added_bytes l.is_torn (Names 2 id ∷ Opens 1 ∷ []) → InText (HasBegun id) old new
-InText-first l id old new is fresh within more s s2 means means2 =
+pub InText-first : (l : Loaded) (id : ℕ) (unique : List ℕ) (old new : List ℕ) → IsLoaded l old → l.state ≡ empty_state → id ≤ 65535 → IsUniqueId unique
+    → new ≡ old ++ added_bytes l.is_torn (first_entries id unique) → InText (HasBegun id unique) old new
+InText-first l id unique old new is fresh within told more s s2 means means2 =
     let none : s ≡ empty_state = none-kept s (sym (tied-to l old s is means) ∙ fresh) in
     let means0 : journal_of old ≡ good empty_state = means ∙ ap (λ (t : StateData). good t) none in
-    let added = added-entries l old empty_state (Names 2 id ∷ Opens 1 ∷ []) is means0 (refl, λ line ends. (refl, λ line2 ends2. tt)) ((inr refl, within), ((omega arith), tt)) in
+    let added = added-entries l old empty_state (first_entries id unique) is means0 (refl, λ line ends. (refl, λ line2 ends2. tt)) ((header-for unique told, within), ((omega arith), tt)) in
     let same : s2 ≡ added.0 = same-good s2 added.0 (sym means2 ∙ ap (λ (xs : List ℕ). journal_of xs) more ∙ added.1) in
-    let H : StateData → Type 0 = λ t. HasBegun id s t in
-    subst H (sym (same ∙ added.2.2.2)) (HasBegun-opened id 1 (Some (record { version = 2; id = id; line = added.2.0 })) [] s refl (ap (λ (t : StateData). t.stack) none))
+    let H : StateData → Type 0 = λ t. HasBegun id unique s t in
+    let header : JournalHeader = record { version = version_for unique; id = id; unique = unique; line = added.2.0 } in
+    subst H (sym (same ∙ added.2.2.2)) (HasBegun-opened id 1 unique (Some header) [] s refl (own-board unique header refl) (ap (λ (t : StateData). t.stack) none))
 
 named-so : (id : ℕ) (header : Option JournalHeader) (h : JournalHeader) → header ≡ Some h → h.id ≡ id → option_map (λ x. x.id) header ≡ Some id
 named-so id header h is same = ap (λ (o : Option JournalHeader). option_map (λ x. x.id) o) is ∙ ap (λ (n : ℕ). Some n) same
 
 -- a segment begun under the header that stands
-pub InText-opened : (l : Loaded) (id : ℕ) (h : JournalHeader) (old new : List ℕ) → IsLoaded l old → l.state.header ≡ Some h → h.id ≡ id
-    → InText HasOpened old new → InText (HasBegun id) old new
-InText-opened l id h old new is named same opened s s2 means means2 =
+pub InText-opened : (l : Loaded) (id : ℕ) (unique : List ℕ) (h : JournalHeader) (old new : List ℕ) → IsLoaded l old → l.state.header ≡ Some h → h.id ≡ id
+    → is_other_board unique (header_board h) ≡ false → InText HasOpened old new → InText (HasBegun id unique) old new
+InText-opened l id unique h old new is named same mine opened s s2 means means2 =
     let tied : l.state ≡ forget_state s = tied-to l old s is means in
-    (opened s s2 means means2).1 id (named-so id s.header h (sym (ap (λ (t : StateData). t.header) tied) ∙ named) same)
+    let text : s.header ≡ Some h = sym (ap (λ (t : StateData). t.header) tied) ∙ named in
+    (opened s s2 means means2).1 id unique (named-so id s.header h text same)
+    (ap (λ (o : Option JournalHeader). is_other_board unique (option_and_then header_board o)) text ∙ mine)

@@ -26,6 +26,8 @@ mod Laying
 mod InTexts
 mod Kepts
 mod Pairs
+mod Uniques
+mod Preparing
 mod FirstLF
 mod PageReads
 mod Bringing

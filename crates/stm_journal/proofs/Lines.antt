@@ -1,18 +1,20 @@
 -- A printed line reads back as its entry, is one line, and isn't void.
-use Rattle.std.proofs.Common.{◌≡◌, ◌≤◌, ℕ, zero, suc, ◌+◌, ◌*◌, ◌/◌, ◌%◌, ◌-◌, Bool, true, false, ◌==◌, ◌&&◌, List, [], ◌∷◌, ◌++◌, length, take, drop, codes, decimal, Option, Some, refl, sym, ◌∙◌, ap, subst, ⊎_elim, if◌then◌else◌, arith, length-append, option_map}
+use Rattle.std.proofs.Common.{◌≡◌, ◌≤◌, ◌<◌, ◌⊎◌, inl, inr, IsTrue, None, not, ℕ, zero, suc, ◌+◌, ◌*◌, ◌/◌, ◌%◌, ◌-◌, Bool, true, false, ◌==◌, ◌&&◌, List, [], ◌∷◌, ◌++◌, length, take, drop, codes, decimal, Option, Some, refl, sym, ◌∙◌, ap, subst, ⊎_elim, if◌then◌else◌, arith, length-append, option_map}
 use Rattle.std.specs.Prelude.{option_and_then}
 use Rattle.std.specs.List.{list_all}
 use Rattle.std.proofs.lemmas.Bool.{true≢false}
 use Rattle.std.proofs.lemmas.Bool.Decides.{nat_tests}
+use Rattle.std.proofs.lemmas.List.Folds.{list_all-append}
+use Rattle.stm_wire.specs.UniqueId.{is_unique_length}
 use Rattle.hex.specs.Hex.{encode_upper, IsBytes}
 use Rattle.stm_journal.specs.declared.entry.Entry.{Entry}
 use Rattle.stm_journal.specs.declared.entry.Entry.TheVariants.{Names, Opens, Keeps, Erases, Programs, Ends, Undoes}
 use Rattle.stm_journal.specs.Text.{is_void, HasNoLF}
-use Rattle.stm_journal.specs.Entries.{entry_of, line_of, header_word, number_of, number_of_pair, hex_bytes_of, page_at, page_of_fields}
-use Rattle.stm_journal.specs.Journals.{IsPrintable}
+use Rattle.stm_journal.specs.Entries.{entry_of, line_of, header_word, device_text, id_digits, id_of, unique_of, board_at, board_of_fields, number_of, number_of_pair, hex_bytes_of, page_at, page_of_fields}
+use Rattle.stm_journal.specs.Journals.{IsPrintable, IsHeaderOf}
 use Rattle.stm_journal.proofs.Texts.{HasNoLF-append}
 use Rattle.stm_journal.proofs.Numbers.{number_of-decimal}
-use Rattle.stm_journal.proofs.Digits.{is_no_bang, hex_bytes_of-encode, plain-encode, plain-decimal, HasNoLF-plain, no_bang-plain, no_bang-append, position-space}
+use Rattle.stm_journal.proofs.Digits.{is_plain, is_no_bang, all-weaker, plain-bang, hex_bytes_of-encode, plain-encode, plain-decimal, HasNoLF-plain, no_bang-plain, no_bang-append, position-space}
 
 pub drop-front : (xs ys : List ℕ) → drop (length xs) (xs ++ ys) ≡ ys
 drop-front [] ys = refl
@@ -31,25 +33,64 @@ drop-field xs ys =
     regroup [] vs = refl
     regroup (u ∷ us) vs = ap (λ (zs : List ℕ). u ∷ zs) (regroup us vs)
 
+second-true : (a b : Bool) → (a && b) ≡ true → b ≡ true
+second-true true b e = e
+second-true false b e = absurd (true≢false (sym e))
+
+first-true : (a b : Bool) → (a && b) ≡ true → a ≡ true
+first-true true b e = refl
+first-true false b e = e
+
+both-true : (a b : Bool) → a ≡ true → b ≡ true → (a && b) ≡ true
+both-true true b h e = e
+both-true false b h e = h
+
 pair-bytes : (id : ℕ) → id ≤ 65535 → IsBytes (id / 256 ∷ id % 256 ∷ [])
 pair-bytes id within zero = omega arith
 pair-bytes id within (suc zero) = omega arith
 pair-bytes id within (suc (suc i)) = omega arith
 
+-- the digits of an id say it
+id-read : (id : ℕ) → id ≤ 65535 → id_of (id_digits id) ≡ Some id
+id-read id within =
+    let whole : id / 256 * 256 + id % 256 ≡ id = omega arith in
+    ap (λ (o : Option (List ℕ)). option_and_then number_of_pair o) (hex_bytes_of-encode (id / 256 ∷ id % 256 ∷ []) (omega arith) (pair-bytes id within)) ∙ ap (λ (i : ℕ). Some i) whole
+
+-- and those of a unique id
+some-bytes : (n : ℕ) → IsTrue (is_unique_length n) → 0 < n
+some-bytes n is = grind (arith, nat_tests)
+
+unique-read : (unique : List ℕ) → IsTrue (is_unique_length (length unique)) → IsBytes unique → unique_of (encode_upper unique) ≡ Some unique
+unique-read unique size are =
+    ap (λ (o : Option (List ℕ)). option_and_then (λ bytes. if is_unique_length (length bytes) then Some bytes else None) o)
+    (hex_bytes_of-encode unique (some-bytes (length unique) size) are)
+    ∙ ap (λ (b : Bool). if b then Some unique else None) size
+
+abbrev ReadsBack : ℕ → ℕ → List ℕ → Type 0
+ReadsBack id version unique = entry_of (line_of (Names version id unique)) ≡ Some (Names version id unique)
+
+board-read : (id : ℕ) (unique : List ℕ) → id ≤ 65535 → IsTrue (is_unique_length (length unique)) → IsBytes unique → ReadsBack id 3 unique
+board-read id unique within size are =
+    let ds : List ℕ = id_digits id in
+    let hex : List ℕ = encode_upper unique in
+    let rest : List ℕ = ds ++ 32 ∷ hex in
+    ap (λ (o : Option ℕ). board_at rest o) (position-space ds hex (plain-encode (id / 256 ∷ id % 256 ∷ []) (pair-bytes id within)))
+    ∙ ap (λ (xs : List ℕ). board_of_fields (id_of xs) (unique_of (drop (length ds + 1) rest))) (take-front ds (32 ∷ hex))
+    ∙ ap (λ (xs : List ℕ). board_of_fields (id_of ds) (unique_of xs)) (drop-field ds hex)
+    ∙ ap (λ (o : Option ℕ). board_of_fields o (unique_of hex)) (id-read id within)
+    ∙ ap (λ (o : Option (List ℕ)). board_of_fields (Some id) o) (unique-read unique size are)
+
 -- a printed line says its entry
 pub entry_of-line : (e : Entry) → IsPrintable e → entry_of (line_of e) ≡ Some e
-entry_of-line (Names version id) is =
-    let bytes : List ℕ = id / 256 ∷ id % 256 ∷ [] in
-    let whole : id / 256 * 256 + id % 256 ≡ id = omega arith in
-    let V : ℕ → Type 0 = λ v. entry_of (line_of (Names v id)) ≡ Some (Names v id) in
-    let read = hex_bytes_of-encode bytes (omega arith) (pair-bytes id is.1) in
-    let one : V 1 =
-    ap (λ (o : Option (List ℕ)). option_map (λ i. Names 1 i) (option_and_then number_of_pair o)) read ∙ ap (λ (i : ℕ). Some (Names 1 i)) whole
-    in
-    let two : V 2 =
-    ap (λ (o : Option (List ℕ)). option_map (λ i. Names 2 i) (option_and_then number_of_pair o)) read ∙ ap (λ (i : ℕ). Some (Names 2 i)) whole
-    in
-    ⊎_elim (λ e. subst V (sym e) one) (λ e. subst V (sym e) two) is.0
+entry_of-line (Names version id unique) is =
+    let one : ReadsBack id 1 [] = ap (λ (o : Option ℕ). option_map (λ i. Names 1 i []) o) (id-read id is.1) in
+    let two : ReadsBack id 2 [] = ap (λ (o : Option ℕ). option_map (λ i. Names 2 i []) o) (id-read id is.1) in
+    ⊎_elim
+    (λ old. no-board id version unique old.1 (⊎_elim (λ e. subst (λ v. ReadsBack id v []) (sym e) one) (λ e. subst (λ v. ReadsBack id v []) (sym e) two) old.0))
+    (λ new. subst (λ v. ReadsBack id v unique) (sym new.0) (board-read id unique is.1 new.1.0 new.1.1)) is.0
+  where
+    no-board : (id version : ℕ) (unique : List ℕ) → unique ≡ [] → ReadsBack id version [] → ReadsBack id version unique
+    no-board id version unique none back = subst (λ u. ReadsBack id version u) (sym none) back
 entry_of-line (Opens k) is = ap (λ (o : Option ℕ). option_map (λ n. Opens n) o) (number_of-decimal k is)
 entry_of-line (Keeps n bytes) is =
     let ds : List ℕ = decimal n in
@@ -69,24 +110,60 @@ numbered-noLF : (word : List ℕ) (n : ℕ) → HasNoLF word → n ≤ 65535 →
 numbered-noLF word n h is = HasNoLF-append word (decimal n) h (HasNoLF-plain (decimal n) (plain-decimal n is))
 
 header-noLF : (version : ℕ) → HasNoLF (header_word version)
-header-noLF version = at (version == 2)
+header-noLF version = at (version == 3) (version == 2)
   where
-    at : (b : Bool) → HasNoLF (if b then codes "stmjournal 2 " else codes "stmjournal 1 ")
-    at true = (refl, (refl, (refl, (refl, (refl, (refl, (refl, (refl, (refl, (refl, (refl, (refl, (refl, tt)))))))))))))
-    at false = (refl, (refl, (refl, (refl, (refl, (refl, (refl, (refl, (refl, (refl, (refl, (refl, (refl, tt)))))))))))))
+    at : (b c : Bool) → HasNoLF (if b then codes "stmjournal 3 " else if c then codes "stmjournal 2 " else codes "stmjournal 1 ")
+    at true c = (refl, (refl, (refl, (refl, (refl, (refl, (refl, (refl, (refl, (refl, (refl, (refl, (refl, tt)))))))))))))
+    at false true = (refl, (refl, (refl, (refl, (refl, (refl, (refl, (refl, (refl, (refl, (refl, (refl, (refl, tt)))))))))))))
+    at false false = (refl, (refl, (refl, (refl, (refl, (refl, (refl, (refl, (refl, (refl, (refl, (refl, (refl, tt)))))))))))))
 
 header-no_bang : (version : ℕ) → list_all is_no_bang (header_word version) ≡ true
-header-no_bang version = at (version == 2)
+header-no_bang version = at (version == 3) (version == 2)
   where
-    at : (b : Bool) → list_all is_no_bang (if b then codes "stmjournal 2 " else codes "stmjournal 1 ") ≡ true
-    at true = refl
-    at false = refl
+    at : (b c : Bool) → list_all is_no_bang (if b then codes "stmjournal 3 " else if c then codes "stmjournal 2 " else codes "stmjournal 1 ") ≡ true
+    at true c = refl
+    at false true = refl
+    at false false = refl
+
+-- what follows is digits and, in version 3, a space
+no-board : (version : ℕ) (unique : List ℕ) → IsHeaderOf version unique → (version == 3) ≡ true → IsBytes unique
+no-board version unique is third = ⊎_elim (λ old. absurd (other version old.0 third)) (λ new. new.1.1) is
+  where
+    other : (v : ℕ) → (v ≡ 1) ⊎ (v ≡ 2) → (v == 3) ≡ true → ⊥
+    other v (inl e) h = grind (arith, nat_tests)
+    other v (inr e) h = grind (arith, nat_tests)
+
+device-all : (p : ℕ → Bool) → ((c : ℕ) → is_plain c ≡ true → p c ≡ true) → p 32 ≡ true → (version id : ℕ) (unique : List ℕ) → IsHeaderOf version unique → id ≤ 65535
+    → list_all p (device_text version id unique) ≡ true
+device-all p weaker space version id unique is within = at (version == 3) (no-board version unique is)
+  where
+    digits : (bytes : List ℕ) → IsBytes bytes → list_all p (encode_upper bytes) ≡ true
+    digits bytes are = all-weaker is_plain p weaker (encode_upper bytes) (plain-encode bytes are)
+
+    at : (b : Bool) → (b ≡ true → IsBytes unique) → list_all p (if b then id_digits id ++ 32 ∷ encode_upper unique else id_digits id) ≡ true
+    at true are =
+        list_all-append p (id_digits id) (32 ∷ encode_upper unique)
+        ∙ both-true (list_all p (id_digits id)) (p 32 && list_all p (encode_upper unique)) (digits (id / 256 ∷ id % 256 ∷ []) (pair-bytes id within))
+        (both-true (p 32) (list_all p (encode_upper unique)) space (digits unique (are refl)))
+    at false are = digits (id / 256 ∷ id % 256 ∷ []) (pair-bytes id within)
+
+device-noLF : (version id : ℕ) (unique : List ℕ) → IsHeaderOf version unique → id ≤ 65535 → HasNoLF (device_text version id unique)
+device-noLF version id unique is within = noLF (device_text version id unique) (device-all (λ b. not (b == 10)) plain-other refl version id unique is within)
+  where
+    plain-other : (c : ℕ) → is_plain c ≡ true → not (c == 10) ≡ true
+    plain-other c h = grind (arith, nat_tests)
+
+    is-other : (c : ℕ) → not (c == 10) ≡ true → (c == 10) ≡ false
+    is-other c h = grind (arith, nat_tests)
+
+    noLF : (xs : List ℕ) → list_all (λ b. not (b == 10)) xs ≡ true → HasNoLF xs
+    noLF [] h = tt
+    noLF (x ∷ xs) h = (is-other x (first-true (not (x == 10)) (list_all (λ b. not (b == 10)) xs) h), noLF xs (second-true (not (x == 10)) (list_all (λ b. not (b == 10)) xs) h))
 
 -- a printed line has no LF
 pub HasNoLF-line : (e : Entry) → IsPrintable e → HasNoLF (line_of e)
-HasNoLF-line (Names version id) is =
-    let bytes : List ℕ = id / 256 ∷ id % 256 ∷ [] in
-    HasNoLF-append (header_word version) (encode_upper bytes) (header-noLF version) (HasNoLF-plain (encode_upper bytes) (plain-encode bytes (pair-bytes id is.1)))
+HasNoLF-line (Names version id unique) is =
+    HasNoLF-append (header_word version) (device_text version id unique) (header-noLF version) (device-noLF version id unique is.0 is.1)
 HasNoLF-line (Opens k) is = numbered-noLF (codes "open ") k (refl, (refl, (refl, (refl, (refl, tt))))) is
 HasNoLF-line (Keeps n bytes) is =
     HasNoLF-append (codes "page ") (decimal n ++ 32 ∷ encode_upper bytes) (refl, (refl, (refl, (refl, (refl, tt)))))
@@ -100,9 +177,9 @@ numbered-no_bang : (word : List ℕ) (n : ℕ) → list_all is_no_bang word ≡ 
 numbered-no_bang word n h is = no_bang-append word (decimal n) h (no_bang-plain (decimal n) (plain-decimal n is))
 
 no_bang-line : (e : Entry) → IsPrintable e → list_all is_no_bang (line_of e) ≡ true
-no_bang-line (Names version id) is =
-    let bytes : List ℕ = id / 256 ∷ id % 256 ∷ [] in
-    no_bang-append (header_word version) (encode_upper bytes) (header-no_bang version) (no_bang-plain (encode_upper bytes) (plain-encode bytes (pair-bytes id is.1)))
+no_bang-line (Names version id unique) is =
+    no_bang-append (header_word version) (device_text version id unique) (header-no_bang version)
+    (device-all is_no_bang plain-bang refl version id unique is.0 is.1)
 no_bang-line (Opens k) is = numbered-no_bang (codes "open ") k refl is
 no_bang-line (Keeps n bytes) is =
     no_bang-append (codes "page ") (decimal n ++ 32 ∷ encode_upper bytes) refl
@@ -112,18 +189,10 @@ no_bang-line (Programs n) is = numbered-no_bang (codes "program ") n refl is
 no_bang-line (Ends k) is = numbered-no_bang (codes "end ") k refl is
 no_bang-line (Undoes k) is = numbered-no_bang (codes "undone ") k refl is
 
-second-true : (a b : Bool) → (a && b) ≡ true → b ≡ true
-second-true true b e = e
-second-true false b e = absurd (true≢false (sym e))
-
 no_bang-drop : (k : ℕ) (xs : List ℕ) → list_all is_no_bang xs ≡ true → list_all is_no_bang (drop k xs) ≡ true
 no_bang-drop zero xs h = h
 no_bang-drop (suc k) [] h = refl
 no_bang-drop (suc k) (x ∷ xs) h = no_bang-drop k xs (second-true (is_no_bang x) (list_all is_no_bang xs) h)
-
-first-true : (a b : Bool) → (a && b) ≡ true → a ≡ true
-first-true true b e = refl
-first-true false b e = e
 
 other-byte : (y : ℕ) → is_no_bang y ≡ true → (33 == y) ≡ false
 other-byte y h = grind (arith, nat_tests)

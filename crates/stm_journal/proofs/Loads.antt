@@ -3,7 +3,7 @@ use Rattle.std.proofs.Common.{◌≡◌, ◌≤◌, ◌<◌, ℕ, ◌+◌, ◌^�
 use Rattle.std.proofs.lemmas.Bool.Decides.{nat_tests}
 use Rattle.std.proofs.lemmas.List.{take-append-drop}
 use Rattle.stm_journal.specs.declared.fault.JournalFault.{JournalFault}
-use Rattle.stm_journal.specs.declared.fault.JournalFault.TheVariants.{File, Bad, OtherDevice, Memory}
+use Rattle.stm_journal.specs.declared.fault.JournalFault.TheVariants.{File, Bad, OtherDevice, OtherBoard, Memory}
 use Rattle.stm_journal.specs.Text.{Text, text_of, HasNoLF}
 use Rattle.stm_journal.specs.States.{StateData}
 use Rattle.stm_journal.specs.Journals.{JournalData, Loaded, IsLoaded, journal_of, good, bad, after_line, capped}
@@ -76,6 +76,7 @@ StopsAt-line l y bytes (Bad line) is short wrong = λ rest.
     let here : journal_of (bytes ++ LF) ≡ bad line = remembered-bad (journal_of (bytes ++ LF)) line (sym (line-here l y bytes is short) ∙ wrong) in
     subst J (sym (append_assoc bytes LF rest)) (journal-bad bytes [] rest line tt here)
 StopsAt-line l y bytes OtherDevice is short wrong = wrong
+StopsAt-line l y bytes OtherBoard is short wrong = wrong
 StopsAt-line l y bytes Memory is short wrong = tt
 
 -- bytes of a line
@@ -117,6 +118,7 @@ StopsAt-first bytes first rest (Bad line) wrong = λ more.
     in
     subst J whole (wrong (rest ++ more))
 StopsAt-first bytes first rest OtherDevice wrong = wrong
+StopsAt-first bytes first rest OtherBoard wrong = wrong
 StopsAt-first bytes first rest Memory wrong = tt
 
 pub IsLoaded-read : (l l2 : Loaded) (y : Summary) (bytes : List ℕ) → IsRead l y bytes → l2 ≡ record l { is_torn = not (y.size == 0) } → IsLoaded l2 bytes

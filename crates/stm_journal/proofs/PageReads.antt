@@ -11,7 +11,7 @@ use Rattle.stm_wire.specs.MomentLaws.{started, joined}
 use Rattle.stm_journal.specs.declared.kept.Kept.{Kept}
 use Rattle.stm_journal.specs.declared.kept.PagePlace.{PagePlace}
 use Rattle.stm_journal.specs.declared.fault.JournalFault.{JournalFault}
-use Rattle.stm_journal.specs.declared.fault.JournalFault.TheVariants.{File, Bad, OtherDevice, Memory}
+use Rattle.stm_journal.specs.declared.fault.JournalFault.TheVariants.{File, Bad, OtherDevice, OtherBoard, Memory}
 use Rattle.stm_journal.specs.Entries.{is_upper_digit, hex_bytes_of}
 use Rattle.stm_journal.specs.States.{StateData, SegmentData, segment_of}
 use Rattle.stm_journal.specs.KeptPlaces.{kept_entry, kept_place, place_of, IsPlaceIn}
@@ -209,6 +209,10 @@ module _ (l : Loaded) (place : PagePlace) (a b : RigState) (tied : IsLoaded l a.
   page-fetched after (Err OtherDevice) got = absurd (clash got.0)
     where
       clash : OtherDevice ≡ File → ⊥
+      clash h = cc
+  page-fetched after (Err OtherBoard) got = absurd (clash got.0)
+    where
+      clash : OtherBoard ≡ File → ⊥
       clash h = cc
   page-fetched after (Err Memory) got = absurd (clash got.0)
     where

@@ -1,6 +1,6 @@
 -- What is so of every journal without a bad line.
-use Rattle.std.proofs.Common.{◌≡◌, ◌≤◌, ℕ, ◌+◌, ◌*◌, ◌-◌, Bool, true, false, not, ◌&&◌, ◌||◌, ◌==◌, nat_le, nat_lt, if◌then◌else◌, List, [], ◌∷◌, length, fold, drop, Option, Some, None, option_map, refl, sym, subst, arith, codes}
-use Rattle.std.specs.Prelude.{is_some, position, option_and_then, slice_index}
+use Rattle.std.proofs.Common.{◌≡◌, ◌≤◌, ℕ, ◌+◌, ◌*◌, ◌-◌, Bool, true, false, not, ◌&&◌, ◌||◌, ◌==◌, nat_le, nat_lt, if◌then◌else◌, List, [], ◌∷◌, length, fold, take, drop, Option, Some, None, option_map, refl, sym, subst, arith, codes}
+use Rattle.std.specs.Prelude.{is_some, position, slice_index}
 use Rattle.std.proofs.lemmas.Bool.{true≢false, not-true}
 use Rattle.std.proofs.lemmas.Bool.Decides.{nat_tests}
 use Rattle.std.proofs.lemmas.Option.{none-some}
@@ -12,7 +12,7 @@ use Rattle.stm_journal.specs.declared.header.JournalHeader.{JournalHeader}
 use Rattle.stm_journal.specs.declared.entry.Entry.{Entry}
 use Rattle.stm_journal.specs.declared.entry.Entry.TheVariants.{Names, Opens, Keeps, Erases, Programs, Ends, Undoes}
 use Rattle.stm_journal.specs.Text.{text_of, is_void}
-use Rattle.stm_journal.specs.Entries.{with_digit, number_of, number_of_pair, hex_bytes_of, behind, page_of_fields, page_at, page_of, header_of, worded, entry_of}
+use Rattle.stm_journal.specs.Entries.{with_digit, number_of, behind, page_of_fields, page_at, page_of, header_of, id_of, unique_of, board_at, board_of_fields, board_header_of, worded, entry_of}
 use Rattle.stm_journal.specs.States.{StateData, SegmentData, empty_state, allows, after_entry, IsSound, IntentIsKept, EndedBelow, AllEnded, on_newest, keeping, kept_in, may_keep, newest_has, newest_keeps, newest_may_keep, is_ended_stage, is_unfinished, stage_with}
 use Rattle.stm_journal.specs.Journals.{JournalData, good, bad, Reading, read_line, start, journal_of, after_line, after_said}
 use Rattle.stm_journal.proofs.Intended.{intended-intend, intended-end, intended-ended}
@@ -57,7 +57,7 @@ within-number digits = within-refused (length digits == 0 || (nat_lt 1 (length d
 
 -- a segment's number, as an entry opens it, is at most 65,535
 abbrev IsShort : Entry → Type 0
-IsShort (Names version id) = Unit {0}
+IsShort (Names version id unique) = Unit {0}
 IsShort (Opens k) = k ≤ 65535
 IsShort (Keeps n bytes) = Unit {0}
 IsShort (Erases n) = Unit {0}
@@ -89,9 +89,18 @@ short-undoes : (o : Option ℕ) → SaysShort (option_map (λ n. Undoes n) o)
 short-undoes None = tt
 short-undoes (Some n) = tt
 
-short-names : (version : ℕ) (o : Option ℕ) → SaysShort (option_map (λ id. Names version id) o)
+short-names : (version : ℕ) (o : Option ℕ) → SaysShort (option_map (λ id. Names version id []) o)
 short-names version None = tt
 short-names version (Some id) = tt
+
+short-board-fields : (o : Option ℕ) (u : Option (List ℕ)) → SaysShort (board_of_fields o u)
+short-board-fields None u = tt
+short-board-fields (Some id) None = tt
+short-board-fields (Some id) (Some unique) = tt
+
+short-board : (rest : List ℕ) (o : Option ℕ) → SaysShort (board_at rest o)
+short-board rest None = tt
+short-board rest (Some i) = short-board-fields (id_of (take i rest)) (unique_of (drop (i + 1) rest))
 
 short-fields : (o : Option ℕ) (bytes : Option (List ℕ)) → SaysShort (page_of_fields o bytes)
 short-fields (Some n) (Some bytes) = tt
@@ -114,13 +123,14 @@ short-worded word said line other h g = short-behind (behind word line) said oth
 short-entry : (line : List ℕ) → SaysShort (entry_of line)
 short-entry line =
     short-worded (codes "page ") page_of line _ (λ rest. short-page rest (position (λ b. b == 32) rest))
-    (short-worded (codes "stmjournal 1 ") (header_of 1) line _ (λ rest. short-names 1 (option_and_then number_of_pair (hex_bytes_of rest)))
-    (short-worded (codes "stmjournal 2 ") (header_of 2) line _ (λ rest. short-names 2 (option_and_then number_of_pair (hex_bytes_of rest)))
+    (short-worded (codes "stmjournal 1 ") (header_of 1) line _ (λ rest. short-names 1 (id_of rest))
+    (short-worded (codes "stmjournal 2 ") (header_of 2) line _ (λ rest. short-names 2 (id_of rest))
+    (short-worded (codes "stmjournal 3 ") board_header_of line _ (λ rest. short-board rest (position (λ b. b == 32) rest))
     (short-worded (codes "open ") (λ rest. option_map (λ n. Opens n) (number_of rest)) line _ (λ rest. short-opens (number_of rest) (within-number rest))
     (short-worded (codes "erase ") (λ rest. option_map (λ n. Erases n) (number_of rest)) line _ (λ rest. short-erases (number_of rest))
     (short-worded (codes "program ") (λ rest. option_map (λ n. Programs n) (number_of rest)) line _ (λ rest. short-programs (number_of rest))
     (short-worded (codes "end ") (λ rest. option_map (λ n. Ends n) (number_of rest)) line _ (λ rest. short-ends (number_of rest))
-    (short-worded (codes "undone ") (λ rest. option_map (λ n. Undoes n) (number_of rest)) line None (λ rest. short-undoes (number_of rest)) tt)))))))
+    (short-worded (codes "undone ") (λ rest. option_map (λ n. Undoes n) (number_of rest)) line None (λ rest. short-undoes (number_of rest)) tt))))))))
 
 sound-change : (header : Option JournalHeader) (stack : List SegmentData) (stage : SegmentData → Stage) → IsSound (record { header = header; stack = stack })
     → IntentIsKept (record { header = header; stack = on_newest (λ segment. record segment { stage = stage segment }) stack })
@@ -180,7 +190,7 @@ sound-open s k line ends within may sound =
     }
 
 sound-entry : (line ends : ℕ) (s : StateData) (e : Entry) → IsShort e → allows s e ≡ true → IsSound s → IsSound (after_entry line ends s e)
-sound-entry line ends s (Names version id) short may sound = record { depth = sound.depth; named = λ some. refl; ended = sound.ended; once = sound.once; intended = sound.intended }
+sound-entry line ends s (Names version id unique) short may sound = record { depth = sound.depth; named = λ some. refl; ended = sound.ended; once = sound.once; intended = sound.intended }
 sound-entry line ends s (Opens k) short may sound = sound-open s k line ends short may sound
 sound-entry line ends s (Keeps n bytes) short may sound = sound-keep s.header s.stack (kept_in line ends n bytes) sound (second-true (is_some s.header) (newest_may_keep n s) may)
 sound-entry line ends s (Erases n) short may sound =

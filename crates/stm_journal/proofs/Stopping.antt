@@ -7,12 +7,12 @@ use Rattle.std.proofs.lemmas.Bool.Decides.{nat_tests}
 use Rattle.stm_journal.specs.declared.header.JournalHeader.{JournalHeader}
 use Rattle.stm_journal.specs.Text.{Text, text_of, HasNoLF}
 use Rattle.stm_journal.specs.Entries.{line_of, line_text}
-use Rattle.stm_journal.specs.States.{StateData, SegmentData, allows, after_entry, names_other, IsSound}
-use Rattle.stm_journal.specs.Journals.{IsLoaded, Loaded, journal_of, good, after_line, mark, added_bytes, begin_entries}
+use Rattle.stm_journal.specs.States.{StateData, SegmentData, allows, after_entry, names_other, names_other_board, IsSound}
+use Rattle.stm_journal.specs.Journals.{IsLoaded, Loaded, journal_of, good, after_line, mark, added_bytes, begin_entries, version_for, NamesThis}
 use Rattle.stm_journal.specs.Beginnings.{LeadsTo, AllAllowed, AllPrintable, BeginningsAreGood}
 use Rattle.stm_journal.specs.Added.{HasAdded, EntriesLeaveEither, BeginningsLeaveEither}
 use Rattle.stm_journal.specs.Newest.{HasBegun}
-use Rattle.stm_journal.specs.CallEntries.{allowed-begin, printable-begin}
+use Rattle.stm_journal.specs.CallEntries.{allowed-begin, printable-begin, own-board}
 use Rattle.stm_journal.proofs.Sound.{journal-is-sound}
 use Rattle.stm_journal.proofs.AfterCalls.{HasAdded-entry, HasBegun-opened}
 use Rattle.stm_journal.proofs.Texts.{text-more-lines}
@@ -114,34 +114,44 @@ entries-leave-either l journal s e n is means may printable =
         subst H (sym same) (HasAdded-entry line ends s e sound may)
 
 -- what begins a segment
-begun-at : (id : ℕ) (header : Option JournalHeader) (stack : List SegmentData) (s2 : StateData) → names_other id (record { header = header; stack = stack }) ≡ false
-    → LeadsTo (begin_entries id (record { header = header; stack = stack })) (record { header = header; stack = stack }) s2
-    → ((s2.stack ≡ stack) × (names_other id s2 ≡ false)) ⊎ HasBegun id (record { header = header; stack = stack }) s2
-begun-at id None stack s2 mine leads =
+begun-at : (id : ℕ) (unique : List ℕ) (header : Option JournalHeader) (stack : List SegmentData) (s2 : StateData) → NamesThis id unique (record { header = header; stack = stack })
+    → LeadsTo (begin_entries id unique (record { header = header; stack = stack })) (record { header = header; stack = stack }) s2
+    → ((s2.stack ≡ stack) × NamesThis id unique s2) ⊎ HasBegun id unique (record { header = header; stack = stack }) s2
+begun-at id unique None stack s2 mine leads =
+    let header : ℕ → JournalHeader = λ line. record { version = version_for unique; id = id; unique = unique; line = line } in
     ⊎_elim
-    (λ none. inl (ap (λ (s : StateData). s.stack) none, ap (λ (s : StateData). names_other id s) none))
+    (λ none. inl (ap (λ (s : StateData). s.stack) none, (ap (λ (s : StateData). names_other id s) none, ap (λ (s : StateData). names_other_board unique s) none)))
     (λ named. ⊎_elim
-    (λ none. inl (ap (λ (s : StateData). s.stack) none, ap (λ (s : StateData). names_other id s) none ∙ own id))
+    (λ none.
+    inl (
+      ap (λ (s : StateData). s.stack) none,
+      (ap (λ (s : StateData). names_other id s) none ∙ own id, ap (λ (s : StateData). names_other_board unique s) none ∙ own-board unique (header named.0) refl),
+    ))
     (λ opened.
-    let H : StateData → Type 0 = λ x. HasBegun id (record { header = None; stack = stack }) x in
-    inr (subst H (sym opened.2) (HasBegun-opened id (length stack + 1) (Some (record { version = 2; id = id; line = named.0 })) stack (record { header = None; stack = stack }) refl refl)))
+    let H : StateData → Type 0 = λ x. HasBegun id unique (record { header = None; stack = stack }) x in
+    inr
+    (subst H (sym opened.2)
+    (HasBegun-opened id (length stack + 1) unique (Some (header named.0)) stack (record { header = None; stack = stack }) refl (own-board unique (header named.0) refl) refl)))
     named.2)
     leads
-begun-at id (Some h) stack s2 mine leads =
+begun-at id unique (Some h) stack s2 mine leads =
     ⊎_elim
-    (λ none. inl (ap (λ (s : StateData). s.stack) none, ap (λ (s : StateData). names_other id s) none ∙ mine))
+    (λ none.
+    inl (ap (λ (s : StateData). s.stack) none, (ap (λ (s : StateData). names_other id s) none ∙ mine.0, ap (λ (s : StateData). names_other_board unique s) none ∙ mine.1)))
     (λ opened.
-    let H : StateData → Type 0 = λ x. HasBegun id (record { header = Some h; stack = stack }) x in
-    inr (subst H (sym opened.2) (HasBegun-opened id (length stack + 1) (Some h) stack (record { header = Some h; stack = stack }) (ap (λ (k : ℕ). Some k) (same-id h.id id mine)) refl)))
+    let H : StateData → Type 0 = λ x. HasBegun id unique (record { header = Some h; stack = stack }) x in
+    inr
+    (subst H (sym opened.2)
+    (HasBegun-opened id (length stack + 1) unique (Some h) stack (record { header = Some h; stack = stack }) (ap (λ (k : ℕ). Some k) (same-id h.id id mine.0)) mine.1 refl)))
     leads
   where
     same-id : (a b : ℕ) → not (a == b) ≡ false → a ≡ b
     same-id a b h = grind (arith, nat_tests)
 
 pub beginnings-leave-either : BeginningsLeaveEither
-beginnings-leave-either l journal s id n is means finished mine within room =
-    let begun = beginnings-are-good l journal s (begin_entries id s) n is means (allowed-begin id s finished) (printable-begin id s within room) in
-    (begun.0, begun.1, begun-at id s.header s.stack begun.0 mine begun.2)
+beginnings-leave-either l journal s id unique n is means finished mine within told room =
+    let begun = beginnings-are-good l journal s (begin_entries id unique s) n is means (allowed-begin id unique s finished) (printable-begin id unique s within told room) in
+    (begun.0, begun.1, begun-at id unique s.header s.stack begun.0 mine begun.2)
 
 -- the whole of an append of entries: each is added, whatever numbers and places their lines have
 pub added-entries : (l : Loaded) (journal : List ℕ) (s : StateData) (entries : List Entry) → IsLoaded l journal → journal_of journal ≡ good s → AllAllowed entries s → AllPrintable entries

@@ -3,29 +3,32 @@
 use Rattle.std.specs.Prelude.{◌≡◌, ◌⊎◌, ℕ, ◌<◌, ◌≤◌, false, List, [], ◌∷◌, ◌++◌, length, take, Some}
 use Rattle.std.specs.Prelude.{option_map, IsTrue}
 use Rattle.stm_wire.specs.declared.intent.Intent.TheVariants.{Erase, Program}
+use Rattle.stm_wire.specs.UniqueId.{IsUniqueId}
 use Rattle.stm_journal.specs.declared.entry.Entry.{Entry}
 use Rattle.stm_journal.specs.declared.entry.Entry.TheVariants.{Names, Opens, Keeps, Erases}
 use Rattle.stm_journal.specs.declared.entry.Entry.TheVariants.{Programs, Ends, Undoes}
-use Rattle.stm_journal.specs.States.{StateData, allows, is_unfinished, names_other}
+use Rattle.stm_journal.specs.States.{StateData, allows, is_unfinished, names_other_board}
 use Rattle.stm_journal.specs.Newest.{HasBegun, HasKept, HasIntended, HasEnded, HasUndone}
 use Rattle.stm_journal.specs.Journals.{Loaded, IsLoaded, IsPrintable, journal_of, good, added_bytes}
-use Rattle.stm_journal.specs.Journals.{begin_entries}
+use Rattle.stm_journal.specs.Journals.{begin_entries, NamesThis}
 
 -- a header more
-pub record HasNamed (version id : ℕ) (old new : StateData) : Type 0 where
+pub record HasNamed (version id : ℕ) (unique : List ℕ) (old new : StateData) : Type 0 where
   pub named : option_map (λ header. header.id) new.header ≡ Some id
+  pub board : option_map (λ header. header.unique) new.header ≡ Some unique
   pub written : option_map (λ header. header.version) new.header ≡ Some version
   pub stack : new.stack ≡ old.stack
 
--- a segment more, for the device that the header names
+-- a segment more, for the device that the header names, and for each board but another one
 abbrev pub HasOpened : StateData → StateData → Type 0
 HasOpened old new =
     (new.header ≡ old.header)
-    × ((id : ℕ) → option_map (λ header. header.id) old.header ≡ Some id → HasBegun id old new)
+    × ((id : ℕ) (unique : List ℕ) → option_map (λ header. header.id) old.header ≡ Some id
+    → names_other_board unique old ≡ false → HasBegun id unique old new)
 
 -- what an entry has made of a state
 abbrev pub HasAdded : Entry → StateData → StateData → Type 0
-HasAdded (Names version id) old new = HasNamed version id old new
+HasAdded (Names version id unique) old new = HasNamed version id unique old new
 HasAdded (Opens k) old new = HasOpened old new
 HasAdded (Keeps n bytes) old new = HasKept n bytes old new
 HasAdded (Erases n) old new = HasIntended n (Erase n) old new
@@ -41,11 +44,13 @@ EntriesLeaveEither = (l : Loaded) (journal : List ℕ) (s : StateData) (e : Entr
     → (s2 : StateData) × (journal_of (journal ++ take n (added_bytes l.is_torn (e ∷ []))) ≡ good s2)
     × ((s2 ≡ s) ⊎ HasAdded e s s2)
 
--- what begins a segment: the same segments, for no other device, or one more
+-- what begins a segment: the same segments, for no other device and no other board, or one more
 abbrev pub BeginningsLeaveEither : Type 0
-BeginningsLeaveEither = (l : Loaded) (journal : List ℕ) (s : StateData) (id n : ℕ)
+BeginningsLeaveEither = (l : Loaded) (journal : List ℕ) (s : StateData) (id : ℕ)
+    (unique : List ℕ) (n : ℕ)
     → IsLoaded l journal → journal_of journal ≡ good s
-    → is_unfinished s ≡ false → names_other id s ≡ false → id ≤ 65535 → length s.stack < 65535
+    → is_unfinished s ≡ false → NamesThis id unique s
+    → id ≤ 65535 → IsUniqueId unique → length s.stack < 65535
     → (s2 : StateData)
-    × (journal_of (journal ++ take n (added_bytes l.is_torn (begin_entries id s))) ≡ good s2)
-    × (((s2.stack ≡ s.stack) × (names_other id s2 ≡ false)) ⊎ HasBegun id s s2)
+    × (journal_of (journal ++ take n (added_bytes l.is_torn (begin_entries id unique s))) ≡ good s2)
+    × (((s2.stack ≡ s.stack) × NamesThis id unique s2) ⊎ HasBegun id unique s s2)

@@ -8,7 +8,7 @@ use Rattle.stm_wire.specs.Moments.{LeavesOnly}
 use Rattle.stm_journal.specs.declared.entry.Entry.{Entry}
 use Rattle.stm_journal.specs.declared.fault.JournalFault.{JournalFault}
 use Rattle.stm_journal.specs.declared.fault.JournalFault.TheVariants.{File, Bad, OtherDevice}
-use Rattle.stm_journal.specs.declared.fault.JournalFault.TheVariants.{Memory}
+use Rattle.stm_journal.specs.declared.fault.JournalFault.TheVariants.{OtherBoard, Memory}
 use Rattle.stm_journal.specs.Journals.{Loaded, IsLoaded, added_bytes, journal_of, good, bad}
 use Rattle.stm_journal.specs.declared.kept.Kept.{Kept}
 use Rattle.stm_journal.specs.declared.kept.PagePlace.{PagePlace}
@@ -20,6 +20,7 @@ abbrev pub RisesFor : ℕ → ℕ → JournalFault → Type 0
 RisesFor before now File = Rises before now
 RisesFor before now (Bad line) = now ≡ before
 RisesFor before now OtherDevice = now ≡ before
+RisesFor before now OtherBoard = now ≡ before
 RisesFor before now Memory = now ≡ before
 
 -- on any Rig: the counts; and an honest one stays honest
@@ -42,6 +43,7 @@ AppendsOnce bytes (Ok x) calls = calls ≡ Append bytes ∷ []
 AppendsOnce bytes (Err File) calls = AppendsInPart bytes calls
 AppendsOnce bytes (Err (Bad line)) calls = calls ≡ []
 AppendsOnce bytes (Err OtherDevice) calls = calls ≡ []
+AppendsOnce bytes (Err OtherBoard) calls = calls ≡ []
 AppendsOnce bytes (Err Memory) calls = calls ≡ []
 
 abbrev pub AreFetches : List Call → Type 0
@@ -56,6 +58,7 @@ abbrev pub LeftByFault : List ℕ → RigState → RigState → JournalFault →
 LeftByFault bytes old new File = LeftByAppend bytes old new.device new.journal
 LeftByFault bytes old new (Bad line) = (new.journal ≡ old.journal) × (new.device ≡ old.device)
 LeftByFault bytes old new OtherDevice = (new.journal ≡ old.journal) × (new.device ≡ old.device)
+LeftByFault bytes old new OtherBoard = (new.journal ≡ old.journal) × (new.device ≡ old.device)
 LeftByFault bytes old new Memory = (new.journal ≡ old.journal) × (new.device ≡ old.device)
 
 -- These bytes are added at the end of an honest Rig's journal, all at Ok, a beginning of them at
@@ -85,6 +88,7 @@ abbrev pub IsLoadAnswer : JournalFault → Type 0
 IsLoadAnswer File = Unit {0}
 IsLoadAnswer (Bad line) = Unit {0}
 IsLoadAnswer OtherDevice = ⊥
+IsLoadAnswer OtherBoard = ⊥
 IsLoadAnswer Memory = Unit {0}
 
 -- the faults of fetching a page whose line has this number
@@ -92,6 +96,7 @@ abbrev pub IsFetchAnswer : ℕ → JournalFault → Type 0
 IsFetchAnswer line File = Unit {0}
 IsFetchAnswer line (Bad number) = number ≡ line
 IsFetchAnswer line OtherDevice = ⊥
+IsFetchAnswer line OtherBoard = ⊥
 IsFetchAnswer line Memory = ⊥
 
 -- nothing but owed bytes changed, which a stop may lose
@@ -103,6 +108,7 @@ abbrev pub IsFaultOf : List ℕ → JournalFault → Type 0
 IsFaultOf journal File = Unit {0}
 IsFaultOf journal (Bad line) = journal_of journal ≡ bad line
 IsFaultOf journal OtherDevice = ⊥
+IsFaultOf journal OtherBoard = ⊥
 IsFaultOf [] Memory = ⊥
 IsFaultOf (byte ∷ journal) Memory = Unit {0}
 
@@ -111,6 +117,7 @@ abbrev pub KeepsDevice : RigState → RigState → JournalFault → Type 0
 KeepsDevice old new File = LosesOwed old.device new.device
 KeepsDevice old new (Bad line) = new.device ≡ old.device
 KeepsDevice old new OtherDevice = new.device ≡ old.device
+KeepsDevice old new OtherBoard = new.device ≡ old.device
 KeepsDevice old new Memory = new.device ≡ old.device
 
 -- A load of an honest Rig's journal, of which it changes nothing.

@@ -6,6 +6,7 @@ use Rattle.std.specs.Prelude.{position, slice_index}
 use Rattle.std.specs.List.{list_all}
 use Rattle.std.specs.Result.{result_ok}
 use Rattle.hex.specs.Hex.{encode_upper, decode_of}
+use Rattle.stm_wire.specs.UniqueId.{is_unique_length}
 use Rattle.stm_journal.specs.declared.entry.Entry.{Entry}
 use Rattle.stm_journal.specs.declared.entry.Entry.TheVariants.{Names, Opens, Keeps, Erases}
 use Rattle.stm_journal.specs.declared.entry.Entry.TheVariants.{Programs, Ends, Undoes}
@@ -57,10 +58,32 @@ page_at rest (Some i) = page_of_fields (number_of (take i rest)) (hex_bytes_of (
 abbrev pub page_of : List ℕ → Option Entry
 page_of rest = page_at rest (position (λ b. b == 32) rest)
 
--- the device of a journal of this version: its id has four digits
+-- a product id: four digits
+abbrev pub id_of : List ℕ → Option ℕ
+id_of digits = option_and_then number_of_pair (hex_bytes_of digits)
+
+-- a unique id: the digits of 8 to 32 bytes
+abbrev pub unique_of : List ℕ → Option (List ℕ)
+unique_of digits =
+    option_and_then (λ bytes. if is_unique_length (length bytes) then Some bytes else None)
+    (hex_bytes_of digits)
+
+-- the device of a journal of version 1 or 2
 abbrev pub header_of : ℕ → List ℕ → Option Entry
-header_of version rest =
-    option_map (λ id. Names version id) (option_and_then number_of_pair (hex_bytes_of rest))
+header_of version rest = option_map (λ id. Names version id []) (id_of rest)
+
+-- the device of a journal of version 3: its id, a space, its unique id
+abbrev pub board_of_fields : Option ℕ → Option (List ℕ) → Option Entry
+board_of_fields (Some id) (Some unique) = Some (Names 3 id unique)
+board_of_fields (Some id) None = None
+board_of_fields None unique = None
+
+abbrev pub board_at : List ℕ → Option ℕ → Option Entry
+board_at rest None = None
+board_at rest (Some i) = board_of_fields (id_of (take i rest)) (unique_of (drop (i + 1) rest))
+
+abbrev pub board_header_of : List ℕ → Option Entry
+board_header_of rest = board_at rest (position (λ b. b == 32) rest)
 
 -- what follows one of these words, and else what the other reading says
 abbrev pub worded : List ℕ → (List ℕ → Option Entry) → List ℕ → Option Entry → Option Entry
@@ -80,15 +103,28 @@ abbrev pub entry_of : List ℕ → Option Entry
 entry_of line =
     worded (codes "page ") page_of line
     (worded (codes "stmjournal 1 ") (header_of 1) line
-    (worded (codes "stmjournal 2 ") (header_of 2) line (numbered_entry_of line)))
+    (worded (codes "stmjournal 2 ") (header_of 2) line
+    (worded (codes "stmjournal 3 ") board_header_of line (numbered_entry_of line))))
 
--- what a header of version 1 or 2 begins with
+-- what a header begins with
 abbrev pub header_word : ℕ → List ℕ
-header_word version = if version == 2 then codes "stmjournal 2 " else codes "stmjournal 1 "
+header_word version =
+    if version == 3 then codes "stmjournal 3 "
+    else if version == 2 then codes "stmjournal 2 "
+    else codes "stmjournal 1 "
+
+-- the four digits of a product id
+abbrev pub id_digits : ℕ → List ℕ
+id_digits id = encode_upper (id / 256 ∷ id % 256 ∷ [])
+
+-- the device that a header names: its id, and in version 3 its unique id
+abbrev pub device_text : ℕ → ℕ → List ℕ → List ℕ
+device_text version id unique =
+    if version == 3 then id_digits id ++ 32 ∷ encode_upper unique else id_digits id
 
 -- the line that says it
 abbrev pub line_of : Entry → List ℕ
-line_of (Names version id) = header_word version ++ encode_upper (id / 256 ∷ id % 256 ∷ [])
+line_of (Names version id unique) = header_word version ++ device_text version id unique
 line_of (Opens k) = codes "open " ++ decimal k
 line_of (Keeps n bytes) = codes "page " ++ (decimal n ++ 32 ∷ encode_upper bytes)
 line_of (Erases n) = codes "erase " ++ decimal n

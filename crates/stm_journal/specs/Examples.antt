@@ -15,7 +15,7 @@ empty : journal_of [] ≡ good (record { header = None; stack = [] })
 empty = refl
 
 void_first : journal_of (codes "x!" ++ LF ++ begun) ≡ good (record {
-  header = Some (record { version = 1; id = 0x412; line = 2 });
+  header = Some (record { version = 1; id = 0x412; unique = []; line = 2 });
   stack = record { pages = []; stage = Open None } ∷ [];
 })
 unfolding hex_on_literals
@@ -50,7 +50,7 @@ taken_back = begun ++ codes "page 0 00" ++ LF ++ codes "end 1" ++ LF ++ codes "e
 
 returning : journal_of taken_back
     ≡ good (record {
-      header = Some (record { version = 1; id = 0x412; line = 1 });
+      header = Some (record { version = 1; id = 0x412; unique = []; line = 1 });
       stack = record {
         pages = record { page = 0; bytes = 0 ∷ []; line = 3; at = 32 } ∷ [];
         stage = Returning (Erase 0);
@@ -60,7 +60,7 @@ unfolding hex_on_literals
 returning = refl
 
 undone : journal_of (taken_back ++ codes "undone 1" ++ LF)
-    ≡ good (record { header = Some (record { version = 1; id = 0x412; line = 1 }); stack = [] })
+    ≡ good (record { header = Some (record { version = 1; id = 0x412; unique = []; line = 1 }); stack = [] })
 unfolding hex_on_literals
 undone = refl
 
@@ -69,20 +69,73 @@ unfolding hex_on_literals
 wrong_depth = refl
 
 torn : journal_of (begun ++ codes "page 0 FFFF") ≡ good (record {
-  header = Some (record { version = 1; id = 0x412; line = 1 });
+  header = Some (record { version = 1; id = 0x412; unique = []; line = 1 });
   stack = record { pages = []; stage = Open None } ∷ [];
 })
 unfolding hex_on_literals
 torn = refl
 
 version_two : journal_of (codes "stmjournal 2 0412" ++ LF)
-    ≡ good (record { header = Some (record { version = 2; id = 0x412; line = 1 }); stack = [] })
+    ≡ good (record { header = Some (record { version = 2; id = 0x412; unique = []; line = 1 }); stack = [] })
 unfolding hex_on_literals
 version_two = refl
 
 other_version : journal_of (codes "stmjournal 3 0412" ++ LF) ≡ bad 1
 unfolding hex_on_literals
 other_version = refl
+
+-- version 3: a product id and a unique id of eight bytes
+abbrev board : List ℕ
+board = codes "stmjournal 3 0412 00FF102030405060" ++ LF
+
+abbrev eight : List ℕ
+eight = 0 ∷ 0xFF ∷ 0x10 ∷ 0x20 ∷ 0x30 ∷ 0x40 ∷ 0x50 ∷ 0x60 ∷ []
+
+version_three : journal_of board ≡ good (record {
+  header = Some (record { version = 3; id = 0x412; unique = eight; line = 1 });
+  stack = [];
+})
+unfolding hex_on_literals
+version_three = refl
+
+board_begun : journal_of (board ++ codes "open 1" ++ LF ++ codes "page 0 00" ++ LF)
+    ≡ good (record {
+      header = Some (record { version = 3; id = 0x412; unique = eight; line = 1 });
+      stack = record {
+        pages = record { page = 0; bytes = 0 ∷ []; line = 3; at = 49 } ∷ [];
+        stage = Open None;
+      } ∷ [];
+    })
+unfolding hex_on_literals
+board_begun = refl
+
+board_named_again : journal_of (board ++ board) ≡ bad 2
+unfolding hex_on_literals
+board_named_again = refl
+
+seven_bytes : journal_of (codes "stmjournal 3 0412 00FF1020304050" ++ LF) ≡ bad 1
+unfolding hex_on_literals
+seven_bytes = refl
+
+fifteen_digits : journal_of (codes "stmjournal 3 0412 00FF10203040506" ++ LF) ≡ bad 1
+unfolding hex_on_literals
+fifteen_digits = refl
+
+lower_case_board : journal_of (codes "stmjournal 3 0412 00ff102030405060" ++ LF) ≡ bad 1
+unfolding hex_on_literals
+lower_case_board = refl
+
+board_and_more : journal_of (codes "stmjournal 3 0412 00FF102030405060 " ++ LF) ≡ bad 1
+unfolding hex_on_literals
+board_and_more = refl
+
+no_board : journal_of (codes "stmjournal 3 0412 " ++ LF) ≡ bad 1
+unfolding hex_on_literals
+no_board = refl
+
+board_in_version_two : journal_of (codes "stmjournal 2 0412 00FF102030405060" ++ LF) ≡ bad 1
+unfolding hex_on_literals
+board_in_version_two = refl
 
 great_number : journal_of (begun ++ codes "page 65536 FF" ++ LF) ≡ bad 3
 unfolding hex_on_literals

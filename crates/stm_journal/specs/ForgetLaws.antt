@@ -17,11 +17,11 @@ use Rattle.stm_journal.specs.declared.entry.Entry.TheVariants.{Programs, Ends, U
 use Rattle.stm_journal.specs.States.{StateData, SegmentData, allows, newest_has, newest_intent}
 use Rattle.stm_journal.specs.States.{keeps, may_keep, is_open_stage, is_ended_stage, intent_of}
 use Rattle.stm_journal.specs.States.{is_unfinished, newest_is_open, newest_keeps, newest_may_keep}
-use Rattle.stm_journal.specs.States.{segment_of, kept_at, names_other}
+use Rattle.stm_journal.specs.States.{segment_of, kept_at, names_other, names_other_board}
 use Rattle.stm_journal.specs.KeptPlaces.{kept_entry, page_entry, place_of, kept_place, page_place}
 use Rattle.stm_journal.specs.KeptPlaces.{kept_count, entries_of}
 use Rattle.stm_journal.specs.Newest.{newest_pages, next_page}
-use Rattle.stm_journal.specs.Journals.{begin_entries}
+use Rattle.stm_journal.specs.Journals.{begin_entries, version_for}
 use Rattle.stm_journal.specs.InMemory.{forget_entry, forget_kept, forget_segment, forget_state}
 
 any-forgets : (n : ℕ) (pages : List Kept)
@@ -61,7 +61,7 @@ open-stack stack = newest-forgets (λ segment. is_open_stage segment.stage) stac
 -- the line rules
 pub allows-forgets : (s : StateData) (e : Entry)
     → allows (forget_state s) (forget_entry e) ≡ allows s e
-allows-forgets s (Names version id) = refl
+allows-forgets s (Names version id unique) = refl
 allows-forgets s (Opens k) =
     ap₂ (λ (b : Bool) (n : ℕ). is_some s.header && not b && (k == n + 1)) (unfinished-stack s.stack)
     (length-map s.stack forget_segment)
@@ -82,6 +82,10 @@ depth-forgets s = length-map s.stack forget_segment
 pub names_other-forgets : (id : ℕ) (s : StateData)
     → names_other id (forget_state s) ≡ names_other id s
 names_other-forgets id s = refl
+
+pub names_other_board-forgets : (unique : List ℕ) (s : StateData)
+    → names_other_board unique (forget_state s) ≡ names_other_board unique s
+names_other_board-forgets unique s = refl
 
 pub is_unfinished-forgets : (s : StateData) → is_unfinished (forget_state s) ≡ is_unfinished s
 is_unfinished-forgets s = unfinished-stack s.stack
@@ -104,11 +108,12 @@ intent_of-forgets s = at s.stack
     at [] = refl
     at (segment ∷ below) = refl
 
-pub begin_entries-forgets : (id : ℕ) (s : StateData)
-    → begin_entries id (forget_state s) ≡ begin_entries id s
-begin_entries-forgets id s =
-    ap (λ (n : ℕ). if is_none s.header then Names 2 id ∷ Opens (n + 1) ∷ [] else Opens (n + 1) ∷ [])
-    (depth-forgets s)
+pub begin_entries-forgets : (id : ℕ) (unique : List ℕ) (s : StateData)
+    → begin_entries id unique (forget_state s) ≡ begin_entries id unique s
+begin_entries-forgets id unique s =
+    ap (λ (n : ℕ). if is_none s.header
+    then Names (version_for unique) id unique ∷ Opens (n + 1) ∷ []
+    else Opens (n + 1) ∷ []) (depth-forgets s)
 
 -- the pages of the newest segment
 numbers-forget : (pages : List Kept)

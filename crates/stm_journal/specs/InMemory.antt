@@ -9,7 +9,7 @@ use Rattle.stm_journal.specs.Blank.{blank}
 
 -- an entry without the bytes of its page
 abbrev pub forget_entry : Entry → Entry
-forget_entry (Names version id) = Names version id
+forget_entry (Names version id unique) = Names version id unique
 forget_entry (Opens k) = Opens k
 forget_entry (Keeps n bytes) = Keeps n (blank (length bytes))
 forget_entry (Erases n) = Erases n
@@ -19,7 +19,7 @@ forget_entry (Undoes k) = Undoes k
 
 -- an entry with the bytes of its page
 abbrev pub filled : Entry → List ℕ → Entry
-filled (Names version id) held = Names version id
+filled (Names version id unique) held = Names version id unique
 filled (Opens k) held = Opens k
 filled (Keeps n bytes) held = Keeps n held
 filled (Erases n) held = Erases n

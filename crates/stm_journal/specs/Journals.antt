@@ -1,17 +1,19 @@
 -- What a journal's bytes come to, and how a journal in memory is tied to them.
 use Rattle.std.specs.Prelude.{◌≡◌, ◌⊎◌, ℕ, ◌+◌, ◌-◌, ◌^◌, ◌<◌, ◌≤◌, min, Bool, true, false, nat_lt}
 use Rattle.std.specs.Prelude.{if◌then◌else◌, List, [], ◌∷◌, ◌++◌, length, fold, flat_map, Option}
-use Rattle.std.specs.Prelude.{Some, None, is_none}
+use Rattle.std.specs.Prelude.{Some, None, is_none, ◌==◌, IsTrue}
 use Rattle.stm_journal.specs.declared.entry.Entry.{Entry}
 use Rattle.stm_journal.specs.declared.entry.Entry.TheVariants.{Names, Opens, Keeps, Erases}
 use Rattle.stm_journal.specs.declared.entry.Entry.TheVariants.{Programs, Ends, Undoes}
 use Rattle.stm_journal.specs.declared.fault.JournalFault.{JournalFault}
 use Rattle.stm_journal.specs.declared.fault.JournalFault.TheVariants.{File, Bad, OtherDevice}
-use Rattle.stm_journal.specs.declared.fault.JournalFault.TheVariants.{Memory}
+use Rattle.stm_journal.specs.declared.fault.JournalFault.TheVariants.{OtherBoard, Memory}
 use Rattle.hex.specs.Hex.{IsBytes}
+use Rattle.stm_wire.specs.UniqueId.{is_unique_length}
 use Rattle.stm_journal.specs.Text.{text_of, is_void}
 use Rattle.stm_journal.specs.Entries.{entry_of, line_of, line_text}
 use Rattle.stm_journal.specs.States.{StateData, empty_state, allows, after_entry, names_other}
+use Rattle.stm_journal.specs.States.{names_other_board}
 use Rattle.stm_journal.specs.InMemory.{forget_entry, forget_state}
 
 -- every line that isn't void is allowed in its place, or the first that isn't has this number
@@ -106,20 +108,34 @@ past_entry l e =
 abbrev pub loaded_after : List Entry → Loaded → Loaded
 loaded_after entries l = fold past_entry (past_mark l) entries
 
--- what begins a segment: its line, and before it a header of version 2 where there is none
-abbrev pub begin_entries : ℕ → StateData → List Entry
-begin_entries id s =
-    if is_none s.header then Names 2 id ∷ Opens (length s.stack + 1) ∷ []
+-- a new journal names its board where that is known
+abbrev pub version_for : List ℕ → ℕ
+version_for unique = if length unique == 0 then 2 else 3
+
+-- what a new journal begins with
+abbrev pub first_entries : ℕ → List ℕ → List Entry
+first_entries id unique = Names (version_for unique) id unique ∷ Opens 1 ∷ []
+
+-- what begins a segment: its line, and before it a header where there is none
+abbrev pub begin_entries : ℕ → List ℕ → StateData → List Entry
+begin_entries id unique s =
+    if is_none s.header
+    then Names (version_for unique) id unique ∷ Opens (length s.stack + 1) ∷ []
     else Opens (length s.stack + 1) ∷ []
 
 -- a journal in memory of no lines
 abbrev pub empty_loaded : Loaded
 empty_loaded = record { state = empty_state; lines = 0; size = 0; is_torn = false }
 
--- an entry whose line reads back: a header is of version 1 or 2, numbers are at most 65,535, bytes
--- are bytes, a page has some
+-- a header is of version 1 or 2 and has no unique id, or of version 3 and has one
+abbrev pub IsHeaderOf : ℕ → List ℕ → Type 0
+IsHeaderOf version unique =
+    (((version ≡ 1) ⊎ (version ≡ 2)) × (unique ≡ []))
+    ⊎ ((version ≡ 3) × (IsTrue (is_unique_length (length unique)) × IsBytes unique))
+
+-- an entry whose line reads back: numbers are at most 65,535, bytes are bytes, a page has some
 abbrev pub IsPrintable : Entry → Type 0
-IsPrintable (Names version id) = ((version ≡ 1) ⊎ (version ≡ 2)) × (id ≤ 65535)
+IsPrintable (Names version id unique) = IsHeaderOf version unique × (id ≤ 65535)
 IsPrintable (Opens k) = k ≤ 65535
 IsPrintable (Keeps n bytes) = (n ≤ 65535) × ((0 < length bytes) × IsBytes bytes)
 IsPrintable (Erases n) = n ≤ 65535
@@ -133,14 +149,21 @@ abbrev pub LeavesLoaded : Loaded → Loaded → JournalFault → Type 0
 LeavesLoaded l l2 File = Unit {0}
 LeavesLoaded l l2 (Bad line) = ⊥
 LeavesLoaded l l2 OtherDevice = ⊥
+LeavesLoaded l l2 OtherBoard = ⊥
 LeavesLoaded l l2 Memory = l2 ≡ l
 
--- the same of a call that begins a segment, which another device's journal refuses
-abbrev pub LeavesUnbegun : ℕ → Loaded → Loaded → JournalFault → Type 0
-LeavesUnbegun id l l2 File = names_other id l.state ≡ false
-LeavesUnbegun id l l2 (Bad line) = ⊥
-LeavesUnbegun id l l2 OtherDevice = (names_other id l.state ≡ true) × (l2 ≡ l)
-LeavesUnbegun id l l2 Memory = (names_other id l.state ≡ false) × (l2 ≡ l)
+-- the header, where there is one, names this device and no other board
+abbrev pub NamesThis : ℕ → List ℕ → StateData → Type 0
+NamesThis id unique s = (names_other id s ≡ false) × (names_other_board unique s ≡ false)
+
+-- the same of a call that begins a segment, which a journal of another device or board refuses
+abbrev pub LeavesUnbegun : ℕ → List ℕ → Loaded → Loaded → JournalFault → Type 0
+LeavesUnbegun id unique l l2 File = NamesThis id unique l.state
+LeavesUnbegun id unique l l2 (Bad line) = ⊥
+LeavesUnbegun id unique l l2 OtherDevice = (names_other id l.state ≡ true) × (l2 ≡ l)
+LeavesUnbegun id unique l l2 OtherBoard =
+    (names_other id l.state ≡ false) × ((names_other_board unique l.state ≡ true) × (l2 ≡ l))
+LeavesUnbegun id unique l l2 Memory = NamesThis id unique l.state × (l2 ≡ l)
 
 -- a journal in memory and the bytes of an append that makes it so
 pub record Prepares (entries : List Entry) (l l2 : Loaded) (bytes : List ℕ) : Type 0 where

@@ -6,7 +6,7 @@ use Rattle.stm_wire.specs.Device.{LosesOwed}
 use Rattle.stm_wire.specs.Moments.{LeavesOnly}
 use Rattle.stm_journal.specs.declared.fault.JournalFault.{JournalFault}
 use Rattle.stm_journal.specs.declared.fault.JournalFault.TheVariants.{File, Bad, OtherDevice}
-use Rattle.stm_journal.specs.declared.fault.JournalFault.TheVariants.{Memory}
+use Rattle.stm_journal.specs.declared.fault.JournalFault.TheVariants.{OtherBoard, Memory}
 use Rattle.stm_journal.specs.Text.{text_of}
 use Rattle.stm_journal.specs.Journals.{Loaded, capped, journal_of, good, bad}
 use Rattle.stm_journal.specs.States.{StateData}
@@ -27,6 +27,7 @@ BadLine y old File = ⊥
 BadLine y old (Bad line) =
     after_summary (capped (old.lines + 1)) old.size (good old.state) y ≡ bad line
 BadLine y old OtherDevice = ⊥
+BadLine y old OtherBoard = ⊥
 BadLine y old Memory = Unit {0}
 
 -- these bytes were read: their whole lines are good, and this is the summary of their torn tail
@@ -43,12 +44,14 @@ abbrev pub StopsAt : List ℕ → JournalFault → Type 0
 StopsAt bytes File = ⊥
 StopsAt bytes (Bad line) = (rest : List ℕ) → journal_of (bytes ++ rest) ≡ bad line
 StopsAt bytes OtherDevice = ⊥
+StopsAt bytes OtherBoard = ⊥
 StopsAt bytes Memory = Unit {0}
 
 abbrev pub IsLoadFault : JournalFault → Type 0
 IsLoadFault File = ⊥
 IsLoadFault (Bad line) = Unit {0}
 IsLoadFault OtherDevice = ⊥
+IsLoadFault OtherBoard = ⊥
 IsLoadFault Memory = Unit {0}
 
 -- the bytes that were read, and these after them

@@ -6,7 +6,7 @@ use Rattle.stm_wire.specs.declared.intent.Intent.{Intent}
 use Rattle.stm_journal.specs.declared.kept.Kept.{Kept}
 use Rattle.stm_journal.specs.States.{StateData, SegmentData, newest_is_open, newest_keeps}
 use Rattle.stm_journal.specs.States.{newest_may_keep, is_unfinished, intent_of, kept_at, page_bytes}
-use Rattle.stm_journal.specs.States.{on_newest, keeping, fresh_segment}
+use Rattle.stm_journal.specs.States.{on_newest, keeping, fresh_segment, names_other_board}
 use Rattle.stm_journal.specs.KeptPlaces.{kept_entry, kept_count}
 use Rattle.stm_journal.specs.Flashes.{flashes_before_segments}
 
@@ -43,9 +43,10 @@ pub record KeepsSame (old new : StateData) : Type 0 where
   pub flashes : (chip : ChipData) (flash : List ℕ)
       → flashes_before_segments chip new.stack flash ≡ flashes_before_segments chip old.stack flash
 
--- A segment has begun above the others, for the device with this id.
-pub record HasBegun (id : ℕ) (old new : StateData) : Type 0 where
+-- A segment has begun above the others, for the device with this id and unique id.
+pub record HasBegun (id : ℕ) (unique : List ℕ) (old new : StateData) : Type 0 where
   pub named : option_map (λ header. header.id) new.header ≡ Some id
+  pub board : names_other_board unique new ≡ false
   pub stack : new.stack ≡ fresh_segment ∷ old.stack
   pub depth : length new.stack ≡ length old.stack + 1
   pub is_open : IsTrue (newest_is_open new)

@@ -2,7 +2,7 @@
 use Rattle.std.specs.Prelude.{◌≡◌, ℕ, ◌+◌, ◌-◌, ◌*◌, ◌<◌, ◌≤◌, Bool, true, false, not, ◌&&◌, ◌==◌}
 use Rattle.std.specs.Prelude.{nat_lt, nat_le, if◌then◌else◌, List, [], ◌∷◌, ◌++◌, length, drop}
 use Rattle.std.specs.Prelude.{reverse, Option, Some, None, option_map, option_and_then, is_none}
-use Rattle.std.specs.Prelude.{is_some, IsSome, slice_get}
+use Rattle.std.specs.Prelude.{is_some, IsSome, slice_get, bytes_eq}
 use Rattle.std.specs.List.{list_any, find}
 use Rattle.stm_wire.specs.declared.intent.Intent.{Intent}
 use Rattle.stm_wire.specs.declared.intent.Intent.TheVariants.{Erase, Program}
@@ -96,7 +96,7 @@ stage_with i (Returning old) = Returning i
 
 -- the line rules: which entry may stand after these lines
 abbrev pub allows : StateData → Entry → Bool
-allows s (Names version id) = is_none s.header
+allows s (Names version id unique) = is_none s.header
 allows s (Opens k) = is_some s.header && not (is_unfinished s) && (k == length s.stack + 1)
 allows s (Keeps n bytes) = is_some s.header && newest_may_keep n s
 allows s (Erases n) = is_some s.header && newest_keeps n s
@@ -108,6 +108,23 @@ allows s (Undoes k) = is_some s.header && nat_lt 0 (length s.stack) && (k == len
 abbrev pub names_other : ℕ → StateData → Bool
 names_other id s =
     elim s.header as (λ _. Bool) [ None ↦ false | Some header ↦ not (header.id == id) ]
+
+-- the unique id that a header of version 3 has
+abbrev pub header_board : JournalHeader → Option (List ℕ)
+header_board header = if header.version == 3 then Some header.unique else None
+
+-- the board that the header names, by its unique id
+abbrev pub board_of : StateData → Option (List ℕ)
+board_of s = option_and_then header_board s.header
+
+-- this board is named, and isn't the one with this unique id
+abbrev pub is_other_board : List ℕ → Option (List ℕ) → Bool
+is_other_board unique None = false
+is_other_board unique (Some board) = not (bytes_eq board unique)
+
+-- the header names another board
+abbrev pub names_other_board : List ℕ → StateData → Bool
+names_other_board unique s = is_other_board unique (board_of s)
 
 abbrev pub on_newest : (SegmentData → SegmentData) → List SegmentData → List SegmentData
 on_newest change [] = []
@@ -134,8 +151,10 @@ ending segment = record segment { stage = Ended }
 -- what an entry makes of the state, where it is allowed; it stands in the line with this number,
 -- whose LF is at this place
 abbrev pub after_entry : ℕ → ℕ → StateData → Entry → StateData
-after_entry line ends s (Names version id) =
-    record s { header = Some (record { version = version; id = id; line = line }) }
+after_entry line ends s (Names version id unique) =
+    record s {
+      header = Some (record { version = version; id = id; unique = unique; line = line });
+    }
 after_entry line ends s (Opens k) = record s { stack = fresh_segment ∷ s.stack }
 after_entry line ends s (Keeps n bytes) =
     record s { stack = on_newest (keeping (kept_in line ends n bytes)) s.stack }

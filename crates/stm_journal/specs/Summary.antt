@@ -11,7 +11,7 @@ use Rattle.stm_journal.specs.Entries.{is_upper_digit, number_of, behind, entry_o
 use Rattle.stm_journal.specs.Blank.{blank}
 use Rattle.stm_journal.specs.InMemory.{forget_entry}
 
--- a line so far; no line but a page's has more than 17 bytes
+-- a line so far; no line but a page's has more than 82 bytes
 pub record Summary : Type 0 where
   pub prefix : List ℕ
   pub size : ℕ
@@ -20,9 +20,9 @@ pub record Summary : Type 0 where
 
 abbrev pub summary_of : List ℕ → Summary
 summary_of line = record {
-  prefix = take 17 line;
+  prefix = take 82 line;
   size = length line;
-  is_upper = list_all is_upper_digit (drop 17 line);
+  is_upper = list_all is_upper_digit (drop 82 line);
   last = get_or line (length line - 1) 0;
 }
 
@@ -30,9 +30,9 @@ summary_of line = record {
 abbrev pub extended : List ℕ → Summary → Summary
 extended more s =
     record {
-      prefix = s.prefix ++ take (17 - length s.prefix) more;
+      prefix = s.prefix ++ take (82 - length s.prefix) more;
       size = s.size + length more;
-      is_upper = s.is_upper && list_all is_upper_digit (drop (17 - length s.prefix) more);
+      is_upper = s.is_upper && list_all is_upper_digit (drop (82 - length s.prefix) more);
       last = get_or more (length more - 1) 0;
     }
 
@@ -59,8 +59,8 @@ void_by s = s.last == 33
 
 abbrev pub said_by : Summary → Option Entry
 said_by s =
-    if nat_le s.size 17 then option_map forget_entry (entry_of s.prefix)
-    else if s.is_upper then long_page s.prefix (s.size - 17) else None
+    if nat_le s.size 82 then option_map forget_entry (entry_of s.prefix)
+    else if s.is_upper then long_page s.prefix (s.size - 82) else None
 
 -- the summary decides the line
 abbrev pub SummaryDecides : Type 0

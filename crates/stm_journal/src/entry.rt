@@ -1,11 +1,13 @@
 // What a line of the journal says: public, since the definitions of journals are in these words.
 use crate::PageBytes;
+use stm_wire::UniqueId;
 
 /// What a line of the journal says.
 #[derive(Drop)]
 pub enum Entry {
-    /// `stmjournal V ID`: the journal has this version, and is of the device with this product id.
-    Names(u8, u16),
+    /// `stmjournal V ID`, or `stmjournal 3 ID UNIQUE`: the journal has this version, and is of the
+    /// device with this product id and, in version 3, with this unique id.
+    Names(u8, u16, UniqueId),
     /// `open K`: segment K begins.
     Opens(u16),
     /// `page N HEX`: page N held these bytes; in memory only their number is known.

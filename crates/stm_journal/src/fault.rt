@@ -19,6 +19,9 @@ pub enum JournalFault {
     /// The header names another device.
     #[error("journal of another device")]
     OtherDevice,
+    /// The header names another board: one with another unique id.
+    #[error("journal of another board")]
+    OtherBoard,
     /// There was no memory.
     #[error("out of memory")]
     Memory,

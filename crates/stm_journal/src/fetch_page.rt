@@ -11,7 +11,7 @@ ghost use Rattle.stm_journal.specs.Journals.{IsLoaded};
 ghost use Rattle.stm_journal.specs.PageFetching.{Brings, FillsFrom, FetchesBytes, SaysAt};
 ghost use Rattle.stm_journal.specs.Calls.{HasJournalCause, AreFetches, IsFetchAnswer, FetchesPage};
 
-use crate::line::are_all_upper;
+use crate::line::decode_upper;
 use crate::load::fetch;
 use crate::{Journal, JournalFault, PagePlace};
 use stm_wire::Rig;
@@ -40,16 +40,6 @@ fn fill<R: Rig>(rig: &mut R, at: u64, buf: &mut [u8]) -> Result<bool, JournalFau
         done += n;
     }
     Ok(true)
-}
-
-/// The bytes of upper-case digits, two a byte, where they are such and so many.
-fn decode_upper(digits: &[u8], out: &mut [u8]) -> bool
-    ensures decoded { (bytes : List ℕ) → list_all is_upper_digit digits.now ≡ true
-        → decode_sized digits.now (length out.old) ≡ Ok bytes
-        → (result ≡ true) × (out.new ≡ bytes) }
-    ensures said { result ≡ true → digits.now ≡ encode_upper out.new }
-{
-    are_all_upper(digits) && hex::decode_to_slice(digits, out).is_ok()
 }
 
 /// Reads the digits of a few bytes of a page, from a place on.

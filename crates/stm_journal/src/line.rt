@@ -1,15 +1,19 @@
 // Reading a line of the journal, without the bytes of a page.
-ghost use Rattle.std.specs.Prelude.{◌≡◌, ◌==◌, ◌&&◌, ◌||◌, ◌+◌, ◌<◌, ◌^◌, nat_le, nat_lt, length};
+ghost use Rattle.std.specs.Prelude.{◌≡◌, ◌==◌, ◌&&◌, ◌||◌, ◌+◌, ◌<◌, ◌≤◌, ◌^◌, nat_le, nat_lt};
+ghost use Rattle.std.specs.Prelude.{length, true, Ok};
 ghost use Rattle.std.specs.Prelude.{option_map, option_and_then, codes, Some, None, List, ℕ};
 ghost use Rattle.std.specs.Prelude.{Option, fold, position, take, drop, IsTrue};
 ghost use Rattle.std.specs.List.{list_all};
+ghost use Rattle.hex.specs.Hex.{decode_sized, encode_upper};
 ghost use Rattle.stm_journal.specs.InMemory.{forget_entry};
 ghost use Rattle.stm_journal.specs.Entries.{is_upper_digit, are_upper_digits, number_of_pair};
-ghost use Rattle.stm_journal.specs.Entries.{page_at, with_digit, number_of, hex_bytes_of};
+ghost use Rattle.stm_journal.specs.Entries.{page_at, with_digit, number_of, hex_bytes_of, id_of};
+ghost use Rattle.stm_journal.specs.Entries.{unique_of, board_at, board_header_of};
 ghost use Rattle.stm_journal.specs.Entries.{header_of, page_of, numbered_entry_of, entry_of};
 ghost use Rattle.stm_journal.specs.Summary.{page_with, long_at, long_page};
 
 use crate::{Entry, PageBytes};
+use stm_wire::UniqueId;
 
 fn is_upper_digit(c: u8) -> bool
     ensures { result ≡ is_upper_digit c }
@@ -61,6 +65,16 @@ fn hex_length(digits: &[u8]) -> Option<u64>
     }
 }
 
+/// The bytes of upper-case digits, two a byte, where they are such and so many.
+pub(crate) fn decode_upper(digits: &[u8], out: &mut [u8]) -> bool
+    ensures decoded { (bytes : List ℕ) → list_all is_upper_digit digits.now ≡ true
+        → decode_sized digits.now (length out.old) ≡ Ok bytes
+        → (result ≡ true) × (out.new ≡ bytes) }
+    ensures said { result ≡ true → digits.now ≡ encode_upper out.new }
+{
+    are_all_upper(digits) && hex::decode_to_slice(digits, out).is_ok()
+}
+
 fn number_of_pair(bytes: &[u8]) -> Option<u16>
     ensures { result ≡ number_of_pair bytes.now }
 {
@@ -73,7 +87,7 @@ fn number_of_pair(bytes: &[u8]) -> Option<u16>
 /// The number of two bytes, as four upper-case digits.
 fn id_of_digits(digits: &[u8]) -> Option<u16>
     requires { IsTrue (list_all is_upper_digit digits.now) }
-    ensures { result ≡ option_and_then number_of_pair (hex_bytes_of digits.now) }
+    ensures { result ≡ id_of digits.now }
 {
     let mut pair = [0u8; 2];
     match hex::decode_to_slice(digits, &mut pair) {
@@ -82,11 +96,11 @@ fn id_of_digits(digits: &[u8]) -> Option<u16>
     }
 }
 
-fn id_of(rest: &[u8]) -> Option<u16>
-    ensures { result ≡ option_and_then number_of_pair (hex_bytes_of rest.now) }
+fn id_of(digits: &[u8]) -> Option<u16>
+    ensures { result ≡ id_of digits.now }
 {
-    if are_all_upper(rest) {
-        id_of_digits(rest)
+    if are_all_upper(digits) {
+        id_of_digits(digits)
     } else {
         None
     }
@@ -96,7 +110,53 @@ fn header_of(version: u8, rest: &[u8]) -> Option<Entry>
     ensures { result ≡ option_map forget_entry (header_of version rest.now) }
 {
     match id_of(rest) {
-        Some(id) => Some(Entry::Names(version, id)),
+        Some(id) => Some(Entry::Names(version, id, UniqueId::none())),
+        None => None,
+    }
+}
+
+/// The unique id of upper-case digits, which say as many bytes as there is room for.
+fn unique_in(digits: &[u8], room: &mut [u8]) -> Option<UniqueId>
+    requires { option_map (λ bytes. length bytes) (hex_bytes_of digits.now)
+        ≡ Some (length room.old) }
+    ensures { result ≡ unique_of digits.now }
+{
+    if decode_upper(digits, room) {
+        UniqueId::of(room)
+    } else {
+        None
+    }
+}
+
+/// A unique id: the upper-case digits of 8 to 32 bytes.
+fn unique_of(digits: &[u8]) -> Option<UniqueId>
+    ensures { result ≡ unique_of digits.now }
+{
+    match hex_length(digits) {
+        Some(count) => {
+            if count <= 32 {
+                let mut bytes = [0u8; 32];
+                unique_in(digits, &mut bytes[..count as usize])
+            } else {
+                None
+            }
+        }
+        None => None,
+    }
+}
+
+/// What follows the word of a header of version 3.
+fn board_header_of(rest: &[u8]) -> Option<Entry>
+    ensures { result ≡ option_map forget_entry (board_header_of rest.now) }
+{
+    match first_space(rest) {
+        Some(space) => match id_of(&rest[..space]) {
+            Some(id) => match unique_of(&rest[space + 1..]) {
+                Some(unique) => Some(Entry::Names(3, id, unique)),
+                None => None,
+            },
+            None => None,
+        },
         None => None,
     }
 }
@@ -157,6 +217,9 @@ pub(crate) fn entry_of(line: &[u8]) -> Option<Entry>
     }
     if let Some(rest) = line.strip_prefix(b"stmjournal 2 ") {
         return header_of(2, rest);
+    }
+    if let Some(rest) = line.strip_prefix(b"stmjournal 3 ") {
+        return board_header_of(rest);
     }
     numbered_entry_of(line)
 }

@@ -135,7 +135,7 @@ impl State {
         ensures { result ≡ allows self.now entry.now }
     {
         match entry {
-            Entry::Names(_, _) => self.header().is_none(),
+            Entry::Names(_, _, _) => self.header().is_none(),
             Entry::Opens(k) => self.header().is_some()
                 && !self.is_unfinished()
                 && u32::from(*k) == self.depth() + 1,
@@ -233,8 +233,13 @@ impl State {
         ensures err { OnErr result (self.new ≡ self.old) }
     {
         match entry {
-            Entry::Names(version, id) => {
-                self.name(JournalHeader { version, id, line });
+            Entry::Names(version, id, unique) => {
+                self.name(JournalHeader {
+                    version,
+                    id,
+                    unique,
+                    line,
+                });
                 Ok(())
             }
             Entry::Opens(_) => {

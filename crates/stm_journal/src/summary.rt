@@ -7,6 +7,9 @@ use crate::line::{are_all_upper, entry_of, long_page_of};
 use std::alloc::{AllocError, Global};
 use std::marker::Model;
 
+/// How many bytes of a line are kept: the longest header's. Only a page's line is longer.
+const PREFIX: usize = 82;
+
 /// A line so far.
 #[derive(Drop)]
 pub(crate) struct LineSummary {
@@ -29,7 +32,7 @@ impl Model for LineSummary {
       last = s.last;
     } };
 
-    ghost invariant = { λ s. length s.prefix.items ≤ 17 };
+    ghost invariant = { λ s. length s.prefix.items ≤ 82 };
 }
 
 impl LineSummary {
@@ -53,7 +56,7 @@ impl LineSummary {
         if more.is_empty() {
             return Ok(());
         }
-        let room = 17usize.saturating_sub(self.prefix.len());
+        let room = PREFIX.saturating_sub(self.prefix.len());
         let cut = if more.len() < room { more.len() } else { room };
         self.prefix.extend_from_slice(&more[..cut])?;
         self.is_upper = self.is_upper && are_all_upper(&more[cut..]);
@@ -87,10 +90,10 @@ impl LineSummary {
     pub(crate) fn entry(&self) -> Option<Entry>
         ensures { result ≡ said_by self.now }
     {
-        if self.size <= 17 {
+        if self.size <= PREFIX as u64 {
             entry_of(&self.prefix)
         } else if self.is_upper {
-            long_page_of(&self.prefix, self.size - 17)
+            long_page_of(&self.prefix, self.size - PREFIX as u64)
         } else {
             None
         }

@@ -1,10 +1,11 @@
 // What a call adds to a journal: lines that are prepared in memory and then appended at once.
 ghost use Rattle.std.specs.Prelude.{◌≡◌, ◌∷◌, [], length, OnOk, IfOk, IfErr, IsTrue};
 ghost use Rattle.stm_wire.specs.Dialogue.{GoesOn};
+ghost use Rattle.stm_wire.specs.UniqueId.{IsUniqueId};
 ghost use Rattle.stm_journal.specs.States.{empty_state, allows};
 ghost use Rattle.stm_journal.specs.InMemory.{forget_entry, filled};
 ghost use Rattle.stm_journal.specs.Journals.{IsLoaded, IsPrintable, mark, added_bytes, past_mark};
-ghost use Rattle.stm_journal.specs.Journals.{loaded_after, LeavesLoaded};
+ghost use Rattle.stm_journal.specs.Journals.{loaded_after, LeavesLoaded, first_entries};
 ghost use Rattle.stm_journal.specs.Calls.{HasJournalCause, AppendsOnce, Appends, InText};
 ghost use Rattle.stm_journal.specs.Newest.{HasBegun};
 ghost use Rattle.stm_journal.specs.Added.{HasAdded};
@@ -13,7 +14,7 @@ use crate::append::append;
 use crate::print::print;
 use crate::{Entry, Journal, JournalFault, JournalHeader};
 use std::alloc::AllocError;
-use stm_wire::Rig;
+use stm_wire::{Rig, UniqueId};
 
 impl Journal {
     /// The number of whole lines, where a torn tail is made one.
@@ -77,18 +78,19 @@ impl Journal {
 
     /// Makes it what it is after the header and the line of the first segment, and
     /// gives the bytes of these.
-    fn prepare_first(&mut self, id: u16) -> Result<Vec<u8>, JournalFault>
+    fn prepare_first(&mut self, id: u16, unique: &UniqueId) -> Result<Vec<u8>, JournalFault>
         requires { self.old.state ≡ empty_state }
         ensures text { IfOk result
             (λ text. text.items ≡ added_bytes self.old.is_torn
-            (Entry.Names 2 id ∷ Entry.Opens 1 ∷ [])) }
+            (first_entries id unique.now)) }
         ensures after { OnOk result
-            (self.new ≡ loaded_after (Entry.Names 2 id ∷ Entry.Opens 1 ∷ []) self.old) }
+            (self.new ≡ loaded_after (first_entries id unique.now) self.old) }
         ensures err { IfErr result (λ e. (e ≡ JournalFault.Memory) × (self.new ≡ self.old)) }
     {
         let mut text = self.marked_text()?;
         let marked = text.len();
-        let header = Entry::Names(2, id);
+        let version = if unique.is_none() { 2 } else { 3 };
+        let header = Entry::Names(version, id, *unique);
         print(&mut text, self.alloc, &header, &[])?;
         let named = text.len();
         let first = Entry::Opens(1);
@@ -98,8 +100,9 @@ impl Journal {
         self.state.open(
             self.alloc,
             Some(JournalHeader {
-                version: 2,
+                version,
                 id,
+                unique: *unique,
                 line,
             }),
         )?;
@@ -137,22 +140,28 @@ impl Journal {
     }
 
     /// Adds the header and the line of the first segment.
-    pub(super) fn add_first<R: Rig>(&mut self, rig: &mut R, id: u16) -> Result<(), JournalFault>
-        requires { self.old.state ≡ empty_state }
+    pub(super) fn add_first<R: Rig>(
+        &mut self,
+        rig: &mut R,
+        id: u16,
+        unique: &UniqueId,
+    ) -> Result<(), JournalFault>
+        requires fresh { self.old.state ≡ empty_state }
+        requires told { IsUniqueId unique.now }
         ensures after { OnOk result
-            (self.new ≡ loaded_after (Entry.Names 2 id ∷ Entry.Opens 1 ∷ []) self.old) }
+            (self.new ≡ loaded_after (first_entries id unique.now) self.old) }
         ensures left { IfErr result (LeavesLoaded self.old self.new) }
         ensures cause { HasJournalCause (R.view rig.old) (R.view rig.new) result }
         ensures calls { let old = R.view rig.old in let new = R.view rig.new in
-            let added = added_bytes self.old.is_torn (Entry.Names 2 id ∷ Entry.Opens 1 ∷ []) in
+            let added = added_bytes self.old.is_torn (first_entries id unique.now) in
             GoesOn (AppendsOnce added result) old.calls new.calls }
         ensures honest { let old = R.view rig.old in let new = R.view rig.new in
             old.is_honest → IsLoaded self.old old.journal
-            → Appends (Entry.Names 2 id ∷ Entry.Opens 1 ∷ []) self.old self.new old new result }
+            → Appends (first_entries id unique.now) self.old self.new old new result }
         ensures text { (R.view rig.old).is_honest → IsLoaded self.old (R.view rig.old).journal
-            → OnOk result (InText (HasBegun id) (R.view rig.old).journal (R.view rig.new).journal) }
+            → OnOk result (InText (HasBegun id unique.now) (R.view rig.old).journal (R.view rig.new).journal) }
     {
-        let text = self.prepare_first(id)?;
+        let text = self.prepare_first(id, unique)?;
         append(rig, &text)
     }
 }

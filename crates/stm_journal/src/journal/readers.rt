@@ -1,11 +1,24 @@
 // What a journal answers of its segments and its header.
 ghost use Rattle.std.specs.Prelude.{◌≡◌, nat_lt, length, option_map, IfSome};
 ghost use Rattle.stm_journal.specs.States.{is_unfinished, intent_of, kept_at, segment_of, IsSound};
+ghost use Rattle.stm_journal.specs.States.{board_of, header_board};
 ghost use Rattle.stm_journal.specs.KeptPlaces.{page_place, kept_place, kept_count, entries_of};
 ghost use Rattle.stm_journal.specs.KeptPlaces.{IsPlaceIn};
 ghost use Rattle.stm_journal.specs.Journals.{capped};
 
-use crate::{Intent, Journal, PagePlace, Stage};
+use crate::{Intent, Journal, JournalHeader, PagePlace, Stage};
+use stm_wire::UniqueId;
+
+/// The unique id that a header of version 3 has.
+fn board_of_header(header: &JournalHeader) -> Option<UniqueId>
+    ensures { result ≡ header_board header.now }
+{
+    if header.version == 3 {
+        Some(header.unique)
+    } else {
+        None
+    }
+}
 
 impl Journal {
     /// Where page `n` stands in the journal, if segment `k`, counted from the oldest,
@@ -100,6 +113,16 @@ impl Journal {
     {
         match self.state.header() {
             Some(header) => Some(header.id),
+            None => None,
+        }
+    }
+
+    /// The unique id of the device, where the header names it: in version 3.
+    pub fn unique(&self) -> Option<UniqueId>
+        ensures { result ≡ board_of self.now.state }
+    {
+        match self.state.header() {
+            Some(header) => board_of_header(&header),
             None => None,
         }
     }

@@ -4,7 +4,7 @@ use Rattle.std.proofs.lemmas.List.{drop-drop, length-take-le}
 use Rattle.stm_journal.specs.Loading.{Fetches}
 use Rattle.stm_journal.proofs.Fetching.{GoesOn-fetches}
 use Rattle.stm_journal.proofs.PageReads.{looks-more, fetched-looks, filled-behind, filled-further}
-use Rattle.stm_journal.proofs.Bringing.{brings-more, brings-none, brings-same}
+use Rattle.stm_journal.proofs.Bringing.{brings-more}
 use Rattle.stm_journal.proofs.fetch_page.fill.Goals as goal
 
 pub returns-in_err-n-clause-calls : goal.returns-in_err-n-clause-calls

@@ -1,7 +1,7 @@
 use Rattle.std.proofs.Common.{refl, sym, ◌∙◌, length}
 use Rattle.hex.specs.Hex.{decode_sized}
 use Rattle.stm_journal.proofs.Bringing.{decoded-again}
-use Rattle.stm_journal.proofs.fetch_page.decode_upper.Goals as goal
+use Rattle.stm_journal.proofs.line.decode_upper.Goals as goal
 
 pub returns-then-are_all_upper-clause-said : goal.returns-then-are_all_upper-clause-said
 returns-then-are_all_upper-clause-said c ok =
