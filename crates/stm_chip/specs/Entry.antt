@@ -1,11 +1,13 @@
 -- What an entry of a chip table says, and the chip that it means.
 use Rattle.std.specs.Prelude.{ℕ, ℤ, pos, ◌≡◌, ◌+◌, ◌^◌, ◌<◌, ◌≤◌, List, [], ◌∷◌, Option, None, Some}
-use Rattle.std.specs.Prelude.{codes, option_and_then, length, replicate, All}
+use Rattle.std.specs.Prelude.{codes, option_and_then, option_map, length, replicate, All}
 use Rattle.std.specs.List.{flat_map}
 use Rattle.toml.specs.Data.{Data, Items, no_items, item, as_array, as_integer, as_str, get, at}
 use Rattle.stm_wire.specs.Chip.{ChipData, IsChip}
 use Rattle.stm_wire.specs.declared.chip.EraseKind.{EraseKind}
 use Rattle.stm_wire.specs.declared.chip.EraseKind.TheVariants.{Page, Extended}
+use Rattle.stm_wire.specs.declared.places.BoardPlaces.{BoardPlaces}
+use Rattle.stm_wire.specs.declared.places.UniquePlace.{UniquePlace}
 
 -- how many pages, and of how many bytes
 abbrev pub Run : Type 0
@@ -29,6 +31,22 @@ unfoldable pub runs_of : Items → Option (List Run)
 runs_of no_items = Some []
 runs_of (item d ds) = with_run (run_of d) (runs_of ds)
 
+-- where the unique id of a device stands: its address, and how many bytes it has
+abbrev pub UniqueKey : Type 0
+UniqueKey = ℤ × ℤ
+
+-- what the keys say that may be absent of where a device tells its board
+pub record PlaceKeys : Type 0 where
+  pub unique : Option UniqueKey
+  pub size_at : Option ℤ
+
+abbrev pub places_with : Option UniqueKey → Option ℤ → PlaceKeys
+places_with unique size_at = record { unique = unique; size_at = size_at }
+
+abbrev pub places_from : Option (Option UniqueKey) → Option (Option ℤ) → Option PlaceKeys
+places_from (Some unique) (Some size_at) = Some (places_with unique size_at)
+places_from _ _ = None
+
 -- the values of a chip's keys
 pub record Keys : Type 0 where
   pub id : ℤ
@@ -36,21 +54,44 @@ pub record Keys : Type 0 where
   pub runs : List Run
   pub erase : List ℕ
   pub erased : ℤ
+  pub places : PlaceKeys
 
-abbrev pub keys_with : ℤ → ℤ → List Run → List ℕ → ℤ → Keys
-keys_with id base runs erase erased =
-    record { id = id; base = base; runs = runs; erase = erase; erased = erased }
+abbrev pub keys_with : ℤ → ℤ → List Run → List ℕ → ℤ → PlaceKeys → Keys
+keys_with id base runs erase erased places =
+    record {
+      id = id;
+      base = base;
+      runs = runs;
+      erase = erase;
+      erased = erased;
+      places = places;
+    }
 
 abbrev pub keys_from : Option ℤ → Option ℤ → Option (List Run) → Option (List ℕ)
-    → Option ℤ → Option Keys
-keys_from (Some id) (Some base) (Some runs) (Some erase) (Some erased) =
-    Some (keys_with id base runs erase erased)
-keys_from _ _ _ _ _ = None
+    → Option ℤ → Option PlaceKeys → Option Keys
+keys_from (Some id) (Some base) (Some runs) (Some erase) (Some erased) (Some places) =
+    Some (keys_with id base runs erase erased places)
+keys_from _ _ _ _ _ _ = None
 
 -- what an erased place holds: all bits set, where the key is absent
 abbrev pub erased_of : Option Data → Option ℤ
 erased_of (Some value) = as_integer value
 erased_of None = Some (pos 0xFF)
+
+-- where the unique id stands: an array of two whole numbers, or nothing where the key is absent
+abbrev pub unique_of : Option Data → Option (Option UniqueKey)
+unique_of (Some value) = option_map Some (run_of value)
+unique_of None = Some None
+
+-- where the size of the flash stands: a whole number, or nothing where the key is absent
+abbrev pub size_at_of : Option Data → Option (Option ℤ)
+size_at_of (Some value) = option_map Some (as_integer value)
+size_at_of None = Some None
+
+-- where an entry says that its devices tell their board
+abbrev pub places_of : Data → Option PlaceKeys
+places_of d =
+    places_from (unique_of (get (codes "unique") d)) (size_at_of (get (codes "size_at") d))
 
 -- the keys of an entry, where each is there, or has a value of its own when absent, and of its kind
 abbrev pub keys_of : Data → Option Keys
@@ -59,6 +100,7 @@ keys_of d =
     (option_and_then as_integer (get (codes "base") d))
     (option_and_then runs_of (option_and_then as_array (get (codes "pages") d)))
     (option_and_then as_str (get (codes "erase") d)) (erased_of (get (codes "erased") d))
+    (places_of d)
 
 -- a run has a page
 abbrev pub IsRun : Run → Type 0
@@ -75,6 +117,17 @@ abbrev pub word_of : EraseKind → List ℕ
 word_of Page = codes "page"
 word_of Extended = codes "extended"
 
+abbrev pub key_of_unique : UniquePlace → UniqueKey
+key_of_unique place = (pos place.address, pos place.length)
+
+abbrev pub key_of_size : ℕ → ℤ
+key_of_size address = pos address
+
+-- the places of these keys
+pub record ArePlacesOf (keys : PlaceKeys) (places : BoardPlaces) : Type 0 where
+  pub unique : keys.unique ≡ option_map key_of_unique places.unique
+  pub size_at : keys.size_at ≡ option_map key_of_size places.size
+
 -- the chip of these keys
 pub record IsChipOf (keys : Keys) (chip : ChipData) : Type 0 where
   pub id : keys.id ≡ pos chip.id
@@ -83,6 +136,9 @@ pub record IsChipOf (keys : Keys) (chip : ChipData) : Type 0 where
   pub sizes : chip.sizes ≡ flat_map pages_of keys.runs
   pub erase : keys.erase ≡ word_of chip.kind
   pub erased : keys.erased ≡ pos chip.erased
+  pub places : ArePlacesOf keys.places chip.places
+  -- which board it is stands in no table
+  pub board : chip.unique ≡ []
   pub limits : IsChip chip
 
 -- the chip's limits leave room for no more pages than a number of 16 bits
@@ -101,3 +157,7 @@ pub record CanAdd (sizes : List ℕ) (run : Run) : Type 0 where
 -- a limit is broken: no chip has these keys
 abbrev pub BreaksLimit : Keys → Type 0
 BreaksLimit keys = (chip : ChipData) → ¬ IsChipOf keys chip
+
+-- no chip tells its board at the places of these keys
+abbrev pub HaveNoPlaces : PlaceKeys → Type 0
+HaveNoPlaces keys = (chip : ChipData) → IsChip chip → ¬ ArePlacesOf keys chip.places

@@ -4,9 +4,10 @@ ghost use Rattle.std.specs.Bool.{MatchBool};
 ghost use Rattle.std.specs.List.{flat_map};
 ghost use Rattle.stm_wire.specs.declared.chip.EraseKind.{EraseKind as Kind};
 ghost use Rattle.stm_chip.specs.Entry.{IsRun, IsPaged, CanAdd, pages_of, word_of, keys_with};
-ghost use Rattle.stm_chip.specs.Entry.{IsChipOf, BreaksLimit};
+ghost use Rattle.stm_chip.specs.Entry.{IsChipOf, BreaksLimit, places_with};
 
 use crate::keys::EntryKeys;
+use crate::places::board_places;
 use std::alloc::{AllocError, Global};
 use stm_wire::{Chip, EraseKind};
 
@@ -58,10 +59,14 @@ fn page_sizes(alloc: Global, runs: &[(i64, i64)]) -> Result<Option<Vec<u32>>, Al
 /// The chip of these keys, or None where a limit is broken.
 pub(crate) fn chip_of(alloc: Global, keys: &EntryKeys<'_>) -> Result<Option<Chip>, AllocError>
     ensures { let values = keys_with keys.now.id keys.now.base keys.now.runs.items
-        keys.now.erase.now keys.now.erased in
+        keys.now.erase.now keys.now.erased
+        (places_with keys.now.places.unique keys.now.places.size_at) in
         IfOk result (λ chip. MatchOption chip (BreaksLimit values) (IsChipOf values)) }
 {
     let Some(sizes) = page_sizes(alloc, &keys.runs)? else {
+        return Ok(None);
+    };
+    let Some(places) = board_places(&keys.places) else {
         return Ok(None);
     };
     match (
@@ -70,7 +75,12 @@ pub(crate) fn chip_of(alloc: Global, keys: &EntryKeys<'_>) -> Result<Option<Chip
         kind_of(keys.erase),
         u8::try_from(keys.erased),
     ) {
-        (Ok(id), Ok(base), Some(kind), Ok(erased)) => Ok(Chip::new(id, base, sizes, kind, erased)),
+        (Ok(id), Ok(base), Some(kind), Ok(erased)) => {
+            match Chip::new(id, base, sizes, kind, erased) {
+                Some(chip) => Ok(chip.at_places(places)),
+                None => Ok(None),
+            }
+        }
         _ => Ok(None),
     }
 }

@@ -3,6 +3,7 @@ ghost use Rattle.std.specs.Prelude.{ℤ, ◌≡◌, IfOk, option_and_then, optio
 ghost use Rattle.toml.specs.Data.{as_array, as_integer, as_str, at, get};
 ghost use Rattle.toml.specs.View.{array_view, view};
 ghost use Rattle.stm_chip.specs.Entry.{erased_of, run_of, runs_of, keys_of, keys_with};
+ghost use Rattle.stm_chip.specs.Entry.{unique_of, size_at_of, places_of, places_with};
 
 use std::alloc::{AllocError, Global};
 use toml::Value;
@@ -17,6 +18,16 @@ pub(crate) struct EntryKeys<'a> {
     pub(crate) erase: &'a str,
     /// What an erased place holds.
     pub(crate) erased: i64,
+    pub(crate) places: PlaceKeys,
+}
+
+/// The values of the keys that say where a chip tells its board. Each may be absent.
+#[derive(Clone, Copy)]
+pub(crate) struct PlaceKeys {
+    /// The address of the unique id, and how many bytes it has.
+    pub(crate) unique: Option<(i64, i64)>,
+    /// The address of the flash's size.
+    pub(crate) size_at: Option<i64>,
 }
 
 /// The whole number at a key.
@@ -107,13 +118,50 @@ fn read_erased(entry: &Value) -> Option<i64>
     }
 }
 
+/// Where the unique id stands, if the key is there; None where it is of another kind.
+fn read_unique(entry: &Value) -> Option<Option<(i64, i64)>>
+    ensures { result ≡ unique_of (get (codes "unique") (view entry.now)) }
+{
+    match entry.get("unique") {
+        Some(value) => match read_run(value) {
+            Some(place) => Some(Some(place)),
+            None => None,
+        },
+        None => Some(None),
+    }
+}
+
+/// Where the flash's size stands, if the key is there; None where it is of another kind.
+fn read_size_at(entry: &Value) -> Option<Option<i64>>
+    ensures { result ≡ size_at_of (get (codes "size_at") (view entry.now)) }
+{
+    match entry.get("size_at") {
+        Some(value) => match value.as_integer() {
+            Some(address) => Some(Some(address)),
+            None => None,
+        },
+        None => Some(None),
+    }
+}
+
+/// The keys that say where a chip tells its board, or None where one is of another kind.
+fn read_places(entry: &Value) -> Option<PlaceKeys>
+    ensures { option_map (λ k. places_with k.unique k.size_at) result ≡ places_of (view entry.now) }
+{
+    match (read_unique(entry), read_size_at(entry)) {
+        (Some(unique), Some(size_at)) => Some(PlaceKeys { unique, size_at }),
+        _ => None,
+    }
+}
+
 /// The keys of an entry, or None where one is absent or of another kind.
 pub(crate) fn read_keys<'a>(
     alloc: Global,
     entry: &'a Value,
 ) -> Result<Option<EntryKeys<'a>>, AllocError>
     ensures { let values = option_map
-        (λ k. keys_with k.id k.base k.runs.items k.erase.now k.erased) in
+        (λ k. keys_with k.id k.base k.runs.items k.erase.now k.erased
+        (places_with k.places.unique k.places.size_at)) in
         IfOk result (λ keys. values keys ≡ keys_of (view entry.now)) }
 {
     let runs = read_pages(alloc, entry)?;
@@ -123,14 +171,18 @@ pub(crate) fn read_keys<'a>(
         runs,
         text(entry, "erase"),
         read_erased(entry),
+        read_places(entry),
     ) {
-        (Some(id), Some(base), Some(runs), Some(erase), Some(erased)) => Ok(Some(EntryKeys {
-            id,
-            base,
-            runs,
-            erase,
-            erased,
-        })),
+        (Some(id), Some(base), Some(runs), Some(erase), Some(erased), Some(places)) => {
+            Ok(Some(EntryKeys {
+                id,
+                base,
+                runs,
+                erase,
+                erased,
+                places,
+            }))
+        }
         _ => Ok(None),
     }
 }

@@ -4,6 +4,8 @@
 mod entry;
 mod fault;
 mod keys;
+mod over;
+mod places;
 mod plan;
 mod table;
 mod touch;

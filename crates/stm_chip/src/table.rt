@@ -1,13 +1,13 @@
 // A table of chips, as its text names them.
 ghost use Rattle.std.specs.Prelude.{◌≡◌, ◌≢◌, ◌+◌, List, length, All, Contains, IfOk, IfErr};
 ghost use Rattle.std.specs.Prelude.{MatchOption, MatchResult, Some, option_map, option_and_then};
-ghost use Rattle.std.specs.Prelude.{codes, IsTrue, IsSome, ◌↔◌};
+ghost use Rattle.std.specs.Prelude.{codes, IsTrue, IsSome, IsSomeAnd, slice_get, ◌↔◌};
 ghost use Rattle.toml.specs.View.{table_view, view, array_view};
 ghost use Rattle.toml.specs.Data.{Data, as_array, as_table, get_member};
 ghost use Rattle.stm_wire.specs.Chip.{ChipData};
 ghost use Rattle.stm_chip.specs.Document.{IsTableOf, IsFaultOf, IsDocument, HasEntries, data_of};
 ghost use Rattle.stm_chip.specs.Document.{IsNextChip, IsNewId, HaveOwnIds, IsChipWith, IsFlaw};
-ghost use Rattle.stm_chip.specs.Document.{HasFlaw, Reads};
+ghost use Rattle.stm_chip.specs.Document.{HasFlaw, Reads, HaveInPlace};
 
 use crate::TableFault;
 use crate::entry::chip_of;
@@ -20,7 +20,7 @@ use toml::Value;
 /// The chips of a table, in its order. No two have one id.
 #[derive(Debug, Drop)]
 pub struct Table {
-    chips: Vec<Chip>,
+    pub(crate) chips: Vec<Chip>,
 }
 
 impl Model for Table {
@@ -39,10 +39,39 @@ impl Table {
     {
         first_with(&self.chips, id)
     }
+
+    /// The table with this chip in the place of the one of its id. Where there is none, the table
+    /// stays as it is.
+    pub fn with_chip(self, chip: Chip) -> Table
+        ensures { HaveInPlace self chip result }
+    {
+        match place_of(&self.chips, chip.id()) {
+            Some(place) => self.with_chip_at(place, chip),
+            None => self,
+        }
+    }
+
+    /// The table with this chip at this place, where one of its id stands.
+    fn with_chip_at(self, place: usize, chip: Chip) -> Table
+        requires { IsSomeAnd (slice_get self place) (λ other. other.id ≡ chip.id) }
+        ensures { HaveInPlace self chip result }
+    {
+        let mut chips = self.chips;
+        chips[place] = chip;
+        Table { chips }
+    }
+}
+
+/// The place of the first of these chips with this id.
+fn place_of(chips: &[Chip], id: u16) -> Option<usize>
+    ensures { MatchOption result (IsNewId chips.now id)
+        (λ place. IsSomeAnd (slice_get chips.now place) (λ chip. chip.id ≡ id)) }
+{
+    chips.iter().position(|chip| chip.id() == id)
 }
 
 /// The first of these chips with this id.
-fn first_with(chips: &[Chip], id: u16) -> Option<&Chip>
+pub(crate) fn first_with(chips: &[Chip], id: u16) -> Option<&Chip>
     ensures { MatchOption result (IsNewId chips.now id)
         (λ chip. (chip.now.id ≡ id) × Contains chips.now chip.now) }
 {
@@ -126,8 +155,10 @@ fn read_entries(alloc: Global, entries: &Vec<Value>) -> Result<Vec<Chip>, TableF
 ///
 /// Each has the keys `id` and `base` (whole numbers), `pages` (an array of arrays of two whole
 /// numbers: how many pages, of how many bytes) and `erase` (`"page"` or `"extended"`), and may have
-/// `erased` (what an erased place holds: 255, which stands where it is absent, or 0); further keys
-/// are ignored. The first faulty entry decides, and in it first what is missing, then a broken
+/// `erased` (what an erased place holds: 255, which stands where it is absent, or 0), `unique` (an
+/// array of two whole numbers: where the device's unique id stands, and how many bytes it has) and
+/// `size_at` (a whole number: where the size of its flash stands); further keys are ignored. The
+/// first faulty entry decides, and in it first what is missing, then a broken
 /// limit, then an id that came before.
 pub fn read_table(alloc: Global, text: &[u8]) -> Result<Table, TableFault>
     ensures { MatchResult result (IsTableOf text.now) (IsFaultOf text.now) }
