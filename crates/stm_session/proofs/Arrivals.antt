@@ -1,5 +1,5 @@
 -- One block more came.
-use Rattle.std.proofs.Common.{◌≡◌, ℕ, ◌+◌, List, [], ◌∷◌, ◌++◌, length, Option, Some, None, refl, sym, ◌∙◌, ap, subst, arith, append_assoc, append-nil, length-append}
+use Rattle.std.proofs.Common.{◌≡◌, ℕ, ◌+◌, List, [], ◌∷◌, ◌++◌, length, None, refl, sym, ◌∙◌, ap, subst, arith, append_assoc, append-nil, length-append}
 use Rattle.std.proofs.Common.{Bool, true, false, Result, Ok, Err, IsErrAnd}
 use Rattle.std.specs.List.{AllByRecursion}
 use Rattle.std.proofs.lemmas.Bool.{true≢false}
@@ -50,6 +50,7 @@ tells_unless (fault.Differs address) chip c steps other = absurd (other tt)
 tells_unless fault.Device chip c steps other = tt
 tells_unless (fault.BadJournal line) chip c steps other = tt
 tells_unless fault.OtherDevice chip c steps other = tt
+tells_unless fault.OtherBoard chip c steps other = tt
 tells_unless fault.Full chip c steps other = tt
 
 -- a write and an erase
@@ -69,6 +70,7 @@ change_tells fault.InSession chip c steps change = tt
 change_tells fault.Device chip c steps change = tt
 change_tells (fault.BadJournal line) chip c steps change = tt
 change_tells fault.OtherDevice chip c steps change = tt
+change_tells fault.OtherBoard chip c steps change = tt
 change_tells fault.Full chip c steps change = tt
 
 pub change_stops : {T : Type 0} (chip : ChipData) (c : CommandData) (s : StateData) (torn : Bool) (a b : RigState) (result : Result T Fault) → is_change c ≡ true → Stops (IsBegunBy chip c s) torn a b result

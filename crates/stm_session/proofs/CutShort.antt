@@ -13,7 +13,7 @@ use Rattle.stm_wire.specs.Rig.{RigState}
 use Rattle.stm_chip.specs.declared.plan.Frame.{Frame}
 use Rattle.stm_journal.specs.declared.entry.Entry.{Entry}
 use Rattle.stm_journal.specs.declared.fault.JournalFault.{JournalFault}
-use Rattle.stm_journal.specs.declared.fault.JournalFault.TheVariants.{File, Bad, OtherDevice, Memory}
+use Rattle.stm_journal.specs.declared.fault.JournalFault.TheVariants.{File, Bad, OtherDevice, OtherBoard, Memory}
 use Rattle.stm_journal.specs.Calls.{AppendsOnce}
 use Rattle.stm_journal.specs.Journals.{Loaded, added_bytes}
 use Rattle.stm_session.specs.declared.fault.Fault.{Fault}
@@ -98,6 +98,7 @@ line_stops T Q torn entries e a b none one once =
         }
     by_cause (Bad line) calls is = record { done = []; failed = None; allowed = none; last = []; fails = refl; is = ap acts_of is }
     by_cause OtherDevice calls is = record { done = []; failed = None; allowed = none; last = []; fails = refl; is = ap acts_of is }
+    by_cause OtherBoard calls is = record { done = []; failed = None; allowed = none; last = []; fails = refl; is = ap acts_of is }
     by_cause Memory calls is = record { done = []; failed = None; allowed = none; last = []; fails = refl; is = ap acts_of is }
 
 -- Exits, by the fault of a command, of a line, of memory, of a part, and of a part behind others.

@@ -1,14 +1,15 @@
 -- A journal is refused for what it keeps exactly where it isn't one of the chip.
-use Rattle.std.proofs.Common.{◌≡◌, ℕ, Bool, true, false, not, ◌&&◌, ◌||◌, ◌==◌, nat_lt, if◌then◌else◌, List, [], ◌∷◌, ◌++◌, Option, Some, None, option_map, refl, sym, ◌∙◌, ap, arith}
+use Rattle.std.proofs.Common.{◌≡◌, ℕ, ◌≤◌, Bool, true, false, not, ◌&&◌, ◌||◌, ◌==◌, nat_lt, if◌then◌else◌, List, [], ◌∷◌, ◌++◌, Option, Some, None, option_map, refl, sym, ◌∙◌, ap, arith}
 use Rattle.std.specs.List.{list_any}
 use Rattle.std.proofs.lemmas.Bool.{true≢false}
 use Rattle.std.proofs.lemmas.Bool.Decides.{nat_tests}
 use Rattle.stm_wire.specs.Chip.{ChipData, page_count}
 use Rattle.stm_journal.specs.declared.header.JournalHeader.{JournalHeader}
 use Rattle.stm_journal.specs.declared.kept.Kept.{Kept}
-use Rattle.stm_journal.specs.States.{StateData, SegmentData}
-use Rattle.stm_session.specs.declared.fault.Fault.TheVariants.{BadJournal}
-use Rattle.stm_session.specs.Refusal.{fits_among, lacks_companion, header_misfits, misfit_lines_of, misfit_lines, lesser, least, least_with, misfit_refusal}
+use Rattle.stm_journal.specs.States.{StateData, SegmentData, names_other_board}
+use Rattle.stm_session.specs.declared.fault.Fault.{Fault}
+use Rattle.stm_session.specs.declared.fault.Fault.TheVariants.{BadJournal, OtherBoard}
+use Rattle.stm_session.specs.Refusal.{fits_among, lacks_companion, header_misfits, misfit_lines_of, misfit_lines, lesser, least, least_with, line_refusal, misfit_refusal}
 use Rattle.stm_journal.specs.Fits.{fits_chip, AllKeptFit, AllFit}
 use Rattle.stm_session.specs.Undoable.{AllKeepCompanions, HasVersion, IsJournalOf, has_companion}
 
@@ -75,19 +76,27 @@ all-fit chip (segment ∷ older) e =
 
 header-fits : (chip : ChipData) (header : Option JournalHeader) → header_misfits chip header ≡ [] → HasVersion chip header
 header-fits chip None e = tt
-header-fits chip (Some header) e = λ many. same-tested header.version 2 (by_test (nat_lt 256 (page_count chip)) (header.version == 2) many e)
+header-fits chip (Some header) e = λ many. late (by_test (nat_lt 256 (page_count chip)) (nat_lt header.version 2) many e)
   where
-    by_test : (a b : Bool) → a ≡ true → (if a && not b then header.line ∷ [] else []) ≡ [] → b ≡ true
-    by_test true true many e = refl
-    by_test true false many e = absurd (cc)
+    late : nat_lt header.version 2 ≡ false → 2 ≤ header.version
+    late h = grind (arith, nat_tests)
+
+    by_test : (a b : Bool) → a ≡ true → (if a && b then header.line ∷ [] else []) ≡ [] → b ≡ false
+    by_test true true many e = absurd (cc)
+    by_test true false many e = refl
     by_test false b many e = absurd (true≢false (sym many))
 
 -- a journal that isn't refused is one of the chip
+no-board : (other : Bool) (line : Option Fault) → (if other then Some OtherBoard else line) ≡ None → (other ≡ false) × (line ≡ None)
+no-board true line e = absurd (let h : Some OtherBoard ≡ None = e in cc)
+no-board false line e = (refl, e)
+
 pub unrefused-fits : (chip : ChipData) (s : StateData) → misfit_refusal chip s ≡ None → IsJournalOf chip s
 unrefused-fits chip s e =
-    let none = both-empty (header_misfits chip s.header) (misfit_lines chip s.stack) (no-lines (header_misfits chip s.header ++ misfit_lines chip s.stack) e) in
+    let own = no-board (names_other_board chip.unique s) (line_refusal chip s) e in
+    let none = both-empty (header_misfits chip s.header) (misfit_lines chip s.stack) (no-lines (header_misfits chip s.header ++ misfit_lines chip s.stack) own.1) in
     let each = all-fit chip s.stack none.1 in
-    record { version = header-fits chip s.header none.0; pages = each.0; companions = each.1 }
+    record { board = own.0; version = header-fits chip s.header none.0; pages = each.0; companions = each.1 }
 
 -- a page isn't alone where the segment keeps its companion
 not-alone : (n : ℕ) (chip : ChipData) (among : List Kept) → ((n == 1) ≡ true → has_companion chip ≡ true → list_any (λ kept. kept.page == 257) among ≡ true) → not (lacks_companion chip among n) ≡ true
@@ -131,17 +140,18 @@ segments-fit chip (segment ∷ older) (first, rest) (has, more) =
 
 header-unrefused : (chip : ChipData) (header : Option JournalHeader) → HasVersion chip header → header_misfits chip header ≡ []
 header-unrefused chip None is = refl
-header-unrefused chip (Some header) is = by_test (nat_lt 256 (page_count chip)) (header.version == 2) (λ many. second (is many))
+header-unrefused chip (Some header) is = by_test (nat_lt 256 (page_count chip)) (nat_lt header.version 2) (λ many. late (is many))
   where
-    second : header.version ≡ 2 → (header.version == 2) ≡ true
-    second e = grind (arith, nat_tests)
+    late : 2 ≤ header.version → nat_lt header.version 2 ≡ false
+    late h = grind (arith, nat_tests)
 
-    by_test : (a b : Bool) → (a ≡ true → b ≡ true) → (if a && not b then header.line ∷ [] else []) ≡ []
-    by_test true true is = refl
-    by_test true false is = absurd (true≢false (sym (is refl)))
+    by_test : (a b : Bool) → (a ≡ true → b ≡ false) → (if a && b then header.line ∷ [] else []) ≡ []
+    by_test true true is = absurd (true≢false (is refl))
+    by_test true false is = refl
     by_test false b is = refl
 
 pub fits-unrefused : (chip : ChipData) (s : StateData) → IsJournalOf chip s → misfit_refusal chip s ≡ None
 fits-unrefused chip s of =
-    ap (λ lines. option_map (λ line. BadJournal line) (least lines))
+    ap (λ (other : Bool). if other then Some OtherBoard else line_refusal chip s) of.board
+    ∙ ap (λ lines. option_map (λ line. BadJournal line) (least lines))
     (ap (λ lines. lines ++ misfit_lines chip s.stack) (header-unrefused chip s.header of.version) ∙ segments-fit chip s.stack of.pages of.companions)

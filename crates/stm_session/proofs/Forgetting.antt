@@ -4,12 +4,12 @@ use Rattle.std.specs.List.{list_any}
 use Rattle.std.proofs.lemmas.List.{length-replicate}
 use Rattle.stm_wire.specs.Chip.{ChipData, page_count, page_size}
 use Rattle.stm_journal.specs.declared.kept.Kept.{Kept}
-use Rattle.stm_journal.specs.States.{StateData, SegmentData, names_other}
+use Rattle.stm_journal.specs.States.{StateData, SegmentData, names_other, names_other_board}
 use Rattle.stm_journal.specs.InMemory.{forget_kept, forget_segment, forget_state}
 use Rattle.stm_journal.specs.ForgetLaws.{depth-forgets, is_unfinished-forgets}
 use Rattle.stm_journal.specs.Journals.{good}
 use Rattle.stm_session.specs.declared.fault.Fault.{Fault}
-use Rattle.stm_session.specs.declared.fault.Fault.TheVariants.{BadJournal, Unfinished, OtherDevice, InSession}
+use Rattle.stm_session.specs.declared.fault.Fault.TheVariants.{BadJournal, Unfinished, OtherBoard, OtherDevice, InSession}
 use Rattle.stm_session.specs.Undoable.{has_companion}
 use Rattle.stm_session.specs.Refusal.{refused_unless, lacks_companion, fits_among, misfit_lines_of, misfit_lines, header_misfits, least, misfit_refusal, table_refusal, device_refusals, chip_with, unsent_refusal, open_refusal}
 
@@ -35,7 +35,9 @@ stack-forgets chip [] = refl
 stack-forgets chip (segment ∷ below) = ap₂ (λ (first rest : List ℕ). first ++ rest) (lines-forget chip segment.pages segment.pages) (stack-forgets chip below)
 
 pub misfit-forgets : (chip : ChipData) (s : StateData) → misfit_refusal chip (forget_state s) ≡ misfit_refusal chip s
-misfit-forgets chip s = ap (λ (lines : List ℕ). option_map (λ line. BadJournal line) (least (header_misfits chip s.header ++ lines))) (stack-forgets chip s.stack)
+misfit-forgets chip s =
+    ap (λ (lines : List ℕ). if names_other_board chip.unique s then Some OtherBoard else option_map (λ line. BadJournal line) (least (header_misfits chip s.header ++ lines)))
+    (stack-forgets chip s.stack)
 
 table-forgets : (s : StateData) (id : ℕ) (chip : Option ChipData) → table_refusal (forget_state s) id chip ≡ table_refusal s id chip
 table-forgets s id None = refl

@@ -56,11 +56,11 @@ limit_suffices Extended None = lit≤ tt
 limit_suffices Extended (Some i) = lit≤ tt
 
 -- so for the journal's own
-pub own_within : (laws : StepLaws) (chip : ChipData) (old : RigState) → IsDevice old.device → old.device.chip ≡ chip → IsWithinLimit chip old
+pub own_within : (laws : StepLaws) (chip : ChipData) (old : RigState) → IsDevice old.device → old.device.chip.kind ≡ chip.kind → IsWithinLimit chip old
 own_within laws chip old is same =
     let o = intent_of (state_at old.journal) in
     let all : bytes_awaited (byte_at_journal old.journal) old.device ≤ most_awaited chip.kind =
-    subst (λ (c : ChipData). bytes_awaited (byte_at_journal old.journal) old.device ≤ most_awaited c.kind) same (laws.awaited old.device is (byte_at_journal old.journal)) in
+    subst (λ (kind : EraseKind). bytes_awaited (byte_at_journal old.journal) old.device ≤ most_awaited kind) same (laws.awaited old.device is (byte_at_journal old.journal)) in
     let enough = limit_suffices chip.kind o in
     omega (arith, all, enough)
 

@@ -9,7 +9,7 @@ use Rattle.stm_wire.specs.Harmless.{Harmless, SameOutside}
 use Rattle.stm_wire.specs.Intents.{settling_byte}
 use Rattle.stm_journal.specs.declared.kept.Kept.{Kept}
 use Rattle.stm_journal.specs.declared.header.JournalHeader.{JournalHeader}
-use Rattle.stm_journal.specs.States.{StateData, SegmentData, on_newest, keeping, newest_keeps, newest_may_keep, newest_has, is_unfinished, intent_of, keeps, names_other}
+use Rattle.stm_journal.specs.States.{StateData, SegmentData, on_newest, keeping, newest_keeps, newest_may_keep, newest_has, is_unfinished, intent_of, keeps, names_other, names_other_board}
 use Rattle.stm_journal.specs.Fits.{fits_chip, AllKeptFit, AllFit}
 use Rattle.stm_journal.specs.FitsLaws.{both-fit}
 use Rattle.stm_journal.specs.FlashLaws.{KeepingKeepsFlashes, ChangesKeepFlashes}
@@ -170,6 +170,7 @@ keeps_pages flashes d s s2 same keeps =
     record {
       own = ap (λ (h : Option JournalHeader). names_other d.chip.id (record { header = h; stack = [] })) same.header ∙ keeps.own;
       fits = record {
+        board = ap (λ (h : Option JournalHeader). names_other_board d.chip.unique (record { header = h; stack = [] })) same.header ∙ keeps.fits.board;
         version = subst H (sym same.header) keeps.fits.version;
         pages = fits_pages d.chip s.stack s2.stack same.same keeps.fits.pages;
         companions = companions_pages d.chip s.stack s2.stack same.same keeps.fits.companions;
@@ -242,6 +243,7 @@ keeps_keeping law flashes d s s2 n bytes is keeps has exists holds size may ther
     record {
       own = ap (λ (h : Option JournalHeader). names_other d.chip.id (record { header = h; stack = [] })) has.header ∙ keeps.own;
       fits = record {
+        board = ap (λ (h : Option JournalHeader). names_other_board d.chip.unique (record { header = h; stack = [] })) has.header ∙ keeps.fits.board;
         version = subst H (sym has.header) keeps.fits.version;
         pages = subst Fit (sym has.stack) (fits_keeping d.chip kept s.stack keeps.fits.pages fit);
         companions = subst All (sym has.stack) (companions_keeping d.chip kept s.stack keeps.fits.companions (λ one has_one. there (sym has.page ∙ one) has_one));
@@ -267,6 +269,7 @@ keeps_undone flash flashes d s s2 has keeps restored =
     record {
       own = ap (λ (h : Option JournalHeader). names_other d.chip.id (record { header = h; stack = [] })) has.header ∙ keeps.own;
       fits = record {
+        board = ap (λ (h : Option JournalHeader). names_other_board d.chip.unique (record { header = h; stack = [] })) has.header ∙ keeps.fits.board;
         version = subst H (sym has.header) keeps.fits.version;
         pages = subst Fit (sym has.stack) (rest s.stack keeps.fits.pages);
         companions = subst All (sym has.stack) (fewer s.stack keeps.fits.companions);

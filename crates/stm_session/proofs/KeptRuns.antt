@@ -12,7 +12,7 @@ use Rattle.stm_wire.specs.Rig.{RigState}
 use Rattle.stm_wire.specs.Dialogue.{GoesOn}
 use Rattle.stm_chip.specs.Plan.{frames_of}
 use Rattle.stm_journal.specs.declared.entry.Entry.TheVariants.{Names, Opens, Keeps}
-use Rattle.stm_journal.specs.Journals.{Loaded, begin_entries}
+use Rattle.stm_journal.specs.Journals.{Loaded, begin_entries, version_for}
 use Rattle.stm_journal.specs.States.{IsSound, StateData}
 use Rattle.stm_session.specs.declared.change.Change.{Change}
 use Rattle.stm_session.specs.declared.change.Change.TheVariants as change
@@ -31,7 +31,7 @@ use Rattle.stm_session.proofs.KeptSteps.{Leads, here, later as further, keeps_fr
 
 -- a session that does such steps does others, where these are such of its journal and chip
 pub as_session : (table : List ChipData) (old : RigState) (P Q : ChipData → Loaded → Type 0) → ((chip : ChipData) (l : Loaded) → IsSound l.state → P chip l → Q chip l) → Session table old P → Session table old Q
-as_session table old P Q weaker x = record { journal = x.journal; loaded = x.loaded; sound = x.sound; chip = x.chip; listed = x.listed; does = weaker x.chip x.journal x.sound x.does }
+as_session table old P Q weaker x = record { journal = x.journal; loaded = x.loaded; sound = x.sound; chip = x.chip; listed = x.listed; board = x.board; does = weaker x.chip x.journal x.sound x.does }
 
 pub does_as : (way : Way) (id : ℕ) (torn : Bool) (P Q : List Step → Type 0) (old new : RigState) → ((xs : List Step) → P xs → Q xs) → ReachesAndDoes way id torn P old new → ReachesAndDoes way id torn Q old new
 does_as way id torn P Q old new weaker (version, codes, steps, allowed, calls) = (version, codes, steps, weaker steps allowed, calls)
@@ -44,10 +44,10 @@ stops_as way id torn P Q cause old new weaker (version, codes, calls) =
     (version, codes, at)
 
 -- the first lines of a segment
-begun_lines : (chip : ChipData) (s : StateData) → Leads chip None (Adds (begin_entries chip.id s) ∷ []) (Some [])
+begun_lines : (chip : ChipData) (s : StateData) → Leads chip None (Adds (begin_entries chip.id chip.unique s) ∷ []) (Some [])
 begun_lines chip s = by_none (is_none s.header)
   where
-    by_none : (none : Bool) → Leads chip None (Adds (if none then Names 2 chip.id ∷ Opens (length s.stack + 1) ∷ [] else Opens (length s.stack + 1) ∷ []) ∷ []) (Some [])
+    by_none : (none : Bool) → Leads chip None (Adds (if none then Names (version_for chip.unique) chip.id chip.unique ∷ Opens (length s.stack + 1) ∷ [] else Opens (length s.stack + 1) ∷ []) ∷ []) (Some [])
     by_none true = record { keeps = ((tt, (tt, tt)), tt); behind = refl }
     by_none false = record { keeps = ((tt, tt), tt); behind = refl }
 
@@ -182,7 +182,7 @@ module _ (lengths : (set : Pairs) (address : ℕ) (bytes : List ℕ) → length 
       let turned = turned_leave chip c (page_count chip) segment.are_turned.0 segment.turned (omega arith) segment.are_turned.1 in
       let P : List Step → Type 0 = λ xs. Leads chip None xs None in
       subst P (sym segment.is)
-      (leads_then chip None (Some []) None (Adds (begin_entries chip.id s) ∷ []) _ (begun_lines chip s)
+      (leads_then chip None (Some []) None (Adds (begin_entries chip.id chip.unique s) ∷ []) _ (begun_lines chip s)
       (leads_then chip (Some []) (Some turned.later) None segment.turned _ turned.leads (record { keeps = ((tt, tt), tt); behind = refl })))
 
   segment_begun : (chip : ChipData) (c : Change) (s : StateData) (steps : List Step) → IsSegmentBegun chip c s steps → KeepsFirst chip None steps
@@ -202,7 +202,7 @@ module _ (lengths : (set : Pairs) (address : ℕ) (bytes : List ℕ) → length 
       let in_pages : R pages =
       subst R (sym begun.is) (keeps_then chip (Some []) begun.before begun.own turned.leads.keeps (subst S (sym turned.leads.behind) (keeps_front chip (Some turned.later) begun.own rest own.leads.keeps))) in
       let first = begun_lines chip s in
-      subst P (sym is) (keeps_then chip None (Adds (begin_entries chip.id s) ∷ []) pages first.keeps (subst Q (sym first.behind) in_pages))
+      subst P (sym is) (keeps_then chip None (Adds (begin_entries chip.id chip.unique s) ∷ []) pages first.keeps (subst Q (sym first.behind) in_pages))
   segment_begun chip c s steps (ends (rest, segment)) = keeps_front chip None steps rest (one_segment chip c s (steps ++ rest) segment).keeps
 
   -- commands

@@ -31,6 +31,7 @@ pub mod Programmings
 pub mod SentParts
 pub mod Tellings
 pub mod Orders
+pub mod ToldBoards
 pub mod ToldPages
 pub mod Causes
 pub mod CutShort
@@ -59,6 +60,7 @@ pub mod ChangeOrders
 pub mod Changes
 pub mod Turns
 pub mod Beginnings
+pub mod AskingBoards
 pub mod Closings
 pub mod CommandChecks
 pub mod Comparisons
@@ -77,3 +79,4 @@ pub mod RunOrders
 pub mod KeptSteps
 pub mod KeptRuns
 pub mod KeptUndoes
+pub mod Foreign

@@ -16,7 +16,7 @@ use Rattle.stm_journal.specs.ForgetLaws.{is_unfinished-forgets}
 use Rattle.stm_session.proofs.Forgetting.{device-forgets}
 use Rattle.stm_journal.specs.Journals.{JournalData, Loaded, IsLoaded, journal_of, good, bad}
 use Rattle.stm_journal.specs.declared.fault.JournalFault.{JournalFault}
-use Rattle.stm_journal.specs.declared.fault.JournalFault.TheVariants.{File, Bad, OtherDevice as OtherJournal, Memory as JournalMemory}
+use Rattle.stm_journal.specs.declared.fault.JournalFault.TheVariants.{File, Bad, OtherDevice as OtherJournal, OtherBoard as OtherJournalBoard, Memory as JournalMemory}
 use Rattle.stm_journal.specs.Calls.{IsFaultOf, IsUntouched, KeepsDevice, Loads}
 use Rattle.stm_chip.specs.Document.{IsChipWith, IsNewId}
 use Rattle.stm_wire.specs.declared.get_command.Commands.{Commands}
@@ -94,12 +94,14 @@ load_failed refusal says old new e (Err x) loads is =
     lost File kept = kept
     lost (Bad line) kept = (0, kept)
     lost OtherJournal kept = (0, kept)
+    lost OtherJournalBoard kept = (0, kept)
     lost JournalMemory kept = (0, kept)
 
     by_fault : (e : JournalFault) → IsFaultOf old.journal e → IsJournalOrMemory (fault_of_journal e) ⊎ (refusal (journal_of old.journal) ≡ Some (fault_of_journal e))
     by_fault File f = inl tt
     by_fault (Bad line) f = inr (ap refusal f ∙ says line)
     by_fault OtherJournal f = absurd f
+    by_fault OtherJournalBoard f = absurd f
     by_fault JournalMemory f = inl tt
 
 -- what needs no bytes of pages refuses a journal and its state in memory alike
@@ -128,6 +130,7 @@ load_spared old new e (Err x) loads empty is = λ memory. by_fault e loads.fault
     by_fault File f m = cc
     by_fault (Bad line) f m = cc
     by_fault OtherJournal f m = f
+    by_fault OtherJournalBoard f m = f
     by_fault JournalMemory f m = subst (λ (j : List ℕ). IsFaultOf j JournalMemory) empty f
 
 -- an unfinished journal is refused, and a finished one isn't

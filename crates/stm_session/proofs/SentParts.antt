@@ -13,7 +13,7 @@ use Rattle.stm_wire.specs.PartLaws.{erase_broken, erase_held, part_longer, parts
 use Rattle.stm_chip.specs.declared.plan.Frame.{Frame}
 use Rattle.stm_chip.specs.Plan.{IsFrame, AreFrames}
 use Rattle.stm_journal.specs.declared.fault.JournalFault.{JournalFault}
-use Rattle.stm_journal.specs.declared.fault.JournalFault.TheVariants.{File, Bad, OtherDevice, Memory}
+use Rattle.stm_journal.specs.declared.fault.JournalFault.TheVariants.{File, Bad, OtherDevice, OtherBoard, Memory}
 use Rattle.stm_journal.specs.declared.entry.Entry.{Entry}
 use Rattle.stm_journal.specs.Journals.{Loaded, added_bytes}
 use Rattle.stm_journal.specs.Calls.{AppendsOnce, AreFetches}
@@ -29,6 +29,7 @@ append_puts bytes (Ok x) calls is = ap (λ (xs : List Call). puts_of xs) is
 append_puts bytes (Err File) calls is = ⊎_elim (λ e. ap (λ (xs : List Call). puts_of xs) e) (λ e. ap (λ (xs : List Call). puts_of xs) e.1) is
 append_puts bytes (Err (Bad line)) calls is = ap (λ (xs : List Call). puts_of xs) is
 append_puts bytes (Err OtherDevice) calls is = ap (λ (xs : List Call). puts_of xs) is
+append_puts bytes (Err OtherBoard) calls is = ap (λ (xs : List Call). puts_of xs) is
 append_puts bytes (Err Memory) calls is = ap (λ (xs : List Call). puts_of xs) is
 
 append_gets : {T : Type 0} (bytes : List ℕ) (result : Result T JournalFault) (calls : List Call) → AppendsOnce bytes result calls → gets_of calls ≡ 0
@@ -36,6 +37,7 @@ append_gets bytes (Ok x) calls is = ap (λ (xs : List Call). gets_of xs) is
 append_gets bytes (Err File) calls is = ⊎_elim (λ e. ap (λ (xs : List Call). gets_of xs) e) (λ e. ap (λ (xs : List Call). gets_of xs) e.1) is
 append_gets bytes (Err (Bad line)) calls is = ap (λ (xs : List Call). gets_of xs) is
 append_gets bytes (Err OtherDevice) calls is = ap (λ (xs : List Call). gets_of xs) is
+append_gets bytes (Err OtherBoard) calls is = ap (λ (xs : List Call). gets_of xs) is
 append_gets bytes (Err Memory) calls is = ap (λ (xs : List Call). gets_of xs) is
 
 pub line_part : {T : Type 0} (chip : Option ChipData) (whole : Bool) (most : ℕ) (l : Loaded) (entries : List Entry) (result : Result T JournalFault) (a b : Option (List Call))

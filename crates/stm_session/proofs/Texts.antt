@@ -62,7 +62,7 @@ lines_later xs ys a b journal written adds later =
 -- lines that are intents, one after another
 pub intents_then : (xs ys : List Entry) → AreIntents xs → AreIntents ys → AreIntents (xs ++ ys)
 intents_then [] ys first next = next
-intents_then (Names version id ∷ xs) ys first next = first
+intents_then (Names version id unique ∷ xs) ys first next = first
 intents_then (Opens k ∷ xs) ys first next = first
 intents_then (Keeps n bytes ∷ xs) ys first next = first
 intents_then (Erases n ∷ xs) ys first next = intents_then xs ys first next
@@ -72,7 +72,7 @@ intents_then (Undoes k ∷ xs) ys first next = first
 
 intents_apart : (xs ys : List Entry) → AreIntents (xs ++ ys) → AreIntents xs × AreIntents ys
 intents_apart [] ys all = (tt, all)
-intents_apart (Names version id ∷ xs) ys all = absurd all
+intents_apart (Names version id unique ∷ xs) ys all = absurd all
 intents_apart (Opens k ∷ xs) ys all = absurd all
 intents_apart (Keeps n bytes ∷ xs) ys all = absurd all
 intents_apart (Erases n ∷ xs) ys all = intents_apart xs ys all
@@ -82,7 +82,7 @@ intents_apart (Undoes k ∷ xs) ys all = absurd all
 
 -- what one line made of the segments
 pub same_after : (e : Entry) (s s2 : StateData) → HasAdded e s s2 → AreIntents (e ∷ []) → KeepsSame s s2
-same_after (Names version id) s s2 has intents = absurd intents
+same_after (Names version id unique) s s2 has intents = absurd intents
 same_after (Opens k) s s2 has intents = absurd intents
 same_after (Keeps n bytes) s s2 has intents = absurd intents
 same_after (Erases n) s s2 has intents = has.same

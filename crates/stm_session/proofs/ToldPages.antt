@@ -1,12 +1,12 @@
 -- What was told in a part of a call was told in the call.
-use Rattle.std.proofs.Common.{◌≡◌, Bool, List, ◌++◌, ◌∙◌, ap, subst, Option, refl}
+use Rattle.std.proofs.Common.{Bool, List, ◌++◌, ◌∙◌, ap, subst, Option}
 use Rattle.stm_wire.specs.Call.{Call}
 use Rattle.stm_wire.specs.Dialogue.{GoesOn}
 use Rattle.stm_wire.specs.DialogueLaws.{GoesOn-append, GoesOn-weaker}
 use Rattle.stm_wire.specs.Rig.{RigState}
 use Rattle.stm_journal.specs.Journals.{Loaded}
-use Rattle.stm_session.specs.Order.{Step, DoesSteps, IsInOrder, acts_of, acts_of_steps, behind}
-use Rattle.stm_session.specs.Told.{AreCalls, EndsWith, ToldBehind, ToldBy, ToldIn}
+use Rattle.stm_session.specs.Order.{Step, DoesSteps, IsInOrder, acts_of, behind}
+use Rattle.stm_session.specs.Told.{AreCalls, EndsWith, ToldBy, ToldIn}
 use Rattle.stm_session.proofs.Orders.{acts-append, order_then}
 use Rattle.stm_session.proofs.Tellings.{SaysAlso}
 

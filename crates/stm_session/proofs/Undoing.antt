@@ -23,7 +23,7 @@ ready_is_safe stopped fresh d is ready = record { harmless = by_phase d.phase re
 
 -- with an empty journal there is nothing to take back
 pub empty_is_undoable : (d : Device) → IsSafe d → Undoable [] d []
-empty_is_undoable d safe = record { good_journal = refl; own = refl; fits = record { version = tt; pages = tt; companions = tt }; keeps = refl; harmless = safe.harmless; owed = safe.owed }
+empty_is_undoable d safe = record { good_journal = refl; own = refl; fits = record { board = refl; version = tt; pages = tt; companions = tt }; keeps = refl; harmless = safe.harmless; owed = safe.owed }
 
 pub reset_is_undoable : ResetStaysHarmless → (flashes : List (List ℕ)) (d : Device) (journal : List ℕ) → Undoable flashes d journal → Undoable flashes (reset d) journal
 reset_is_undoable law flashes d journal u =

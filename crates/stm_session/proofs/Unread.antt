@@ -9,7 +9,7 @@ use Rattle.stm_wire.specs.Intents.{settling_byte}
 use Rattle.stm_wire.specs.MomentLaws.{weaker}
 use Rattle.stm_wire.specs.Rig.{RigState}
 use Rattle.stm_journal.specs.declared.fault.JournalFault.{JournalFault}
-use Rattle.stm_journal.specs.declared.fault.JournalFault.TheVariants.{File, Bad, OtherDevice as OtherJournal, Memory as JournalMemory}
+use Rattle.stm_journal.specs.declared.fault.JournalFault.TheVariants.{File, Bad, OtherDevice as OtherJournal, OtherBoard as OtherJournalBoard, Memory as JournalMemory}
 use Rattle.stm_journal.specs.Calls.{AreFetches, IsFaultOf, IsUntouched, KeepsDevice, Loads}
 use Rattle.stm_journal.specs.Flashes.{flashes_before_segments}
 use Rattle.stm_journal.specs.Journals.{JournalData, journal_of, good, bad}
@@ -82,6 +82,7 @@ pub lost_by : (old new : RigState) (e : JournalFault) → KeepsDevice old new e 
 lost_by old new File kept = kept
 lost_by old new (Bad line) kept = (0, kept)
 lost_by old new OtherJournal kept = (0, kept)
+lost_by old new OtherJournalBoard kept = (0, kept)
 lost_by old new JournalMemory kept = (0, kept)
 
 abbrev pub IsBadLine : List ℕ → Fault → Type 0
@@ -91,6 +92,7 @@ pub by_fault : (journal : List ℕ) (e : JournalFault) → IsFaultOf journal e �
 by_fault journal File f = inl tt
 by_fault journal (Bad line) f = inr (line, f, refl)
 by_fault journal OtherJournal f = absurd f
+by_fault journal OtherJournalBoard f = absurd f
 by_fault journal JournalMemory f = inl tt
 
 pub of_outside : (e : Fault) → IsJournalOrMemory e → IsOutsideFault e
@@ -100,6 +102,7 @@ pub load_spared : (journal : List ℕ) (e : JournalFault) → IsFaultOf journal 
 load_spared journal File f empty m = cc
 load_spared journal (Bad line) f empty m = cc
 load_spared journal OtherJournal f empty m = f
+load_spared journal OtherJournalBoard f empty m = f
 load_spared journal JournalMemory f empty m = subst (λ (j : List ℕ). IsFaultOf j JournalMemory) empty f
 
 pub bad_refused : (table : List ChipData) (j : JournalData) (line : ℕ) → j ≡ bad line → undo_refusal j table ≡ Some (fault.BadJournal line)

@@ -89,7 +89,7 @@ pub record IsOneSegment (chip : ChipData) (c : Change) (s : StateData)
   pub turned : List Step
   pub are_turned : AreAllTurned chip c turned
   pub is : steps
-      ≡ Adds (begin_entries chip.id s) ∷ (turned ++ Adds (Ends (length s.stack + 1) ∷ []) ∷ [])
+      ≡ Adds (begin_entries chip.id chip.unique s) ∷ (turned ++ Adds (Ends (length s.stack + 1) ∷ []) ∷ [])
 
 -- At a fault:
 
@@ -112,7 +112,8 @@ pub record AreBegunTurns (chip : ChipData) (c : Change) (steps : List Step) : Ty
 -- or those, all its pages, and a beginning of its last line.
 pub data IsSegmentBegun (chip : ChipData) (c : Change) (s : StateData)
     (steps : List Step) : Type 0 where
-  begins : Begin (Are (Adds (begin_entries chip.id s) ∷ [])) steps → IsSegmentBegun chip c s steps
+  begins : Begin (Are (Adds (begin_entries chip.id chip.unique s) ∷ [])) steps
+      → IsSegmentBegun chip c s steps
   turns : (pages : List Step) → AreBegunTurns chip c pages
-      → steps ≡ Adds (begin_entries chip.id s) ∷ pages → IsSegmentBegun chip c s steps
+      → steps ≡ Adds (begin_entries chip.id chip.unique s) ∷ pages → IsSegmentBegun chip c s steps
   ends : Begin (IsOneSegment chip c s) steps → IsSegmentBegun chip c s steps

@@ -20,6 +20,7 @@ abbrev pub fault_of_journal : JournalFault → Fault
 fault_of_journal journal.File = fault.Journal
 fault_of_journal (journal.Bad line) = fault.BadJournal line
 fault_of_journal journal.OtherDevice = fault.OtherDevice
+fault_of_journal journal.OtherBoard = fault.OtherBoard
 fault_of_journal journal.Memory = fault.Memory
 
 -- What a fault comes of: the line failed, the device doesn't follow the protocol, the file of the
@@ -46,6 +47,7 @@ cause_of (fault.Differs address) = of_refusal
 cause_of fault.Device = of_protocol
 cause_of (fault.BadJournal line) = of_refusal
 cause_of fault.OtherDevice = of_refusal
+cause_of fault.OtherBoard = of_refusal
 cause_of fault.Full = of_refusal
 
 -- the line, the file of the journal or memory failed, and nothing else is the matter

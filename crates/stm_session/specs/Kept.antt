@@ -43,7 +43,7 @@ kept_behind_steps kept (Sends turns ∷ steps) = kept_behind_steps kept steps
 -- A line that may come next: a segment begins where none is unfinished, and only what it
 -- keeps is said to be changed.
 abbrev pub MayAdd : Option (List ℕ) → Entry → Type 0
-MayAdd None (Names version id) = Unit {0}
+MayAdd None (Names version id unique) = Unit {0}
 MayAdd None (Opens number) = Unit {0}
 MayAdd (Some pages) (Keeps n bytes) = Unit {0}
 MayAdd (Some pages) (Erases n) = Contains pages n

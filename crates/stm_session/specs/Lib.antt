@@ -38,3 +38,6 @@ pub mod OneCommand
 pub mod Came
 pub mod RunOrder
 pub mod Kept
+pub mod AskingBoard
+pub mod ToldBoard
+pub mod Boards

@@ -13,7 +13,7 @@ use Rattle.stm_journal.specs.declared.kept.Kept.{Kept}
 use Rattle.stm_journal.specs.Text.{text_of}
 use Rattle.stm_journal.specs.States.{SegmentData}
 use Rattle.stm_journal.specs.Flashes.{with_kept_pages}
-use Rattle.stm_journal.specs.Journals.{added_bytes}
+use Rattle.stm_journal.specs.Journals.{added_bytes, version_for}
 use Rattle.stm_session.specs.Undoable.{has_companion, state_at}
 use Rattle.stm_session.specs.Work.{page_at_work, with_work}
 use Rattle.stm_session.specs.Meaning.{CommandData, is_change, flash_after}
@@ -63,14 +63,16 @@ page_entries_below zero chip old new = []
 page_entries_below (suc n) chip old new =
     page_entries_below n chip old new ++ page_entries chip old new n
 
--- a segment begins; a journal that names no device yet gets a header first
-abbrev pub opening_entries : Bool → ℕ → ℕ → List Entry
-opening_entries named id k = if named then Opens k ∷ [] else Names 2 id ∷ Opens k ∷ []
+-- a segment begins; a journal that names no device yet gets a header first, which names the board
+-- too where its device told its unique id
+abbrev pub opening_entries : Bool → ℕ → List ℕ → ℕ → List Entry
+opening_entries named id unique k =
+    if named then Opens k ∷ [] else Names (version_for unique) id unique ∷ Opens k ∷ []
 
 -- segment k, from one flash to another
 abbrev pub segment_entries : Bool → ChipData → ℕ → List ℕ → List ℕ → List Entry
 segment_entries named chip k old new =
-    opening_entries named chip.id k
+    opening_entries named chip.id chip.unique k
     ++ (page_entries_below (page_count chip) chip old new ++ Ends k ∷ [])
 
 -- a run of commands above so many segments

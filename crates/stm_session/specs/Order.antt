@@ -22,7 +22,7 @@ use Rattle.stm_journal.specs.declared.kept.Kept.{Kept}
 use Rattle.stm_journal.specs.Calls.{AppendsInPart, AreFetches}
 use Rattle.stm_journal.specs.Journals.{Loaded, IsLoaded, added_bytes}
 use Rattle.stm_journal.specs.Newest.{pages_of_segments}
-use Rattle.stm_journal.specs.States.{StateData, IsSound, intent_of, intent_page}
+use Rattle.stm_journal.specs.States.{StateData, IsSound, intent_of, intent_page, names_other_board}
 use Rattle.stm_session.specs.declared.fault.Fault.{Fault}
 use Rattle.stm_session.specs.Fault.{Cause, IsHeard, of_file, of_line, of_memory, of_protocol}
 use Rattle.stm_session.specs.Fault.{of_refusal, of_session, cause_of}
@@ -335,7 +335,8 @@ ReachesAndStops way id torn P cause old new = (version : ℕ) × (codes : List �
     old.calls new.calls
 
 -- A session loaded a journal, whose state is sound as that of each journal without a bad line, and
--- took it for one of this chip of the table; and this is so of both.
+-- took it for one of this chip of the table, whose header names no other board; and this is so of
+-- both.
 pub record Session (table : List ChipData) (old : RigState)
     (Does : ChipData → Loaded → Type 0) : Type 0 where
   pub journal : Loaded
@@ -343,6 +344,7 @@ pub record Session (table : List ChipData) (old : RigState)
   pub sound : IsSound journal.state
   pub chip : ChipData
   pub listed : IsChipWith table chip.id chip
+  pub board : names_other_board chip.unique journal.state ≡ false
   pub does : Does chip journal
 
 -- An undo that does such steps: settling by the intent of the journal that was loaded, or

@@ -12,10 +12,11 @@ use Rattle.stm_journal.specs.declared.header.JournalHeader.{JournalHeader}
 use Rattle.stm_journal.specs.declared.kept.Kept.{Kept}
 use Rattle.stm_journal.specs.Fits.{fits_chip}
 use Rattle.stm_journal.specs.States.{StateData, SegmentData, segment_of, is_unfinished, names_other}
+use Rattle.stm_journal.specs.States.{names_other_board}
 use Rattle.stm_journal.specs.Journals.{JournalData, good, bad}
 use Rattle.stm_session.specs.declared.fault.Fault.{Fault}
 use Rattle.stm_session.specs.declared.fault.Fault.TheVariants.{Unfinished, UnknownChip, InSession}
-use Rattle.stm_session.specs.declared.fault.Fault.TheVariants.{BadJournal, OtherDevice}
+use Rattle.stm_session.specs.declared.fault.Fault.TheVariants.{BadJournal, OtherBoard, OtherDevice}
 use Rattle.stm_session.specs.Fault.{IsJournalOrMemory, IsOutsideFault}
 use Rattle.stm_session.specs.Undoable.{has_companion}
 
@@ -69,7 +70,7 @@ misfit_lines chip stack =
 abbrev pub header_misfits : ChipData → Option JournalHeader → List ℕ
 header_misfits chip None = []
 header_misfits chip (Some header) =
-    if nat_lt 256 (page_count chip) && not (header.version == 2) then header.line ∷ [] else []
+    if nat_lt 256 (page_count chip) && nat_lt header.version 2 then header.line ∷ [] else []
 
 abbrev pub lesser : Option ℕ → ℕ → ℕ
 lesser None line = line
@@ -83,10 +84,16 @@ abbrev pub least : List ℕ → Option ℕ
 least lines = fold (λ so_far line. Some (lesser so_far line)) None lines
 
 -- the journal's header, or a page that it keeps, isn't one of the chip; the least such line is told
-abbrev pub misfit_refusal : ChipData → StateData → Option Fault
-misfit_refusal chip s =
+abbrev pub line_refusal : ChipData → StateData → Option Fault
+line_refusal chip s =
     option_map (λ line. BadJournal line)
     (least (header_misfits chip s.header ++ misfit_lines chip s.stack))
+
+-- the journal is of another board than this one, before all else; or one of its lines can't be of
+-- the chip
+abbrev pub misfit_refusal : ChipData → StateData → Option Fault
+misfit_refusal chip s =
+    if names_other_board chip.unique s then Some OtherBoard else line_refusal chip s
 
 -- the table hasn't the device's id, or the journal isn't one of its chip
 abbrev pub table_refusal : StateData → ℕ → Option ChipData → Option Fault

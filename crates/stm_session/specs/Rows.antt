@@ -7,11 +7,12 @@ use Rattle.hex.proofs.OnLiterals.{hex_on_literals}
 use Rattle.stm_image.specs.Lay.{lay}
 use Rattle.stm_wire.specs.declared.chip.EraseKind.TheVariants.{Page, Extended}
 use Rattle.stm_wire.specs.declared.intent.Intent.TheVariants.{Erase, Program}
-use Rattle.stm_wire.specs.Chip.{ChipData, chip_of}
+use Rattle.stm_wire.specs.Chip.{ChipData, chip_of, of_board}
 use Rattle.stm_wire.specs.Device.{Device, Fresh}
 use Rattle.stm_chip.specs.Plan.{frames_of, used_length}
 use Rattle.stm_journal.specs.declared.kept.Kept.{Kept}
 use Rattle.stm_journal.specs.declared.header.JournalHeader.{JournalHeader}
+use Rattle.stm_journal.specs.declared.stage.Stage.{Stage}
 use Rattle.stm_journal.specs.declared.stage.Stage.TheVariants.{Open, Ended, Returning}
 use Rattle.stm_journal.specs.declared.entry.Entry.TheVariants.{Names, Opens, Keeps, Erases}
 use Rattle.stm_journal.specs.declared.entry.Entry.TheVariants.{Programs, Ends, Undoes}
@@ -81,9 +82,21 @@ unfolding lay
 same_adds = refl
 
 empty_adds : run_entries false one 0 (replicate 512 0xFF) (writes [] ∷ [])
-    ≡ Names 2 0x412 ∷ Opens 1 ∷ Ends 1 ∷ []
+    ≡ Names 2 0x412 [] ∷ Opens 1 ∷ Ends 1 ∷ []
 unfolding lay
 empty_adds = refl
+
+-- a device that told its unique id is named with it
+abbrev board_one : List ℕ
+board_one = 0x30 ∷ 1 ∷ 2 ∷ 3 ∷ 4 ∷ 5 ∷ 6 ∷ 7 ∷ []
+
+abbrev board_two : List ℕ
+board_two = 0x31 ∷ 1 ∷ 2 ∷ 3 ∷ 4 ∷ 5 ∷ 6 ∷ 7 ∷ []
+
+named_adds : run_entries false (of_board board_one one) 0 (replicate 512 0xFF) (writes [] ∷ [])
+    ≡ Names 3 0x412 board_one ∷ Opens 1 ∷ Ends 1 ∷ []
+unfolding lay
+named_adds = refl
 
 -- a run of reads adds nothing, also where a torn tail stands
 reads_add : text_added true (run_entries true one 1 (replicate 512 0) (reads 0x08000000 4 ∷ []))
@@ -177,7 +190,7 @@ bad_first = refl
 
 abbrev one_segment : StateData
 one_segment = record {
-  header = Some (record { version = 1; id = 0x412; line = 1 });
+  header = Some (record { version = 1; id = 0x412; unique = []; line = 1 });
   stack = record { pages = []; stage = Ended } ∷ [];
 }
 
@@ -193,8 +206,10 @@ misfit : undo_refusal (good (record one_segment {
 misfit = refl
 
 nothing_refused : undo_refusal
-    (good (record { header = Some (record { version = 1; id = 0x999; line = 1 }); stack = [] })) []
-    ≡ None
+    (good (record {
+      header = Some (record { version = 1; id = 0x999; unique = []; line = 1 });
+      stack = [];
+    })) [] ≡ None
 nothing_refused = refl
 
 misfit_codes_first : undo_misfit other_kind 0x999 device ≡ Some faults.NoErase
@@ -236,7 +251,7 @@ abbrev many : ChipData
 many = chip_of 0xA02 0x08000000 (replicate 258 1) Extended 0xFF
 
 companion_first : run_entries false many 0 (replicate 258 0) (erases (1 ∷ []) ∷ [])
-    ≡ Names 2 0xA02 ∷ Opens 1 ∷ Keeps 257 (0 ∷ []) ∷ Keeps 1 (0 ∷ []) ∷ Erases 1 ∷ Ends 1 ∷ []
+    ≡ Names 2 0xA02 [] ∷ Opens 1 ∷ Keeps 257 (0 ∷ []) ∷ Keeps 1 (0 ∷ []) ∷ Erases 1 ∷ Ends 1 ∷ []
 unfolding frames_of lay
 companion_first = refl
 
@@ -259,7 +274,7 @@ companion_count = refl
 -- a journal of version 1 is none of such a chip, nor one that keeps page 1 without page
 -- 257; the least line is told
 abbrev header_of_version : ℕ → JournalHeader
-header_of_version version = record { version = version; id = 0xA02; line = 1 }
+header_of_version version = record { version = version; id = 0xA02; unique = []; line = 1 }
 
 abbrev page_one : Kept
 page_one = record { page = 1; bytes = 0 ∷ []; line = 3; at = 0 }
@@ -289,7 +304,40 @@ both_fit = refl
 
 -- on a chip of 256 pages or fewer a journal of version 1 goes on, and page 1 has no companion
 old_version_fits : undo_refusal (good (record {
-  header = Some (record { version = 1; id = 0x412; line = 1 });
+  header = Some (record { version = 1; id = 0x412; unique = []; line = 1 });
   stack = record { pages = []; stage = Open None } ∷ [];
 })) (small ∷ []) ≡ None
 old_version_fits = refl
+
+-- A journal of another board is refused by an undo, by its header alone, before its pages are
+-- looked at; the same board's isn't, nor one of version 2 whatever the device told.
+abbrev journal_of_board : ℕ → List ℕ → Stage → JournalData
+journal_of_board version unique stage = good (record {
+  header = Some (record { version = version; id = 0x412; unique = unique; line = 1 });
+  stack = record {
+    pages = record { page = 0; bytes = 255 ∷ []; line = 3; at = 0 } ∷ [];
+    stage = stage;
+  } ∷ [];
+})
+
+other_board : undo_refusal (journal_of_board 3 board_one (Open None))
+    (of_board board_two small ∷ []) ≡ Some faults.OtherBoard
+other_board = refl
+
+untold_board : undo_refusal (journal_of_board 3 board_one (Open None)) (small ∷ [])
+    ≡ Some faults.OtherBoard
+untold_board = refl
+
+own_board : undo_refusal (journal_of_board 3 board_one (Open None))
+    (of_board board_one small ∷ []) ≡ Some (faults.BadJournal 3)
+own_board = refl
+
+unnamed_board : undo_refusal (journal_of_board 2 [] (Open None)) (of_board board_two small ∷ [])
+    ≡ Some (faults.BadJournal 3)
+unnamed_board = refl
+
+-- a run refuses it too
+other_board_run : run_refusal (journal_of_board 3 board_one Ended)
+    (record device { chip = of_board board_two small }) (of_board board_two small ∷ [])
+    (reads 0x08000000 1 ∷ []) ≡ Some faults.OtherBoard
+other_board_run = refl

@@ -74,6 +74,7 @@ RunFails commands flashes old new (fault.Differs address) =
 RunFails commands flashes old new fault.Device = ⊥
 RunFails commands flashes old new (fault.BadJournal line) = ⊥
 RunFails commands flashes old new fault.OtherDevice = ⊥
+RunFails commands flashes old new fault.OtherBoard = ⊥
 RunFails commands flashes old new fault.Full = ⊥
 
 -- A run that is refused nothing.

@@ -40,7 +40,7 @@ torn_after torn (e ∷ entries) = false
 -- each line says that a page is to be erased or programmed
 abbrev pub AreIntents : List Entry → Type 0
 AreIntents [] = Unit {0}
-AreIntents (Names version id ∷ entries) = ⊥
+AreIntents (Names version id unique ∷ entries) = ⊥
 AreIntents (Opens k ∷ entries) = ⊥
 AreIntents (Keeps n bytes ∷ entries) = ⊥
 AreIntents (Erases n ∷ entries) = AreIntents entries

@@ -1,6 +1,6 @@
 // What is checked before the first command is done.
 ghost use Rattle.std.specs.Prelude.{◌≡◌, ◌<◌, ◌++◌, None, Some, MatchResult};
-ghost use Rattle.stm_journal.specs.States.{IsSound};
+ghost use Rattle.stm_journal.specs.States.{IsSound, names_other_board};
 ghost use Rattle.stm_session.specs.Refusal.{segment_pages, fits_as_kept, header_misfits};
 ghost use Rattle.stm_session.specs.Refusal.{lacks_companion, lesser, least, least_with};
 ghost use Rattle.stm_session.specs.Refusal.{misfit_lines, misfit_lines_of, misfit_refusal};
@@ -77,7 +77,7 @@ fn header_misfit(journal: &Journal, chip: &Chip) -> Option<u64>
     ensures { result ≡ least (header_misfits chip.now journal.now.state.header) }
 {
     let (version, line) = journal.header()?;
-    if chip.pages() > 256 && version != 2 {
+    if chip.pages() > 256 && version < 2 {
         return Some(line);
     }
     None
@@ -98,13 +98,26 @@ fn misfit_line(journal: &Journal, chip: &Chip) -> Option<u64>
     least
 }
 
-/// The journal's header must be one of such a chip, and each page that it keeps must be one
-/// of the chip, in its size.
+/// Whether the journal's header names another board than the chip: a device with another unique id.
+fn is_of_other_board(journal: &Journal, chip: &Chip) -> bool
+    ensures { result ≡ names_other_board chip.now.unique journal.now.state }
+{
+    match journal.unique() {
+        Some(board) => !board.is(&chip.unique()),
+        None => false,
+    }
+}
+
+/// The journal's header must name no other board and be one of such a chip, and each page that the
+/// journal keeps must be one of the chip, in its size.
 pub fn check_kept(journal: &Journal, chip: &Chip) -> Result<(), Fault>
     ensures { MatchResult result
         (λ _. misfit_refusal chip.now journal.now.state ≡ None)
         (λ fault. misfit_refusal chip.now journal.now.state ≡ Some fault) }
 {
+    if is_of_other_board(journal, chip) {
+        return Err(Fault::OtherBoard);
+    }
     match misfit_line(journal, chip) {
         None => Ok(()),
         Some(line) => Err(Fault::BadJournal(line)),

@@ -47,6 +47,9 @@ pub enum Fault {
     /// The journal's header names another device.
     #[error("journal belongs to another device")]
     OtherDevice,
+    /// The journal's header names another board: a device with another unique id.
+    #[error("journal is of another board")]
+    OtherBoard,
     /// The journal has no room for so many segments more.
     #[error("journal is full")]
     Full,
@@ -87,6 +90,7 @@ impl From<JournalFault> for Fault {
             JournalFault::File => Fault::Journal,
             JournalFault::Bad(line) => Fault::BadJournal(line),
             JournalFault::OtherDevice => Fault::OtherDevice,
+            JournalFault::OtherBoard => Fault::OtherBoard,
             JournalFault::Memory => Fault::Memory,
         }
     }

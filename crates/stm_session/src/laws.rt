@@ -1,9 +1,11 @@
 //! Laws of what can be taken back: each is the contract of a function that does nothing.
-ghost use Rattle.std.specs.Prelude.{◌≡◌, Bool, ℕ, List, [], Result, Some, None, false, true};
+ghost use Rattle.std.specs.Prelude.{◌≡◌, ◌⊎◌, Bool, ℕ, List, [], Result, Some, None, false, true};
 ghost use Rattle.std.specs.List.{list_all};
 ghost use Rattle.stm_wire.specs.Chip.{ChipData};
 ghost use Rattle.stm_wire.specs.Device.{Device, IsDevice, IsReady, reset};
+ghost use Rattle.stm_wire.specs.Dialogue.{GoesOn};
 ghost use Rattle.stm_chip.specs.Document.{IsChipWith, IsNewId};
+ghost use Rattle.stm_journal.specs.Calls.{AreFetches};
 ghost use Rattle.stm_journal.specs.Flashes.{flashes_before_segments};
 ghost use Rattle.stm_journal.specs.Journals.{journal_of};
 ghost use Rattle.stm_journal.specs.States.{StateData};
@@ -11,6 +13,7 @@ ghost use Rattle.stm_session.specs.declared.command.Command.{Command};
 ghost use Rattle.stm_session.specs.declared.fault.Fault.{Fault};
 ghost use Rattle.stm_session.specs.declared.outcome.Report.{Report};
 ghost use Rattle.stm_session.specs.Answers.{outcomes_in};
+ghost use Rattle.stm_session.specs.Boards.{IsForeign, IsOfItsBoard, OnlyAsks};
 ghost use Rattle.stm_session.specs.Events.{OutcomesAreTheRun};
 ghost use Rattle.stm_session.specs.Kept.{RunKeeps, RunStopsKept, UndoPutsBack, UndoStopsBack};
 ghost use Rattle.stm_session.specs.Meaning.{CommandData, commands_in};
@@ -169,4 +172,27 @@ pub fn an_undo_changes_only_pages_that_it_takes_back<R: Rig>()
     ensures stopped { (is_fresh : Bool) (table : List ChipData) (count : ℕ) (old new : R)
         (fault : Fault) → UndoStopsFrom is_fresh table count (R.view old) (R.view new) fault
         → UndoStopsBack is_fresh table (R.view old) (R.view new) fault }
+{}
+
+/// On any line, whatever it answers: a run that succeeded, or that sent or appended anything but to
+/// settle and ask the device, and an undo that did anything but read its journal, had loaded one
+/// that names no other board than a chip of the table. On a line that follows the model that is the
+/// Rig's own journal; so one of which no chip of the table is the board is left alone with its
+/// device.
+pub fn a_session_changes_only_its_own_board<R: Rig>()
+    ensures run { (table : List ChipData) (commands : List CommandData) (old new : R)
+        → RunsInOrder table commands (R.view old) (R.view new)
+        → IsOfItsBoard table (R.view old) }
+    ensures run_stops { (table : List ChipData) (commands : List CommandData) (old new : R)
+        (fault : Fault) → RunStops table commands (R.view old) (R.view new) fault
+        → OnlyAsks (R.view old) (R.view new) fault ⊎ IsOfItsBoard table (R.view old) }
+    ensures undo { (is_fresh : Bool) (table : List ChipData) (taken : ℕ) (old new : R)
+        → UndoesInOrderFrom is_fresh table taken (R.view old) (R.view new)
+        → IsOfItsBoard table (R.view old) }
+    ensures undo_stops { (is_fresh : Bool) (table : List ChipData) (count : ℕ) (old new : R)
+        (fault : Fault) → UndoStopsFrom is_fresh table count (R.view old) (R.view new) fault
+        → GoesOn AreFetches (R.view old).calls (R.view new).calls
+        ⊎ IsOfItsBoard table (R.view old) }
+    ensures foreign { (table : List ChipData) (old : R) → (R.view old).is_honest
+        → IsForeign table (R.view old).journal → IsOfItsBoard table (R.view old) → ⊥ }
 {}

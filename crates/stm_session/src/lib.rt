@@ -2,6 +2,8 @@
 //! the first command is begun.
 #![tactic(auto)]
 
+mod asking_board;
+mod board_session;
 mod change;
 mod changing;
 mod check;
@@ -42,6 +44,8 @@ mod segment_end;
 mod segments_back;
 mod settling;
 
+pub use asking_board::{Board, told_board_is_the_devices};
+pub use board_session::ask_board;
 pub use command::Command;
 pub use contact::Told;
 pub use fault::Fault;
@@ -55,9 +59,9 @@ pub use laws::{
     a_power_loss_keeps_what_can_be_taken_back, a_ready_device_can_begin,
     a_reset_keeps_what_can_be_taken_back, a_run_is_known_by_its_outcomes,
     a_run_keeps_pages_before_it_changes_them, a_run_of_reads_begins_no_segment,
-    an_undo_changes_only_pages_that_it_takes_back, an_unrefused_journal_can_be_taken_back,
-    asking_keeps_what_can_be_taken_back, lost_bytes_keep_what_can_be_taken_back,
-    reads_in_the_flash_are_not_refused,
+    a_session_changes_only_its_own_board, an_undo_changes_only_pages_that_it_takes_back,
+    an_unrefused_journal_can_be_taken_back, asking_keeps_what_can_be_taken_back,
+    lost_bytes_keep_what_can_be_taken_back, reads_in_the_flash_are_not_refused,
 };
 pub use outcome::{Outcome, Report};
 pub use reversal::{undo, undo_fresh};

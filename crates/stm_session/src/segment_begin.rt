@@ -19,31 +19,32 @@ use stm_journal::{Journal, a_stopped_append_is_good};
 use stm_wire::{Chip, Rig};
 
 /// Begins a segment, above finished ones, and answers its number. A journal that names no
-/// device gets a header first.
+/// device gets a header first, which names the board too where its device told its unique id.
 pub fn begin_segment<R: Rig>(rig: &mut R, journal: &mut Journal, chip: &Chip) -> Result<u32, Fault>
     requires room { length journal.old.state.stack < 65535 }
     requires finished { is_unfinished journal.old.state ≡ false }
-    ensures begun { OnOk result (HasBegun chip.now.id journal.old.state journal.new.state) }
+    ensures begun { OnOk result (HasBegun chip.now.id chip.now.unique journal.old.state journal.new.state) }
     ensures number { IfOk result (λ k. k ≡ length journal.old.state.stack + 1) }
     ensures cause { HasSessionCause (R.view rig.old) (R.view rig.new) result }
     ensures named { IfErr result (λ fault. fault ≢ Fault.Unfinished) }
     ensures puts { let old = R.view rig.old in let new = R.view rig.new in
         GoesOn (IsPart (Some chip.now) (is_whole result) 0) old.calls new.calls }
     ensures order { let old = R.view rig.old in let new = R.view rig.new in
-        let steps = Adds (begin_entries chip.now.id journal.old.state) ∷ [] in
+        let steps = Adds (begin_entries chip.now.id chip.now.unique journal.old.state) ∷ [] in
         OnOk result (DoesSteps steps journal.old journal.new old new) }
     ensures stops { let old = R.view rig.old in let new = R.view rig.new in
-        let steps = Adds (begin_entries chip.now.id journal.old.state) ∷ [] in
+        let steps = Adds (begin_entries chip.now.id chip.now.unique journal.old.state) ∷ [] in
         Stops (Begin (Are steps)) journal.old.is_torn old new result }
     ensures honest { let old = R.view rig.old in let new = R.view rig.new in
         (flashes : List (List ℕ)) (after : List ℕ) → IsSteady flashes journal.old old
         → old.device.chip ≡ chip.now
         → let k = depth_at old.journal + 1 in
-        let lines = opening_entries (is_named_at old.journal) chip.now.id k in
+        let named = is_named_at old.journal in
+        let lines = opening_entries named chip.now.id chip.now.unique k in
         Changes flashes lines after journal.new old new result (λ _. new.device ≡ old.device) }
 {
     step_laws();
     a_stopped_append_is_good();
-    let segment = journal.begin(rig, chip.id())?;
+    let segment = journal.begin(rig, chip.id(), &chip.unique())?;
     Ok(segment)
 }

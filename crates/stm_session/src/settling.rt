@@ -48,7 +48,7 @@ fn connects(journal: &Journal, is_fresh: bool) -> bool
 
 /// Settles a device by the intent of the journal that was loaded, from wherever a session was
 /// stopped: in batches where there is one. A device that is said to be fresh from reset is sent 7F
-/// alone. The journal is one of this chip.
+/// alone. The journal is one of a device that is erased as this chip is.
 pub fn settle_intended<R: Rig>(
     rig: &mut R,
     journal: &Journal,
@@ -65,7 +65,7 @@ pub fn settle_intended<R: Rig>(
     ensures honest { let old = R.view rig.old in let new = R.view rig.new in
         old.is_honest → IsAsSaid is_fresh old.device → (flashes : List (List ℕ))
         → IsLoaded journal.now old.journal → Undoable flashes old.device old.journal
-        → old.device.chip ≡ chip.now
+        → old.device.chip.kind ≡ chip.now.kind
         → Goes flashes [] journal.now old new result (λ _. ⊤) }
     ensures strays { let old = R.view rig.old in let new = R.view rig.new in
         old.is_honest → IsAsSaid is_fresh old.device → IsLoaded journal.now old.journal

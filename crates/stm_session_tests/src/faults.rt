@@ -92,6 +92,7 @@ fn texts_of_journals_and_sessions(rt: HostRuntime) -> Result<(), Fail> {
         (JournalFault::File, "journal failed"),
         (JournalFault::Bad(12), "bad journal line 12"),
         (JournalFault::OtherDevice, "journal of another device"),
+        (JournalFault::OtherBoard, "journal of another board"),
         (JournalFault::Memory, "out of memory"),
     ];
     for (fault, want) in rows {
@@ -110,6 +111,7 @@ fn texts_of_journals_and_sessions(rt: HostRuntime) -> Result<(), Fail> {
         (Fault::Device, "device does not follow the protocol"),
         (Fault::BadJournal(12), "bad journal line 12"),
         (Fault::OtherDevice, "journal belongs to another device"),
+        (Fault::OtherBoard, "journal is of another board"),
         (Fault::Full, "journal is full"),
     ];
     for (fault, want) in rows {

@@ -4,6 +4,8 @@
 #[cfg(test)]
 mod asking;
 #[cfg(test)]
+mod asking_board;
+#[cfg(test)]
 mod bad_devices;
 #[cfg(test)]
 mod bad_line_rig;
@@ -11,6 +13,8 @@ mod bad_line_rig;
 mod bad_lines;
 #[cfg(test)]
 mod beginnings;
+#[cfg(test)]
+mod boards;
 #[cfg(test)]
 mod client;
 #[cfg(test)]

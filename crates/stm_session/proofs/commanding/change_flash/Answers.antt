@@ -62,7 +62,8 @@ module _ (g : given.Over) (c : goal.After-end_segment g) (flashes : List (List �
 
   abbrev begins_by : List Entry
   begins_by =
-      opening_entries (is_named_at old.journal) c.args.chip.now.id (depth_at old.journal + 1)
+      opening_entries (is_named_at old.journal) c.args.chip.now.id c.args.chip.now.unique
+      (depth_at old.journal + 1)
 
   abbrev turns_by : List Entry
   turns_by = page_entries_below (page_count c.args.chip.now) c.args.chip.now old.device.flash after
@@ -109,7 +110,7 @@ returns-in_err-segment-clause-honest g c flashes steady chip =
     let b = V c.begin_segment.new.rig in
     let k = c.args.chip.now in
     let after = flash_after k a.device.flash (command_of c.args.change.now) in
-    let xs : List Entry = opening_entries (is_named_at a.journal) k.id (depth_at a.journal + 1) in
+    let xs : List Entry = opening_entries (is_named_at a.journal) k.id k.unique (depth_at a.journal + 1) in
     let rest : List Entry = page_entries_below (page_count k) k a.device.flash after ++ Ends (depth_at a.journal + 1) ∷ [] in
     begin_fails flashes xs rest after c.begin_segment.new.journal c.begin_segment.new.journal a b _ c.from_residual.result (c.in_err-segment.ensures.honest flashes after steady chip) c.from_residual.ensures.1
 
@@ -124,7 +125,7 @@ returns-in_err-pages-clause-honest g c flashes steady chip =
     let k = c.args.chip.now in
     let after = flash_after k a.device.flash (command_of c.args.change.now) in
     let xs : List Entry =
-    opening_entries (is_named_at a.journal) k.id (depth_at a.journal + 1) in
+    opening_entries (is_named_at a.journal) k.id k.unique (depth_at a.journal + 1) in
     let ys : List Entry = page_entries_below (page_count k) k a.device.flash after in
     let zs : List Entry = Ends (depth_at a.journal + 1) ∷ [] in
     let first = c.in_ok-segment.ensures.honest flashes after steady chip in
@@ -217,7 +218,7 @@ returns-clause-order g c =
     let b = V c.begin_segment.new.rig in
     let d = V c.turn_pages.new.rig in
     let e = V c.end_segment.new.rig in
-    let first : List Step = Adds (begin_entries chip.id l.state) ∷ [] in
+    let first : List Step = Adds (begin_entries chip.id chip.unique l.state) ∷ [] in
     let turned = c.in_ok-pages.ensures.order in
     let deep : length l3.state.stack ≡ length l.state.stack + 1 = c.in_ok-pages.ensures.depth ∙ c.in_ok-segment.ensures.begun.depth in
     let E : ℕ → Type 0 = λ m. DoesSteps (Adds (Ends m ∷ []) ∷ []) l3 l4 d e in
@@ -231,7 +232,7 @@ returns-in_err-segment-clause-stops g c =
     let V = g.R.Rig.view in
     let chip = c.args.chip.now in
     let s = c.args.journal.now.state in
-    let own : List Step = Adds (begin_entries chip.id s) ∷ [] in
+    let own : List Step = Adds (begin_entries chip.id chip.unique s) ∷ [] in
     part_stops (Begin (Are own)) (IsSegmentBegun chip c.args.change.now s) c.args.journal.now.is_torn (V c.args.rig.now) (V c.begin_segment.new.rig) _ c.from_residual.result c.from_residual.ensures.1
     (λ xs begun. begins begun) c.in_err-segment.ensures.stops
 
@@ -241,7 +242,7 @@ returns-in_err-pages-clause-stops g c =
     let chip = c.args.chip.now in
     let change = c.args.change.now in
     let l = c.args.journal.now in
-    let own : List Step = Adds (begin_entries chip.id l.state) ∷ [] in
+    let own : List Step = Adds (begin_entries chip.id chip.unique l.state) ∷ [] in
     then_stops (AreBegunTurns chip change) (IsSegmentBegun chip change l.state) own l c.begin_segment.new.journal (V c.args.rig.now) (V c.begin_segment.new.rig) (V c.turn_pages.new.rig) _
     c.from_residual-in_err-pages.result c.from_residual-in_err-pages.ensures.1 c.in_ok-segment.ensures.order c.in_err-pages.ensures.stops (λ ys begun. turns ys begun refl)
 
@@ -257,7 +258,7 @@ returns-in_err-end_segment-clause-stops g c =
     let b = V c.begin_segment.new.rig in
     let d = V c.turn_pages.new.rig in
     let e = V c.end_segment.new.rig in
-    let own : List Step = Adds (begin_entries chip.id l.state) ∷ [] in
+    let own : List Step = Adds (begin_entries chip.id chip.unique l.state) ∷ [] in
     let turned = c.in_ok-pages.ensures.order in
     let before : List Step = own ++ turned.0 in
     let deep : length l3.state.stack ≡ length l.state.stack + 1 = c.in_ok-pages.ensures.depth ∙ c.in_ok-segment.ensures.begun.depth in

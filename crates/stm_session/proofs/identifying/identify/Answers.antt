@@ -1,4 +1,4 @@
-use Rattle.std.proofs.Common.{ℕ, None}
+use Rattle.std.proofs.Common.{None}
 use Rattle.stm_wire.specs.PartLaws.{silent_is_session, silent_then_session}
 use Rattle.stm_journal.specs.Calls.{AreFetches}
 use Rattle.stm_wire.specs.Dialogue.{GoesOn}

@@ -20,3 +20,6 @@ returns-clause-fits c = (unrefused-fits c.in-Some.chip.now c.args.journal.now.st
 
 pub returns-clause-accepted : goal.returns-clause-accepted
 returns-clause-accepted c = ap (λ (o : Option ChipData). table_refusal c.args.journal.now.state c.args.id o) (has_chip c.args.table.now c.args.id _ c.in-Some.ensures) ∙ c.in_ok-check_kept.ensures
+
+pub returns-clause-board : goal.returns-clause-board
+returns-clause-board c = (unrefused-fits c.in-Some.chip.now c.args.journal.now.state c.in_ok-check_kept.ensures).board

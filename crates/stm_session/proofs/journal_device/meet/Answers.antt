@@ -1,4 +1,5 @@
-use Rattle.std.proofs.Common.{◌≡◌, ◌≤◌, ◌∙◌, [], None, inr, length, sym}
+use Rattle.std.proofs.Common.{◌≡◌, ◌≤◌, ◌∙◌, [], None, ap, inr, length, sym}
+use Rattle.stm_wire.specs.Chip.{ChipData}
 use Rattle.stm_wire.specs.Harmless.{Harmless}
 use Rattle.stm_wire.specs.Moments.{LeavesOnly}
 use Rattle.stm_journal.specs.Journals.{IsLoaded}
@@ -32,13 +33,13 @@ pub returns-in_err-settle_intended-clause-honest : goal.returns-in_err-settle_in
 returns-in_err-settle_intended-clause-honest g c h said flashes loaded undoable chip =
     let V = g.R.Rig.view in
     let l = c.args.journal.now in
-    goes_failed flashes [] [] l l (V c.args.rig.now) (V c.settle_intended.new.rig) _ c.from_residual.result (c.in_err-settle_intended.ensures.honest h said flashes loaded undoable chip) c.from_residual.ensures.1
+    goes_failed flashes [] [] l l (V c.args.rig.now) (V c.settle_intended.new.rig) _ c.from_residual.result (c.in_err-settle_intended.ensures.honest h said flashes loaded undoable (ap (λ (p : ChipData). p.kind) chip)) c.from_residual.ensures.1
 
 pub returns-in_err-misfit-clause-honest : goal.returns-in_err-misfit-clause-honest
 returns-in_err-misfit-clause-honest g c h said flashes loaded undoable chip =
     let V = g.R.Rig.view in
     let l = c.args.journal.now in
-    let first = c.in_ok-settle_intended.ensures.honest h said flashes loaded undoable chip in
+    let first = c.in_ok-settle_intended.ensures.honest h said flashes loaded undoable (ap (λ (p : ChipData). p.kind) chip) in
     let model = g.met.R.Rig.model c.settle_intended.new.rig first.honest in
     goes_then flashes [] [] l l (V c.args.rig.now) (V c.settle_intended.new.rig) (V c.ask_misfit.new.rig) (tt {0}) c.from_residual-in_err-misfit.result model first
     (asks_fail c.step_laws.ensures flashes l (V c.settle_intended.new.rig) (V c.ask_misfit.new.rig) first.steady [] l _ c.from_residual-in_err-misfit.result
@@ -47,7 +48,7 @@ returns-in_err-misfit-clause-honest g c h said flashes loaded undoable chip =
 pub returns-in-Some-clause-honest : goal.returns-in-Some-clause-honest
 returns-in-Some-clause-honest g c h said flashes loaded undoable chip =
     let V = g.R.Rig.view in
-    let first = c.in_ok-settle_intended.ensures.honest h said flashes loaded undoable chip in
+    let first = c.in_ok-settle_intended.ensures.honest h said flashes loaded undoable (ap (λ (p : ChipData). p.kind) chip) in
     let model = g.met.R.Rig.model c.settle_intended.new.rig first.honest in
     let still = (at_exit _ (V c.args.rig.now) (V c.settle_intended.new.rig) model first.moments).make.chip ∙ chip in
     let done : c.in_ok-misfit.misfit ≡ undo_misfit c.args.chip.now c.args.chip.now.id (V c.settle_intended.new.rig).device = (c.in_ok-misfit.ensures.honest first.honest first.steady.settled).done in
@@ -59,7 +60,7 @@ pub returns-in-None-clause-honest : goal.returns-in-None-clause-honest
 returns-in-None-clause-honest g c h said flashes loaded undoable chip =
     let V = g.R.Rig.view in
     let l = c.args.journal.now in
-    let first = c.in_ok-settle_intended.ensures.honest h said flashes loaded undoable chip in
+    let first = c.in_ok-settle_intended.ensures.honest h said flashes loaded undoable (ap (λ (p : ChipData). p.kind) chip) in
     let model = g.met.R.Rig.model c.settle_intended.new.rig first.honest in
     goes_then flashes [] [] l l (V c.args.rig.now) (V c.settle_intended.new.rig) (V c.ask_misfit.new.rig) (tt {0}) _ model first
     (asks_go c.step_laws.ensures flashes l (V c.settle_intended.new.rig) (V c.ask_misfit.new.rig) first.steady _ (tt {0})

@@ -11,6 +11,7 @@ use Rattle.stm_wire.specs.Frames.{read_turns}
 use Rattle.stm_session.specs.Order.{Begin, IsReadOf, Sends}
 use Rattle.stm_session.proofs.CutShort.{begin_all, command_stops}
 use Rattle.stm_session.proofs.Orders.{order_sent}
+use Rattle.stm_session.proofs.ToldBoards.{flash_readable}
 use Rattle.stm_session.proofs.reading.read_part.Goals as goal
 
 pub returns-in_err-read-clause-honest : goal.returns-in_err-read-clause-honest
@@ -20,7 +21,7 @@ returns-in_err-read-clause-honest g c h settled chip fits =
     let inside = subst P (sym chip) fits in
     let does = c.in_err-read.ensures.honest h (record { settled = settled; inside = inside }) in
     broken_off c.sending_is_harmless.ensures.asking (V c.args.rig.now) (V c.read.new.rig) c.from_residual.result _ h
-    (g.met.R.Rig.model c.args.rig.now h).device settled (read c.args.address (length c.args.buf.now) c.requires.some c.requires.limit inside refl) c.in_err-read.ensures.broken.2 does.fails c.from_residual.ensures.1
+    (g.met.R.Rig.model c.args.rig.now h).device settled (read c.args.address (length c.args.buf.now) c.requires.some c.requires.limit (flash_readable (V c.args.rig.now).device.chip c.args.address (length c.args.buf.now) inside) refl) c.in_err-read.ensures.broken.2 does.fails c.from_residual.ensures.1
 
 pub returns-clause-honest : goal.returns-clause-honest
 returns-clause-honest g c h settled chip fits =
@@ -30,7 +31,7 @@ returns-clause-honest g c h settled chip fits =
     let does = (c.in_ok-read.ensures.honest h (record { settled = settled; inside = inside })).done in
     let size : length c.read.new.buf ≡ length c.args.buf.now = search rules in
     asked c.sending_is_harmless.ensures.asking (V c.args.rig.now) (V c.read.new.rig) (tt {0}) _ h
-    (g.met.R.Rig.model c.args.rig.now h).device settled (read c.args.address (length c.args.buf.now) c.requires.some c.requires.limit inside refl) c.in_ok-read.ensures.held does.same
+    (g.met.R.Rig.model c.args.rig.now h).device settled (read c.args.address (length c.args.buf.now) c.requires.some c.requires.limit (flash_readable (V c.args.rig.now).device.chip c.args.address (length c.args.buf.now) inside) refl) c.in_ok-read.ensures.held does.same
     (does.read ∙ ap (λ (n : ℕ). take n (drop (c.args.address - (V c.args.rig.now).device.chip.base) (V c.args.rig.now).device.flash)) size
     ∙ ap (λ (p : ChipData). take (length c.args.buf.now) (drop (c.args.address - p.base) (V c.args.rig.now).device.flash)) chip)
 

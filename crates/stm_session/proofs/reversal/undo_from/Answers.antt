@@ -3,6 +3,7 @@ use Rattle.std.proofs.Common.{refl, sym, ap, subst, arith}
 use Rattle.stm_session.specs.declared.fault.Fault.{Fault}
 use Rattle.stm_session.specs.Promises.{UndoContract}
 use Rattle.stm_chip.specs.Document.{IsChipWith}
+use Rattle.stm_wire.specs.Chip.{ChipData}
 use Rattle.stm_wire.specs.Device.{Device}
 use Rattle.stm_wire.specs.Harmless.{Harmless}
 use Rattle.stm_wire.specs.Rig.{IsModel}
@@ -191,7 +192,7 @@ gone g c made was h result meets goes undoes =
     let own = own_chip table l a b loads some c.in-Some.id named laws chip found.chip found.accepted
     flashes u listed in
     let before = sym (ap (λ (x : Device). x.chip) loads.same_device) ∙ own in
-    let within = own_within laws chip a (g.met.R.Rig.model c.args.rig.now h).device before in
+    let within = own_within laws chip a (g.met.R.Rig.model c.args.rig.now h).device (ap (λ (p : ChipData). p.kind) before) in
     let left = (meets u.harmless u.owed within).left in
     let settled = (elsewhere_back table l a b loads some c.in-Some.id named laws chip found.chip
     found.accepted d.device d.journal left).flash in
@@ -337,6 +338,7 @@ returns-clause-order g c some =
       sound = c.depth-depth.ensures.sound;
       chip = chip;
       listed = own-id c.args.table.now c.in-Some.id chip c.in_ok-chip.ensures.chip;
+      board = c.in_ok-chip.ensures.board;
       does = (met.0, met.1, back.0, taken, fetched_then way l.is_torn (asking ++ back.0) a b e c.in_ok-journal.ensures.calls (settled_then way l.is_torn asking back.0 b d e refl met.2 back.2.acts));
     }
 
@@ -362,6 +364,7 @@ returns-clause-given g c some =
       sound = c.depth-depth.ensures.sound;
       chip = chip;
       listed = own-id c.args.table.now c.in-Some.id chip c.in_ok-chip.ensures.chip;
+      board = c.in_ok-chip.ensures.board;
       does = (
         met.0,
         met.1,
@@ -399,6 +402,7 @@ returns-in_err-meet-clause-stops g c =
       sound = c.depth-depth.ensures.sound;
       chip = c.in_ok-chip.chip.now;
       listed = own-id c.args.table.now c.in-Some.id c.in_ok-chip.chip.now c.in_ok-chip.ensures.chip;
+      board = c.in_ok-chip.ensures.board;
       does = inl (fetched_stops way _ l.is_torn a.calls b.calls d.calls c.in_ok-journal.ensures.calls (c.in_err-meet.ensures.stops l.is_torn));
     }))
 
@@ -434,6 +438,7 @@ returns-in_err-go_back-clause-stops g c =
       sound = c.depth-depth.ensures.sound;
       chip = chip;
       listed = own-id c.args.table.now c.in-Some.id chip c.in_ok-chip.ensures.chip;
+      board = c.in_ok-chip.ensures.board;
       does = inr (stops_as way chip.id l.is_torn Own Back cause a e begun (met.0, met.1, back));
     }))
 
@@ -466,6 +471,7 @@ returns-in_err-meet-clause-given_stops g c =
       sound = c.depth-depth.ensures.sound;
       chip = chip;
       listed = own-id c.args.table.now c.in-Some.id chip c.in_ok-chip.ensures.chip;
+      board = c.in_ok-chip.ensures.board;
       does = inl (fetched_stops way _ l.is_torn a.calls b.calls d.calls c.in_ok-journal.ensures.calls (c.in_err-meet.ensures.stops l.is_torn));
     }))
 
@@ -506,5 +512,6 @@ returns-in_err-go_back-clause-given_stops g c =
       sound = c.depth-depth.ensures.sound;
       chip = chip;
       listed = own-id c.args.table.now c.in-Some.id chip c.in_ok-chip.ensures.chip;
+      board = c.in_ok-chip.ensures.board;
       does = inr (stops_as way chip.id l.is_torn Own Back cause a e begun (met.0, met.1, back));
     }))

@@ -16,6 +16,7 @@ use Rattle.std.proofs.Common.{inl, inr}
 use Rattle.stm_session.specs.declared.fault.Fault.{Fault}
 use Rattle.stm_session.specs.RunOrder.{AreBegun, RunStops}
 use Rattle.stm_session.proofs.Reaching.{at_fault, reached_stops, told_stops}
+use Rattle.stm_session.proofs.Fitting.{unrefused-fits}
 use Rattle.stm_session.proofs.running.run.Goals as goal
 
 no_commands : (commands : List Command) → commands_in commands ≡ [] → commands ≡ []
@@ -109,6 +110,7 @@ returns-clause-order g c =
       sound = c.in_ok-check_commands.ensures.sound;
       chip = c.in_ok-opened.opened.chip.now;
       listed = c.in_ok-opened.ensures.coherent.chip;
+      board = (unrefused-fits c.in_ok-opened.opened.chip.now l.state c.in_ok-opened.ensures.coherent.fits).board;
       does = (reached.0, reached.1, done.0, (map outcome_data c.in_ok-outcomes.outcomes.items, c.run_commands.new.journal.state, done.1), settled_then (Settles 0x7F 131072) l.is_torn (asking_steps reached.0 reached.1 _) done.0 a b d refl reached.2 done.2.acts);
     }
 
@@ -127,6 +129,7 @@ returns-clause-told g c =
       sound = c.in_ok-check_commands.ensures.sound;
       chip = c.in_ok-opened.opened.chip.now;
       listed = c.in_ok-opened.ensures.coherent.chip;
+      board = (unrefused-fits c.in_ok-opened.opened.chip.now l.state c.in_ok-opened.ensures.coherent.fits).board;
       does = (reached.0, reached.1, done.0, (c.run_commands.new.journal.state, done.1), settled_then (Settles 0x7F 131072) l.is_torn (asking_steps reached.0 reached.1 _) done.0 a b d refl reached.2 done.2.acts);
     }
 
@@ -165,6 +168,7 @@ returns-in_err-outcomes-clause-stops g c =
       sound = c.in_ok-check_commands.ensures.sound;
       chip = chip;
       listed = c.in_ok-opened.ensures.coherent.chip;
+      board = (unrefused-fits c.in_ok-opened.opened.chip.now l.state c.in_ok-opened.ensures.coherent.fits).board;
       does = (reached.0, reached.1, reached_stops (Settles 0x7F 131072) chip.id reached.0 reached.1 (AreBegun c.in_err-outcomes.field-0.0 chip cs l.state) _ l.is_torn a b d reached.2 c.in_err-outcomes.ensures.stops);
     }))
 
