@@ -57,6 +57,9 @@ module _ (laws : Laws) (table : List ChipData) (commands : List CommandData) (st
   pub run_honest : (rig_state m2).is_honest
   run_honest = can.honest
 
+  pub run_make : SameMake m.device m2.device
+  run_make = can.make
+
   -- what was begun can be taken back
   pub run_start : IsStart (starts_then table commands starts m m1 m2 result) mid
   run_start = (laws.headline (record { event = first; after = mid } ∷ []) start starts is (leads, tt)).2

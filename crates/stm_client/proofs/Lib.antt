@@ -6,3 +6,5 @@ pub mod Resets
 pub mod Stops
 pub mod Histories
 pub mod Powers
+pub mod Boards
+pub mod Swaps

@@ -1,15 +1,15 @@
 -- No refusal says that the device doesn't follow the protocol.
-use Rattle.std.proofs.Common.{◌≡◌, ◌⊎◌, ⊎_elim, ℕ, ◌+◌, ◌||◌, nat_le, length, Bool, true, false, not, List, [], ◌∷◌, Option, Some, None, option_map, Result, Ok, Err, IfErr, sym, ◌∙◌, subst}
+use Rattle.std.proofs.Common.{◌≡◌, ◌⊎◌, ⊎_elim, ℕ, ◌+◌, ◌||◌, if◌then◌else◌, nat_le, length, Bool, true, false, not, List, [], ◌∷◌, Option, Some, None, option_map, Result, Ok, Err, IfErr, sym, ◌∙◌, subst}
 use Rattle.std.specs.List.{list_all, list_any}
 use Rattle.stm_wire.specs.Chip.{ChipData}
 use Rattle.stm_wire.specs.Device.{Device}
 use Rattle.stm_journal.specs.Journals.{JournalData, good, bad}
-use Rattle.stm_journal.specs.States.{StateData, is_unfinished, names_other}
+use Rattle.stm_journal.specs.States.{StateData, is_unfinished, names_other, names_other_board}
 use Rattle.stm_session.specs.declared.command.Command.{Command}
 use Rattle.stm_session.specs.declared.fault.Fault.{Fault}
-use Rattle.stm_session.specs.declared.fault.Fault.TheVariants.{Unfinished, OutOfFlash, NoErase, Full, BadJournal, OtherDevice, Device as DeviceFault}
+use Rattle.stm_session.specs.declared.fault.Fault.TheVariants.{Unfinished, OutOfFlash, NoErase, Full, BadJournal, OtherBoard, OtherDevice, Device as DeviceFault}
 use Rattle.stm_session.specs.Fault.{IsJournalOrMemory, IsOutsideFault}
-use Rattle.stm_session.specs.Refusal.{AnswersRefusal, AnswersUnsent, chip_with, first_refusal, opening_refusal, refused_unless, table_refusal}
+use Rattle.stm_session.specs.Refusal.{AnswersRefusal, AnswersUnsent, chip_with, first_refusal, line_refusal, opening_refusal, refused_unless, table_refusal}
 use Rattle.stm_session.specs.Meaning.{CommandData, changes_of, commands_in, is_change}
 use Rattle.stm_session.specs.Refusals.{can_erase, commands_refused, lies_in_flash, run_refusal}
 
@@ -30,11 +30,15 @@ first_other (Some fault) rest n m = n
 
 table_other : (s : StateData) (id : ℕ) (chip : Option ChipData) → IsOtherThere (table_refusal s id chip)
 table_other s id None = λ e. cc
-table_other s id (Some chip) = line_other _
+table_other s id (Some chip) = board_other (names_other_board chip.unique s)
   where
     line_other : (line : Option ℕ) → IsOtherThere (option_map (λ line. BadJournal line) line)
     line_other None = tt
     line_other (Some line) = λ e. cc
+
+    board_other : (b : Bool) → IsOtherThere (if b then Some OtherBoard else line_refusal chip s)
+    board_other true = λ e. cc
+    board_other false = line_other _
 
 pub opening_other : (j : JournalData) (d : Device) (table : List ChipData) → IsOtherThere (opening_refusal j d table)
 opening_other (bad line) d table = λ e. cc

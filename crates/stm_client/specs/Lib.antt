@@ -1,2 +1,4 @@
 pub mod Keeping
 pub mod Power
+pub mod Boards
+pub mod Swap
