@@ -32,6 +32,11 @@ standing_option_rule name standing =
       defaults = option_to_list standing;
     }
 
+-- the same, which may be left out, and has this value then where there is one
+abbrev pub spare_option_rule : Text → Option Text → Rule
+spare_option_rule name standing =
+    record (option_rule name) { defaults = option_to_list standing }
+
 -- `-S RANGE`
 abbrev pub range_rule : Rule
 range_rule = record (new_rule (codes "range")) { short = Some 83; value_names = 1 }
@@ -89,29 +94,41 @@ on_device e name =
     with_rule (with_rule (with_rule (with_waits e name) (flag_rule (codes "progress")))
     (flag_rule (codes "quiet"))) (option_rule (codes "stop"))
 
+-- the same, with the options of which board it has to be
+abbrev pub on_board : Environment → Text → App
+on_board e name =
+    with_rule (with_rule (on_device e name) (spare_option_rule (codes "board") (text_of e.board)))
+    (flag_rule (codes "no-board"))
+
 abbrev pub info_app : Environment → App
-info_app e = with_rule (on_device e (codes "info")) (flag_rule (codes "raw"))
+info_app e = with_rule (on_board e (codes "info")) (flag_rule (codes "raw"))
 
 abbrev pub read_app : Environment → App
 read_app e =
-    with_rule (with_rule (on_device e (codes "read")) range_rule) (needed_rule (codes "OUT"))
+    with_rule (with_rule (with_rule (with_rule (on_board e (codes "read")) range_rule)
+    (flag_rule (codes "hex"))) (flag_rule (codes "skip-blank"))) (needed_rule (codes "OUT"))
+
+abbrev pub crc_app : Environment → App
+crc_app e = with_rule (on_board e (codes "crc")) range_rule
 
 abbrev pub write_app : Environment → App
-write_app e = with_rule (with_rule (with_rule (with_rule (on_device e (codes "write"))
+write_app e = with_rule (with_rule (with_rule (with_rule (with_rule (with_rule (with_rule (with_rule
+    (on_board e (codes "write"))
     (letter_rule (codes "force") 102)) (letter_rule (codes "check") 118)) range_rule)
-    (needed_rule (codes "IMAGE"))
+    (flag_rule (codes "keep"))) (option_rule (codes "keep-to"))) (option_rule (codes "go")))
+    (option_rule (codes "again"))) (needed_rule (codes "IMAGE"))
 
 abbrev pub verify_app : Environment → App
-verify_app e = with_rule (with_rule (with_rule (on_device e (codes "verify"))
+verify_app e = with_rule (with_rule (with_rule (on_board e (codes "verify"))
     (letter_rule (codes "force") 102)) range_rule) (needed_rule (codes "IMAGE"))
 
 abbrev pub erase_app : Environment → App
 erase_app e =
-    with_rule (with_rule (on_device e (codes "erase")) (flag_rule (codes "all")))
+    with_rule (with_rule (on_board e (codes "erase")) (flag_rule (codes "all")))
     (repeated_rule (codes "PAGE"))
 
 abbrev pub undo_app : Environment → App
-undo_app e = with_rule (on_device e (codes "undo")) (default_rule (codes "COUNT") (codes "0"))
+undo_app e = with_rule (on_board e (codes "undo")) (default_rule (codes "COUNT") (codes "0"))
 
 -- a subcommand that reads a journal and uses no device
 abbrev pub on_journal : Environment → Text → App
@@ -152,9 +169,10 @@ bare_app =
 unfoldable pub command_set : Environment → ValueParser → App
 command_set e kinds =
     with_subcommand (with_subcommand (with_subcommand (with_subcommand (with_subcommand
-    (with_subcommand
+    (with_subcommand (with_subcommand
     (with_subcommand (with_subcommand (with_subcommand (with_subcommand (with_subcommand bare_app
-    (info_app e).top) (read_app e).top) (write_app e).top) (verify_app e).top) (erase_app e).top)
+    (info_app e).top) (read_app e).top) (crc_app e).top) (write_app e).top) (verify_app e).top)
+    (erase_app e).top)
     (undo_app e).top)
     (log_app e).top) (keep_app e).top) (go_app e).top) (protect_app e kinds).top) (sim_app e).top
 

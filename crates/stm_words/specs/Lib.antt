@@ -3,3 +3,5 @@ pub mod Number
 pub mod Options
 pub mod Pages
 pub mod Request
+pub mod Sequel
+pub mod TableNames

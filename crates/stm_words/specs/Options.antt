@@ -1,24 +1,41 @@
 -- The options that every use of a device has, as words give them.
-use Rattle.std.specs.Prelude.{◌≡◌, List, ℕ, Some, codes, option_and_then}
+use Rattle.std.specs.Prelude.{◌≡◌, ◌&&◌, Bool, IfSome, IsSome, IsTrue, List, ℕ, Some, codes, false, length}
+use Rattle.std.specs.Prelude.{nat_le, option_and_then, option_map}
+use Rattle.std.specs.List.{list_all}
 use Rattle.clap.specs.Matches.{first_value}
 use Rattle.clap.specs.declared.parser.matches.Found.{Found}
 use Rattle.stm_words.specs.declared.device.Device.{Device}
 use Rattle.stm_words.specs.declared.environment.Environment.{Environment}
 use Rattle.stm_words.specs.declared.options.Options.{Options}
-use Rattle.stm_words.specs.Number.{number_of}
+use Rattle.stm_words.specs.Number.{is_hex_digit, number_of}
 use Rattle.stm_words.specs.Request.{IsDevice, IsFlagOr}
+use Rattle.stm_words.specs.TableNames.{AreTables}
 
 -- the word that was given under this id names the device
 abbrev pub NamesDevice : Found → Device → Type 0
 NamesDevice given device = (word : List ℕ) × (first_value given (codes "device") ≡ Some word)
     × IsDevice word device
 
+-- 1 to 64 hexadecimal digits, of either case
+abbrev pub are_board_digits : List ℕ → Bool
+are_board_digits text =
+    nat_le 1 (length text) && nat_le (length text) 64 && list_all is_hex_digit text
+
+-- The board that is wanted is the word that was given under its id, by its digits; a device is
+-- asked then.
+pub record IsBoardOf (e : Environment) (given : Found) (o : Options) : Type 0 where
+  pub word : first_value given (codes "board") ≡ option_map (λ text. text.now) o.board
+  pub digits : IfSome o.board (λ text. IsTrue (are_board_digits text.now))
+  pub without : IsFlagOr e.without_board given (codes "no-board") o.without_board
+  pub asked : IsSome o.board → o.without_board ≡ false
+
 -- The options that words give, or the environment.
 abbrev pub AreOptions : Environment → Found → Options → Type 0
-AreOptions e given o = (first_value given (codes "table") ≡ Some o.table.now)
+AreOptions e given o = AreTables e given o.table
     × NamesDevice given o.device
     × (first_value given (codes "journal") ≡ Some o.journal.now)
     × (option_and_then number_of (first_value given (codes "wait")) ≡ Some o.wait)
     × (option_and_then number_of (first_value given (codes "give-up")) ≡ Some o.give_up)
+    × IsBoardOf e given o
     × IsFlagOr e.is_fresh given (codes "fresh") o.is_fresh
     × IsFlagOr e.without_lock given (codes "no-lock") o.without_lock

@@ -1,6 +1,6 @@
 -- What the words ask for.
-use Rattle.std.specs.Prelude.{◌≡◌, ◌||◌, ℕ, Bool, List, [], None, Some, codes, false, map}
-use Rattle.std.specs.Prelude.{option_and_then, option_map, true, unwrap_or}
+use Rattle.std.specs.Prelude.{◌≡◌, ◌||◌, ◌%◌, ℕ, Bool, IfSome, List, [], None, Some, codes, false}
+use Rattle.std.specs.Prelude.{map, option_and_then, option_map, true, unwrap_or}
 use Rattle.clap.specs.Matches.{first_value, matched_of, one_text, raw_values}
 use Rattle.clap.specs.declared.parser.matches.Found.{Found}
 use Rattle.stm_words.specs.declared.device.Device.{Device}
@@ -8,9 +8,10 @@ use Rattle.stm_words.specs.declared.device.Device.TheVariants.{Simulator, Socket
 use Rattle.stm_words.specs.declared.environment.Environment.{Environment}
 use Rattle.stm_words.specs.declared.image_file.ImageFile.{ImageFile}
 use Rattle.stm_words.specs.declared.kept.Kept.{Kept}
+use Rattle.stm_words.specs.declared.range.Range.{Range}
 use Rattle.stm_words.specs.declared.task.Task.{Task}
 use Rattle.stm_words.specs.declared.task.Task.TheVariants.{Info, Read, Write, Verify, Erase, Undo}
-use Rattle.stm_words.specs.declared.task.Task.TheVariants.{Go, Protect}
+use Rattle.stm_words.specs.declared.task.Task.TheVariants.{Go, Protect, ReadHex, Sum}
 use Rattle.stm_words.specs.Number.{number_of}
 use Rattle.stm_words.specs.Pages.{NameAll}
 
@@ -50,11 +51,32 @@ IsErase given (Erase is_all pages) = IsFlag given (codes "all") is_all
     × NameAll (texts_of given (codes "PAGE")) pages.items
 IsErase given (Info is_raw) = ⊥
 IsErase given (Read range out) = ⊥
+IsErase given (ReadHex range out skips) = ⊥
+IsErase given (Sum range) = ⊥
 IsErase given (Write image verifies) = ⊥
 IsErase given (Verify image) = ⊥
 IsErase given (Undo count) = ⊥
 IsErase given (Go address) = ⊥
 IsErase given (Protect kind) = ⊥
+
+-- the file that `read` names, of raw bytes or of HEX; blank stretches are left out where that is
+-- given
+abbrev pub IsRead : Found → Task → Type 0
+IsRead given (Read range out) = first_value given (codes "OUT") ≡ Some out.now
+IsRead given (ReadHex range out skips) =
+    (first_value given (codes "OUT") ≡ Some out.now) × IsFlag given (codes "skip-blank") skips
+IsRead given (Erase is_all pages) = ⊥
+IsRead given (Info is_raw) = ⊥
+IsRead given (Sum range) = ⊥
+IsRead given (Write image verifies) = ⊥
+IsRead given (Verify image) = ⊥
+IsRead given (Undo count) = ⊥
+IsRead given (Go address) = ⊥
+IsRead given (Protect kind) = ⊥
+
+-- the part begins at a word, and has whole words where it has a length
+abbrev pub IsWholeWords : Range → Type 0
+IsWholeWords range = (range.start % 4 ≡ 0) × (unwrap_or range.length 0 % 4 ≡ 0)
 
 -- the journal that `keep` names, and where it goes
 abbrev pub IsKept : Environment → Found → Kept → Type 0
@@ -66,7 +88,10 @@ IsKept e given kept = (first_value given (codes "journal") ≡ Some kept.journal
 abbrev pub IsTask : List ℕ → Found → Task → Type 0
 IsTask name given (Info is_raw) = (name ≡ codes "info") × IsFlag given (codes "raw") is_raw
 IsTask name given (Read range out) =
-    (name ≡ codes "read") × (first_value given (codes "OUT") ≡ Some out.now)
+    (name ≡ codes "read") × IsRead given (Read range out)
+IsTask name given (ReadHex range out skips) =
+    (name ≡ codes "read") × IsRead given (ReadHex range out skips)
+IsTask name given (Sum range) = (name ≡ codes "crc") × IfSome range IsWholeWords
 IsTask name given (Write image verifies) =
     (name ≡ codes "write") × IsImageFile given image × IsFlag given (codes "check") verifies
 IsTask name given (Verify image) = (name ≡ codes "verify") × IsImageFile given image

@@ -4,7 +4,7 @@ ghost use Rattle.clap.specs.Words.{new_rule, rule_of};
 ghost use Rattle.stm_words.specs.CommandSet.{TakesKinds, default_option_rule, default_rule};
 ghost use Rattle.stm_words.specs.CommandSet.{flag_rule, kind_rule, letter_rule, needed_option_rule};
 ghost use Rattle.stm_words.specs.CommandSet.{needed_rule, option_rule, range_rule, repeated_rule};
-ghost use Rattle.stm_words.specs.CommandSet.{standing_option_rule};
+ghost use Rattle.stm_words.specs.CommandSet.{spare_option_rule, standing_option_rule};
 
 use crate::help;
 use clap::{Arg, ArgAction};
@@ -44,6 +44,24 @@ pub fn default_option<'a>(
     ensures local { result.global ≡ false }
 {
     option(alloc, name, value, help).default_value(text)
+}
+
+/// The option `--name VALUE`, in whose place a value may stand.
+pub fn spare_option<'a>(
+    alloc: Global,
+    name: &'a str,
+    value: &'a str,
+    standing: Option<&'a str>,
+    help: &'a str,
+) -> Arg<'a>
+    ensures rule { rule_of result
+        ≡ spare_option_rule name.entry.now (option_map (λ s. s.now) standing.entry) }
+    ensures local { result.global ≡ false }
+{
+    match standing {
+        Some(text) => default_option(alloc, name, value, text, help),
+        None => option(alloc, name, value, help),
+    }
 }
 
 /// The option `--name VALUE`, which has to be given unless a value stands in its place.

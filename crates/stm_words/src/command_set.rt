@@ -1,21 +1,22 @@
 // The subcommands and their words, for `clap`.
 ghost use Rattle.std.specs.Prelude.{IfOk};
-ghost use Rattle.stm_words.specs.CommandSet.{Makes, TakesKinds, command_set, erase_app, go_app};
-ghost use Rattle.stm_words.specs.CommandSet.{info_app, keep_app, log_app, on_device, on_journal};
-ghost use Rattle.stm_words.specs.CommandSet.{protect_app, read_app, sim_app, undo_app, verify_app};
+ghost use Rattle.stm_words.specs.CommandSet.{Makes, TakesKinds, command_set, crc_app, erase_app};
+ghost use Rattle.stm_words.specs.CommandSet.{go_app, info_app, keep_app, log_app, on_board, on_device};
+ghost use Rattle.stm_words.specs.CommandSet.{on_journal, protect_app, read_app, sim_app, undo_app, verify_app};
 ghost use Rattle.stm_words.specs.CommandSet.{with_places, with_table, with_waits, write_app};
 
 use crate::argument::{
     default_option, flag, kind, letter, needed, needed_option, option, optional, range, repeated,
-    spare, standing_option,
+    spare, spare_option, standing_option,
 };
 use crate::environment::Environment;
 use crate::help;
 use clap::Command;
 use std::alloc::{AllocError, Global};
 
-/// The version that `--version` tells.
-const VERSION: &str = "0.2.0";
+/// The version that `--version` tells, and what proves the program; `tools/demo.sh` builds one that
+/// isn't proved, from a copy in which that stands here.
+const VERSION: &str = "0.2.0, proved by rattle-kit-13f";
 
 /// A subcommand with the option that names the table.
 fn with_table<'a>(
@@ -80,34 +81,60 @@ fn on_device<'a>(
         .arg(option(alloc, "stop", "K", help::STOP))
 }
 
+/// The same, with the options of which board it has to be.
+fn on_board<'a>(
+    alloc: Global,
+    environment: Environment<'a>,
+    name: &'a str,
+    about: &'a str,
+) -> Result<Command<'a>, AllocError>
+    ensures { IfOk result (Makes (on_board environment.entry name.entry.now)) }
+{
+    on_device(alloc, environment, name, about)?
+        .arg(spare_option(alloc, "board", "HEX", environment.board, help::BOARD))?
+        .arg(flag(alloc, "no-board", help::NO_BOARD))
+}
+
 fn info<'a>(alloc: Global, environment: Environment<'a>) -> Result<Command<'a>, AllocError>
     ensures { IfOk result (Makes (info_app environment.entry)) }
 {
-    on_device(alloc, environment, "info", help::INFO)?.arg(flag(alloc, "raw", help::RAW))
+    on_board(alloc, environment, "info", help::INFO)?.arg(flag(alloc, "raw", help::RAW))
 }
 
 fn read<'a>(alloc: Global, environment: Environment<'a>) -> Result<Command<'a>, AllocError>
     ensures { IfOk result (Makes (read_app environment.entry)) }
 {
-    on_device(alloc, environment, "read", help::READ)?
+    on_board(alloc, environment, "read", help::READ)?
         .arg(range(alloc, help::READ_RANGE))?
+        .arg(flag(alloc, "hex", help::HEX))?
+        .arg(flag(alloc, "skip-blank", help::SKIP_BLANK))?
         .arg(needed(alloc, "OUT", help::OUT))
+}
+
+fn crc<'a>(alloc: Global, environment: Environment<'a>) -> Result<Command<'a>, AllocError>
+    ensures { IfOk result (Makes (crc_app environment.entry)) }
+{
+    on_board(alloc, environment, "crc", help::CRC)?.arg(range(alloc, help::CRC_RANGE))
 }
 
 fn write<'a>(alloc: Global, environment: Environment<'a>) -> Result<Command<'a>, AllocError>
     ensures { IfOk result (Makes (write_app environment.entry)) }
 {
-    on_device(alloc, environment, "write", help::WRITE)?
+    on_board(alloc, environment, "write", help::WRITE)?
         .arg(letter(alloc, "force", 'f', help::FORCE))?
         .arg(letter(alloc, "check", 'v', help::CHECK))?
         .arg(range(alloc, help::IMAGE_RANGE))?
+        .arg(flag(alloc, "keep", help::WRITE_KEEP))?
+        .arg(option(alloc, "keep-to", "TO", help::WRITE_KEEP_TO))?
+        .arg(option(alloc, "go", "ADDRESS", help::WRITE_GO))?
+        .arg(option(alloc, "again", "N", help::AGAIN))?
         .arg(needed(alloc, "IMAGE", help::IMAGE))
 }
 
 fn verify<'a>(alloc: Global, environment: Environment<'a>) -> Result<Command<'a>, AllocError>
     ensures { IfOk result (Makes (verify_app environment.entry)) }
 {
-    on_device(alloc, environment, "verify", help::VERIFY)?
+    on_board(alloc, environment, "verify", help::VERIFY)?
         .arg(letter(alloc, "force", 'f', help::FORCE))?
         .arg(range(alloc, help::IMAGE_RANGE))?
         .arg(needed(alloc, "IMAGE", help::IMAGE))
@@ -116,7 +143,7 @@ fn verify<'a>(alloc: Global, environment: Environment<'a>) -> Result<Command<'a>
 fn erase<'a>(alloc: Global, environment: Environment<'a>) -> Result<Command<'a>, AllocError>
     ensures { IfOk result (Makes (erase_app environment.entry)) }
 {
-    on_device(alloc, environment, "erase", help::ERASE)?
+    on_board(alloc, environment, "erase", help::ERASE)?
         .arg(flag(alloc, "all", help::ALL))?
         .arg(repeated(alloc, "PAGE", help::PAGE))
 }
@@ -124,7 +151,7 @@ fn erase<'a>(alloc: Global, environment: Environment<'a>) -> Result<Command<'a>,
 fn undo<'a>(alloc: Global, environment: Environment<'a>) -> Result<Command<'a>, AllocError>
     ensures { IfOk result (Makes (undo_app environment.entry)) }
 {
-    on_device(alloc, environment, "undo", help::UNDO)?.arg(optional(
+    on_board(alloc, environment, "undo", help::UNDO)?.arg(optional(
         alloc,
         "COUNT",
         "0",
@@ -203,6 +230,7 @@ pub fn command_set<'a>(
         .subcommand_required(true)
         .subcommand(info(alloc, environment)?)?
         .subcommand(read(alloc, environment)?)?
+        .subcommand(crc(alloc, environment)?)?
         .subcommand(write(alloc, environment)?)?
         .subcommand(verify(alloc, environment)?)?
         .subcommand(erase(alloc, environment)?)?

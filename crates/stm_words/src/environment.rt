@@ -4,12 +4,19 @@
 /// or names of installed files. A word goes before it.
 #[derive(Clone, Copy, Debug)]
 pub struct Environment<'a> {
-    /// The file of the chip table.
+    /// The file of the chip table; of several the lowest.
     pub table: Option<&'a str>,
+    /// The files of those that are read over it, the lower first; None where a variable names the
+    /// table.
+    pub over: Option<&'a [&'a str]>,
     /// The word that names the device.
     pub device: Option<&'a str>,
     /// The file of the journal.
     pub journal: Option<&'a str>,
+    /// The unique id of the board that is wanted, or its last digits.
+    pub board: Option<&'a str>,
+    /// Whether a device isn't asked which board it is.
+    pub without_board: bool,
     /// Whether the device was reset since the last session.
     pub is_fresh: bool,
     /// Whether no other program has the files, so that they need no lock.

@@ -1,9 +1,9 @@
 // The values that `clap` found, each read as what it stands for.
-ghost use Rattle.std.specs.Prelude.{◌≡◌, ◌≤◌, IfOk, Some, option_and_then};
+ghost use Rattle.std.specs.Prelude.{◌≡◌, ◌≤◌, IfOk, IfSome, Some, option_and_then, true};
 ghost use Rattle.clap.specs.Words.{first_value, found_of};
 ghost use Rattle.stm_words.specs.Number.{number_of};
 ghost use Rattle.stm_words.specs.Pages.{NameAll};
-ghost use Rattle.stm_words.specs.Request.{IsFlag, IsFlagOr, texts_of};
+ghost use Rattle.stm_words.specs.Request.{IsFlag, IsFlagOr, IsWholeWords, texts_of};
 
 use crate::number::parse_number;
 use crate::pages::pages_of;
@@ -84,6 +84,28 @@ pub fn range<'a>(given: &ArgMatches<'a>) -> Result<Option<Range>, UsageFault<'a>
         Some(range) => Ok(Some(range)),
         None => Err(UsageFault::BadNumber(text)),
     }
+}
+
+/// The same, which has to be whole words of 4 bytes.
+pub fn word_range<'a>(given: &ArgMatches<'a>) -> Result<Option<Range>, UsageFault<'a>>
+    ensures { IfOk result (λ part. IfSome part IsWholeWords) }
+{
+    let Some(part) = range(given)? else {
+        return Ok(None);
+    };
+    if is_whole_words(part) {
+        Ok(Some(part))
+    } else {
+        Err(UsageFault::NotWholeWords(word(given, "range")?))
+    }
+}
+
+/// Whether a part begins at a word, and has whole words where it has a length.
+fn is_whole_words(part: Range) -> bool
+    ensures { result ≡ true → IsWholeWords part }
+{
+    let length = part.length.unwrap_or(0);
+    part.start % 4 == 0 && length % 4 == 0
 }
 
 /// The pages that were given under this name, in their order.

@@ -6,6 +6,9 @@ pub const INFO: &str = "Tells what the device is";
 
 pub const READ: &str = "Reads the flash, or a part of it, into a file";
 
+pub const CRC: &str =
+    "Tells the CRC of the flash, or of a part of it, as the chip's own unit has it";
+
 pub const WRITE: &str =
     "Writes an image: the pages that it touches are kept, erased and written; every other byte stays";
 
@@ -50,11 +53,32 @@ pub const RAW: &str = "Tells id, version and codes alone, also of a chip that th
 
 pub const TO: &str = "A name for the journal, which isn't there yet";
 
+pub const BOARD: &str =
+    "Refuses any board but the one whose unique id this is, or ends in these hexadecimal digits";
+
+pub const NO_BOARD: &str = "Doesn't ask the device which board it is, nor how large its flash";
+
 pub const STOP: &str = "Stops a simulated device after K steps";
 
 pub const READ_RANGE: &str = "What to read: address[:length]; without it the whole flash";
 
 pub const OUT: &str = "The file for the bytes";
+
+pub const HEX: &str = "Writes Intel HEX, as it does where OUT ends in .hex";
+
+pub const SKIP_BLANK: &str = "Leaves out of the HEX what is erased, in lines of 16 bytes";
+
+pub const CRC_RANGE: &str = "What to sum up: address[:length], in whole words of 4 bytes";
+
+pub const WRITE_KEEP: &str = "Lets what was written stay for good, as keep does, once all is done";
+
+pub const WRITE_KEEP_TO: &str = "The same, and renames the journal to TO, which isn't there yet";
+
+pub const WRITE_GO: &str =
+    "Then lets the device run what stands at ADDRESS; needs --keep or --keep-to";
+
+pub const AGAIN: &str =
+    "Takes a write back whose line or protocol failed, and does it again, N times at the most";
 
 pub const FORCE: &str = "Takes the file as raw bytes, also where it begins with a colon";
 

@@ -2,6 +2,7 @@
 #![tactic(auto)]
 
 mod argument;
+mod board_digits;
 mod command_set;
 mod device;
 mod environment;
@@ -16,7 +17,9 @@ mod pages;
 mod progress;
 mod range;
 mod request;
+mod sequel;
 mod served;
+mod table_names;
 mod task;
 mod unread;
 mod usage_fault;
@@ -31,7 +34,9 @@ pub use options::Options;
 pub use progress::Progress;
 pub use range::Range;
 pub use request::Request;
+pub use sequel::Sequel;
 pub use served::Served;
+pub use table_names::TableNames;
 pub use task::Task;
 pub use unread::Unread;
 pub use usage_fault::UsageFault;

@@ -56,7 +56,8 @@ fn value_of_hex(digits: &[u8]) -> u64
     n
 }
 
-fn are_hex_digits(digits: &[u8]) -> bool
+/// Whether each of these is a hexadecimal digit, of either case.
+pub fn are_hex_digits(digits: &[u8]) -> bool
     ensures { result ≡ list_all is_hex_digit digits.now }
 {
     digits.iter().all(|c| is_hex_digit(*c))

@@ -3,18 +3,20 @@ ghost use Rattle.std.specs.Prelude.{IfOk};
 ghost use Rattle.clap.specs.Words.{found_of};
 ghost use Rattle.stm_words.specs.Options.{AreOptions};
 
+use crate::board_digits::board_digits;
 use crate::device::Device;
 use crate::environment::Environment;
 use crate::given::{flag, flag_or, number, number_within, stop, word};
 use crate::progress::Progress;
+use crate::table_names::TableNames;
 use crate::usage_fault::UsageFault;
 use clap::ArgMatches;
 
 /// The options that every use of a device has.
 #[derive(Clone, Copy, Debug)]
 pub struct Options<'a> {
-    /// The file of the chip table.
-    pub table: &'a str,
+    /// The files of the chip tables.
+    pub table: TableNames<'a>,
     pub device: Device<'a>,
     /// The file of the journal.
     pub journal: &'a str,
@@ -22,6 +24,10 @@ pub struct Options<'a> {
     pub wait: u32,
     /// After how many seconds without an answer the line is given up; 0: never.
     pub give_up: u32,
+    /// The unique id of the board that is wanted, or its last digits: 1 to 64 hexadecimal digits.
+    pub board: Option<&'a str>,
+    /// Whether the device isn't asked which board it is. No board is wanted then.
+    pub without_board: bool,
     /// Whether the device was reset since the last session.
     pub is_fresh: bool,
     /// Whether no other program has the files, so that they need no lock where there is none.
@@ -34,14 +40,15 @@ pub struct Options<'a> {
 
 impl<'a> Options<'a> {
     /// The options that the words of a subcommand give. The environment says that the device is
-    /// fresh, and that the files need no lock, where the words don't.
+    /// fresh, that it isn't asked which board it is, and that the files need no lock, where the
+    /// words don't.
     pub fn parse(
         environment: Environment<'a>,
         given: &ArgMatches<'a>,
     ) -> Result<Options<'a>, UsageFault<'a>>
         ensures { IfOk result (AreOptions environment.entry (found_of given.now)) }
     {
-        let table = word(given, "table")?;
+        let table = TableNames::parse(environment, given)?;
         let device = word(given, "device")?;
         let Some(device) = Device::parse(device) else {
             return Err(UsageFault::BadDevice(device));
@@ -49,12 +56,19 @@ impl<'a> Options<'a> {
         let journal = word(given, "journal")?;
         let wait = number_within(given, "wait", 60_000)?;
         let give_up = number(given, "give-up")?;
+        let board = board_digits(given)?;
+        let without_board = flag_or(given, "no-board", environment.without_board);
+        if board.is_some() && without_board {
+            return Err(UsageFault::BoardUnasked);
+        }
         Ok(Options {
             table,
             device,
             journal,
             wait,
             give_up,
+            board,
+            without_board,
             is_fresh: flag_or(given, "fresh", environment.is_fresh),
             without_lock: flag_or(given, "no-lock", environment.without_lock),
             progress: Progress::of(flag(given, "progress"), flag(given, "quiet")),

@@ -4,6 +4,7 @@ use crate::environment::Environment;
 use crate::given::word;
 use crate::kept::Kept;
 use crate::options::Options;
+use crate::sequel::Sequel;
 use crate::served::Served;
 use crate::task::Task;
 use crate::unread::Unread;
@@ -14,8 +15,8 @@ use std::alloc::Global;
 /// What the words ask for.
 #[derive(Debug, Drop)]
 pub enum Request<'a> {
-    /// A use of a device.
-    Use(Options<'a>, Task<'a>),
+    /// A use of a device, and what follows it.
+    Use(Options<'a>, Task<'a>, Sequel<'a>),
     /// A look at the journal in this file.
     Log(&'a str),
     /// An end of a journal, whose writes and erases stay.
@@ -39,13 +40,14 @@ impl<'a> Request<'a> {
             Some((name, given)) => {
                 let options = Options::parse(environment, given)?;
                 let task = Task::parse(alloc, name, given)?;
+                let sequel = Sequel::behind(name, given)?;
                 if options.has_vain_stop() {
                     return Err(Unread::Usage(UsageFault::StopNeedsSimulator));
                 }
                 if task.wants_pages() {
                     return Err(Unread::Usage(UsageFault::GivePages));
                 }
-                Ok(Request::Use(options, task))
+                Ok(Request::Use(options, task, sequel))
             }
             None => Err(Unread::Usage(UsageFault::UnknownWords)),
         }

@@ -4,14 +4,15 @@ use crate::device::parse_id;
 use crate::environment::Environment;
 use crate::given::{flag_or, number_within, word};
 use crate::mode::parse_mode;
+use crate::table_names::TableNames;
 use crate::usage_fault::UsageFault;
 use clap::ArgMatches;
 
 /// A simulator that is to be served on a socket.
 #[derive(Clone, Copy, Debug)]
 pub struct Served<'a> {
-    /// The file of the chip table.
-    pub table: &'a str,
+    /// The files of the chip tables.
+    pub table: TableNames<'a>,
     /// The number of the chip.
     pub id: u16,
     /// The file that holds the flash.
@@ -33,7 +34,7 @@ impl<'a> Served<'a> {
         environment: Environment<'a>,
         given: &ArgMatches<'a>,
     ) -> Result<Served<'a>, UsageFault<'a>> {
-        let table = word(given, "table")?;
+        let table = TableNames::parse(environment, given)?;
         let id = word(given, "id")?;
         let Some(id) = parse_id(id) else {
             return Err(UsageFault::BadNumber(id));

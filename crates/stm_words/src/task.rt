@@ -1,9 +1,9 @@
 // What is asked of a device.
 ghost use Rattle.std.specs.Prelude.{IfOk};
 ghost use Rattle.clap.specs.Words.{found_of};
-ghost use Rattle.stm_words.specs.Request.{IsErase, IsTask};
+ghost use Rattle.stm_words.specs.Request.{IsErase, IsRead, IsTask};
 
-use crate::given::{flag, number, pages, range, word};
+use crate::given::{flag, number, pages, range, word, word_range};
 use crate::image_file::ImageFile;
 use crate::range::Range;
 use crate::unread::Unread;
@@ -23,6 +23,14 @@ pub enum Task<'a> {
         range: Option<Range>,
         out: &'a str,
     },
+    /// Reads the whole flash or a part of it into a file of HEX; blank stretches may be left out.
+    ReadHex {
+        range: Option<Range>,
+        out: &'a str,
+        skips_blank: bool,
+    },
+    /// Tells the CRC of the whole flash or of a part of it, which is whole words.
+    Sum(Option<Range>),
     /// Writes an image, and verifies it where that is asked for.
     Write {
         image: ImageFile<'a>,
@@ -53,10 +61,8 @@ impl<'a> Task<'a> {
             "info" => Ok(Task::Info {
                 is_raw: flag(given, "raw"),
             }),
-            "read" => Ok(Task::Read {
-                range: range(given)?,
-                out: word(given, "OUT")?,
-            }),
+            "read" => Task::parse_read(given),
+            "crc" => Ok(Task::Sum(word_range(given)?)),
             "write" => Ok(Task::Write {
                 image: ImageFile::parse(given)?,
                 verifies: flag(given, "check"),
@@ -68,6 +74,26 @@ impl<'a> Task<'a> {
             "protect" => Ok(Task::Protect(word(given, "KIND")?)),
             _ => Err(Unread::Usage(UsageFault::UnknownWords)),
         }
+    }
+
+    /// What `read` is to read, and how. A file whose name ends in `.hex` is one of HEX.
+    fn parse_read(given: &ArgMatches<'a>) -> Result<Task<'a>, Unread<'a>>
+        ensures { IfOk result (IsRead (found_of given.now)) }
+    {
+        let range = range(given)?;
+        let out = word(given, "OUT")?;
+        let skips_blank = flag(given, "skip-blank");
+        if flag(given, "hex") || out.ends_with(".hex") {
+            return Ok(Task::ReadHex {
+                range,
+                out,
+                skips_blank,
+            });
+        }
+        if skips_blank {
+            return Err(Unread::Usage(UsageFault::BlankNeedsHex));
+        }
+        Ok(Task::Read { range, out })
     }
 
     /// Which pages `erase` names.

@@ -11,12 +11,27 @@ pub enum UsageFault<'a> {
     /// The word names no device.
     #[error("usage: bad device {0}")]
     BadDevice(&'a str),
+    /// The word is no unique id of a board, nor the end of one.
+    #[error("usage: bad board {0}")]
+    BadBoard(&'a str),
+    /// A board is wanted, and the device isn't to be asked which it is.
+    #[error("usage: give --board or --no-board, not both")]
+    BoardUnasked,
     /// A place is named for an image that isn't raw.
     #[error("usage: -S needs a raw image")]
     RangeNeedsRaw,
     /// A stop is asked for, and the device is no simulator in the process.
     #[error("usage: --stop needs a simulator")]
     StopNeedsSimulator,
+    /// A Go is asked for behind a write whose journal isn't kept.
+    #[error("usage: --go needs --keep or --keep-to")]
+    GoNeedsKeep,
+    /// A part that isn't whole words is to be summed up.
+    #[error("usage: {0} is not whole words of 4 bytes")]
+    NotWholeWords(&'a str),
+    /// Blank stretches are to be left out of raw bytes.
+    #[error("usage: --skip-blank needs HEX")]
+    BlankNeedsHex,
     /// An erase of neither all pages nor some is asked for, or of both.
     #[error("usage: give pages or --all")]
     GivePages,

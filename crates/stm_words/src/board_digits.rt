@@ -1,0 +1,34 @@
+// The digits that name a board.
+ghost use Rattle.std.specs.Prelude.{◌≡◌, IfOk, IfSome, IsTrue, option_map};
+ghost use Rattle.clap.specs.Words.{first_value, found_of};
+ghost use Rattle.stm_words.specs.Options.{are_board_digits};
+ghost use Rattle.std.specs.Prelude.{codes};
+
+use crate::number::are_hex_digits;
+use crate::usage_fault::UsageFault;
+use clap::ArgMatches;
+
+/// Whether a text may be the unique id of a board, or its last digits: 1 to 64 hexadecimal digits,
+/// of either case.
+fn are_board_digits(text: &[u8]) -> bool
+    ensures { result ≡ are_board_digits text.now }
+{
+    1 <= text.len() && text.len() <= 64 && are_hex_digits(text)
+}
+
+/// The board that is wanted, where one is.
+pub fn board_digits<'a>(given: &ArgMatches<'a>) -> Result<Option<&'a str>, UsageFault<'a>>
+    ensures given { IfOk result (λ board. first_value (found_of given.now) (codes "board")
+        ≡ option_map (λ text. text.now) board) }
+    ensures digits { IfOk result (λ board.
+        IfSome board (λ text. IsTrue (are_board_digits text.now))) }
+{
+    let Some(text) = given.get_str("board") else {
+        return Ok(None);
+    };
+    if are_board_digits(text.as_bytes()) {
+        Ok(Some(text))
+    } else {
+        Err(UsageFault::BadBoard(text))
+    }
+}

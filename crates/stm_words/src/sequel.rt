@@ -1,0 +1,84 @@
+// What follows a write in the same call.
+ghost use Rattle.std.specs.Prelude.{◌≤◌, IfOk};
+ghost use Rattle.clap.specs.Words.{found_of};
+ghost use Rattle.stm_words.specs.Sequel.{IsSequel, NamesAddress};
+
+use crate::given::{flag, number, number_within};
+use crate::usage_fault::UsageFault;
+use clap::ArgMatches;
+
+/// How often a write is done again, at the most.
+const AGAIN: u32 = 1000;
+
+/// What follows a write in the same call.
+#[derive(Clone, Copy, Debug)]
+pub struct Sequel<'a> {
+    /// Whether the journal is kept: removed, or moved.
+    pub keeps: bool,
+    /// Where the journal goes that is kept; without a name it is removed.
+    pub to: Option<&'a str>,
+    /// The address at which the device is let go then.
+    pub go: Option<u32>,
+    /// How often a write whose session was broken off is taken back and done again.
+    pub again: u32,
+}
+
+impl<'a> Sequel<'a> {
+    /// Nothing follows.
+    pub fn none() -> Sequel<'a> {
+        Sequel {
+            keeps: false,
+            to: None,
+            go: None,
+            again: 0,
+        }
+    }
+
+    /// What follows the subcommand of this name: only a write is followed.
+    pub fn behind(name: &str, given: &ArgMatches<'a>) -> Result<Sequel<'a>, UsageFault<'a>> {
+        match name {
+            "write" => Sequel::parse(given),
+            _ => Ok(Sequel::none()),
+        }
+    }
+
+    /// What the words of `write` say that follows. A Go wants a journal that is kept, since a write
+    /// always leaves a segment there.
+    pub fn parse(given: &ArgMatches<'a>) -> Result<Sequel<'a>, UsageFault<'a>>
+        ensures { IfOk result (IsSequel (found_of given.now)) }
+    {
+        let to = given.get_str("keep-to");
+        let keeps = flag(given, "keep") || to.is_some();
+        let go = address(given)?;
+        let again = again(given)?;
+        if go.is_some() && !keeps {
+            return Err(UsageFault::GoNeedsKeep);
+        }
+        Ok(Sequel {
+            keeps,
+            to,
+            go,
+            again,
+        })
+    }
+}
+
+/// The address of a Go, where one is asked for.
+fn address<'a>(given: &ArgMatches<'a>) -> Result<Option<u32>, UsageFault<'a>>
+    ensures { IfOk result (NamesAddress (found_of given.now)) }
+{
+    if given.get_str("go").is_none() {
+        return Ok(None);
+    }
+    Ok(Some(number(given, "go")?))
+}
+
+/// How often a write is done again; without the option never.
+fn again<'a>(given: &ArgMatches<'a>) -> Result<u32, UsageFault<'a>>
+    ensures { IfOk result (λ count. count ≤ 1000) }
+{
+    if given.get_str("again").is_none() {
+        return Ok(0);
+    }
+    number_within(given, "again", AGAIN)
+}
