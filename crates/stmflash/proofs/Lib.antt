@@ -8,4 +8,6 @@ pub mod Stored
 pub mod Whole
 pub mod Risks
 pub mod Standings
+pub mod NoWord
 pub mod NextRun
+pub mod Told

@@ -34,9 +34,10 @@ use Rattle.stmflash.specs.declared.answer.Answer.TheVariants as answer
 use Rattle.stmflash.specs.declared.content.Content.{Content}
 use Rattle.stmflash.specs.declared.failure.Failure.{Failure}
 use Rattle.stmflash.specs.declared.failure.Failure.TheVariants.{Session}
-use Rattle.stmflash.specs.Conduct.{Asks, ErasesAll, Identifies, RunsIfRoom, RunsTold}
+use Rattle.stmflash.specs.Conduct.{Asks, AsksFirst, ErasesAll, Identifies, RunsIfRoom, RunsTold}
 use Rattle.stmflash.specs.Content.{ComesOf, ImageOn, is_hex}
 use Rattle.stmflash.specs.Protections.{protection_of}
+use Rattle.stmflash.specs.ReadingFor.{ReadsAsHex, SumsUp}
 use Rattle.stmflash.specs.Reading.{ReadsRange}
 
 -- some bytes mean it, by the words that name the image's file
@@ -48,6 +49,8 @@ ComesOfFile image content = (bytes : List ℕ)
 abbrev pub IsFor : Task → Action → Type 0
 IsFor (task.Info is_raw) does = does ≡ action.Info
 IsFor (task.Read range out) does = does ≡ action.Read range
+IsFor (task.ReadHex range out skips) does = does ≡ action.Read range
+IsFor (task.Sum range) does = does ≡ action.Read range
 IsFor (task.Write image true) does = (content : Content) × (does ≡ action.WriteAndVerify content)
     × ComesOfFile image content
 IsFor (task.Write image false) does = (content : Content) × (does ≡ action.Write content)
@@ -176,4 +179,8 @@ abbrev pub Works : {R : Type 0} → (R → RigState) → List ChipData → Work 
     → Result Answer Failure → Type 0
 Works view table work.Identify old new result =
     Calls answer.Identified (λ a b said. Identifies (view a) (view b) said) old new result
+Works view table (work.Sum range) old new result =
+    (said : Result Answer Fault) × ReadsRange view table range old new said × SumsUp said result
+Works view table (work.ReadHex range skips) old new result =
+    AsksFirst view table (λ fault. Session fault) (ReadsAsHex view table range skips) old new result
 Works view table (work.Act does) old new result = Does view table does old new result

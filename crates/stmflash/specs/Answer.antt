@@ -11,6 +11,7 @@ outcomes_told (answer.Told info) = []
 outcomes_told (answer.Identified told) = []
 outcomes_told (answer.IdentifiedBeside told table) = []
 outcomes_told (answer.Bytes bytes) = was_read bytes.items ∷ []
+outcomes_told (answer.Sum crc) = []
 outcomes_told (answer.Written segment pages) = was_written segment pages ∷ []
 outcomes_told (answer.WrittenAndVerified segment pages bytes) =
     was_written segment pages ∷ was_verified ∷ []

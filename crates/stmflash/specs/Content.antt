@@ -56,6 +56,11 @@ abbrev pub IsAtBase : List ℕ → Content → Type 0
 IsAtBase bytes (Placed image) = ⊥
 IsAtBase bytes (AtBase own) = own.items ≡ bytes
 
+-- it holds the same image, or the same bytes
+abbrev pub IsCopy : Content → Content → Type 0
+IsCopy (Placed image) content = content ≡ Placed image
+IsCopy (AtBase bytes) content = IsAtBase bytes.items content
+
 -- What comes of a file's bytes, HEX or raw, and of the range that was given.
 abbrev pub ComesOf : Bool → Option Range → List ℕ → Result Content Failure → Type 0
 ComesOf true None bytes (Ok content) = IsPlaced (Means bytes) content

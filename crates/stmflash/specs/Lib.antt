@@ -1,7 +1,9 @@
 pub mod Action
 pub mod Answer
+pub mod Board
 pub mod Conduct
 pub mod Content
+pub mod Crc
 pub mod Escaped
 pub mod FalseErase
 pub mod JournalFile
@@ -17,8 +19,11 @@ pub mod SimulatorRig
 pub mod SimulatorRigLaws
 pub mod Protections
 pub mod Reading
+pub mod ReadingFor
+pub mod Replies
 pub mod SocketLine
 pub mod SocketRig
 pub mod Standing
+pub mod Steps
 pub mod Histories
 pub mod Unpowered

@@ -9,7 +9,7 @@ use Rattle.stm_wire.specs.declared.intent.Intent.TheVariants.{Erase, Program}
 use Rattle.stm_journal.specs.declared.header.JournalHeader.{JournalHeader}
 use Rattle.stm_journal.specs.declared.stage.Stage.{Stage}
 use Rattle.stm_journal.specs.declared.stage.Stage.TheVariants.{Open, Ended, Returning}
-use Rattle.stm_journal.specs.States.{StateData, SegmentData, depth, intent_at, is_unfinished}
+use Rattle.stm_journal.specs.States.{StateData, SegmentData, board_of, depth, intent_at, is_unfinished}
 use Rattle.stm_journal.specs.States.{segment_of}
 
 -- pages from one to another
@@ -65,12 +65,20 @@ id_text None = []
 id_text (Some header) =
     codes "id " ++ encode_upper (header.id / 256 ∷ header.id % 256 ∷ []) ++ 10 ∷ []
 
+abbrev pub board_text : Option (List ℕ) → List ℕ
+board_text None = []
+board_text (Some unique) = codes "board " ++ encode_upper unique ++ 10 ∷ []
+
+-- the device, and its board where the journal names it
+abbrev pub device_text : StateData → List ℕ
+device_text s = id_text s.header ++ board_text (board_of s)
+
 -- what can be done next
 abbrev pub end_text : StateData → List ℕ
 end_text s =
     if is_unfinished s then codes "unfinished, undo first" ++ 10 ∷ []
     else decimal (depth s) ++ codes " can be undone" ++ 10 ∷ []
 
--- the device, a line for each segment, the oldest first, and what can be done next
+-- the device and its board, a line for each segment, the oldest first, and what can be done next
 abbrev pub log_text : StateData → List ℕ
-log_text s = (id_text s.header ++ flat_map (line_of s) (range_with_len 1 (depth s))) ++ end_text s
+log_text s = (device_text s ++ flat_map (line_of s) (range_with_len 1 (depth s))) ++ end_text s

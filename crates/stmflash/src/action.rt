@@ -49,7 +49,9 @@ impl Action {
     {
         match task {
             Task::Info { .. } => Ok(Action::Info),
-            Task::Read { range, .. } => Ok(Action::Read(range)),
+            Task::Read { range, .. } | Task::ReadHex { range, .. } | Task::Sum(range) => {
+                Ok(Action::Read(range))
+            }
             Task::Write { image, verifies } => {
                 let content = read_content(rt, &image)?;
                 if verifies {

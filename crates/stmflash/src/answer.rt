@@ -1,11 +1,13 @@
 // What came of the words, and how it is told.
 
+use crate::board_name::BoardName;
 use crate::escaped::Escaped;
 use std::alloc::{AllocError, Global};
 use std::io;
 use std::io::Write;
-use stm_session::{Info, Told};
+use stm_session::{Board, Info, Told};
 use stm_wire::{Commands, EraseKind};
+use stm_words::TableNames;
 
 /// What came of the words.
 #[derive(Drop)]
@@ -23,6 +25,8 @@ pub enum Answer {
     },
     /// Bytes of the flash.
     Bytes(Vec<u8>),
+    /// The CRC of bytes of the flash.
+    Sum(u32),
     /// The number of a write's segment, and how many pages it changed.
     Written {
         segment: u32,
@@ -50,15 +54,30 @@ pub enum Answer {
 }
 
 impl Answer {
-    /// What the device says itself, with the name of the chip table that was read;
+    /// What the device says itself, with the names of the chip tables that were read;
     /// any other answer as it is.
-    pub fn beside(self, alloc: Global, table: &str) -> Result<Answer, AllocError> {
+    pub fn beside(self, alloc: Global, table: TableNames) -> Result<Answer, AllocError> {
         match self {
             Answer::Identified(told) => Ok(Answer::IdentifiedBeside {
                 told,
                 table: format!(in alloc; "{}", Escaped(table))?,
             }),
             answer => Ok(answer),
+        }
+    }
+
+    /// Prints which board the device is, where it is told what it is.
+    pub fn print_board<O: Write>(&self, board: &Board, out: &mut O) -> io::Result<()> {
+        match self {
+            Answer::Told(info) => {
+                print_unique(board, out)?;
+                print_size(board, Some(info.size), out)
+            }
+            Answer::Identified(_) | Answer::IdentifiedBeside { .. } => {
+                print_unique(board, out)?;
+                print_size(board, None, out)
+            }
+            _ => Ok(()),
         }
     }
 
@@ -74,6 +93,7 @@ impl Answer {
                 pages,
                 bytes,
             } => print_written_and_verified(*segment, *pages, *bytes, out),
+            Answer::Sum(crc) => print_sum(*crc, out),
             Answer::Verified(bytes) => print_verified(*bytes, out),
             Answer::Erased { segment, pages } => print_erased(*segment, *pages, out),
             Answer::Undone(count) => print_undone(*count, out),
@@ -84,9 +104,38 @@ impl Answer {
     }
 }
 
+/// Prints the line of a unique id, where one was told.
+fn print_unique<O: Write>(board: &Board, out: &mut O) -> io::Result<()> {
+    if board.unique.is_none() {
+        return Ok(());
+    }
+    writeln!(out, "board {}", BoardName(board.unique))
+}
+
+/// Prints the line of the size that a device told of its flash, beside that of its pages.
+fn print_size<O: Write>(board: &Board, pages: Option<u32>, out: &mut O) -> io::Result<()> {
+    let Some(kib) = board.size else {
+        return Ok(());
+    };
+    match pages {
+        Some(size) if u32::from(kib) * 1024 > size => {
+            writeln!(out, "flash {kib} KiB, more than the pages")
+        }
+        Some(size) if u32::from(kib) * 1024 < size => {
+            writeln!(out, "flash {kib} KiB, less than the pages")
+        }
+        _ => writeln!(out, "flash {kib} KiB"),
+    }
+}
+
 /// Prints the line of a write.
 fn print_written<O: Write>(segment: u32, pages: u32, out: &mut O) -> io::Result<()> {
     writeln!(out, "segment {segment}: {pages} pages written")
+}
+
+/// Prints the line of a CRC.
+fn print_sum<O: Write>(crc: u32, out: &mut O) -> io::Result<()> {
+    writeln!(out, "crc {crc:08X}")
 }
 
 /// Prints the line of a verify.
@@ -116,7 +165,7 @@ fn print_undone<O: Write>(count: u32, out: &mut O) -> io::Result<()> {
 }
 
 /// Prints the line of what stays.
-fn print_kept<O: Write>(count: u32, out: &mut O) -> io::Result<()> {
+pub fn print_kept<O: Write>(count: u32, out: &mut O) -> io::Result<()> {
     writeln!(out, "kept {count}")
 }
 

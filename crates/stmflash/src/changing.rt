@@ -33,6 +33,7 @@ pub fn write<L: Rig>(
 }
 
 /// Writes an image, and compares the flash with it in the same session.
+#[tactic(auto, using(crate::proofs::Telling::both_are))]
 pub fn write_and_verify<L: Rig>(
     alloc: Global,
     rig: &mut L,

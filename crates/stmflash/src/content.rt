@@ -1,11 +1,11 @@
 // The image that a file holds, as far as it can be read before the device is known.
 ghost use Rattle.std.specs.Prelude.{◌≡◌, Ok, IfOk, IfErr, List, ℕ};
-ghost use Rattle.stmflash.specs.Content.{ComesOf, ImageOn, IsNoPlace, IsPlace, has_room, is_hex};
+ghost use Rattle.stmflash.specs.Content.{ComesOf, ImageOn, IsCopy, IsNoPlace, IsPlace, has_room, is_hex};
 
 use crate::failure::Failure;
 use crate::files::read_file;
 use crate::foreign::foreign_form;
-use std::alloc::Global;
+use std::alloc::{AllocError, Global};
 use std::fs::Files;
 use stm_chip::Table;
 use stm_image::{Image, read_hex, read_raw};
@@ -112,6 +112,19 @@ fn has_room(length: Option<u32>, size: usize) -> bool
 }
 
 impl Content {
+    /// The same once more.
+    pub fn copy(&self, alloc: Global) -> Result<Content, AllocError>
+        ensures { IfOk result (IsCopy self.now) }
+    {
+        match self {
+            Content::Placed(image) => Ok(Content::Placed(image.clone()?)),
+            Content::AtBase(bytes) => Ok(Content::AtBase(Vec::from_slice(
+                alloc,
+                bytes.as_slice(),
+            )?)),
+        }
+    }
+
     /// The image. The device is asked where its flash begins, where that has to be known.
     pub fn on_device<'a, L: Rig>(
         self,

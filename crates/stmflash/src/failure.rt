@@ -1,6 +1,6 @@
 // Why the program failed, and what it says of it.
 ghost use Rattle.std.specs.Prelude.{◌≡◌};
-ghost use Rattle.stmflash.specs.declared.failure.Failure.TheVariants.{Session, Hex, Raw};
+ghost use Rattle.stmflash.specs.declared.failure.Failure.TheVariants.{Session, Hex, Memory, Raw};
 
 use crate::foreign::Foreign;
 use crate::reason::Reason;
@@ -23,6 +23,9 @@ pub enum Failure<'a> {
     /// The chip table is refused.
     #[error("{0}")]
     Table(TableFault),
+    /// The text of a chip table that no word names is refused.
+    #[error("{1}, in {0}")]
+    StandingTable(&'a str, TableFault),
     /// The HEX text of an image is refused.
     #[error("{0}")]
     Hex(HexFault),
@@ -62,9 +65,21 @@ pub enum Failure<'a> {
     /// The flash has another length than the chip's, or the line's file another form.
     #[error("bad simulator file {0}")]
     BadSimulatorFile(&'a str),
+    /// The file that says which board a simulator is can't be read.
+    #[error("cannot read {0}.board")]
+    CannotReadBoard(&'a str),
+    /// That file has another form.
+    #[error("bad simulator file {0}.board")]
+    BadBoardFile(&'a str),
     /// Nothing answers at a socket, or it can't be made.
     #[error("cannot connect {0}")]
     CannotConnect(&'a str),
+    /// The device is another board than the one that is wanted.
+    #[error("device is another board")]
+    OtherBoard,
+    /// A board is wanted, and the device doesn't tell which it is.
+    #[error("device tells no board")]
+    NoBoard,
     /// A device was silent for too long, or didn't take what was sent.
     #[error("no answer from the device")]
     NoAnswer,
@@ -85,6 +100,15 @@ impl<'a> Failure<'a> {
             Failure::Stopped => 3,
             _ => 1,
         }
+    }
+
+    /// Whether a session was broken off by its line or by a device that doesn't follow the
+    /// protocol, so that another may do what it was to do.
+    pub fn is_broken_off(&self) -> bool {
+        matches!(
+            self,
+            Failure::Session(Fault::Line) | Failure::Session(Fault::Device) | Failure::NoAnswer
+        )
     }
 
     /// What an error of a file is, where it is named so.
@@ -162,6 +186,8 @@ impl From<RawFault> for Failure<'_> {
 }
 
 impl From<AllocError> for Failure<'_> {
+    ghost from_gives = { λ _ failure. failure ≡ Memory };
+
     fn from(_: AllocError) -> Self {
         Failure::Memory
     }

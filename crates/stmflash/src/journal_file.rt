@@ -6,9 +6,11 @@ ghost use Rattle.stmflash.specs.JournalFile.{JournalBytes, IsNew, ahead_of, is_f
 ghost use Rattle.stmflash.specs.JournalFile.{lock_of};
 ghost use Rattle.stmflash.specs.Locks.{IsHeld, IsHeldIfThere};
 
+use crate::failure::Failure;
 use crate::files::{open_to_hold, sync_folder};
 use crate::held::Held;
 use crate::journal_rig::Source;
+use crate::journal_tasks::give_up_journal;
 use crate::locks::Locks;
 use crate::names::{is_named, is_one, resolve};
 use crate::replacement::ALONE;
@@ -181,6 +183,19 @@ impl<'a, R: Locks + AllocGlobal> JournalFile<'a, R> {
             Some(read) if is_one(&read.file().metadata()?, &file.metadata()?) => Ok(()),
             _ => Err(io::Error::other(CHANGED)),
         }
+    }
+
+    /// Ends the journal, by its name: the file is removed, or renamed to a name that isn't there, and
+    /// from then on it isn't there. It has to be the one still that was read and added to.
+    pub fn end<'w>(&mut self, name: &'w str, to: Option<&'w str>) -> Result<(), Failure<'w>> {
+        if !self.stays() {
+            return Err(Failure::of_reason(self.take_reason()));
+        }
+        give_up_journal(self.rt, name, to)?;
+        self.writing = Writing::Unopened;
+        self.reading = None;
+        self.end = 0;
+        Ok(())
     }
 
     /// The journal's bytes. A file that is not there is an empty journal.

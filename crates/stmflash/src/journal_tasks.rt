@@ -36,12 +36,18 @@ fn load<'a, S: Source + Drop>(
 /// Tells what the journal in a file says by now. It isn't locked: a session beside it goes on, and
 /// adds whole lines, of which the last may be torn and counts as nothing.
 pub fn log<'a, R: Files + AllocGlobal>(rt: &R, name: &'a str) -> Result<Answer, Failure<'a>> {
+    let journal = look(rt, name)?;
+    tell(rt.alloc(), &journal)
+}
+
+/// The journal in a file as it is by now, without a lock.
+pub fn look<'a, R: Files + AllocGlobal>(rt: &R, name: &'a str) -> Result<Journal, Failure<'a>> {
     let shown = match Shown::open(rt, name) {
         Ok(shown) => shown,
         Err(e) => return Err(Failure::of_file(&e, Failure::CannotRead(name))),
     };
     let (journal, _shown) = load(rt.alloc(), name, shown)?;
-    tell(rt.alloc(), &journal)
+    Ok(journal)
 }
 
 /// What a journal says.
@@ -49,16 +55,18 @@ fn tell<'a>(alloc: Global, journal: &Journal) -> Result<Answer, Failure<'a>> {
     Ok(Answer::Logged(log_lines(alloc, journal)?))
 }
 
-/// Lets the writes and erases of a journal stay: the journal is removed, or renamed to a name that
-/// isn't there. This program has it for itself until then.
+/// Lets the writes and erases of a journal stay: the journal, which has to be there, is removed, or
+/// renamed to a name that isn't. This program has it for itself until then.
 pub fn keep<'a, R: Locks + AllocGlobal>(rt: &R, kept: &Kept<'a>) -> Result<Answer, Failure<'a>> {
     let file = match JournalFile::open(rt, kept.journal, kept.without_lock) {
         Ok(file) => file,
         Err(why) => return Err(Failure::of_journal(why, kept.journal)),
     };
-    let is_there = file.is_there();
+    if !file.is_there() {
+        return Err(Failure::CannotRead(kept.journal));
+    }
     let (journal, _held) = load(rt.alloc(), kept.journal, file)?;
-    keep_loaded(rt, &journal, kept, is_there)
+    keep_loaded(rt, &journal, kept)
 }
 
 /// The same, of a journal that was read.
@@ -66,15 +74,22 @@ fn keep_loaded<'a, R: Files + AllocGlobal>(
     rt: &R,
     journal: &Journal,
     kept: &Kept<'a>,
-    is_there: bool,
 ) -> Result<Answer, Failure<'a>> {
     let count = count_kept(journal)?;
-    match kept.to {
-        Some(to) => rename(rt, kept.journal, to, is_there)?,
-        None if is_there => remove(rt, kept.journal)?,
-        None => {}
-    }
+    give_up_journal(rt, kept.journal, kept.to)?;
     Ok(Answer::Kept(count))
+}
+
+/// Removes the file of a journal, or renames it to a name that isn't there.
+pub fn give_up_journal<'a, R: Files + AllocGlobal>(
+    rt: &R,
+    name: &'a str,
+    to: Option<&'a str>,
+) -> Result<(), Failure<'a>> {
+    match to {
+        Some(to) => rename(rt, name, to),
+        None => remove(rt, name),
+    }
 }
 
 /// Removes a file that was there, and answers once that is on the disk. A symbolic link is followed.
@@ -93,37 +108,29 @@ fn remove_behind_links<R: Files + AllocGlobal>(rt: &R, name: &str) -> io::Result
     sync_folder(rt, path)
 }
 
-/// Renames a file, if it was there, to a name that isn't, and answers once that is on the
-/// disk. A symbolic link is followed. The file gets the new name first, and a file that is
-/// made there meanwhile stays.
+/// Renames a file to a name that isn't there, and answers once that is on the disk. A symbolic
+/// link is followed. The file gets the new name first, and a file that is made there meanwhile stays.
 fn rename<'a, R: Files + AllocGlobal>(
     rt: &R,
     name: &'a str,
     to: &'a str,
-    is_there: bool,
 ) -> Result<(), Failure<'a>> {
-    match rename_unless_there(rt, name, to, is_there) {
+    match rename_unless_there(rt, name, to) {
         Ok(()) => Ok(()),
         Err(e) => Err(Failure::of_file(&e, Failure::CannotWrite(to))),
     }
 }
 
 /// The same, with the system's fault.
-fn rename_unless_there<R: Files + AllocGlobal>(
-    rt: &R,
-    name: &str,
-    to: &str,
-    is_there: bool,
-) -> io::Result<()> {
+fn rename_unless_there<R: Files + AllocGlobal>(rt: &R, name: &str, to: &str) -> io::Result<()> {
     match fs::symlink_metadata(rt, to) {
         Ok(told) => end_renaming(rt, name, to, &told),
         Err(e) if e.kind() != ErrorKind::NotFound => Err(e),
-        Err(_) if is_there => begin_renaming(rt, name, to),
-        Err(_) => Ok(()),
+        Err(_) => begin_renaming(rt, name, to),
     }
 }
 
-/// Renames a file that was there to a name that wasn't.
+/// Renames a file to a name that wasn't there.
 fn begin_renaming<R: Files + AllocGlobal>(rt: &R, name: &str, to: &str) -> io::Result<()> {
     let path = resolve(rt, name)?;
     give_name(rt, path.as_path().as_str(), to)

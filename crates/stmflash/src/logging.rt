@@ -3,11 +3,12 @@ ghost use Rattle.std.specs.Prelude.{◌≡◌, ◌/◌, ◌%◌, ◌∷◌, ◌+
 ghost use Rattle.std.specs.Prelude.{codes, decimal};
 ghost use Rattle.hex.specs.Hex.{encode_upper};
 ghost use Rattle.stm_journal.specs.States.{intent_at, segment_of};
-ghost use Rattle.stmflash.specs.Logging.{end_text, id_text, intent_text, kept_text, line_of};
+ghost use Rattle.stmflash.specs.Logging.{device_text, end_text, intent_text, kept_text, line_of};
 ghost use Rattle.stmflash.specs.Logging.{log_text, numbers_of, range_text, stage_text};
 
 use std::alloc::{AllocError, Global};
 use stm_journal::{Intent, Journal, Stage};
+use stm_wire::UniqueId;
 
 /// Adds a word and a number.
 fn add_number(
@@ -147,12 +148,27 @@ fn add_id(out: &mut Vec<u8>, alloc: Global, id: u16) -> Result<(), AllocError>
     Ok(())
 }
 
-/// Adds the line of the device, where the journal names one.
-fn add_device(out: &mut Vec<u8>, alloc: Global, journal: &Journal) -> Result<(), AllocError>
-    ensures { OnOk result (out.new.items ≡ out.old.items ++ id_text journal.now.state.header) }
+/// Adds the line of the board.
+fn add_board(out: &mut Vec<u8>, alloc: Global, unique: UniqueId) -> Result<(), AllocError>
+    ensures { OnOk result (out.new.items ≡ out.old.items
+        ++ (codes "board " ++ encode_upper unique ++ 10 ∷ [])) }
 {
-    match journal.id() {
-        Some(id) => add_id(out, alloc, id),
+    out.extend_from_slice(b"board ")?;
+    let digits = hex::encode_upper(alloc, unique.as_bytes())?;
+    out.extend_from_slice(digits.as_bytes())?;
+    out.push(b'\n')?;
+    Ok(())
+}
+
+/// Adds the lines of the device and of its board, where the journal names them.
+fn add_device(out: &mut Vec<u8>, alloc: Global, journal: &Journal) -> Result<(), AllocError>
+    ensures { OnOk result (out.new.items ≡ out.old.items ++ device_text journal.now.state) }
+{
+    if let Some(id) = journal.id() {
+        add_id(out, alloc, id)?;
+    }
+    match journal.unique() {
+        Some(unique) => add_board(out, alloc, unique),
         None => Ok(()),
     }
 }
@@ -168,7 +184,7 @@ fn add_end(out: &mut Vec<u8>, alloc: Global, journal: &Journal) -> Result<(), Al
     out.extend_from_slice(b" can be undone\n")
 }
 
-/// What a journal says: the device, a line for each segment, the oldest first,
+/// What a journal says: the device and its board, a line for each segment, the oldest first,
 /// and what can be done next.
 pub fn log_lines(alloc: Global, journal: &Journal) -> Result<Vec<u8>, AllocError>
     ensures { IfOk result (λ text. text.items ≡ log_text journal.now.state) }

@@ -3,10 +3,14 @@
 #![tactic(auto)]
 
 mod action;
+mod again;
 mod answer;
+mod board;
+mod board_name;
 mod bound_socket;
 mod changing;
 mod content;
+mod crc;
 mod escaped;
 mod failure;
 mod false_erase;
@@ -19,6 +23,7 @@ mod incoming;
 mod journal_file;
 mod journal_rig;
 mod journal_tasks;
+mod keeper;
 mod keeping;
 mod locks;
 mod logging;
@@ -35,18 +40,24 @@ mod progress_text;
 mod progress_watch;
 mod protection;
 mod reading;
+mod reading_hex;
 mod reason;
 mod replacement;
+mod replies;
 mod restoring;
 mod sectors;
 mod serving;
 mod short_waits;
 mod shown;
+mod simulated_board;
 mod simulator_file;
 mod simulator_rig;
 mod socket_line;
 mod socket_rig;
 mod standing;
+mod steps;
+mod summing;
+mod tables;
 mod unpowered;
 mod unusable;
 mod variables;
@@ -69,9 +80,10 @@ fn run(rt: &HostRuntime) -> io::Result<u8> {
     for word in &given {
         words.push(word.as_str())?;
     }
+    let tables = variables.tables(rt)?;
     Ok(program(
         rt,
-        variables.environment(rt),
+        variables.environment(tables.as_slice()),
         words.as_slice(),
         &mut rt.stdout(),
         &mut rt.stderr(),

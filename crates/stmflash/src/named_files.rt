@@ -2,9 +2,13 @@
 
 use crate::failure::Failure;
 use crate::names::is_same_file;
+use crate::replacement::try_beside;
 use crate::simulator_file::line_name;
+use crate::tables::is_table;
+use std::fs;
 use std::fs::Files;
-use stm_words::{Device, Options, Task};
+use std::io::ErrorKind;
+use stm_words::{Device, Options, TableNames, Task};
 
 /// The name of standard output.
 const STANDARD: &str = "-";
@@ -12,7 +16,7 @@ const STANDARD: &str = "-";
 /// The files that the words of one use name.
 #[derive(Clone, Copy)]
 pub struct NamedFiles<'a> {
-    table: &'a str,
+    table: TableNames<'a>,
     journal: &'a str,
     device: Device<'a>,
     image: Option<&'a str>,
@@ -24,6 +28,7 @@ impl<'a> NamedFiles<'a> {
     pub fn of(options: &Options<'a>, task: &Task<'a>) -> NamedFiles<'a> {
         let (image, out) = match task {
             Task::Read { out, .. } if *out != STANDARD => (None, Some(*out)),
+            Task::ReadHex { out, .. } if *out != STANDARD => (None, Some(*out)),
             Task::Write { image, .. } | Task::Verify(image) => (Some(image.name), None),
             _ => (None, None),
         };
@@ -56,6 +61,26 @@ impl<'a> NamedFiles<'a> {
         }
     }
 
+    /// Refuses a name to which the journal is to be moved, and that is there, or is one of the
+    /// others, or can't be made.
+    pub fn check_new<R: Files + AllocGlobal>(
+        &self,
+        rt: &R,
+        to: &'a str,
+    ) -> Result<(), Failure<'a>> {
+        let is_free = match fs::symlink_metadata(rt, to) {
+            Err(e) => e.kind() == ErrorKind::NotFound,
+            Ok(_) => false,
+        };
+        if !is_free || self.is_devices(rt, to)? || is_same_file(rt, to, self.journal) {
+            return Err(Failure::CannotWrite(to));
+        }
+        match try_beside(rt, to) {
+            Ok(()) => Ok(()),
+            Err(e) => Err(Failure::of_file(&e, Failure::CannotWrite(to))),
+        }
+    }
+
     /// Refuses an OUT that is one of the others.
     fn check_out<R: Files + AllocGlobal>(&self, rt: &R, out: &'a str) -> Result<(), Failure<'a>> {
         if is_same_file(rt, out, self.journal)
@@ -83,9 +108,9 @@ impl<'a> NamedFiles<'a> {
         Ok(())
     }
 
-    /// Whether the name is that of the table or the image.
+    /// Whether the name is that of a table or of the image.
     fn is_read<R: Files + AllocGlobal>(&self, rt: &R, name: &str) -> bool {
-        if is_same_file(rt, name, self.table) {
+        if is_table(rt, name, self.table) {
             return true;
         }
         match self.image {

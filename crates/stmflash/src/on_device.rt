@@ -1,10 +1,12 @@
 // A use of a device: the files that belong to it are opened, the task is done, and they are closed,
 // whatever came of it. Nothing is printed here but what goes on, on standard error.
 
+use crate::again::use_again;
 use crate::answer::Answer;
+use crate::board::{Question, has_telling_chip, tells_board};
 use crate::escaped::Escaped;
 use crate::failure::Failure;
-use crate::files::{is_there, read_file};
+use crate::files::is_there;
 use crate::journal_file::JournalFile;
 use crate::locks::Locks;
 use crate::named_files::NamedFiles;
@@ -16,59 +18,93 @@ use crate::simulator_file::SimulatorFiles;
 use crate::simulator_rig::SimulatorRig;
 use crate::socket_line::SocketLine;
 use crate::socket_rig::SocketRig;
+use crate::steps::{Steps, failed_by, failure_of, take_steps};
+use crate::tables::read_chips;
 use crate::unusable::Unusable;
 use crate::work::Work;
 use std::fs::Files;
 use std::io::{IsTerminal, Write};
 use std::net::Net;
 use std::time::Clock;
-use stm_chip::{Table, read_table};
+use stm_chip::Table;
 use stm_session::Fault;
 use stm_wire::Chip;
-use stm_words::{Device, Options, Progress, Task};
-
-/// How many bytes the file of a chip table has at most.
-const TABLE: u32 = 1 << 20;
+use stm_words::{Device, Options, Progress, Sequel, Task};
 
 /// What is said on a terminal before an image is written that has bytes of an erase.
 const FALSE_ERASES: &str =
     "note: the image holds bytes that a device which loses power in the midst would take for an erase; \
     use -v, and reset before an undo";
 
-/// Does a task on a device.
+/// Does a task on a device, and what follows it.
 pub fn use_device<'a, R: Locks + Net + Clock + AllocGlobal, E: Write + IsTerminal>(
     rt: &R,
     options: &Options<'a>,
     task: Task<'a>,
+    sequel: &Sequel<'a>,
     err: &mut E,
-) -> Result<Answer, Failure<'a>> {
-    let style = Style::of(rt, options, err);
+) -> Result<Steps<'a>, Failure<'a>> {
     let table = read_chips(rt, options.table)?;
     let files = NamedFiles::of(options, &task);
     let work = Work::of(rt, task)?.on_fresh(options.is_fresh);
     files.check(rt)?;
+    if let Some(to) = sequel.to {
+        files.check_new(rt, to)?;
+    }
     let output = Output::open(rt, files)?;
     tell_notes(rt, options, &work, err);
+    if sequel.again > 0 {
+        return use_again(rt, options, &table, work, sequel, err);
+    }
+    let steps = use_once(rt, options, &table, work, sequel, output, err)?;
+    Ok(Steps {
+        board: steps.board,
+        answer: steps.answer.beside(rt.alloc(), options.table)?,
+        kept: steps.kept,
+        failure: steps.failure,
+    })
+}
+
+/// Does it once: the files are opened, and closed.
+pub fn use_once<'a, R: Locks + Net + Clock + AllocGlobal, E: Write + IsTerminal>(
+    rt: &R,
+    options: &Options<'a>,
+    table: &Table,
+    work: Work,
+    sequel: &Sequel<'a>,
+    output: Output<'a, R>,
+    err: &mut E,
+) -> Result<Steps<'a>, Failure<'a>> {
+    let style = Style::of(rt, options, err);
     let screen = Screen::new(err, rt, rt.alloc(), style);
-    let answer = match options.device {
+    // its chip becomes that of the device's board
+    let own = read_chips(rt, options.table)?;
+    match options.device {
         Device::Simulator { id, file } => {
             let Some(chip) = table.find(id) else {
                 return Err(Failure::Session(Fault::UnknownChip(id)));
             };
+            let chip = chip.clone()?;
+            let question = question_of(options, tells_board(&chip));
             on_simulator(
-                rt,
-                options,
-                work,
-                &table,
-                file,
-                chip.clone()?,
-                output,
-                screen,
-            )?
+                rt, options, work, question, sequel, table, own, file, chip, output, screen,
+            )
         }
-        Device::Socket(path) => on_socket(rt, options, work, &table, path, output, screen)?,
-    };
-    Ok(answer.beside(rt.alloc(), options.table)?)
+        Device::Socket(path) => {
+            let question = question_of(options, has_telling_chip(table));
+            on_socket(
+                rt, options, work, question, sequel, table, own, path, output, screen,
+            )
+        }
+    }
+}
+
+/// What a device is asked before its session, where its chip may tell its board.
+fn question_of<'a>(options: &Options<'a>, is_told: bool) -> Question<'a> {
+    Question {
+        is_asked: is_told && !options.without_board,
+        wanted: options.board,
+    }
 }
 
 /// Tells on a terminal what is to be known before a device is opened: that the journal of a
@@ -88,14 +124,6 @@ fn tell_notes<R: Files, E: Write + IsTerminal>(
     }
     if work.writes_false_erases() {
         let _ = writeln!(err, "{FALSE_ERASES}");
-    }
-}
-
-/// The chips that a file names.
-pub fn read_chips<'a, R: Files + AllocGlobal>(rt: &R, name: &'a str) -> Result<Table, Failure<'a>> {
-    match read_file(rt, name, TABLE) {
-        Ok(text) => Ok(read_table(rt.alloc(), text.as_slice())?),
-        Err(e) => Err(Failure::of_file(&e, Failure::CannotRead(name))),
     }
 }
 
@@ -136,29 +164,35 @@ fn read_journal<'a, 'b, R: Locks + AllocGlobal>(
 fn done_on<'a, R: Locks>(
     mut journal: JournalFile<'_, R>,
     name: &'a str,
-    done: Result<Answer, Failure<'a>>,
-) -> Result<Answer, Failure<'a>> {
+    done: Result<Steps<'a>, Failure<'a>>,
+) -> Result<Steps<'a>, Failure<'a>> {
     if let Some(why) = journal.take_refusal() {
         return Err(Failure::of_journal(why, name));
     }
-    match done {
-        Ok(_) if !journal.stays() => Err(Failure::of_reason(journal.take_reason())),
-        Err(Failure::Session(Fault::Journal)) => Err(Failure::of_reason(journal.take_reason())),
-        done => done,
+    match failure_of(&done) {
+        None if !journal.stays() => Err(Failure::of_reason(journal.take_reason())),
+        Some(Failure::Session(Fault::Journal)) => {
+            failed_by(done, Failure::of_reason(journal.take_reason()))
+        }
+        _ => done,
     }
 }
 
 /// Writes the bytes that are for a file, where there are some, and hands the answer on.
 fn write_out<'a, R: Files + AllocGlobal>(
     rt: &R,
-    answer: Answer,
+    steps: Steps<'a>,
     output: Output<'a, R>,
-) -> Result<Answer, Failure<'a>> {
-    let is_written = match &answer {
+) -> Result<Steps<'a>, Failure<'a>> {
+    let is_written = match &steps.answer {
         Answer::Bytes(bytes) => output.write(rt, bytes.as_slice())?,
         _ => false,
     };
-    Ok(if is_written { Answer::Nothing } else { answer })
+    Ok(if is_written {
+        Steps::only(Answer::Nothing)
+    } else {
+        steps
+    })
 }
 
 /// Does it on a simulator in the process.
@@ -166,12 +200,15 @@ fn on_simulator<'a, R: Locks + Clock + AllocGlobal, W: Write + Drop>(
     rt: &R,
     options: &Options<'a>,
     work: Work,
+    question: Question<'a>,
+    sequel: &Sequel<'a>,
     table: &Table,
+    own: Table,
     file: &'a str,
     chip: Chip,
     output: Output<'a, R>,
     screen: Screen<'_, W, R>,
-) -> Result<Answer, Failure<'a>> {
+) -> Result<Steps<'a>, Failure<'a>> {
     let opened = match JournalFile::open(rt, options.journal, options.without_lock) {
         // a simulator of which nothing else is known is fresh
         Err(Unusable::Unread(e)) => Err(Unusable::Unread(e)),
@@ -182,12 +219,23 @@ fn on_simulator<'a, R: Locks + Clock + AllocGlobal, W: Write + Drop>(
     let loaded = files.load(chip)?;
     match read_journal(opened, options.journal, &work) {
         Ok((journal, bytes)) => {
-            let mut memory = files.begin(loaded, bytes)?;
+            let memory = files.begin(loaded, bytes)?;
+            let mut rig = SimulatorRig::new(memory, journal, files);
             if let Some(steps) = options.stop {
-                memory.stop_after(u64::from(steps));
+                rig.stop_after(u64::from(steps));
             }
-            let rig = SimulatorRig::new(memory, journal, files);
-            use_simulator(rt, rig, work, table, options.journal, output, screen)
+            use_simulator(
+                rt,
+                rig,
+                work,
+                question,
+                sequel,
+                table,
+                own,
+                options.journal,
+                output,
+                screen,
+            )
         }
         Err(failure) => {
             let memory = files.begin(loaded, Vec::new(rt.alloc()))?;
@@ -202,19 +250,25 @@ fn use_simulator<'a, R: Locks + Clock + AllocGlobal, W: Write + Drop>(
     rt: &R,
     rig: SimulatorRig<'_, 'a, R>,
     work: Work,
+    question: Question<'a>,
+    sequel: &Sequel<'a>,
     table: &Table,
+    own: Table,
     name: &'a str,
     output: Output<'a, R>,
     screen: Screen<'_, W, R>,
-) -> Result<Answer, Failure<'a>> {
+) -> Result<Steps<'a>, Failure<'a>> {
     let mut rig = ProgressRig::new(rig, Course::new(rt.alloc(), table, work.goal()), screen);
-    let done = work.run(rt.alloc(), &mut rig, table);
+    let done = take_steps(rt.alloc(), &mut rig, own, work, question, name, sequel);
     let rig = rig.finish(done.is_ok());
     let is_unstored = rig.is_unstored();
     let (memory, journal, mut files) = rig.into_parts();
-    let done = match done_on(journal, name, done) {
-        Ok(answer) => write_out(rt, answer, output),
-        Err(_) if memory.has_stopped() => Err(Failure::Stopped),
+    let mut done = done_on(journal, name, done);
+    if memory.has_stopped() {
+        done = failed_by(done, Failure::Stopped);
+    }
+    let done = match done {
+        Ok(steps) => write_out(rt, steps, output),
         Err(failure) => Err(failure),
     };
     let stored = files.store_rig(&memory);
@@ -223,9 +277,9 @@ fn use_simulator<'a, R: Locks + Clock + AllocGlobal, W: Write + Drop>(
         stored?;
         return done;
     }
-    let answer = done?;
+    let steps = done?;
     stored?;
-    Ok(answer)
+    Ok(steps)
 }
 
 /// Does it on what listens at a socket.
@@ -233,11 +287,14 @@ fn on_socket<'a, R: Locks + Net + Clock + AllocGlobal, W: Write + Drop>(
     rt: &R,
     options: &Options<'a>,
     work: Work,
+    question: Question<'a>,
+    sequel: &Sequel<'a>,
     table: &Table,
+    own: Table,
     path: &'a str,
     output: Output<'a, R>,
     screen: Screen<'_, W, R>,
-) -> Result<Answer, Failure<'a>> {
+) -> Result<Steps<'a>, Failure<'a>> {
     let opened = JournalFile::open(rt, options.journal, options.without_lock);
     let journal = serving_journal(opened, options.journal, &work)?;
     let line = match SocketLine::connect(
@@ -252,13 +309,22 @@ fn on_socket<'a, R: Locks + Net + Clock + AllocGlobal, W: Write + Drop>(
     };
     let rig = SocketRig::new(line, journal);
     let mut rig = ProgressRig::new(rig, Course::new(rt.alloc(), table, work.goal()), screen);
-    let done = work.run(rt.alloc(), &mut rig, table);
+    let done = take_steps(
+        rt.alloc(),
+        &mut rig,
+        own,
+        work,
+        question,
+        options.journal,
+        sequel,
+    );
     let rig = rig.finish(done.is_ok());
     let has_given_up = rig.has_given_up();
-    let done = match done {
-        Err(_) if has_given_up => Err(Failure::NoAnswer),
-        done => done,
+    let done = if has_given_up {
+        failed_by(done, Failure::NoAnswer)
+    } else {
+        done
     };
-    let answer = done_on(rig.into_journal(), options.journal, done)?;
-    write_out(rt, answer, output)
+    let steps = done_on(rig.into_journal(), options.journal, done)?;
+    write_out(rt, steps, output)
 }

@@ -7,6 +7,7 @@ use crate::journal_tasks::{keep, log};
 use crate::locks::Locks;
 use crate::on_device::use_device;
 use crate::serving::serve;
+use crate::steps::Steps;
 use std::io;
 use std::io::{IsTerminal, Write};
 use std::net::Net;
@@ -26,10 +27,10 @@ pub fn program<'a, R: Locks + Net + Clock + AllocGlobal, O: Write, E: Write + Is
     err: &mut E,
 ) -> u8 {
     let done = match read_request(rt.alloc(), environment, words) {
-        Ok(Request::Use(options, task)) => use_device(rt, &options, task, err),
-        Ok(Request::Log(journal)) => log(rt, journal),
-        Ok(Request::Keep(kept)) => keep(rt, &kept),
-        Ok(Request::Serve(served)) => serve(rt, &served),
+        Ok(Request::Use(options, task, sequel)) => use_device(rt, &options, task, &sequel, err),
+        Ok(Request::Log(journal)) => alone(log(rt, journal)),
+        Ok(Request::Keep(kept)) => alone(keep(rt, &kept)),
+        Ok(Request::Serve(served)) => alone(serve(rt, &served)),
         Err(Unread::Help(text)) => return print_help(rt, text.as_str(), out, err),
         Err(Unread::Refused(text)) => {
             let _ = write!(err, "{text}");
@@ -39,9 +40,14 @@ pub fn program<'a, R: Locks + Net + Clock + AllocGlobal, O: Write, E: Write + Is
         Err(Unread::Memory) => Err(Failure::Memory),
     };
     match done {
-        Ok(answer) => print_answer(rt, &answer, out, err),
+        Ok(steps) => print_steps(rt, &steps, out, err),
         Err(failure) => fail(rt, &failure, err),
     }
+}
+
+/// What nothing follows.
+fn alone<'a>(done: Result<Answer, Failure<'a>>) -> Result<Steps<'a>, Failure<'a>> {
+    Ok(Steps::only(done?))
 }
 
 /// Tells a fault, in one line that is written at once. Where there is no memory for the
@@ -54,26 +60,27 @@ pub fn fail<R: AllocGlobal, E: Write>(rt: &R, failure: &Failure, err: &mut E) ->
     failure.status()
 }
 
-/// Prints what came of the words.
-fn print_answer<R: AllocGlobal, O: Write, E: Write>(
+/// Prints what came of the words, and where a step failed, why.
+fn print_steps<R: AllocGlobal, O: Write, E: Write>(
     rt: &R,
-    answer: &Answer,
+    steps: &Steps,
     out: &mut O,
     err: &mut E,
 ) -> u8 {
-    match print_at_once(rt, answer, out) {
-        Ok(()) => 0,
-        Err(_) => fail(rt, &Failure::CannotWrite("standard output"), err),
+    match (print_at_once(rt, steps, out), &steps.failure) {
+        (Ok(()), None) => 0,
+        (_, Some(failure)) => fail(rt, failure, err),
+        (Err(_), None) => fail(rt, &Failure::CannotWrite("standard output"), err),
     }
 }
 
-/// Prints an answer as one text, so that who takes a line of it and goes has taken none of its
+/// Prints the steps as one text, so that who takes a line of it and goes has taken none of its
 /// parts. Where there is no memory for the text, it is printed in parts.
-fn print_at_once<R: AllocGlobal, O: Write>(rt: &R, answer: &Answer, out: &mut O) -> io::Result<()> {
+fn print_at_once<R: AllocGlobal, O: Write>(rt: &R, steps: &Steps, out: &mut O) -> io::Result<()> {
     let mut text = Vec::new(rt.alloc());
-    match answer.print(&mut text) {
+    match steps.print(&mut text) {
         Ok(()) => out.write_all(text.as_slice()),
-        Err(_) => answer.print(out),
+        Err(_) => steps.print(out),
     }
 }
 

@@ -7,6 +7,7 @@ use std::alloc::Global;
 use stm_chip::Table;
 use stm_image::Image;
 use stm_wire::Chip;
+use stm_words::Range;
 
 /// Which pages a session goes through.
 #[derive(Clone, Copy, Debug)]
@@ -31,14 +32,8 @@ impl Goal {
     /// Which pages an action goes through.
     pub fn of(action: &Action) -> Goal {
         match action {
-            Action::Read(None) | Action::EraseAll => Goal::All,
-            Action::Read(Some(range)) => match range.length {
-                Some(length) => {
-                    let to = range.start.saturating_add(length.saturating_sub(1));
-                    Goal::Span(range.start, to)
-                }
-                None => Goal::From(range.start),
-            },
+            Action::EraseAll => Goal::All,
+            Action::Read(range) => Goal::of_range(*range),
             Action::Write(content) | Action::WriteAndVerify(content) | Action::Verify(content) => {
                 Goal::of_content(content)
             }
@@ -48,6 +43,20 @@ impl Goal {
             },
             Action::Undo(count) | Action::UndoFresh(count) => Goal::Back(*count),
             _ => Goal::Unknown,
+        }
+    }
+
+    /// Which pages a part of the flash lies in.
+    pub fn of_range(range: Option<Range>) -> Goal {
+        match range {
+            None => Goal::All,
+            Some(
+                Range {
+                    start,
+                    length: Some(length),
+                },
+            ) => Goal::Span(start, start.saturating_add(length.saturating_sub(1))),
+            Some(Range { start, .. }) => Goal::From(start),
         }
     }
 
@@ -93,6 +102,8 @@ pub struct Course<'a> {
     goal: Goal,
     kept: KeptPages,
     chip: Option<&'a Chip>,
+    /// How many KiB the flash has, where the device told it.
+    told: Option<u16>,
     /// The first page that is gone through, where they follow one another.
     first: Option<u16>,
     count: Option<u32>,
@@ -125,6 +136,7 @@ impl<'a> Course<'a> {
             goal,
             kept: KeptPages::new(alloc),
             chip: None,
+            told: None,
             first: None,
             count: None,
             place: None,
@@ -134,6 +146,20 @@ impl<'a> Course<'a> {
     /// Where it is; none before the first page.
     pub fn place(&self) -> Option<Place> {
         self.place
+    }
+
+    /// The flash has so many KiB, where the device told it.
+    pub fn hear_size(&mut self, kib: Option<u16>) {
+        self.told = kib;
+    }
+
+    /// The address behind the flash's last byte.
+    fn end_of(&self, chip: &Chip) -> u64 {
+        let end = chip.end();
+        match self.told {
+            Some(kib) => end.min(u64::from(chip.base()).saturating_add(u64::from(kib) * 1024)),
+            None => end,
+        }
     }
 
     /// Takes up what a call told, and answers whether another page is begun, or something
@@ -188,8 +214,8 @@ impl<'a> Course<'a> {
                 self.count = self.kept.given_back(segments);
                 None
             }
-            Goal::All => Some((chip.base(), chip.end())),
-            Goal::From(from) => Some((from, chip.end())),
+            Goal::All => Some((chip.base(), self.end_of(chip))),
+            Goal::From(from) => Some((from, self.end_of(chip))),
             Goal::Span(from, to) => Some((from, u64::from(to).saturating_add(1))),
             Goal::First(size) => Some((
                 chip.base(),

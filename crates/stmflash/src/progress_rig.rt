@@ -1,9 +1,12 @@
 // A Rig whose calls are shown as they go on.
 ghost use Rattle.std.specs.Prelude.{◌≡◌};
 
+use crate::failure::Failure;
+use crate::keeper::Keeper;
 use crate::progress_course::Course;
 use crate::progress_screen::Screen;
 use crate::progress_watch::{Seen, Watch, page_named};
+use std::alloc::Global;
 use std::io::Write;
 use std::time::Clock;
 use stm_wire::{Patience, Rig, RigFault};
@@ -137,5 +140,20 @@ impl<'a, L: Rig + Drop, W: Write + Drop, C: Clock> Rig for ProgressRig<'a, L, W,
             self.progress.fetch(at, &buf[..count]);
         }
         Ok(count)
+    }
+}
+
+impl<'a, L: Keeper + Drop, W: Write + Drop, C: Clock> Keeper for ProgressRig<'a, L, W, C> {
+    fn hear_size(&mut self, kib: Option<u16>) {
+        self.progress.hear_size(kib);
+    }
+
+    fn keep<'w>(
+        &mut self,
+        alloc: Global,
+        name: &'w str,
+        to: Option<&'w str>,
+    ) -> Result<u32, Failure<'w>> {
+        self.inner.keep(alloc, name, to)
     }
 }

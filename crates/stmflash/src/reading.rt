@@ -33,7 +33,7 @@ pub fn read<L: Rig>(
 }
 
 /// The part that a range names, where it has a length.
-fn part_given(range: Option<Range>) -> Option<(u32, u32)>
+pub fn part_given(range: Option<Range>) -> Option<(u32, u32)>
     ensures { result ≡ part_given range }
 {
     match range {
@@ -48,7 +48,7 @@ fn part_given(range: Option<Range>) -> Option<(u32, u32)>
 }
 
 /// Where a range starts.
-fn start_given(range: Option<Range>) -> Option<u32>
+pub fn start_given(range: Option<Range>) -> Option<u32>
     ensures { result ≡ start_given range }
 {
     match range {
@@ -58,7 +58,7 @@ fn start_given(range: Option<Range>) -> Option<u32>
 }
 
 /// The part of a flash from a place on, or the whole; none where it would start outside.
-fn to_the_end(start: Option<u32>, base: u32, size: u32) -> Option<(u32, u32)>
+pub fn to_the_end(start: Option<u32>, base: u32, size: u32) -> Option<(u32, u32)>
     ensures { result ≡ to_the_end start base size }
 {
     let start = start.unwrap_or(base);
@@ -70,7 +70,7 @@ fn to_the_end(start: Option<u32>, base: u32, size: u32) -> Option<(u32, u32)>
 }
 
 /// Reads a part of the flash.
-fn read_bytes<L: Rig>(
+pub fn read_bytes<L: Rig>(
     alloc: Global,
     rig: &mut L,
     table: &Table,

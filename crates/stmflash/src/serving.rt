@@ -1,6 +1,7 @@
 // A simulator behind a Unix socket.
 ghost use Rattle.std.specs.Prelude.{◌≡◌, ◌<◌, ◌≤◌, ℕ, List, IsTrue, length, take};
-ghost use Rattle.std.specs.Io.KnownBytes.{Consumes};
+ghost use Rattle.std.specs.Io.KnownBytes.{Appends, Consumes};
+ghost use Rattle.stmflash.specs.Replies.{begun, telling};
 ghost use Rattle.stmflash.specs.Serving.{fed_all};
 
 use crate::answer::Answer;
@@ -8,9 +9,10 @@ use crate::bound_socket::BoundSocket;
 use crate::failure::Failure;
 use crate::locks::Locks;
 use crate::names::is_same_file;
-use crate::on_device::read_chips;
+use crate::replies::tell_all;
 use crate::simulator_file::{SimulatorFiles, line_name};
 use crate::standing::line_of;
+use crate::tables::{is_table, read_chips};
 use std::fs::Files;
 use std::io::{ErrorKind, Read, Write};
 use std::net::Net;
@@ -23,11 +25,14 @@ use stm_words::Served;
 /// How long a client may take no reply, in seconds.
 const SLOW: u64 = 10;
 
-/// How many bytes are read and written at a time.
+/// How long a client may send nothing, in seconds.
+const SILENT: u64 = 60;
+
+/// How many bytes are read at a time.
 const ROOM: usize = 512;
 
 /// Takes bytes that come, as many as there are and the buffer holds, and answers how many: none at
-/// the end of input, or where a read failed.
+/// the end of input, or where a read failed, as one does when nothing comes for too long.
 fn read_some<R: Read>(reader: &mut R, bytes: &mut [u8]) -> usize
     ensures within { result ≤ length bytes.old }
     ensures length { length bytes.new ≡ length bytes.old }
@@ -44,61 +49,26 @@ fn read_some<R: Read>(reader: &mut R, bytes: &mut [u8]) -> usize
     0
 }
 
-/// Feeds bytes, one after the other. False where memory is refused for one.
-fn feed_all(sim: &mut Simulator, bytes: &[u8]) -> bool
-    ensures { IsTrue result → sim.new ≡ fed_all sim.old bytes.now }
-{
-    for byte in bytes {
-        if sim.feed(*byte).is_err() {
-            return false;
-        }
-    }
-    true
-}
-
-/// Takes owed bytes until the buffer is full or none is owed, and answers how many.
-fn take_owed(sim: &mut Simulator, owed: &mut [u8]) -> usize
-    ensures { sim.new ≡ record sim.old { owed = sim.new.owed } }
-{
-    let mut count = 0;
-    for slot in owed.iter_mut() {
-        match sim.take() {
-            Some(byte) => *slot = byte,
-            None => break,
-        }
-        count = usize::saturating_add(count, 1);
-    }
-    count
-}
-
-/// Writes the bytes that the simulator owes, as many at a time as there is room for.
-/// False where a write failed.
-fn write_owed<W: Write>(sim: &mut Simulator, writer: &mut W) -> bool
-    ensures { sim.new ≡ record sim.old { owed = sim.new.owed } }
-{
-    for _ in 0..u64::MAX {
-        let mut owed = [0u8; ROOM];
-        let count = take_owed(sim, &mut owed).min(ROOM);
-        if count > 0 && writer.write_all(&owed[..count]).is_err() {
-            return false;
-        }
-        if count < ROOM {
-            return true;
-        }
-    }
-    false
-}
-
-/// Takes the bytes that came, feeds them, and writes the bytes owed. False at the end of input, or
-/// where a read, a write or a step failed.
-pub fn serve_bytes<R: Read, W: Write>(sim: &mut Simulator, reader: &mut R, writer: &mut W) -> bool
+/// Takes the bytes that came, feeds them, and writes what their client is told, which stays in
+/// `told`. False at the end of input, or where a read, a write or a step failed.
+pub fn serve_bytes<R: Read, W: Write>(
+    sim: &mut Simulator,
+    reader: &mut R,
+    writer: &mut W,
+    reply: &mut Vec<u8>,
+    told: &mut Vec<u8>,
+) -> bool
     ensures { IsTrue result → (bytes : List ℕ) × (0 < length bytes)
         × Consumes (R.remaining reader.old) (R.remaining reader.new) bytes
-        × (sim.new ≡ record (fed_all sim.old bytes) { owed = sim.new.owed }) }
+        × (sim.new ≡ record (fed_all sim.old bytes) { owed = sim.new.owed })
+        × (record { device = sim.new; told = told.new.items } ≡ telling (begun sim.old) bytes)
+        × Appends (W.contents writer.old) (W.contents writer.new) told.new.items }
 {
     let mut bytes = [0u8; ROOM];
     let count = read_some(reader, &mut bytes);
-    count > 0 && feed_all(sim, &bytes[..count]) && write_owed(sim, writer)
+    count > 0
+        && tell_all(sim, &bytes[..count], reply, told)
+        && writer.write_all(told.as_slice()).is_ok()
 }
 
 /// Serves a simulator's clients, and removes its socket.
@@ -157,15 +127,13 @@ fn serve_socket<'a, R: Locks + Net + AllocGlobal>(
 }
 
 /// Refuses a socket that is one of the simulator's files, and files of which one
-/// is the table or the other.
+/// is a table or the other.
 fn check<'a, R: Files + AllocGlobal>(rt: &R, served: &Served<'a>) -> Result<(), Failure<'a>> {
     let line = line_name(rt.alloc(), served.flash)?;
-    if is_same_file(rt, served.flash, served.table) {
+    if is_table(rt, served.flash, served.table) {
         return Err(Failure::CannotWrite(served.flash));
     }
-    if is_same_file(rt, line.as_str(), served.table)
-        || is_same_file(rt, line.as_str(), served.flash)
-    {
+    if is_table(rt, line.as_str(), served.table) || is_same_file(rt, line.as_str(), served.flash) {
         return Err(Failure::CannotWriteLine(served.flash));
     }
     if is_same_file(rt, served.socket, served.flash)
@@ -177,7 +145,7 @@ fn check<'a, R: Files + AllocGlobal>(rt: &R, served: &Served<'a>) -> Result<(), 
 }
 
 /// Serves one client after the other, and writes the simulator's files after each. A client that
-/// goes, or takes no reply for a while, leaves the device with its rest.
+/// goes, or sends nothing or takes no reply for a while, leaves the device with its rest.
 fn serve_clients<'a, R: Locks + AllocGlobal>(
     rt: &R,
     sim: &mut Simulator,
@@ -185,11 +153,14 @@ fn serve_clients<'a, R: Locks + AllocGlobal>(
     files: &mut SimulatorFiles<'_, 'a, R>,
     served: &Served<'a>,
 ) -> Result<(), Failure<'a>> {
+    let mut reply = Vec::new(rt.alloc());
+    let mut told = Vec::new(rt.alloc());
     for _ in 0..served.clients {
         let stream = accept(listener, served.socket)?;
         let _ = stream.set_write_timeout(Some(Duration::from_secs(SLOW)));
+        let _ = stream.set_read_timeout(Some(Duration::from_secs(SILENT)));
         for _ in 0..u64::MAX {
-            if !serve_bytes(sim, &mut &stream, &mut &stream) {
+            if !serve_bytes(sim, &mut &stream, &mut &stream, &mut reply, &mut told) {
                 break;
             }
         }

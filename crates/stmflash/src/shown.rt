@@ -6,19 +6,22 @@ use crate::files::open_if_there;
 use crate::journal_rig::Source;
 use std::fs::Files;
 use std::io;
+use std::io::ErrorKind;
 
 /// A journal that is only looked at, also while another program adds to it: what was added by then
-/// is read. One whose file isn't there is empty.
+/// is read.
 #[derive(Drop)]
 pub struct Shown<R: Files> {
-    file: Option<R::File>,
+    file: R::File,
 }
 
 impl<R: Files> Shown<R> {
-    /// The journal in the file of this name.
+    /// The journal in the file of this name, which has to be there.
     pub fn open(rt: &R, name: &str) -> io::Result<Shown<R>> {
-        let file = open_if_there(rt, name)?;
-        Ok(Shown { file })
+        match open_if_there(rt, name)? {
+            Some(file) => Ok(Shown { file }),
+            None => Err(io::Error::from(ErrorKind::NotFound)),
+        }
     }
 }
 
@@ -31,9 +34,6 @@ impl<R: Files> Source for Shown<R> {
         if at >= i64::MAX as u64 {
             return Ok(0);
         }
-        match &mut self.file {
-            Some(file) => fetch_from(file, at, buf),
-            None => Ok(0),
-        }
+        fetch_from(&mut self.file, at, buf)
     }
 }

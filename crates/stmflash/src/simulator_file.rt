@@ -13,6 +13,7 @@ use crate::locks::Locks;
 use crate::names::{is_named, is_same_file};
 use crate::replacement::{ALONE, Replacement, remove_leftovers};
 use crate::restoring::stand;
+use crate::simulated_board::simulated_chip;
 use crate::standing::{Standing, line_of, read_standing};
 use crate::unusable::Unusable;
 use std::alloc::{AllocError, Global};
@@ -149,6 +150,7 @@ impl<'r, 'a, R: Locks + AllocGlobal> SimulatorFiles<'r, 'a, R> {
     /// The simulator that the two files hold. A flash that isn't there is erased, and without the
     /// other file the device is fresh.
     pub fn load(&mut self, chip: Chip) -> Result<StoredSimulator, Failure<'a>> {
+        let chip = simulated_chip(self.rt, self.file, chip)?;
         let flash = self.load_flash(&chip)?;
         match self.load_standing()? {
             Some(standing) if flash.len() == chip.flash_size() as usize => Ok(StoredSimulator {

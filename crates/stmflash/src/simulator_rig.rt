@@ -1,5 +1,5 @@
 // A simulated device, and a journal kept in a file.
-ghost use Rattle.std.specs.Prelude.{◌≡◌, ◌≤◌, drop, length, OnErr, OnOk, true};
+ghost use Rattle.std.specs.Prelude.{◌≡◌, ◌≤◌, [], drop, length, IfOk, IfSome, OnErr, OnOk, true};
 ghost use Rattle.std.specs.Io.KnownBytes.{Appends};
 ghost use Rattle.std.proofs.Common.{sym};
 ghost use Rattle.stm_wire.specs.Memory.{PutsInMemory, GetsInMemory, rig_state};
@@ -9,16 +9,21 @@ ghost use Rattle.stm_wire.specs.Recorded.{length_told};
 ghost use Rattle.stm_wire.specs.Rig.{HasCause, PutsHonestly, Records, RecordsAppend, entry_of_get};
 ghost use Rattle.stm_wire.specs.Rig.{Enters, EntersAppend, FetchesAside, GetsAside, PutsAside};
 ghost use Rattle.stmflash.specs.SimulatorRig.{SimulatorState, simulator_rig_state, AppendsToFile};
+ghost use Rattle.stmflash.specs.SimulatorFile.{StandsSo, simulator_at};
 ghost use Rattle.stmflash.specs.SimulatorRig.{FetchesUnlessFailed};
 ghost use Rattle.stmflash.specs.SimulatorRigLaws.{follows};
+ghost use Rattle.stmflash.specs.Steps.{EndsJournal};
 
+use crate::failure::Failure;
 use crate::journal_file::JournalFile;
 use crate::locks::Locks;
-use crate::simulator_file::SimulatorFiles;
+use crate::simulator_file::{SimulatorFiles, StoredSimulator};
+use std::alloc::{AllocError, Global};
 use std::io;
 use std::io::ErrorKind;
 use std::marker::Model;
-use stm_wire::{MemoryRig, Patience, Rig, RigFault};
+use stm_session::Fault;
+use stm_wire::{MemoryRig, Patience, Rig, RigCall, RigFault};
 
 /// A simulated device, and a journal kept in a file. The device, the steps to a stop and the record
 /// are those of a Rig in memory, which also holds the journal's bytes: each append goes to it
@@ -36,6 +41,8 @@ pub struct SimulatorRig<'a, 'f, R: Locks> {
     simulator: SimulatorFiles<'a, 'f, R>,
     /// The simulator's files were to be written before a line of the journal, and couldn't be.
     is_unstored: bool,
+    /// After how many steps of its record the Rig in memory is stopped.
+    stop: Option<u64>,
 }
 
 impl<'a, 'f, R: Locks> Model for SimulatorRig<'a, 'f, R> {
@@ -62,7 +69,14 @@ impl<'a, 'f, R: Locks + AllocGlobal> SimulatorRig<'a, 'f, R> {
             journal_failures: 0,
             simulator,
             is_unstored: false,
+            stop: None,
         }
+    }
+
+    /// Stops the device after so many steps.
+    pub fn stop_after(&mut self, steps: u64) {
+        self.stop = Some(steps.saturating_add(steps_of(self.memory.calls())));
+        self.memory.stop_after(steps);
     }
 
     /// The Rig in memory, the journal's file and the simulator's.
@@ -71,6 +85,37 @@ impl<'a, 'f, R: Locks + AllocGlobal> SimulatorRig<'a, 'f, R> {
         ensures file { result.1 ≡ self.entry.file }
     {
         (self.memory, self.file, self.simulator)
+    }
+
+    /// Ends the journal: its file is removed or renamed, and isn't there from then on. The device
+    /// goes on as it stands, once its files are stored, with the steps that are left to a stop.
+    pub fn end_journal<'w>(
+        &mut self,
+        alloc: Global,
+        name: &'w str,
+        to: Option<&'w str>,
+    ) -> Result<(), Failure<'w>>
+        ensures err { OnErr result ((self.new.memory ≡ self.old.memory)
+            × (self.new.journal_failures ≡ self.old.journal_failures)) }
+        ensures ends { let old = simulator_rig_state self.old in
+            let new = simulator_rig_state self.new in
+            old.is_honest → OnOk result (EndsJournal old new) }
+    {
+        let left = match self.stop {
+            Some(steps) => Some(steps.saturating_sub(steps_of(self.memory.calls()))),
+            None => None,
+        };
+        let Some(memory) = begin_anew(alloc, &self.memory, left)? else {
+            return Err(Failure::Session(Fault::Device));
+        };
+        if self.simulator.store_rig(&self.memory).is_err() {
+            self.is_unstored = true;
+            return Err(Failure::Session(Fault::Journal));
+        }
+        self.file.end(name, to)?;
+        self.memory = memory;
+        self.stop = left;
+        Ok(())
     }
 
     /// Whether the simulator's files were to be written before a line of the
@@ -114,6 +159,50 @@ impl<'a, 'f, R: Locks + AllocGlobal> SimulatorRig<'a, 'f, R> {
         }
         self.file.append(added)
     }
+}
+
+/// The simulator as it stands, beside an empty journal. Bytes that it owed are lost.
+fn restart(alloc: Global, memory: &MemoryRig) -> Result<Option<MemoryRig>, AllocError>
+    ensures { let old = memory.now in (rig_state old).is_honest → IfOk result
+        (λ begun. IfSome begun (StandsSo
+        (simulator_at old.device.chip old.device.flash old.device.phase) [])) }
+{
+    let empty = Vec::new(alloc);
+    match StoredSimulator::left(alloc, memory)? {
+        Some(left) => left.start(alloc, empty),
+        None => Ok(None),
+    }
+}
+
+/// The same, which is stopped after so many steps, where that is said.
+fn begin_anew(
+    alloc: Global,
+    memory: &MemoryRig,
+    stop: Option<u64>,
+) -> Result<Option<MemoryRig>, AllocError>
+    ensures { let old = rig_state memory.now in old.is_honest → IfOk result
+        (λ begun. IfSome begun (λ rig. EndsJournal old (rig_state rig))) }
+{
+    let Some(mut begun) = restart(alloc, memory)? else {
+        return Ok(None);
+    };
+    if let Some(steps) = stop {
+        begun.stop_after(steps);
+    }
+    Ok(Some(begun))
+}
+
+/// How many steps these calls took: a byte put, a byte that came, a byte of the journal.
+fn steps_of(calls: &[RigCall]) -> u64 {
+    let mut steps = 0_u64;
+    for call in calls {
+        steps = steps.saturating_add(match call {
+            RigCall::Put(_) | RigCall::Get(Some(_)) => 1,
+            RigCall::Append(count) => *count,
+            RigCall::Get(None) | RigCall::Fetch => 0,
+        });
+    }
+    steps
 }
 
 /// Whether bytes of a journal say that a segment was taken back, or begin to.

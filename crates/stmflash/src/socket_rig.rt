@@ -10,6 +10,7 @@ ghost use Rattle.stm_wire.specs.Rig.{FetchesHonestly};
 ghost use Rattle.stm_wire.specs.Rig.{FetchesWithin, GetsAside, GetsHonestly, HasCause};
 ghost use Rattle.stm_wire.specs.Rig.{PutsAside, PutsHonestly, Records, RecordsAppend, entry_of_get};
 
+use crate::failure::Failure;
 use crate::journal_file::JournalFile;
 use crate::locks::Locks;
 use crate::socket_line::{SocketLine, Timed};
@@ -55,6 +56,13 @@ impl<'a, S: Timed + Drop, R: Locks + Clock + AllocGlobal> SocketRig<'a, S, R> {
     /// didn't take what was sent.
     pub fn has_given_up(&self) -> bool {
         self.line.has_given_up()
+    }
+
+    /// Ends the journal: its file is removed or renamed, and isn't there from then on.
+    pub fn end_journal<'w>(&mut self, name: &'w str, to: Option<&'w str>) -> Result<(), Failure<'w>>
+        ensures { self.new.failures ≡ self.old.failures }
+    {
+        self.file.end(name, to)
     }
 
     /// The journal's file; the line is closed.

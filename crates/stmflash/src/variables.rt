@@ -1,23 +1,23 @@
-// What stands in the place of words: variables of the environment, and the installed chip table.
+// What stands in the place of words: variables of the environment, and the chip tables that are
+// there.
 
 use crate::failure::Failure;
+use crate::tables::{standing_tables, users_table};
+use std::alloc::AllocError;
+use std::env;
 use std::env::{Env, VarError};
 use std::fs::Files;
-use std::{env, fs};
 use stm_words::{Environment, UsageFault};
-
-/// Where a chip table is installed; the first that is there is taken.
-static TABLES: [&str; 2] = [
-    "/usr/local/share/stmflash/chips.toml",
-    "/usr/share/stmflash/chips.toml",
-];
 
 /// What stands in the place of words that aren't given.
 #[derive(Drop)]
 pub struct Variables {
     table: Option<String>,
+    users_table: Option<String>,
     device: Option<String>,
     journal: Option<String>,
+    board: Option<String>,
+    without_board: bool,
     is_fresh: bool,
     without_lock: bool,
 }
@@ -26,29 +26,44 @@ impl Variables {
     /// Reads the variables. One that is empty counts as one that isn't set.
     pub fn read<'a, R: Env + AllocGlobal>(rt: &R) -> Result<Variables, Failure<'a>> {
         let table = variable(rt, "STMFLASH_TABLE")?;
+        let users_table = users_table(rt)?;
         let device = variable(rt, "STMFLASH_DEVICE")?;
         let journal = variable(rt, "STMFLASH_JOURNAL")?;
+        let board = variable(rt, "STMFLASH_BOARD")?;
+        let without_board = is_one(rt, "STMFLASH_NO_BOARD")?;
         let is_fresh = is_one(rt, "STMFLASH_FRESH")?;
         let without_lock = is_one(rt, "STMFLASH_NO_LOCK")?;
         Ok(Variables {
             table,
+            users_table,
             device,
             journal,
+            board,
+            without_board,
             is_fresh,
             without_lock,
         })
     }
 
-    /// What stands in the place of words. Where no variable names a table, it is the installed
-    /// one, where there is one.
-    pub fn environment<R: Files>(&self, rt: &R) -> Environment<'_> {
+    /// The tables that stand where neither a word nor a variable names one, the lowest first.
+    pub fn tables<R: Files + AllocGlobal>(&self, rt: &R) -> Result<Vec<&str>, AllocError> {
+        standing_tables(rt, text_of(&self.users_table))
+    }
+
+    /// What stands in the place of words. Where no variable names a table, these are read.
+    pub fn environment<'a>(&'a self, tables: &'a [&'a str]) -> Environment<'a> {
+        let (table, over) = match (&self.table, tables.split_first()) {
+            (Some(name), _) => (Some(name.as_str()), None),
+            (None, Some((lowest, over))) => (Some(*lowest), Some(over)),
+            (None, None) => (None, None),
+        };
         Environment {
-            table: match &self.table {
-                Some(name) => Some(name.as_str()),
-                None => installed_table(rt),
-            },
+            table,
+            over,
             device: text_of(&self.device),
             journal: text_of(&self.journal),
+            board: text_of(&self.board),
+            without_board: self.without_board,
             is_fresh: self.is_fresh,
             without_lock: self.without_lock,
         }
@@ -81,14 +96,4 @@ fn variable<'a, R: Env + AllocGlobal>(
 fn is_one<'a, R: Env + AllocGlobal>(rt: &R, name: &'static str) -> Result<bool, Failure<'a>> {
     let text = variable(rt, name)?;
     Ok(matches!(text_of(&text), Some("1")))
-}
-
-/// The installed chip table.
-fn installed_table<R: Files>(rt: &R) -> Option<&'static str> {
-    for name in &TABLES {
-        if matches!(fs::exists(rt, *name), Ok(true)) {
-            return Some(*name);
-        }
-    }
-    None
 }

@@ -1,23 +1,35 @@
 // What is done on a device, whether or not the table has its chip.
+ghost use Rattle.std.specs.Prelude.{◌≡◌};
 ghost use Rattle.stmflash.specs.Action.{Works};
+ghost use Rattle.stmflash.specs.Board.{asking_of, once_asked};
 
 use crate::action::Action;
 use crate::answer::Answer;
+use crate::board::Asking;
 use crate::failure::Failure;
 use crate::false_erase::has_false_erases;
 use crate::progress_course::Goal;
-use std::alloc::Global;
+use crate::reading_hex::read_as_hex;
+use crate::summing::sum;
+use std::alloc::{AllocError, Global};
 use std::fs::Files;
 use stm_chip::Table;
 use stm_session::identify;
 use stm_wire::Rig;
-use stm_words::Task;
+use stm_words::{Range, Task};
 
 /// What is done on a device.
 #[derive(Drop)]
 pub enum Work {
     /// It tells what it is, and no table has to have its chip.
     Identify,
+    /// It tells the CRC of its flash, or of a part of it.
+    Sum(Option<Range>),
+    /// It reads its flash or a part of it as HEX, and may leave out what is blank.
+    ReadHex {
+        range: Option<Range>,
+        skips_blank: bool,
+    },
     /// What is done on a chip of the table.
     Act(Action),
 }
@@ -27,6 +39,12 @@ impl Work {
     pub fn of<'a, R: Files + AllocGlobal>(rt: &R, task: Task<'a>) -> Result<Work, Failure<'a>> {
         match task {
             Task::Info { is_raw: true } => Ok(Work::Identify),
+            Task::Sum(range) => Ok(Work::Sum(range)),
+            Task::ReadHex {
+                range,
+                skips_blank,
+                ..
+            } => Ok(Work::ReadHex { range, skips_blank }),
             task => Ok(Work::Act(Action::of(rt, task)?)),
         }
     }
@@ -57,22 +75,58 @@ impl Work {
                 action,
                 Action::Write(_) | Action::WriteAndVerify(_) | Action::Erase(_) | Action::EraseAll
             ),
-            Work::Identify => false,
+            _ => false,
         }
     }
 
     /// The same for a device that was reset since the last session, where that is said.
     pub fn on_fresh(self, is_fresh: bool) -> Work {
         match self {
-            Work::Identify => Work::Identify,
             Work::Act(action) => Work::Act(action.on_fresh(is_fresh)),
+            work => work,
         }
+    }
+
+    /// Beside which journals its device is asked first which board it is. Go and a protection take no
+    /// table, and ask none.
+    pub fn asking(&self) -> Option<Asking>
+        ensures { result ≡ asking_of self.now }
+    {
+        match self {
+            Work::Act(Action::Go(_)) | Work::Act(Action::Protect(_)) => None,
+            Work::Act(Action::Undo(_)) => Some(Asking::OfBegun { is_fresh: false }),
+            Work::Act(Action::UndoFresh(_)) => Some(Asking::OfBegun { is_fresh: true }),
+            _ => Some(Asking::OfFinished),
+        }
+    }
+
+    /// The same for a device that was asked, and is connected by that: it isn't fresh from reset any
+    /// more.
+    pub fn once_asked(self) -> Work
+        ensures { result ≡ once_asked self }
+    {
+        match self {
+            Work::Act(Action::UndoFresh(count)) => Work::Act(Action::Undo(count)),
+            work => work,
+        }
+    }
+
+    /// The same once more. Only what may be done again has an image that is copied.
+    pub fn copy(&self, alloc: Global) -> Result<Work, AllocError> {
+        Ok(match self {
+            Work::Act(Action::Write(content)) => Work::Act(Action::Write(content.copy(alloc)?)),
+            Work::Act(Action::WriteAndVerify(content)) => {
+                Work::Act(Action::WriteAndVerify(content.copy(alloc)?))
+            }
+            _ => Work::Identify,
+        })
     }
 
     /// Which pages it goes through.
     pub fn goal(&self) -> Goal {
         match self {
             Work::Identify => Goal::Unknown,
+            Work::Sum(range) | Work::ReadHex { range, .. } => Goal::of_range(*range),
             Work::Act(action) => Goal::of(action),
         }
     }
@@ -88,6 +142,10 @@ impl Work {
     {
         match self {
             Work::Identify => Ok(Answer::Identified(identify(alloc, rig)?)),
+            Work::Sum(range) => sum(alloc, rig, table, range),
+            Work::ReadHex { range, skips_blank } => {
+                read_as_hex(alloc, rig, table, range, skips_blank)
+            }
             Work::Act(action) => action.run(alloc, rig, table),
         }
     }

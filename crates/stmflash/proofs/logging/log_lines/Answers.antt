@@ -1,6 +1,6 @@
 use Rattle.std.proofs.Common.{◌≡◌, ℕ, ◌++◌, ◌+◌, List, ap, ◌∙◌}
 use Rattle.stm_journal.specs.States.{StateData}
-use Rattle.stmflash.specs.Logging.{id_text, line_of}
+use Rattle.stmflash.specs.Logging.{device_text, line_of}
 use Rattle.stmflash.proofs.LoggedPages.{line-more}
 use Rattle.stmflash.proofs.logging.log_lines.Goals as goal
 
@@ -9,4 +9,4 @@ loop-k-preserved c =
     let s : StateData = c.args.journal.now.state in
     c.in_ok-add_segment.ensures
     ∙ ap (λ (xs : List ℕ). xs ++ line_of s (c.loop-k.k + 1)) c.loop-k.invariant
-    ∙ line-more (line_of s) (id_text s.header) c.loop-k.k
+    ∙ line-more (line_of s) (device_text s) c.loop-k.k

@@ -1,0 +1,131 @@
+// Which board a simulator is: a file beside that of its flash says so, where it is there.
+
+use crate::failure::Failure;
+use crate::files::{open_if_there, read_up_to};
+use hex::FromHexError;
+use std::alloc::{AllocError, Global};
+use std::fs::Files;
+use std::io;
+use stm_wire::{BoardPlaces, Chip, UniqueId};
+
+/// How many bytes the file is read to: more than its two lines have.
+const LINES: u64 = 256;
+
+/// What the file says: the unique id of the board, and how many KiB its flash has.
+#[derive(Clone, Copy)]
+struct SimulatedBoard {
+    unique: UniqueId,
+    size: Option<u32>,
+}
+
+/// The name of the file that says which board a simulator is.
+pub fn board_file(alloc: Global, file: &str) -> Result<String, AllocError> {
+    format!(in alloc; "{file}.board")
+}
+
+/// The unique id that these digits write, where they are 8 to 32 bytes.
+fn unique_of(alloc: Global, digits: &[u8]) -> Result<Option<UniqueId>, AllocError> {
+    match hex::decode(alloc, digits) {
+        Ok(bytes) => Ok(UniqueId::of(bytes.as_slice())),
+        Err(FromHexError::OutOfMemory) => Err(AllocError),
+        Err(_) => Ok(None),
+    }
+}
+
+/// The number that these digits write, at most five of them.
+fn size_of(digits: &[u8]) -> Option<u32> {
+    if digits.is_empty() || digits.len() > 5 {
+        return None;
+    }
+    let mut size: u32 = 0;
+    for digit in digits {
+        if !digit.is_ascii_digit() {
+            return None;
+        }
+        size = size
+            .saturating_mul(10)
+            .saturating_add(u32::from(digit.saturating_sub(b'0')));
+    }
+    Some(size)
+}
+
+/// The board with what one more line says: `unique` and digits, or `size` and a number. None where
+/// the line has another form.
+fn with_line(
+    alloc: Global,
+    board: SimulatedBoard,
+    line: &[u8],
+) -> Result<Option<SimulatedBoard>, AllocError> {
+    if line.is_empty() {
+        return Ok(Some(board));
+    }
+    if let Some(digits) = line.strip_prefix(b"unique ") {
+        return Ok(match unique_of(alloc, digits)? {
+            Some(unique) => Some(SimulatedBoard { unique, ..board }),
+            None => None,
+        });
+    }
+    match line.strip_prefix(b"size ") {
+        Some(digits) => Ok(match size_of(digits) {
+            Some(size) => Some(SimulatedBoard {
+                size: Some(size),
+                ..board
+            }),
+            None => None,
+        }),
+        None => Ok(None),
+    }
+}
+
+/// The board that a text says. None where it has another form.
+fn board_of(alloc: Global, text: &[u8]) -> Result<Option<SimulatedBoard>, AllocError> {
+    let mut board = SimulatedBoard {
+        unique: UniqueId::none(),
+        size: None,
+    };
+    for line in text.split(|byte| *byte == b'\n') {
+        match with_line(alloc, board, line)? {
+            Some(next) => board = next,
+            None => return Ok(None),
+        }
+    }
+    Ok(Some(board))
+}
+
+/// The text of the file, or None where it isn't there.
+fn read_board<R: Files + AllocGlobal>(rt: &R, name: &str) -> io::Result<Option<Vec<u8>>> {
+    match open_if_there(rt, name)? {
+        Some(file) => Ok(Some(read_up_to(rt.alloc(), file, LINES)?)),
+        None => Ok(None),
+    }
+}
+
+/// The chip of the simulator whose flash has this name: that of the board which the file beside it
+/// says, with the pages of its size; without that file, one that tells no board.
+pub fn simulated_chip<'a, R: Files + AllocGlobal>(
+    rt: &R,
+    file: &'a str,
+    chip: Chip,
+) -> Result<Chip, Failure<'a>> {
+    let name = board_file(rt.alloc(), file)?;
+    let text = match read_board(rt, name.as_str()) {
+        Ok(text) => text,
+        Err(e) => return Err(Failure::of_file(&e, Failure::CannotReadBoard(file))),
+    };
+    let Some(text) = text else {
+        return match chip.at_places(BoardPlaces::none()) {
+            Some(chip) => Ok(chip),
+            None => Err(Failure::BadBoardFile(file)),
+        };
+    };
+    match board_of(rt.alloc(), text.as_slice())? {
+        Some(board) => {
+            let cut = match board.size {
+                Some(kib) => chip.cut(kib),
+                None => chip,
+            };
+            Ok(cut.of_board(board.unique))
+        }
+        None => Err(Failure::BadBoardFile(file)),
+    }
+}
