@@ -1,4 +1,5 @@
 // Journals written and loaded, over a Rig in memory.
+mod boards;
 mod call_order;
 mod calls;
 mod kept;

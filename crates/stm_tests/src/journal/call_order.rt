@@ -7,7 +7,7 @@ use crate::journal::opened;
 use std::alloc::Global;
 use std::test::Fail;
 use stm_journal::{Journal, JournalFault};
-use stm_wire::{MemoryRig, Rig};
+use stm_wire::{MemoryRig, Rig, UniqueId};
 
 /// One page of a command is written.
 #[tactic(auto, using(stm_journal::specs::NewestLaws::newest_may_keep_behind))]
@@ -41,7 +41,7 @@ pub(super) fn write_pages<R: Rig>(
     requires some { 0 < length held.now }
     ensures { OnOk result (is_unfinished journal.new.state ≡ false) }
 {
-    journal.begin(rig, 0x412)?;
+    journal.begin(rig, 0x412, &UniqueId::none())?;
     for n in pages {
         write_page(journal, rig, *n, held)?;
     }

@@ -6,14 +6,14 @@ use crate::journal::opened;
 use std::alloc::Global;
 use std::test::Fail;
 use stm_journal::{Journal, JournalFault};
-use stm_wire::MemoryRig;
+use stm_wire::{MemoryRig, UniqueId};
 
 /// A page is kept, and is to be erased.
 fn keep_and_erase(journal: &mut Journal, rig: &mut MemoryRig) -> Result<u32, JournalFault>
     requires room { length journal.old.state.stack < 65535 }
     requires finished { is_unfinished journal.old.state ≡ false }
 {
-    let segment = journal.begin(rig, 0x412)?;
+    let segment = journal.begin(rig, 0x412, &UniqueId::none())?;
     journal.keep_page(rig, 5, &[0xFF, 0x0A])?;
     journal.intend_erase(rig, 5)?;
     Ok(segment)
@@ -24,7 +24,7 @@ fn keep_and_program(journal: &mut Journal, rig: &mut MemoryRig) -> Result<u32, J
     requires room { length journal.old.state.stack < 65535 }
     requires finished { is_unfinished journal.old.state ≡ false }
 {
-    let segment = journal.begin(rig, 0x412)?;
+    let segment = journal.begin(rig, 0x412, &UniqueId::none())?;
     journal.keep_page(rig, 65535, &[0x00])?;
     journal.intend_program(rig, 65535)?;
     Ok(segment)
@@ -35,7 +35,7 @@ fn begin_and_end(journal: &mut Journal, rig: &mut MemoryRig) -> Result<u32, Jour
     requires room { length journal.old.state.stack < 65535 }
     requires finished { is_unfinished journal.old.state ≡ false }
 {
-    let segment = journal.begin(rig, 0x412)?;
+    let segment = journal.begin(rig, 0x412, &UniqueId::none())?;
     journal.end(rig)?;
     Ok(segment)
 }
@@ -76,7 +76,7 @@ const COMMANDS: &[Commanded] = &[
 ];
 
 /// Whether a Rig's journal has just these bytes.
-fn holds(rig: &MemoryRig, bytes: &[u8]) -> bool {
+pub(super) fn holds(rig: &MemoryRig, bytes: &[u8]) -> bool {
     rig.journal() == bytes
 }
 
@@ -203,7 +203,7 @@ fn unbegun(
         Append::Fails => rig.fail_append(1),
         Append::StopsAfter(steps) => rig.stop_after(steps),
     }
-    let fault = journal.begin(rig, id).err();
+    let fault = journal.begin(rig, id, &UniqueId::none()).err();
     rig.stop_after(u64::MAX);
     fault
 }
