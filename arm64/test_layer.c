@@ -1,0 +1,164 @@
+// What the kit asks of each function of layer.c, tried. It is linked with the layer under test, and called as
+//   env -i FIRST=one EMPTY= test_layer word '' 'two words'
+// It prints what doesn't hold, and its status says whether all does.
+#include <errno.h>
+#include <stdbool.h>
+#include <stdint.h>
+#include <stdio.h>
+#include <stdlib.h>
+#include <string.h>
+#include <sys/types.h>
+
+extern char **environ;
+
+struct tried {
+    bool ok;
+    void *p;
+};
+
+struct tried rattle_alloc(size_t n, size_t a);
+struct tried rattle_realloc(void *p, size_t kept, size_t n, size_t a);
+void rattle_dealloc(void *p);
+ssize_t rattle_arg(size_t i, char *buf, size_t room);
+ssize_t rattle_env(const char *name, char *buf, size_t room);
+ssize_t rattle_env_at(size_t i, char *buf, size_t room);
+int rattle_errno(void);
+void rattle_set_errno(int error);
+
+// more than any machine has
+#define TOO_MUCH ((size_t)1 << 62)
+
+static int tried_so_far, failed;
+
+#define HOLDS(fact) ((void)(tried_so_far++, (fact) || (failed++, printf("line %d: %s\n", __LINE__, #fact))))
+
+static void fill(char *p, size_t n)
+{
+    for (size_t k = 0; k < n; k++)
+        p[k] = (char)(k * 7 + 1);
+}
+
+static bool is_filled(const char *p, size_t n)
+{
+    for (size_t k = 0; k < n; k++)
+        if (p[k] != (char)(k * 7 + 1))
+            return false;
+    return true;
+}
+
+static void test_alloc(void)
+{
+    for (size_t n = 0; n < 300; n++) {
+        struct tried got = rattle_alloc(n, 16), beside = rattle_alloc(n, 1);
+        HOLDS(got.ok && got.p != NULL && (uintptr_t)got.p % 16 == 0);
+        HOLDS(beside.ok && beside.p != NULL && beside.p != got.p);
+        fill(got.p, n);
+        memset(beside.p, 0, n);
+        HOLDS(is_filled(got.p, n));
+        rattle_dealloc(got.p);
+        rattle_dealloc(beside.p);
+    }
+    struct tried one = rattle_alloc(0, 8), other = rattle_alloc(0, 8);
+    HOLDS(one.ok && other.ok && one.p != NULL && one.p != other.p);
+    rattle_dealloc(one.p);
+    rattle_dealloc(other.p);
+    struct tried none = rattle_alloc(TOO_MUCH, 16);
+    HOLDS(!none.ok && none.p != NULL);
+}
+
+static void test_realloc(void)
+{
+    static const size_t sizes[] = {1, 16, 17, 5000, 2000000, 100, 3};
+    size_t n = 8;
+    char *p = rattle_alloc(n, 8).p;
+    fill(p, n);
+    for (size_t k = 0; k < sizeof sizes / sizeof *sizes; k++) {
+        size_t kept = n < sizes[k] ? n : sizes[k];
+        struct tried got = rattle_realloc(p, kept, sizes[k], 8);
+        HOLDS(got.ok && got.p != NULL && (uintptr_t)got.p % 16 == 0 && is_filled(got.p, kept));
+        p = got.p;
+        n = sizes[k];
+        fill(p, n);
+    }
+    struct tried none = rattle_realloc(p, n, TOO_MUCH, 8);
+    HOLDS(!none.ok && none.p != NULL && is_filled(p, n));
+    // to no bytes and back
+    struct tried empty = rattle_realloc(p, 0, 0, 8);
+    HOLDS(empty.ok && empty.p != NULL);
+    struct tried again = rattle_realloc(empty.p, 0, 24, 8);
+    HOLDS(again.ok && again.p != NULL);
+    fill(again.p, 24);
+    rattle_dealloc(again.p);
+}
+
+// Whether a text of this length was put into a room of that size, or as much of it as there is room for, and nothing behind it.
+static bool is_put(ssize_t answer, const char *buf, size_t room, const char *text)
+{
+    size_t length = strlen(text), put = length < room ? length : room;
+    return answer == (length <= room ? (ssize_t)length : -2) && memcmp(buf, text, put) == 0 && buf[put] == '#';
+}
+
+static void test_texts(int count, char **given)
+{
+    char buf[64];
+    for (size_t room = 0; room < sizeof buf; room++) {
+        for (int i = 0; i < count; i++) {
+            memset(buf, '#', sizeof buf);
+            // (the program's name is a path of any length)
+            if (i > 0 || strlen(given[0]) < sizeof buf)
+                HOLDS(is_put(rattle_arg((size_t)i, buf, room), buf, room, given[i]));
+        }
+        memset(buf, '#', sizeof buf);
+        HOLDS(is_put(rattle_env("FIRST", buf, room), buf, room, "one"));
+        memset(buf, '#', sizeof buf);
+        HOLDS(is_put(rattle_env("EMPTY", buf, room), buf, room, ""));
+        for (size_t i = 0; environ[i] != NULL; i++) {
+            memset(buf, '#', sizeof buf);
+            HOLDS(is_put(rattle_env_at(i, buf, room), buf, room, environ[i]));
+        }
+        memset(buf, '#', sizeof buf);
+        HOLDS(rattle_arg((size_t)count, buf, room) == -1 && buf[0] == '#');
+        // (the variables stand behind the words)
+        HOLDS(rattle_arg((size_t)count + 1, buf, room) == -1 && buf[0] == '#');
+        HOLDS(rattle_arg(SIZE_MAX, buf, room) == -1 && buf[0] == '#');
+        HOLDS(rattle_env("FIRS", buf, room) == -1 && buf[0] == '#');
+        HOLDS(rattle_env_at(2, buf, room) == -1 && buf[0] == '#');
+        HOLDS(rattle_env_at(SIZE_MAX, buf, room) == -1 && buf[0] == '#');
+    }
+    HOLDS(rattle_arg(2, NULL, 0) == 0 && rattle_arg(1, NULL, 0) == -2);
+}
+
+static void test_no_environment(void)
+{
+    char buf[8] = "#";
+    char **were = environ;
+    environ = NULL;
+    HOLDS(rattle_env_at(0, buf, sizeof buf) == -1 && buf[0] == '#');
+    HOLDS(rattle_env_at(5, buf, sizeof buf) == -1 && buf[0] == '#');
+    HOLDS(rattle_env("FIRST", buf, sizeof buf) == -1 && buf[0] == '#');
+    environ = were;
+}
+
+static void test_errno(void)
+{
+    static const int errors[] = {0, ENOENT, EAGAIN, 1 << 20, -1};
+    for (size_t k = 0; k < sizeof errors / sizeof *errors; k++) {
+        errno = errors[k];
+        HOLDS(rattle_errno() == errors[k]);
+        errno = 77;
+        rattle_set_errno(errors[k]);
+        HOLDS(errno == errors[k]);
+    }
+}
+
+int main(int count, char **given)
+{
+    HOLDS(count == 4 && given[2][0] == '\0' && environ[0] != NULL && environ[1] != NULL && environ[2] == NULL);
+    test_alloc();
+    test_realloc();
+    test_texts(count, given);
+    test_no_environment();
+    test_errno();
+    printf("%d of %d hold\n", tried_so_far - failed, tried_so_far);
+    return failed != 0;
+}

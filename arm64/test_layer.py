@@ -1,0 +1,88 @@
+"""Tries arm64/layer.c on this machine, as 64-bit ARM code under qemu, and with faults planted; and the kit's own functions.
+
+    python3 -m unittest discover -s arm64
+
+test_layer.c says what each function has to do. That the kit's own ones do it too shows that this is what the kit asks.
+"""
+
+import os
+import shutil
+import subprocess
+import tempfile
+import unittest
+
+HERE = os.path.dirname(os.path.abspath(__file__))
+ENVIRONMENT = {"FIRST": "one", "EMPTY": ""}
+WORDS = ["word", "", "two words"]
+STRICT = ["-O2", "-Wall", "-Wextra", "-Werror"]
+# what is planted: a text of layer.c, which stands there once, and the one in its place
+FAULTS = {
+    "no memory is an address all the same": ("{false, &nothing}", "{true, &nothing}"),
+    "no memory has no address": ("{false, &nothing}", "{false, NULL}"),
+    "a block of no bytes is freed by a realloc": ("realloc(p, n != 0 ? n : a)", "realloc(p, n)"),
+    "a realloc forgets what was there": ("    return tried(realloc(p, n != 0 ? n : a));",
+                                         "    free(p);\n    return tried(calloc(n != 0 ? n : a, 1));"),
+    "a text that fits just so is too long": ("length <= room", "length < room"),
+    "a text that is too long isn't told": ("(ssize_t)length : -2", "(ssize_t)length : (ssize_t)room"),
+    "a room that is too small isn't filled": ("fits ? length : room);", "fits ? length : 0);"),
+    "the 0 behind a text is put too": ("memcpy(buf, text, fits ? length : room)", "memcpy(buf, text, fits ? length + 1 : room)"),
+    "words are counted from the first": ("words[i]", "words[i + 1]"),
+    "there is one word more": ("i < word_count", "i <= word_count + 1000000"),
+    "no environment is read": ("return put(environ != NULL ? environ[k] : NULL", "return put(environ[k]"),
+    "entries are counted from 1": ("k < i)", "k + 1 < i)"),
+    "errno is answered as 0": ("return errno;", "return 0;"),
+    "errno isn't set": ("    errno = error;", "    (void)error;"),
+}
+
+
+def kit():
+    """The kit's own functions, which are for x86-64."""
+    found = shutil.which("rt")
+    folder = found and os.path.dirname(os.path.dirname(os.path.realpath(found)))
+    return [f"{folder}/c/libos_c.a", f"{folder}/c/liblibc_c.a"] if folder and os.uname().machine == "x86_64" else None
+
+
+class Layer(unittest.TestCase):
+    def setUp(self):
+        folder = tempfile.TemporaryDirectory()
+        self.addCleanup(folder.cleanup)
+        self.program = f"{folder.name}/test_layer"
+        self.changed = f"{folder.name}/layer.c"
+
+    def run_over(self, layer, compiler="gcc", before=(), flags=STRICT):
+        for tool in (compiler, *before[:1]):
+            if shutil.which(tool) is None:
+                self.skipTest(f"there is no {tool}")
+        subprocess.run([compiler, *flags, "-o", self.program, f"{HERE}/test_layer.c", *layer], check=True)
+        words = [*before, self.program, *WORDS]
+        return subprocess.run(words, executable=shutil.which(words[0]), env=ENVIRONMENT, capture_output=True, text=True, timeout=60)
+
+    def assertHolds(self, ran):
+        self.assertEqual((ran.returncode, ran.stderr), (0, ""), ran.stdout[:2000])
+        self.assertRegex(ran.stdout, r"\A(\d{4}) of \1 hold\n\Z")
+
+    def test_of_the_kit(self):
+        if kit() is None:
+            self.skipTest("there is no kit for this machine")
+        self.assertHolds(self.run_over(kit()))
+
+    def test_on_this_machine(self):
+        self.assertHolds(self.run_over([f"{HERE}/layer.c"]))
+
+    def test_under_qemu(self):
+        qemu = ("qemu-aarch64", "-L", "/usr/aarch64-linux-gnu")
+        self.assertHolds(self.run_over([f"{HERE}/layer.c"], "aarch64-linux-gnu-gcc", qemu))
+
+    def test_finds_each_fault(self):
+        with open(f"{HERE}/layer.c", encoding="utf-8") as file:
+            text = file.read()
+        for name, (old, new) in FAULTS.items():
+            with self.subTest(name):
+                self.assertEqual(text.count(old), 1)
+                with open(self.changed, "w", encoding="utf-8") as file:
+                    file.write(text.replace(old, new))
+                self.assertNotEqual(self.run_over([self.changed], flags=["-O2", "-w"]).returncode, 0)
+
+
+if __name__ == "__main__":
+    unittest.main()
