@@ -41,6 +41,7 @@ class PtyBoard:
         self.device = None
         self.master = None
         self.left = None
+        self.busy, self.storing = threading.Lock(), False
         self.ended, self.end = os.pipe()
         self.renew()
         self.thread = threading.Thread(target=self.carry, daemon=True)
@@ -63,6 +64,10 @@ class PtyBoard:
         """From now on the board gets so many bytes of its host and no more, as of one that has stopped there; None: all of them."""
         self.left = count
 
+    def wire(self):
+        """Where the host's bytes go."""
+        return self.connect()
+
     def connect(self):
         """The simulator, once it listens."""
         until = time.monotonic() + PATIENCE
@@ -78,9 +83,17 @@ class PtyBoard:
                 time.sleep(0.01)
 
     def store(self):
-        """Waits until the simulator has stored its flash, and answers it: it does so when its client has gone. Nobody may use the
-        board meanwhile."""
-        device, self.device = self.device, None
+        """Waits until the simulator has stored its flash, and answers it: it does so when its client has gone. What a host sends
+        meanwhile waits: as a client it would come before the one that is awaited here."""
+        with self.busy:
+            self.storing = True
+            device, self.device = self.device, None
+        try:
+            return self.stored(device)
+        finally:
+            self.storing = False
+
+    def stored(self, device):
         if device is not None:
             device.shutdown(socket.SHUT_RDWR)
             device.close()
@@ -95,7 +108,7 @@ class PtyBoard:
         """Hands bytes on both ways. The simulator's client is one that lasts, as the wires of a board last."""
         while True:
             master, device = self.master, self.device
-            waited = [self.ended, master] + ([device] if device is not None else [])
+            waited = [self.ended] + [master] * (not self.storing) + [device] * (device is not None)
             try:
                 ready, _, _ = select.select(waited, [], [], 0.05)
             except (OSError, ValueError):
@@ -103,7 +116,9 @@ class PtyBoard:
             if self.ended in ready:
                 return
             if master in ready:
-                self.from_host(master)
+                with self.busy:
+                    if not self.storing:
+                        self.from_host(master)
             if device is not None and device in ready:
                 self.from_device(device, master)
 
@@ -118,7 +133,7 @@ class PtyBoard:
             data = data[:self.left]
             self.left -= len(data)
         if self.device is None:
-            self.device = self.connect()
+            self.device = self.wire()
         self.wait(len(data) * self.byte_time)
         with contextlib.suppress(OSError):
             self.device.sendall(data)

@@ -17,6 +17,8 @@ class Actions:
 
     def __init__(self, words, board, told, chip):
         self.words, self.board, self.told, self.chip = words, board, told, chip
+        # whether the session that wrote has started the program too
+        self.has_started = False
 
     def do(self):
         """The action, if there is one."""
@@ -79,14 +81,34 @@ class Actions:
                 note(f"{option} says nothing here: just the pages that the image touches are erased, and the rest of them stays")
         self.told.line("Write to memory\nErasing memory")
         what = "Wrote and verified" if self.words.verify else "Wrote"
-        self.change(lambda: self.write_once(image, part, what))
+        self.change(lambda: self.write_and_start(image, part, what))
         if image.size:
             self.told.far(what, part.end, 1)
         self.told.line("Done.")
 
-    def write_once(self, image, part, what):
+    def write_and_start(self, image, part, what):
+        """Writes, and where a program is to be started then, does that in the same session. What fails behind the write is left to
+        `start`, which does it alone."""
+        address = self.start_address()
+        if address is None:
+            return self.write_once(image, part, what)
+        try:
+            self.board.kept(lambda *words: self.write_once(image, part, what, *words, "--go", f"0x{address:08X}"))
+            self.has_started = True
+        except Failed as fault:
+            if not fault.printed:
+                raise
+
+    def start_address(self):
+        """Where a program is started when all else is done; None where none is."""
+        if self.words.start_at is not None:
+            return self.words.start_at or self.chip.base
+        by_go = self.words.reset and self.words.action not in ("u", "j", "k") and self.words.leave() is None
+        return self.chip.base if by_go else None
+
+    def write_once(self, image, part, what, *sequel):
         options, data = image.at(part.start, self.words.force)
-        options += ["-v"] * self.words.verify
+        options += [*["-v"] * self.words.verify, *sequel]
         show = self.told.progress(("Wrote", what), part, self.chip)
         if data is None:
             return self.board.use("write", *options, image.path, show=show)
@@ -161,6 +183,8 @@ class Actions:
     def start(self, address):
         """Starts a program. What was done stays, and its journal is put aside: as long as the program leaves the flash alone,
         that can still be taken back."""
+        if self.has_started:
+            return True
         self.board.put_aside()
         try:
             self.board.use("go", f"0x{address:08X}")

@@ -37,8 +37,8 @@ class Board:
             return self.session(name, words, wait or self.wait, **more)
         except Failed as fault:
             is_short = wait is None and self.wait < UNKNOWN and name in AGAIN
-            # an undo goes on where it was stopped
-            begun = name != "undo" and self.journals.size() != before
+            # an undo goes on where it was stopped; a write whose journal was kept has left none
+            begun = name != "undo" and (self.journals.size() != before or fault.printed)
             if str(fault) != NO_PROTOCOL or not is_short or begun:
                 raise
             self.wait = UNKNOWN
@@ -78,7 +78,7 @@ class Board:
                 started.terminate()
                 raise
         if started.returncode:
-            raise Failed(told[-1] if told else f"stmflash ended with status {started.returncode}")
+            raise Failed(told[-1] if told else f"stmflash ended with status {started.returncode}", printed)
         return printed
 
     # ---- the journal
@@ -99,6 +99,12 @@ class Board:
                 self.journals.drop_old()
             else:
                 self.look("keep")
+
+    def kept(self, act):
+        """Does a write that keeps its journal in the same session, as the newest that was put aside."""
+        done = act("--keep-to", self.journals.next_kept())
+        self.journals.drop_old()
+        return done
 
     # ---- sessions
 

@@ -10,7 +10,11 @@ class Fault(Exception):
 
 
 class Failed(Fault):
-    """A session of stmflash ended with a fault: its text, without the program's name."""
+    """A session of stmflash ended with a fault: its text, without the program's name, and what was printed of steps before."""
+
+    def __init__(self, text, printed=""):
+        super().__init__(text)
+        self.printed = printed
 
     def is_of_the_line(self):
         """Whether the board can't be reached now, so that another session would fail too."""

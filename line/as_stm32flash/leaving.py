@@ -6,17 +6,17 @@ from .told import note
 
 def leave(actions):
     """What is done and told in the end of a call that went well."""
-    words, told, chip = actions.words, actions.told, actions.chip
+    words, told = actions.words, actions.told
     played = words.leave()
     if words.start_at is not None:
-        address = words.start_at or chip.base
+        address = actions.start_address()
         told.line(f"\nStarting execution at address 0x{address:08x}... ", end="")
         told.line("done." if actions.start(address) else "failed.")
     elif words.reset and words.action not in ("u", "j", "k"):
         told.line("\nResetting device... ")
         if played is None:
             note("without an exit sequence in -i no reset is sent: the program at the flash's start is started by Go")
-            if not actions.start(chip.base):
+            if not actions.start(actions.start_address()):
                 told.line("Reset failed.")
                 return 1
             told.line("Reset done.")

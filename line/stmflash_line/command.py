@@ -1,18 +1,16 @@
 """COMMAND: started with the way to the board, and ended with it."""
 
-import ctypes
 import os
 import shutil
-import signal
 import subprocess
 import sys
 import time
 
 from .faults import Fault, Gone, say
+from .tied import tied
 
 # how long COMMAND has to end by itself once it was told to, in seconds
 GRACE = 5
-PR_SET_PDEATHSIG = 1
 
 
 def run(command, path, fresh, join):
@@ -38,7 +36,8 @@ def run(command, path, fresh, join):
         end(child)
     if wake.number:
         return 128 + wake.number
-    return child.returncode if child.returncode >= 0 else 128 - child.returncode
+    status = child.returncode if child.returncode >= 0 else 128 - child.returncode
+    return status or int(join.is_otherwise)
 
 
 def start(command, path, fresh):
@@ -47,15 +46,8 @@ def start(command, path, fresh):
     settings = {**os.environ, "STMFLASH_DEVICE": path}
     if fresh:
         settings["STMFLASH_FRESH"] = "1"
-    system, ourselves = ctypes.CDLL(None), os.getpid()
-
-    def tie():
-        system.prctl(PR_SET_PDEATHSIG, signal.SIGTERM)
-        if os.getppid() != ourselves:
-            os._exit(1)
-
     try:
-        return subprocess.Popen(words, env=settings, preexec_fn=tie)
+        return subprocess.Popen(words, env=settings, preexec_fn=tied())
     except OSError as error:
         raise Fault(f"{words[0]}: {error.strerror}") from None
 

@@ -7,7 +7,7 @@ import socket
 import threading
 import time
 
-from .faults import Fault, Gone, say
+from .faults import HAS_NONE, Fault, Gone, say
 
 # how long the far end may take to be there, in seconds
 PATIENCE = 5
@@ -17,7 +17,6 @@ ANSWER = 2
 BITS = 11
 # RFC 2217, NOTIFY-LINESTATE: overrun, parity error, framing error, break
 ERRORS = 0x02 | 0x04 | 0x08 | 0x10
-HAS_NONE = "has no {}; leave --wiring, --boot and --after out"
 
 
 def is_far(word):
@@ -90,11 +89,8 @@ class SocketPort(FarPort):
         except OSError as error:
             raise Gone from error
 
-    def play(self, steps, pause):
-        for name, value in steps:
-            if name != "wait":
-                raise Fault(f"{self.name}: {HAS_NONE.format(name.upper())}")
-            pause(value)
+    def move(self, name, value):
+        raise Fault(f"{self.name}: {HAS_NONE.format(name.upper())}")
 
     def close(self):
         self.connection.close()
@@ -168,20 +164,16 @@ class Rfc2217Port(FarPort):
             raise Gone from error
         return self.sent(len(data))
 
-    def play(self, steps, pause):
-        for name, value in steps:
-            if name == "wait":
-                pause(value)
-                continue
-            try:
-                if name == "brk":
-                    self.client.send_break()
-                else:
-                    setattr(self.client, name, value)
-            except (OSError, ValueError) as error:
-                if self.inbox.is_closed:
-                    raise Gone from error
-                raise Fault(f"{self.name}: {HAS_NONE.format(name.upper())}") from None
+    def move(self, name, value):
+        try:
+            if name == "brk":
+                self.client.send_break()
+            else:
+                setattr(self.client, name, value)
+        except (OSError, ValueError) as error:
+            if self.inbox.is_closed:
+                raise Gone from error
+            raise Fault(f"{self.name}: {HAS_NONE.format(name.upper())}") from None
 
     def close(self):
         with contextlib.suppress(OSError):

@@ -3,6 +3,9 @@
 import contextlib
 import sys
 
+# a port without the signal of this name
+HAS_NONE = "has no {}; leave --wiring, --boot and --after out"
+
 
 class Fault(Exception):
     """Why the line can't be had, or ended: one line for a user."""

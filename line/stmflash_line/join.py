@@ -13,11 +13,14 @@ class Join:
     """A port and whoever is connected to the socket, one client after another. What comes while nobody is connected is
     dropped, as on a line that nobody listens at. What a client has sent goes out whole, also where it was killed since.
 
-    `entry` is what is played before the first byte of each client but the one that an `entered` board is for; None: nothing. A
-    client that has sent nothing for `idle` seconds is let go of; 0: none is."""
+    `entry` is called before the first byte of each client but the one that an `entered` board is for; None: nothing is. A client
+    that has sent nothing for `idle` seconds is let go of; 0: none is. `watch` ends the line at the first reply that isn't due;
+    None: each is handed on."""
 
-    def __init__(self, port, listener, wake, entry=None, entered=False, idle=0):
+    def __init__(self, port, listener, wake, entry=None, entered=False, idle=0, watch=None):
         self.port, self.listener, self.wake = port, listener, wake
+        # whether a reply wasn't due
+        self.watch, self.is_otherwise = watch, False
         self.client = None
         self.idle, self.heard = idle, 0.0
         self.entry, self.entered = entry, entered
@@ -78,6 +81,8 @@ class Join:
             return False
         self.client.setblocking(False)
         self.is_first, self.heard = True, time.monotonic()
+        if self.watch:
+            self.watch.begin()
         return True
 
     def enter(self):
@@ -88,7 +93,7 @@ class Join:
             return True
         self.send_rest()
         if not self.wake.number:
-            self.port.play(self.entry, self.wake.pause)
+            self.entry()
         if self.wake.number:
             return False
         self.port.forget()
@@ -99,9 +104,17 @@ class Join:
         data, bad = self.port.read()
         if self.client is None:
             return
+        text = None
+        if self.watch:
+            data, text = self.watch.due_of(data)
         self.into += data
         self.to_client()
-        if bad:
+        if text:
+            # the byte itself isn't handed on, so that nothing is sent because of it
+            self.is_otherwise = True
+            say(f"{self.port.name}: the board does otherwise than the model: {text}; stmflash-trial tells more")
+            self.leave()
+        elif bad:
             at = f"{bad} bytes came with an error at {self.port.baud} baud"
             say(f"{self.port.name}: {at}: look at speed, wiring and ground")
             self.leave()
@@ -125,6 +138,8 @@ class Join:
             self.leave()
             return False
         self.is_first, self.heard = False, time.monotonic()
+        if self.watch:
+            self.watch.put(data)
         self.out += data
         self.to_port()
         return True
@@ -145,6 +160,8 @@ class Join:
         if self.client is not None:
             self.client.close()
             self.client = None
+            if self.watch and self.watch.has_sent and not self.watch.is_otherwise:
+                say(f"{self.port.name}: watched: {self.watch.told()}")
         self.into.clear()
 
     def finish(self):

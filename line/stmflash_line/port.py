@@ -7,7 +7,7 @@ import fcntl
 import os
 import termios
 
-from .faults import Fault, Gone, number_of
+from .faults import HAS_NONE, Fault, Gone, number_of
 from .unmark import Unmark
 
 # Linux: the counters of a port's errors (serial_icounter_struct), and which of them are bytes lost for want of room
@@ -81,24 +81,20 @@ class Port:
                 if error.args[0] != errno.EINTR:
                     raise Gone from error
 
-    def play(self, steps, pause):
-        """Moves RTS and DTR and sends breaks, step by step, each of them: a board isn't left in the midst of a reset."""
-        for name, value in steps:
-            if name == "wait":
-                pause(value)
-                continue
-            try:
-                if name == "brk":
-                    self.serial.send_break()
-                else:
-                    setattr(self.serial, name, value)
-            except (OSError, termios.error) as error:
-                # a signal has cut a break short
-                if number_of(error) == errno.EINTR:
-                    continue
-                if number_of(error) in (errno.ENOTTY, errno.EINVAL):
-                    raise Fault(f"{self.name}: has no {name.upper()}; leave --wiring, --boot and --after out") from None
-                raise Gone from None
+    def move(self, name, value):
+        """Moves RTS or DTR, or sends a break."""
+        try:
+            if name == "brk":
+                self.serial.send_break()
+            else:
+                setattr(self.serial, name, value)
+        except (OSError, termios.error) as error:
+            # a signal has cut a break short
+            if number_of(error) == errno.EINTR:
+                return
+            if number_of(error) in (errno.ENOTTY, errno.EINVAL):
+                raise Fault(f"{self.name}: {HAS_NONE.format(name.upper())}") from None
+            raise Gone from None
 
     def close(self):
         """Lets others have the port. HUPCL is off, so that RTS and DTR stay as they are."""

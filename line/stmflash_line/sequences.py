@@ -1,26 +1,35 @@
-"""Sequences: how RTS, DTR and break are moved, step by step."""
+"""Sequences: how RTS, DTR, break and GPIO lines are moved, step by step."""
 
 import re
 
 # what one ',' of a sequence waits, in seconds
 DELAY = 0.1
+# the number of a GPIO line
+LINE = re.compile("0|[1-9][0-9]{0,4}")
 # a part of a wiring: which signal drives which pin, straight or through an inverter
 PART = re.compile(r"(inverted-)?(rts|dtr)-(reset|boot0)")
 
 
 def read_sequence(text):
-    """The steps of a sequence in the notation of stm32flash's -i: ("rts" or "dtr", level), ("brk", True) or
+    """The steps of a sequence in the notation of stm32flash's -i: ("rts" or "dtr", level), ("brk", True), (GPIO line, level) or
     ("wait", seconds). ',' ends a signal, or nothing, and waits; '&' ends one and doesn't. "-brk" does nothing."""
     steps = []
     for word, mark in re.findall("([^,&]*)([,&]?)", text):
         name = word.removeprefix("-")
         if name in ("rts", "dtr") or word == "brk":
             steps.append((name, name == word))
+        elif LINE.fullmatch(name):
+            steps.append((int(name), name == word))
         elif word not in ("", "-brk"):
-            raise ValueError(f"{word!r} is no signal: rts, dtr and brk are, with - before one that is to be low")
+            raise ValueError(f"{word!r} is no signal: rts, dtr, brk and GPIO lines' numbers are, with - before one that is to be low")
         if mark == ",":
             steps.append(("wait", DELAY))
     return steps
+
+
+def gpio_lines(steps):
+    """The GPIO lines that a sequence moves."""
+    return {name for name, _ in steps if isinstance(name, int)}
 
 
 def read_wiring(text):

@@ -2,35 +2,47 @@
 
 import time
 
+from .chips import read_chips
 from .command import run
 from .faults import Fault, Gone
+from .gpio_lines import GpioLines
 from .join import Join
+from .moves import Moves
 from .opening import open_port
 from .sockets import served, served_privately
+from .watch import Watch
 
 
 def use_port(given, wake):
     """Opens the port, uses the board on it, and leaves it as --after says."""
+    watch = Watch(read_chips()) if given.watch else None
+    lines = GpioLines(given.gpio_chip) if given.gpio_chip else None
     port = open_port(given.port, given.baud)
+    moves = Moves(port, lines)
     try:
-        status = use_board(port, given, wake)
-        port.play(given.after, time.sleep)
+        status = use_board(port, moves, given, wake, watch)
+        moves.play(given.after, time.sleep)
         return status
     except Gone:
         raise Fault(f"{port.name}: {port.gone}") from None
     finally:
+        if lines:
+            lines.close()
         port.close()
 
 
-def use_board(port, given, wake):
+def use_board(port, moves, given, wake, watch):
     """Brings the board into its bootloader, and serves it. One that a sequence resets is reset for each client: COMMAND's first
     finds it so, and a socket's may come at any time."""
-    port.play(given.boot, wake.pause)
+    def enter():
+        moves.play(given.boot, wake.pause)
+
+    enter()
     if wake.number:
         return 128 + wake.number if given.command else 0
     port.forget()
     with (served(given.socket) if given.socket else served_privately()) as (path, listener):
-        join = Join(port, listener, wake, given.boot if given.resets else None, bool(given.command), given.idle)
+        join = Join(port, listener, wake, enter if given.resets else None, bool(given.command), given.idle, watch)
         if given.command:
             return run(given.command, path, given.resets, join)
         return serve(join)

@@ -2,14 +2,16 @@
 
 import argparse
 
-from .sequences import read_sequence, read_wiring
+from .sequences import gpio_lines, read_sequence, read_wiring
 
 # how long a client of a served socket may say nothing, in seconds, where no word says how long
 IDLE = 60
-USAGE = """stmflash-line PORT [--baud N] [HOW] [--after SEQUENCE] [--idle SECONDS] -- COMMAND..
-       stmflash-line PORT [--baud N] [HOW] [--after SEQUENCE] [--idle SECONDS] --socket PATH
+# the chip of the GPIO lines, where no word says which
+CHIP = "gpiochip0"
+USAGE = """stmflash-line PORT [--baud N] [HOW] [--after SEQUENCE] [--idle SECONDS] [--watch] -- COMMAND..
+       stmflash-line PORT [--baud N] [HOW] [--after SEQUENCE] [--idle SECONDS] [--watch] --socket PATH
 
-HOW, which brings the board into its bootloader: --wiring WIRING | --boot SEQUENCE [--resets]"""
+HOW, which brings the board into its bootloader: --wiring WIRING | --boot SEQUENCE [--resets] [--gpio-chip NAME]"""
 EXAMPLE = """a board with reset at DTR and BOOT0 at RTS, and the same in stm32flash's notation:
   stmflash-line /dev/ttyUSB0 --wiring dtr-reset,rts-boot0 -- stmflash write --journal board7.journal -v firmware.hex
   stmflash-line /dev/ttyUSB0 --boot '-rts&dtr,-dtr,,:rts&dtr,-dtr' --resets -- stmflash info --journal board7.journal"""
@@ -26,11 +28,14 @@ def make_parser():
                         help="what reset and BOOT0 hang on: dtr-reset,rts-boot0, with inverted- before what goes through an "
                         "inverter; the board is reset into its bootloader, and in the end into its program")
     parser.add_argument("--boot", metavar="SEQUENCE",
-                        help="how RTS, DTR and break are moved once the port is open: '-rts&dtr,-dtr,,:rts&dtr,-dtr'")
+                        help="how RTS, DTR, break and GPIO lines are moved once the port is open: '-rts&dtr,-dtr,,:rts&dtr,-dtr'")
     parser.add_argument("--resets", action="store_true",
                         help="--boot is a reset: it is played for each client, and undo takes the board for fresh from reset. "
                         "Wrong, it can cost a page")
     parser.add_argument("--after", metavar="SEQUENCE", help="the same for the end; also what follows ':' in --boot")
+    parser.add_argument("--gpio-chip", metavar="NAME", help=f"the chip of the GPIO lines that a sequence names; {CHIP} without it")
+    parser.add_argument("--watch", action="store_true",
+                        help="ends the line at the first reply that no device of the model gives, and tells it")
     parser.add_argument("--socket", metavar="PATH", help="serves this socket, one client after another, until a signal comes")
     parser.add_argument("--idle", type=int, metavar="SECONDS",
                         help="lets go of a client that has sent nothing for so long; with --socket 60 without it; 0: never")
@@ -74,6 +79,24 @@ def settle_sequences(given):
             raise ValueError("--after, and a ':' in --boot: one of them says how the board is left")
     given.boot = read_sequence(entry)
     given.after = read_sequence(leave if given.after is None else given.after)
+    settle_lines(given)
+
+
+def settle_lines(given):
+    """Which chip has the GPIO lines; None where there are none."""
+    lines, late = gpio_lines(given.boot), gpio_lines(given.after)
+    if not late <= lines:
+        # whether a line can be had is seen before a byte goes out
+        first = min(late - lines)
+        raise ValueError(f"GPIO line {first} is moved in the end alone: name it in --boot too, at the level that it has till then")
+    if not lines:
+        if given.gpio_chip is not None:
+            raise ValueError("--gpio-chip names the chip of GPIO lines, and --boot names none")
+        return
+    if given.gpio_chip is None:
+        given.gpio_chip = CHIP
+    if not given.gpio_chip or given.gpio_chip.startswith("-"):
+        raise ValueError(f"{given.gpio_chip!r} is no chip: gpiodetect tells those that there are")
 
 
 def joined(words):
