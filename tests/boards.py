@@ -144,6 +144,21 @@ class LinePlace(Place):
         self.until(has_all, "bytes are missing")
         return held
 
+    def start_and_wait(self, *words):
+        """Runs a command that writes its process id and ends, and answers the companion once it has seen that. More than the port
+        takes at once waits there until it is read."""
+        started = self.start("ttyUSB0", "--", *words)
+        process = int(started.stdout.readline())
+        self.until(lambda: not os.path.exists(f"/proc/{process}"), "the command goes on")
+        return started
+
+    def first_of(self, client, count, most=4096):
+        """So many bytes that a client gets, or fewer where its line is closed before."""
+        held = b""
+        while len(held) < count and (came := client.recv(most)):
+            held += came
+        return held
+
     def until(self, is_so, text):
         """Waits until something is so."""
         end = time.monotonic() + PATIENCE
@@ -190,3 +205,9 @@ def end_with(started, number):
     """Sends a signal, and answers the status with which the companion ends."""
     started.send_signal(number)
     return started.wait(PATIENCE)
+
+
+def kill(process):
+    """Kills a process by its number, where it is still there."""
+    with contextlib.suppress(ProcessLookupError):
+        os.kill(process, signal.SIGKILL)

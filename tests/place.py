@@ -12,7 +12,7 @@ import unittest
 
 TOP = os.path.dirname(os.path.dirname(os.path.abspath(__file__)))
 # how long a call may take, in seconds, on a machine that is busy with other things
-PATIENCE = 300
+PATIENCE = int(os.environ.get("STMFLASH_PATIENCE", "300"))
 # a table of chip 0412
 TABLE = b'[[chip]]\nid = 0x412\nbase = 0x08000000\npages = [[32, 1024]]\nerase = "page"\n'
 SIZE = 32768
@@ -31,6 +31,11 @@ def is_slow():
     """Whether the program is built with checks on memory, and takes some twenty times as long. It is asked while a test runs:
     tests/run names another program to each."""
     return program().endswith("-unproved")
+
+
+def is_unproved():
+    """Whether nothing was proved of the program, as its name says, also of one that is run by qemu (arm64/under-qemu)."""
+    return program().removesuffix("-under-qemu").endswith("-unproved")
 
 
 def with_page(head, digit, tail):

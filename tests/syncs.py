@@ -20,6 +20,8 @@ LIBC = ctypes.CDLL(None, use_errno=True)
 PR_SET_NO_NEW_PRIVS, SYS_SECCOMP = 38, 317
 # the calls that are held
 LSEEK, FLOCK, FSYNC, LINK, ACCEPT = 8, 73, 74, 86, 288
+# a program for 64-bit ARM, which has no link(2), does the same by linkat(2), also under qemu
+BY_ARM = {LINK: 265}
 SET_MODE_FILTER, NEW_LISTENER = 1, 8
 # the steps of a filter
 LOAD, IS_EQUAL, ANSWER = 0x20, 0x15, 0x06
@@ -38,6 +40,7 @@ def call(folder, words, fails=None, at=lambda number, process: None, held=FSYNC,
     what was said, and the names of what was synced: files of the folder, or `.` for itself. Before each, `at` is called with its
     number and the process. Other calls can be held, and fail with another error. Raises `CannotHold` where no call can be held. A
     program that hangs is no such case: it raises `subprocess.TimeoutExpired`, and the test fails."""
+    held = BY_ARM.get(held, held) if program().endswith("-under-qemu") else held
     ours, theirs = socket.socketpair()
     with ours, theirs:
         try:

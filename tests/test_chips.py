@@ -20,6 +20,9 @@ PARTS = 6
 IMAGE = b"a last page's last bytes"
 # families of which something isn't known: the words of their notes, and which ids begin so in stm32flash's and OpenOCD's tables
 EIGHT = ("0466", "0456", "0460", "0467", "0468", "0469", "0479", "0464", "0435", "0462", "0415", "0461", "0470")
+# what `notes` says of whence the places are known
+SIZE_AT = ("size_at: Debian's libstlink1 1.7.0", "size_at: from memory of the reference manual, unchecked")
+UNIQUE = ("unique: from memory of the reference manual, unchecked",)
 BANKS = ("0430", "0419", "0434", "0467", "0469", "0450", "0415", "0461", "0470")
 
 
@@ -105,6 +108,30 @@ class Chips(Served):
                 self.assertEqual("words of 8 bytes" in notes, number in EIGHT)
                 self.assertEqual("words of 32 bytes" in notes, number == "0450")
                 self.assertEqual("second bank" in notes, number in BANKS)
+
+    def test_each_says_whence_it_knows_where_its_board_is_told(self):
+        for number, chip in CHIPS.items():
+            notes = chip.get("notes", ())
+            with self.subTest(chip=number):
+                self.assertEqual("size_at" in chip, any(note in SIZE_AT for note in notes))
+                self.assertEqual("unique" in chip, any(note in UNIQUE for note in notes))
+                # the pages of a smaller part may not be the first ones
+                self.assertFalse("size_at" in chip and number in BANKS)
+        self.assertEqual(sum("size_at" in chip for chip in CHIPS.values()), 36)
+        self.assertEqual(sum("unique" in chip for chip in CHIPS.values()), 47)
+
+    def test_the_places_lie_outside_the_flash_and_apart(self):
+        for number, chip in CHIPS.items():
+            end = chip["base"] + Geometry(chip).size
+            places = [chip["unique"]] if "unique" in chip else []
+            places += [[chip["size_at"], 2]] if "size_at" in chip else []
+            with self.subTest(chip=number):
+                for at, length in places:
+                    self.assertTrue(at + length <= chip["base"] or end <= at)
+                if len(places) == 2:
+                    (at, length), (size_at, _) = places
+                    self.assertTrue(at + length <= size_at or size_at + 2 <= at)
+                    self.assertEqual(at % 4, 0)
 
 
 for part in range(PARTS):

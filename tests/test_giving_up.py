@@ -210,3 +210,22 @@ class GivingUp(Served):
         self.assertGreater(time.monotonic() - began, 5)
         self.assertServed()
         self.assertHolds(zeros, b"idle\n")
+
+
+class SilentClient(Served):
+    def test_is_left_for_the_next_one(self):
+        """A client of the simulator that says nothing for a minute has its line ended, and not before; the device stays as it
+        stood."""
+        self.serve(2)
+        silent, client = self.connect(), self.connect()
+        silent.sendall(b"\x7f\x43")
+        self.assertEqual(silent.recv(2), b"\x79")
+        begun = time.monotonic()
+        # the byte that ends the other's command
+        client.sendall(b"\xbc")
+        self.assertEqual(client.recv(2), b"\x79")
+        self.assertGreater(time.monotonic() - begun, 50)
+        self.assertEqual(silent.recv(1), b"")
+        self.leave(client)
+        self.assertServed()
+        self.assertFile("flash.line", b"rest 43BC\n")

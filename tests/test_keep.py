@@ -24,14 +24,16 @@ class Keep(Place):
         return self.held("journal")
 
     def test_gives_the_way_back_up(self):
-        """The flash stays, the journal goes, and a second time there is nothing to keep."""
+        """The flash stays, the journal goes, and a second time there is none."""
         self.write()
         flash = self.held("flash")
         self.assertEqual(flash[:1024], IMAGE)
         self.assertTold(self.keep(), "kept 1\n")
         self.assertFalse(self.is_there("journal"))
         self.assertFile("flash", flash)
-        self.assertTold(self.keep(), "kept 0\n")
+        for words in ((), ("elsewhere",)):
+            self.assertFault(self.keep(*words), "cannot read journal")
+            self.assertFile("elsewhere", None)
 
     def test_frees_go_and_protect(self):
         self.assertTold(self.use_image("write", IMAGE, "-v"), WRITTEN + "verified 1024 bytes\n")

@@ -9,7 +9,7 @@ import stat
 import threading
 import time
 
-from boards import WAIT, LinePlace, end_with
+from boards import WAIT, LinePlace, end_with, kill
 from place import COUNTING, ERASED, PATIENCE, SIZE
 
 KILLS = int(os.environ.get("STMFLASH_LINE_KILLS", "6"))
@@ -119,9 +119,9 @@ class Commands(LinePlace):
 
     def test_what_a_killed_client_has_sent_goes_out(self):
         """More than a port takes at once, by a client that is killed when it has sent it."""
-        script = "import os, socket, sys; s = socket.socket(socket.AF_UNIX); s.connect(sys.argv[1]); " \
+        script = "import os, socket, sys; s = socket.socket(socket.AF_UNIX); s.connect(sys.argv[1]); print(os.getpid(), flush=True); " \
                  "s.sendall(bytes(range(251)) * 400); os.kill(os.getpid(), 9)"
-        started = self.start("ttyUSB0", "--", "python3", "-c", script, "{}")
+        started = self.start_and_wait("python3", "-c", script, "{}")
         self.assertTrue(self.read_from(self.master, 251 * 400) == bytes(range(251)) * 400)
         self.assertEqual(self.ended(started).status, 128 + signal.SIGKILL)
         os.set_blocking(self.master, False)
@@ -251,10 +251,3 @@ class Kills(LinePlace):
                 self.assertEqual((said.status, said.err), due, killed)
                 self.assertTrue(board.store() == COUNTING, f"the flash isn't what it was: {killed}, {said.out}")
         self.line("ttyUSB0", "--", "true")
-
-
-def kill(process):
-    try:
-        os.kill(process, signal.SIGKILL)
-    except ProcessLookupError:
-        pass

@@ -35,12 +35,13 @@ class Sequences(unittest.TestCase):
                 ("rts&-dtr", [("rts", True), ("dtr", False)]),
                 ("-rts,,,,dtr", [("rts", False), wait, wait, wait, wait, ("dtr", True)]),
                 (",,", [wait, wait]),
-                ("brk,-brk&rts", [("brk", True), wait, ("rts", True)])):
+                ("brk,-brk&rts", [("brk", True), wait, ("rts", True)]),
+                ("18&-23,rts,0", [(18, True), (23, False), wait, ("rts", True), wait, (0, True)])):
             with self.subTest(text=text):
                 self.assertEqual(read_sequence(text), steps)
 
     def test_no_signals(self):
-        for text in ("-", "cts", "rts dtr", "4", "-3,3", "rts:dtr", "RTS", "--rts"):
+        for text in ("-", "cts", "rts dtr", "018", "--3", "3 4", "100000", "+3", "0x3", "\u0663", "rts:dtr", "RTS", "--rts"):
             with self.subTest(text=text), self.assertRaises(ValueError):
                 read_sequence(text)
 
@@ -216,7 +217,7 @@ class BadBytes(unittest.TestCase):
     def test_a_reset_for_a_client(self):
         """Behind what went out before, and then all is dropped that came until its end; it is for the first byte alone."""
         port = mock.Mock(**{"write.side_effect": len})
-        join = Join(port, None, mock.Mock(number=None), ["steps"])
+        join = Join(port, None, mock.Mock(number=None), port.enter)
         join.client, join.is_first = self.join.client, True
         join.out, join.into = bytearray(b"before"), bytearray(b"old")
         join.send_rest = mock.Mock(side_effect=join.out.clear)
@@ -224,8 +225,7 @@ class BadBytes(unittest.TestCase):
         for _ in range(2):
             self.client.sendall(b"?")
             self.assertTrue(join.from_client())
-        self.assertEqual([name for name, _, _ in port.mock_calls], ["send_rest", "play", "forget", "write", "write"])
-        port.play.assert_called_once_with(["steps"], join.wake.pause)
+        self.assertEqual([name for name, _, _ in port.mock_calls], ["send_rest", "enter", "forget", "write", "write"])
         self.assertEqual((join.out, join.into), (b"", b""))
 
     def test_a_slow_client_gets_what_its_socket_had_no_room_for(self):

@@ -14,6 +14,7 @@ from boards import LinePlace, WiredPlace
 from place import PATIENCE, Said
 from stmflash_line import opening, port
 from stmflash_line.faults import Fault, Gone
+from stmflash_line.moves import Moves
 
 GOOD, PARITY, FRAMING, BREAK, OVERRUN, FULL, UNPLUGGED, HUNG_UP = range(8)
 PULLED = "ttyUSB0: unplugged; plug it in, and `stmflash undo` takes back what was begun"
@@ -71,10 +72,7 @@ class Ports(RealPlace):
         client = self.client()
         data = bytes(range(256)) + b"\xff\x00\xff\xff\x00\x00" * 50
         os.write(self.master, came(data))
-        held = b""
-        while len(held) < len(data):
-            held += client.recv(4096)
-        self.assertEqual(held, data)
+        self.assertEqual(self.first_of(client, len(data)), data)
         started.terminate()
         self.assertSilent(self.ended(started))
 
@@ -176,7 +174,7 @@ class Calls(unittest.TestCase):
                 raise fault
 
         self.port.serial = Failing()
-        self.port.play([(name, True), ("wait", 0.5)], self.waited.append)
+        Moves(self.port, None).play([(name, True), ("wait", 0.5)], self.waited.append)
 
     waited = []
 
@@ -280,10 +278,7 @@ class Clients(LinePlace):
         client = self.taken(master)
         data = bytes(i % 251 for i in range(700_000))
         self.feed(master, data)
-        held = b""
-        while len(held) < len(data):
-            held += client.recv(9000)
-        self.assertTrue(held == data)
+        self.assertTrue(self.first_of(client, len(data), most=9000) == data)
         os.write(master, b"on")
         self.assertEqual(client.recv(2), b"on")
 
@@ -304,10 +299,12 @@ class Clients(LinePlace):
     def test_what_a_client_sent_that_was_never_taken_goes_out(self):
         """It was gone before the one that had the line."""
         master = self.plain()
-        script = "import socket, sys; a, b = socket.socket(socket.AF_UNIX), socket.socket(socket.AF_UNIX); a.connect(sys.argv[1]); " \
-                 "b.connect(sys.argv[1]); b.sendall(b'second'); b.close(); a.sendall(b'first')"
-        self.assertSilent(self.line("ttyUSB0", "--", "python3", "-c", script, "{}"))
-        self.assertEqual(self.read_from(master, 11), b"firstsecond")
+        script = "import os, socket, sys; a, b = socket.socket(socket.AF_UNIX), socket.socket(socket.AF_UNIX); " \
+                 "a.connect(sys.argv[1]); b.connect(sys.argv[1]); print(os.getpid(), flush=True); b.sendall(b'second'); b.close(); " \
+                 "a.sendall(b'first' * 20000)"
+        started = self.start_and_wait("python3", "-c", script, "{}")
+        self.assertEqual(self.read_from(master, 100006), b"first" * 20000 + b"second")
+        self.assertSilent(self.ended(started))
 
     def test_the_environment_is_handed_on(self):
         """All of it, but for a device of another call."""

@@ -55,8 +55,9 @@ class Log(Place):
             with self.subTest(count=count):
                 self.assertLog(text[:count], told[text[:count].count(b"\n")])
 
-    def test_a_missing_journal_is_empty(self):
-        self.assertTold(self.call("log", "--journal", "journal"), EMPTY)
+    def test_a_missing_journal_is_refused(self):
+        """Its name may be mistyped."""
+        self.assertFault(self.call("log", "--journal", "journal"), "cannot read journal")
         self.assertEqual(os.listdir(self.folder), [])
 
     def test_tells_the_pages(self):

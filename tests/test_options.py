@@ -5,7 +5,7 @@ import signal
 import socket
 import subprocess
 
-from place import COUNTING, ERASED, PATIENCE, TABLE, Place, program
+from place import COUNTING, ERASED, PATIENCE, TABLE, Place, is_unproved, program
 
 SUBCOMMANDS = ("info", "read", "write", "verify", "erase", "undo", "log", "keep", "go", "protect", "sim")
 CANNOT = b"stmflash: cannot write standard output\n"
@@ -53,7 +53,7 @@ class Options(Place):
         self.assertFault(self.use("go", "08"), "usage: bad number 08", 2)
 
     def test_tells_its_version(self):
-        self.assertTold(self.call("--version"), "stmflash 0.2.0\n")
+        self.assertTold(self.call("--version"), f"stmflash 0.2.0, {'not proved' if is_unproved() else 'proved by rattle-kit-13f'}\n")
         for name in SUBCOMMANDS:
             with self.subTest(name=name):
                 told = self.call(name, "--help")

@@ -291,6 +291,21 @@ class TakingBack(Words):
         self.assertEqual(board.store(), COUNTING)
         self.assertEqual(self.journals(), ["journal"])
 
+    def test_a_write_and_go_are_one_session(self):
+        self.remove("bin/stmflash")
+        self.store("bin/stmflash", f'#!/bin/sh\necho "$@" >> {self.path("calls")}\nexec {program()} "$@"\n'.encode())
+        os.chmod(self.path("bin/stmflash"), 0o755)
+        board = self.flash(COUNTING)
+        self.store("image", b"new")
+        for words in (("-g", "0x08000000"), ("-R",)):
+            with self.subTest(words=words):
+                self.well("-w", "image", "-v", *words)
+                calls = self.held("calls").decode().splitlines()
+                self.assertEqual([call.split()[0] for call in calls], ["info", "write"])
+                self.assertRegex(calls[1], " -v --keep-to [^ ]*/kept-00000[12] --go 0x08000000 ")
+                self.remove("calls")
+                board = self.reset(board)
+
     def test_a_killed_keep_is_ended(self):
         self.flash(COUNTING)
         self.store("image", b"new")
@@ -394,6 +409,31 @@ class Parts(unittest.TestCase):
         self.assertEqual(tries(0, one), (1, 1, False))
         self.assertEqual(tries(10, one, one), (2, 2, False))
         self.assertEqual(tries(10, "device does not follow the protocol"), (1, 0, False))
+
+    def test_a_go_that_fails_behind_its_write_is_done_alone(self):
+        fault, actions, boards = module("fault"), module("actions"), module("board")
+        for printed in ("segment 1: 1 pages written\nkept 1\n", ""):
+            with self.subTest(printed=printed):
+                board = unittest.mock.Mock()
+                board.kept.side_effect = fault.Failed(boards.NO_PROTOCOL, printed)
+                asked = module("words").Words(action="w", start_at=0)
+                done = actions.Actions(asked, board, None, unittest.mock.Mock(base=FLASH))
+                with contextlib.suppress(fault.Failed) if not printed else contextlib.nullcontext():
+                    done.write_and_start(None, None, "")
+                    self.assertNotEqual(printed, "", "a write that failed is told")
+                    self.assertTrue(done.start(done.start_address()))
+                    board.put_aside.assert_called_once_with()
+                    board.use.assert_called_once_with("go", "0x08000000")
+
+    def test_a_write_that_stands_is_not_done_again(self):
+        fault, boards = module("fault"), module("board")
+        for printed, times in (("segment 1: 1 pages written\nkept 1\n", 1), ("", 2)):
+            with self.subTest(printed=printed):
+                board = boards.Board(None, unittest.mock.Mock(), 100)
+                board.journals.size.return_value = 0
+                with unittest.mock.patch.object(board, "session", side_effect=fault.Failed(boards.NO_PROTOCOL, printed)) as done:
+                    self.assertRaises(fault.Failed, board.use, "write")
+                self.assertEqual(done.call_count, times)
 
     def test_a_port_is_where_its_adapter_is_plugged_in(self):
         journals = module("journals")

@@ -106,7 +106,7 @@ class Simulators(TrialPlace):
         self.assertStatus(said, 0)
         found, verdict = rows_of(said)
         self.assertEqual(names_of(found, "differs"), set())
-        self.assertEqual(names_of(found, "not tried"), {"get-version", "size-register", "map", "reset-in-frame", "fresh-other", "power"})
+        self.assertEqual(names_of(found, "not tried"), {"size-register", "map", "reset-in-frame", "fresh-other", "power"})
         self.assertTrue(verdict.startswith(f"{FOLLOWS}: "), verdict)
         self.assertTrue(self.held("flash") == self.held("saved") == before, "the flash isn't what it was")
 
@@ -415,7 +415,7 @@ class Premises(unittest.TestCase):
                 named |= rows
                 self.assertLessEqual(rows, names)
                 self.assertTrue(rows or re.match(r"By hand: .{20}|No board: .{20}", held), held)
-        self.assertEqual(names - named, {"get-version", "size-register"})
+        self.assertEqual(names - named, {"get-version"})
 
 
 def page(name):
@@ -464,8 +464,8 @@ def rules():
 class Ends(TrialPlace):
     """Signals and kills: what was changed is put back, by the trial or by what it saved."""
 
-    def start_trial(self):
-        words = ["--device", "board", "--table", "table", "--save", "saved", "--yes", "--wait", "20", "--pause", "0.2"]
+    def start_trial(self, pause="0.2"):
+        words = ["--device", "board", "--table", "table", "--save", "saved", "--yes", "--wait", "20", "--pause", pause]
         started = subprocess.Popen([sys.executable, TRIAL, *words], cwd=self.folder, env={}, stdin=subprocess.DEVNULL,
                                    stdout=subprocess.PIPE, stderr=subprocess.PIPE)
         self.addCleanup(started.communicate)
@@ -481,8 +481,9 @@ class Ends(TrialPlace):
         for number in (signal.SIGTERM, signal.SIGINT):
             self.store("flash", self.before)
             self.serve(1)
-            started = self.start_trial()
-            time.sleep(2.5)
+            # long pauses, so that the trial isn't over where the signal is late
+            started = self.start_trial("0.8")
+            time.sleep(4)
             started.send_signal(number)
             out, err = started.communicate(timeout=PATIENCE)
             self.assertServed()

@@ -50,7 +50,8 @@ class Variables(Place):
         self.assertUsage(self.call("info", *words, variables={"STMFLASH_JOURNAL": ""}))
 
     def test_are_text(self):
-        for name in ("STMFLASH_TABLE", "STMFLASH_DEVICE", "STMFLASH_JOURNAL", "STMFLASH_FRESH", "STMFLASH_NO_LOCK"):
+        for name in ("STMFLASH_TABLE", "STMFLASH_DEVICE", "STMFLASH_JOURNAL", "STMFLASH_BOARD", "STMFLASH_NO_BOARD",
+                     "STMFLASH_FRESH", "STMFLASH_NO_LOCK"):
             with self.subTest(name=name):
                 self.assertFault(self.call("info", variables={name: os.fsdecode(b"\xff")}), f"usage: {name} is not text", 2)
 
@@ -59,7 +60,7 @@ class Variables(Place):
         variables = {"STMFLASH_JOURNAL": "journal"}
         told = "id 0412\nsegment 1: ended, 0 pages\n1 can be undone\n"
         self.assertTold(self.call("log", variables=variables), told)
-        self.assertTold(self.call("log", "--journal", "other", variables=variables), "0 can be undone\n")
+        self.assertFault(self.call("log", "--journal", "other", variables=variables), "cannot read other")
         self.assertTold(self.call("keep", "kept", variables=variables), "kept 1\n")
         self.assertFile("journal", None)
         self.assertTold(self.call("log", "--journal", "kept"), told)

@@ -1,0 +1,148 @@
+"""Boards that tell which they are: a stand-in before a served simulator, which has nothing outside its flash to read.
+
+All bytes are handed on, but Read Memory at the places where the chip tells its board is answered here, each step as a bootloader
+answers it (AN3155, section 3.4).
+"""
+
+import contextlib
+import select
+import socket
+import subprocess
+import time
+
+from place import PATIENCE, program
+
+ACK = b"\x79"
+NACK = b"\x1f"
+READ = b"\x11\xee"
+WRITE = b"\x31\xce"
+UNIQUE_AT = 0x1FFFF7E8
+SIZE_AT = 0x1FFFF7E0
+# a chip of 128 pages that tells its board, and how large its flash is
+TABLE = b'[[chip]]\nid = 0x410\nbase = 0x08000000\npages = [[128, 1024]]\nerase = "page"\n' \
+        b"unique = [0x1FFFF7E8, 12]\nsize_at = 0x1FFFF7E0\n"
+
+
+class Unacknowledged(Exception):
+    """A read that is handed on isn't acknowledged, as by a board that was just reset."""
+
+
+class Stand:
+    """One client between its line and the board: what is told at each place, or None where that is refused. With `cuts` the line
+    is cut where the client begins to write a page that was erased."""
+
+    def __init__(self, line, board, told, cuts):
+        self.line = line
+        self.board = board
+        self.told = told
+        self.cuts = cuts
+        # which places were asked for, and what was handed on to the board
+        self.asked = []
+        self.sent = b""
+        self.step = self.command
+        self.held = b""
+
+    def hand_on(self, data):
+        self.sent += data
+        self.board.sendall(data)
+
+    def reply(self, data):
+        self.line.sendall(data)
+
+    def heard(self, came):
+        """Called with what came, before anything is done with it."""
+
+    def command(self, came):
+        if came == READ:
+            self.reply(ACK)
+            self.step = self.address
+        else:
+            self.hand_on(came)
+
+    def address(self, came):
+        self.held += came
+        if len(self.held) < 5:
+            return
+        held, self.held = self.held, b""
+        at = int.from_bytes(held[:4], "big")
+        if at in self.told:
+            self.asked.append(at)
+            told = self.told[at]
+            self.reply(NACK if told is None else ACK)
+            self.step = self.command if told is None else lambda came: self.count(came, told)
+            return
+        self.hand_on(READ)
+        if self.board.recv(1) != ACK:
+            raise Unacknowledged
+        self.hand_on(held)
+        self.step = self.passed
+
+    def count(self, came, told):
+        assert came == bytes([len(told) - 1, 256 - len(told)]), came
+        self.reply(ACK + told)
+        self.step = self.command
+
+    def passed(self, came):
+        """The count of a read that the board answers."""
+        self.hand_on(came)
+        self.step = self.command
+
+    def run(self):
+        """Until either has gone."""
+        while True:
+            ready, _, _ = select.select([self.line, self.board], [], [], PATIENCE)
+            if not ready:
+                return
+            if self.board in ready:
+                came = self.board.recv(4096)
+                if not came:
+                    return
+                if came == NACK and self.step == self.passed:
+                    self.step = self.command
+                self.line.sendall(came)
+            if self.line in ready:
+                came = self.line.recv(4096)
+                if not came or (self.cuts and came == WRITE):
+                    return
+                self.heard(came)
+                self.step(came)
+
+
+def reach(path, simulator):
+    """Connects to a simulator once it listens."""
+    end = time.monotonic() + PATIENCE
+    while True:
+        client = socket.socket(socket.AF_UNIX, socket.SOCK_STREAM)
+        client.settimeout(PATIENCE)
+        try:
+            client.connect(path)
+            return client
+        except (FileNotFoundError, ConnectionRefusedError):
+            client.close()
+            assert simulator.poll() is None and time.monotonic() < end, "the simulator doesn't listen"
+            time.sleep(0.01)
+
+
+@contextlib.contextmanager
+def simulated(place, flash, name):
+    """A line to a simulator of its own on this flash, at a socket of this name, which has stored what was left in the end."""
+    words = ("sim", "--table", "table", "--id", "0410", "--flash", flash, "--socket", name)
+    simulator = subprocess.Popen(["stmflash", *words], executable=program(), cwd=place.folder, env={}, stdin=subprocess.DEVNULL)
+    try:
+        with reach(place.path(name), simulator) as board:
+            yield board
+            board.shutdown(socket.SHUT_WR)
+            simulator.wait(PATIENCE)
+    finally:
+        simulator.kill()
+        simulator.wait()
+
+
+def serve_one(place, listener, flash, told, cuts, kind=Stand):
+    """Serves one client on a simulator, and answers its stand, once the simulator has stored what was left."""
+    with simulated(place, flash, "behind") as board:
+        line, _ = listener.accept()
+        with line:
+            stand = kind(line, board, told, cuts)
+            stand.run()
+    return stand

@@ -1,0 +1,248 @@
+"""Which board stands there: asked before each session, named by the journal, and wanted by words."""
+
+import socket
+import subprocess
+import threading
+
+import telling
+from place import PATIENCE, Place, Said, program
+from served import WAIT
+from telling import SIZE_AT, UNIQUE_AT
+
+SIZE = 131072
+COUNTING = bytes(i % 251 for i in range(SIZE))
+# two boards of one kind
+HERE = bytes.fromhex("2B0035000A51363034393332")
+THERE = bytes.fromhex("2B0035000A5136303439333F")
+NAME = HERE.hex().upper()
+OTHER = THERE.hex().upper()
+HEAD = f"stmjournal 3 0410 {NAME}\n".encode()
+# settling, Get and Get ID: what is handed on to a board that is asked and nothing more
+ASKED = b"\x00\xff\x02\xfd"
+# a simulator on a socket lists Get Version too
+INFO = "id 0410\nbase 08000000\npages %d\nsize %d\nerase 43\nerased FF\nversion 22\ncodes 00 01 02 11 21 31 43 73 82 92\n"
+INSIDE = INFO.replace(" 01", "")
+ANOTHER = "journal is of another board"
+
+
+def size(kib):
+    return kib.to_bytes(2, "little")
+
+
+class Board(Place):
+    def setUp(self):
+        super().setUp()
+        self.store("table", telling.TABLE)
+        self.store("flash", COUNTING)
+        self.store("there", COUNTING)
+        self.store("image", b"an image")
+
+    def at(self, unique, *words, kib=None, flash="flash", cuts=(False,), variables=None):
+        """Runs the program on a board that tells this, in so many sessions, some of which are cut; None: the place is refused.
+        `stands` are then those of its sessions."""
+        told = {UNIQUE_AT: unique, SIZE_AT: kib}
+        with socket.socket(socket.AF_UNIX, socket.SOCK_STREAM) as listener:
+            listener.bind(self.path("board"))
+            listener.listen()
+            listener.settimeout(PATIENCE)
+            name, *more = words
+            given = (name, "--table", "table", "--device", "board", "--journal", "journal", "--wait", WAIT, *more)
+            ran = subprocess.Popen(["stmflash", *given], executable=program(), cwd=self.folder, env=variables or {},
+                                   stdin=subprocess.DEVNULL, stdout=subprocess.PIPE, stderr=subprocess.PIPE)
+            self.stands = []
+
+            def serve():
+                for is_cut in cuts:
+                    self.stands.append(telling.serve_one(self, listener, flash, told, is_cut))
+
+            serving = threading.Thread(target=serve)
+            serving.start()
+            out, err = ran.communicate(timeout=PATIENCE)
+            serving.join(PATIENCE)
+        self.remove("board")
+        return Said(ran.returncode, out, err)
+
+    def asked(self):
+        """Which places were asked for, in all sessions."""
+        return [at for stand in self.stands for at in stand.asked]
+
+    def assertAskedAlone(self):
+        """The board was settled and asked, and nothing more was sent."""
+        stand, = self.stands
+        self.assertEqual(stand.asked, [UNIQUE_AT, SIZE_AT])
+        self.assertEqual(stand.sent.lstrip(b"\x7f"), ASKED)
+
+    def break_off(self):
+        """A write is broken off behind the erase of its page."""
+        self.assertFault(self.at(HERE, "write", "image", cuts=(True,)), "line failed")
+        self.assertNotEqual(self.held("flash"), COUNTING)
+
+    def test_a_journal_begins_with_the_board(self):
+        self.assertTold(self.at(HERE, "write", "image"), "segment 1: 1 pages written\n")
+        self.assertTrue(self.held("journal").startswith(HEAD + b"open 1\n"))
+        told = f"id 0410\nboard {NAME}\nsegment 1: ended, 1 pages: 0\n1 can be undone\n"
+        self.assertTold(self.call("log", "--journal", "journal"), told)
+        self.assertTold(self.at(HERE, "undo"), "undone 1\n")
+        self.assertFile("flash", COUNTING)
+
+    def test_each_session_asks_once(self):
+        uses = (("info",), ("info", "--raw"), ("read", "out"), ("read", "--hex", "out"), ("crc",), ("verify", "flash"),
+                ("write", "image"), ("write", "-v", "image"), ("erase", "3"), ("undo",))
+        for words in uses:
+            with self.subTest(words=words):
+                self.assertEqual(self.at(HERE, *words).status, 0)
+                self.assertEqual(self.asked(), [UNIQUE_AT, SIZE_AT])
+
+    def test_go_and_protect_ask_nothing(self):
+        for words in (("go", "0x08000000"), ("protect", "write-unprotect")):
+            with self.subTest(words=words):
+                self.at(HERE, *words)
+                self.assertEqual(self.asked(), [])
+
+    def test_another_board_is_refused(self):
+        self.assertEqual(self.at(HERE, "write", "image").status, 0)
+        journal = self.held("journal")
+        uses = (("undo",), ("undo", "--fresh"), ("write", "image"), ("erase", "1"), ("read", "out"), ("verify", "image"), ("info",))
+        for words in uses:
+            with self.subTest(words=words):
+                self.assertFault(self.at(THERE, *words, flash="there"), ANOTHER)
+                self.assertFile("there", COUNTING)
+                self.assertFile("journal", journal)
+        self.assertFault(self.at(None, "undo", flash="there"), ANOTHER)
+        self.assertTold(self.at(HERE, "undo"), "undone 1\n")
+        self.assertFile("flash", COUNTING)
+
+    def test_a_broken_off_write_is_taken_back_at_its_own_board(self):
+        self.break_off()
+        journal = self.held("journal")
+        self.assertFault(self.at(THERE, "undo", flash="there"), ANOTHER)
+        self.assertFile("there", COUNTING)
+        self.assertFile("journal", journal)
+        for words in (("write", "image"), ("info",)):
+            self.assertFault(self.at(THERE, *words, flash="there"), "unfinished command, undo first")
+            self.assertEqual((self.asked(), self.stands[0].sent), ([], b""))
+        self.assertFile("journal", journal)
+        self.assertTold(self.at(HERE, "undo"), "undone 1\n")
+        self.assertFile("flash", COUNTING)
+
+    def test_a_fresh_board_is_asked_and_then_goes_on(self):
+        self.break_off()
+        self.store("flash.line", b"fresh\n")
+        self.assertTold(self.at(HERE, "undo", "--fresh"), "undone 1\n")
+        self.assertEqual(self.asked(), [UNIQUE_AT, SIZE_AT])
+        # one 7F alone, for which nothing else is sent
+        self.assertTrue(self.stands[0].sent.startswith(b"\x7f" + ASKED), self.stands[0].sent[:20])
+        self.assertFile("flash", COUNTING)
+
+    def test_a_fresh_board_is_not_asked_where_nothing_is_to_be_undone(self):
+        self.store("journal", b"")
+        for words in (("undo",), ("undo", "--fresh"), ("undo", "--board", OTHER)):
+            self.assertTold(self.at(HERE, *words), "undone 0\n")
+            self.assertEqual((self.asked(), self.stands[0].sent), ([], b""))
+
+    def test_a_write_that_is_done_again_asks_again(self):
+        self.assertEqual(self.at(HERE, "write", "--again", "1", "image", cuts=(True, False, False)).status, 0)
+        self.assertEqual(self.asked(), 3 * [UNIQUE_AT, SIZE_AT])
+        self.assertEqual(self.held("flash")[:9], b"an image" + COUNTING[8:9])
+
+    def test_a_board_is_wanted(self):
+        for word in (NAME, NAME.lower(), NAME[-1:], NAME[-5:].lower()):
+            with self.subTest(word=word):
+                self.assertEqual(self.at(HERE, "info", "--board", word).status, 0)
+        self.assertEqual(self.at(HERE, "info", variables={"STMFLASH_BOARD": NAME[-4:]}).status, 0)
+        self.assertEqual(self.at(HERE, "info", variables={"STMFLASH_BOARD": ""}).status, 0)
+        self.assertEqual(self.at(HERE, "info", "--board", NAME, variables={"STMFLASH_BOARD": OTHER}).status, 0)
+
+    def test_another_than_the_wanted_board_gets_nothing_more(self):
+        for word in (OTHER, OTHER[-2:], "0" + NAME, NAME[:-1]):
+            with self.subTest(word=word):
+                self.assertFault(self.at(HERE, "write", "--board", word, "image"), "device is another board")
+                self.assertAskedAlone()
+        self.assertFault(self.at(HERE, "erase", "1", variables={"STMFLASH_BOARD": OTHER}), "device is another board")
+        for unique in (None, 12 * b"\xff", 12 * b"\x00"):
+            self.assertFault(self.at(unique, "write", "--board", NAME, "image"), "device tells no board")
+            self.assertAskedAlone()
+        self.assertFile("flash", COUNTING)
+        self.assertFile("journal", None)
+
+    def test_a_chip_without_places_tells_no_board(self):
+        self.store("table", telling.TABLE[:telling.TABLE.index(b"unique")])
+        self.assertFault(self.at(HERE, "write", "--board", NAME, "image"), "device tells no board")
+        self.assertEqual((self.asked(), self.stands[0].sent), ([], b""))
+        self.assertFault(self.use("erase", "1", "--board", NAME, device="sim:0410:flash"), "device tells no board")
+        self.assertFile("flash", COUNTING)
+
+    def test_the_simulator_in_the_program_tells_none(self):
+        self.assertFault(self.use("erase", "1", "--board", NAME, device="sim:0410:flash"), "device tells no board")
+        self.assertTold(self.use("info", device="sim:0410:flash"), INSIDE % (128, SIZE))
+        self.assertTold(self.use("erase", "1", device="sim:0410:flash"), "segment 1: 1 pages erased\n")
+        self.assertTrue(self.held("journal").startswith(b"stmjournal 2 0410\n"))
+
+    def test_what_no_board_is(self):
+        for word in ("", "0x12", "12 ", "G", 65 * "1"):
+            with self.subTest(word=word):
+                self.assertFault(self.use("info", "--board", word, device="board"), f"usage: bad board {word}", 2)
+        self.assertFault(self.use("info", "--board", 64 * "1", device="board"), "cannot connect board")
+        both = "usage: give --board or --no-board, not both"
+        self.assertFault(self.use("info", "--board", "12", "--no-board", device="board"), both, 2)
+        words = ("info", "--table", "table", "--device", "board", "--journal", "journal")
+        for variables in ({"STMFLASH_BOARD": "12", "STMFLASH_NO_BOARD": "1"}, {"STMFLASH_BOARD": "x"}):
+            said = self.call(*words, variables=variables)
+            self.assertFault(said, both if len(variables) == 2 else "usage: bad board x", 2)
+        self.assertUsage(self.use("go", "--board", "12", "0x08000000", device="board"))
+        self.assertUsage(self.use("protect", "--no-board", "write-unprotect", device="board"))
+
+    def test_no_board_is_asked(self):
+        said = self.at(HERE, "erase", "1", "--no-board", kib=size(1))
+        self.assertTold(said, "segment 1: 1 pages erased\n")
+        self.assertEqual(self.asked(), [])
+        self.assertTrue(self.held("journal").startswith(b"stmjournal 2 0410\n"))
+        self.assertTold(self.at(HERE, "undo", variables={"STMFLASH_NO_BOARD": "1"}), "undone 1\n")
+        self.assertEqual(self.asked(), [])
+        self.store("journal", HEAD)
+        self.assertFault(self.at(HERE, "erase", "1", "--no-board"), ANOTHER)
+
+    def test_a_journal_of_no_board_goes_on_at_any(self):
+        self.store("journal", b"stmjournal 2 0410\n")
+        self.assertTold(self.at(HERE, "erase", "1"), "segment 1: 1 pages erased\n")
+        self.assertTold(self.at(HERE, "undo"), "undone 1\n")
+        self.assertTrue(self.held("journal").startswith(b"stmjournal 2 0410\nopen 1\n"))
+
+    def test_places_that_tell_nothing(self):
+        for unique, kib in ((None, None), (12 * b"\xff", size(0xFFFF)), (12 * b"\x00", size(0))):
+            with self.subTest(unique=unique, kib=kib):
+                self.assertTold(self.at(unique, "info", kib=kib), INFO % (128, SIZE))
+                self.assertEqual(self.asked(), [UNIQUE_AT, SIZE_AT])
+                self.assertTold(self.at(unique, "erase", "127", kib=kib), "segment 1: 1 pages erased\n")
+                self.assertTrue(self.held("journal").startswith(b"stmjournal 2 0410\n"))
+                self.remove("journal")
+                self.store("flash", COUNTING)
+
+    def test_info_tells_the_board_and_the_size(self):
+        board = f"board {NAME}\n"
+        for kib, pages, told in ((64, 64, "flash 64 KiB\n"), (128, 128, "flash 128 KiB\n"), (1, 1, "flash 1 KiB\n"),
+                                 (256, 128, "flash 256 KiB, more than the pages\n")):
+            with self.subTest(kib=kib):
+                self.assertTold(self.at(HERE, "info", kib=size(kib)), INFO % (pages, 1024 * pages) + board + told)
+        self.assertTold(self.at(HERE, "info"), INFO % (128, SIZE) + board)
+        self.assertTold(self.at(None, "info", kib=size(64)), INFO % (64, 65536) + "flash 64 KiB\n")
+        raw = "id 0410\nversion 22\ncodes 00 01 02 11 21 31 43 73 82 92\ntable table\n"
+        self.assertTold(self.at(HERE, "info", "--raw", kib=size(64)), raw + board + "flash 64 KiB\n")
+        self.store("table", telling.TABLE.replace(b"[[128, 1024]]", b"[[8, 16384]]"))
+        self.assertTold(self.at(None, "info", kib=size(8)), INFO % (8, SIZE) + "flash 8 KiB, less than the pages\n")
+
+    def test_a_smaller_flash_has_fewer_pages(self):
+        self.assertSilent(self.at(HERE, "read", "out", kib=size(64)))
+        self.assertFile("out", COUNTING[:65536])
+        said = self.at(HERE, "read", "--progress", "out", kib=size(64))
+        self.assertIn(b"page 63 read, 64 of 64 pages", said.err)
+        outside = "address outside the flash"
+        self.assertFault(self.at(HERE, "erase", "64", kib=size(64)), outside)
+        self.assertFault(self.at(HERE, "write", "-S", "0x08010000", "image", kib=size(64)), outside)
+        self.assertFault(self.at(HERE, "write", "-S", "0x0800FFFC", "image", kib=size(64)), outside)
+        self.assertFile("journal", None)
+        self.assertTold(self.at(HERE, "write", "-S", "0x0800FFF8", "image", kib=size(64)), "segment 1: 1 pages written\n")
+        self.assertTold(self.at(HERE, "erase", "--all", kib=size(64)), "segment 2: 64 pages erased\n")
+        self.assertFile("flash", 65536 * b"\xff" + COUNTING[65536:])
+        self.assertTold(self.at(HERE, "undo", kib=size(64)), "undone 2\n")
+        self.assertFile("flash", COUNTING)

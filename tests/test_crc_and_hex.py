@@ -1,0 +1,108 @@
+"""The CRC of the flash, and reading it as Intel HEX."""
+
+import os
+import random
+import sys
+
+from place import COUNTING, ERASED, SIZE, TOP, Place
+
+sys.path.insert(0, os.path.join(TOP, "line"))
+from as_stm32flash.crc import crc
+
+BASE = 0x08000000
+
+
+def records(text):
+    """The addresses and bytes of a HEX text's records of data, by a reader of the test's own."""
+    upper, found = 0, []
+    for line in text.decode().splitlines():
+        data = bytes.fromhex(line[1:])
+        assert line[0] == ":" and sum(data) % 256 == 0
+        if data[3] == 4:
+            upper = int.from_bytes(data[4:6], "big") << 16
+        elif data[3] == 0:
+            found.append((upper + int.from_bytes(data[1:3], "big"), data[4:-1]))
+    assert line == ":00000001FF"
+    return found
+
+
+class Crc(Place):
+    def assertSum(self, data, *words):
+        self.assertTold(self.use("crc", *words), f"crc {crc(data):08X}\n")
+
+    def test_known_words(self):
+        # from the polynomial's own arithmetic, and from ST's application notes
+        for data, value in ((b"\0\0\0\0", "C704DD7B"), (bytes.fromhex("78563412"), "DF8A8A2B"), (b"\xff\xff\xff\xff", "00000000")):
+            with self.subTest(data=data):
+                self.store("flash", data + COUNTING[4:])
+                self.assertTold(self.use("crc", "-S", f"0x{BASE:X}:4"), f"crc {value}\n")
+
+    def test_parts(self):
+        flash = random.Random(3).randbytes(SIZE)
+        self.store("flash", flash)
+        self.assertSum(flash)
+        for start, length in ((0, 4), (4, 1020), (1000, 2048), (SIZE - 4, 4), (0, SIZE), (8, 0)):
+            with self.subTest(start=start, length=length):
+                self.assertSum(flash[start:start + length], "-S", f"0x{BASE + start:X}:{length}")
+        self.assertSum(flash[-1024:], "-S", f"0x{BASE + SIZE - 1024:X}")
+
+    def test_whole_words(self):
+        for part in ("0x08000001", "0x08000002:4", "0x08000000:6"):
+            self.assertFault(self.use("crc", "-S", part), f"usage: {part} is not whole words of 4 bytes", 2)
+        self.assertFault(self.use("crc", "-S", "0x08007FFC:8"), "address outside the flash")
+
+
+class Hex(Place):
+    def read(self, *words, flash=COUNTING):
+        self.store("flash", flash)
+        self.assertSilent(self.use("read", *words))
+        return records(self.held(words[-1]))
+
+    def test_by_the_name(self):
+        found = self.read("out.hex")
+        self.assertEqual(b"".join(data for _, data in found), COUNTING)
+        self.assertEqual([address for address, _ in found], list(range(BASE, BASE + SIZE, 16)))
+
+    def test_by_the_word(self):
+        self.assertEqual(self.read("--hex", "-S", "0x08000013:5", "out"), [(BASE + 0x13, COUNTING[0x13:0x18])])
+
+    def test_printed(self):
+        self.store("flash", COUNTING)
+        said = self.use("read", "--hex", "-S", "0x08000000:2", "-")
+        self.assertEqual(said.out, b":020000040800F2\n:020000000001FD\n:00000001FF\n")
+
+    def test_other_names_are_raw(self):
+        self.store("flash", COUNTING)
+        self.assertSilent(self.use("read", "out.hex.bin"))
+        self.assertFile("out.hex.bin", COUNTING)
+
+    def test_written_back(self):
+        self.read("out.hex")
+        self.store("flash", ERASED)
+        self.assertEqual(self.use("write", "-v", "out.hex").status, 0)
+        self.assertFile("flash", COUNTING)
+
+    def test_blank_is_left_out(self):
+        flash = ERASED[:100] + b"abc" + ERASED[103:20000] + b"\xff" * 8 + b"x" + ERASED[20009:]
+        found = self.read("--skip-blank", "out.hex", flash=flash)
+        self.assertEqual(found, [(BASE + 96, flash[96:112]), (BASE + 20000, flash[20000:20016])])
+
+    def test_all_blank(self):
+        self.store("flash", ERASED)
+        self.assertSilent(self.use("read", "--skip-blank", "out.hex"))
+        self.assertFile("out.hex", b":00000001FF\n")
+
+    def test_blank_is_what_the_chip_erases_to(self):
+        # 0416 erases to 00
+        self.store("table", b'[[chip]]\nid = 0x412\nbase = 0x08000000\npages = [[32, 1024]]\nerase = "page"\nerased = 0\n')
+        flash = bytes(64) + ERASED[64:128] + bytes(SIZE - 128)
+        found = self.read("--skip-blank", "out.hex", flash=flash)
+        self.assertEqual(b"".join(data for _, data in found), ERASED[:64])
+        self.assertEqual(found[0][0], BASE + 64)
+
+    def test_blank_of_raw_bytes(self):
+        self.assertFault(self.use("read", "--skip-blank", "out"), "usage: --skip-blank needs HEX", 2)
+
+    def test_out_is_one_of_the_others(self):
+        self.store("journal.hex", b"")
+        self.assertFault(self.use("read", "journal.hex", journal="journal.hex"), "cannot write journal.hex")

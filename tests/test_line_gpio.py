@@ -1,0 +1,244 @@
+"""GPIO lines in the sequences of stmflash-line, over a stand-in for gpioset that takes the words of one version alone
+(tests/stand_ins/gpioset). A real gpioset, where one is installed, is asked for a chip that isn't there."""
+
+import errno
+import fcntl
+import os
+import shutil
+import signal
+import unittest
+
+from boards import STAND_INS, LinePlace, WiredPlace, default_signals, end_with
+from place import ERASED
+
+FOLDER = os.path.join(STAND_INS, "stand_ins")
+# BOOT0 at line 18, reset at 23: into the bootloader, and out of it
+BOOT = "18&-23,23,,:-18&-23,23"
+ENTRY = ["18=1", "23=0", "23 free", "23=1"]
+LEAVE = ["18 free", "18=0", "23 free", "23=0", "23 free", "23=1"]
+FREE = ["18 free", "23 free"]
+
+
+class GpioPlace(LinePlace):
+    """A port, and the stand-in for gpioset first in PATH."""
+
+    version = "1"
+
+    def setUp(self):
+        super().setUp()
+        self.master = self.port()
+        os.mkdir(self.path("lines"))
+
+    def port(self):
+        return self.plain()
+
+    def start(self, *words, **more):
+        return super().start(*words, **{**self.settings(), **more})
+
+    def settings(self):
+        return {"PATH": FOLDER + ":" + os.environ["PATH"], "GPIO_VERSION": self.version, "GPIO_PLACE": self.path("lines")}
+
+    def moves(self, name="lines/moves"):
+        """What came to the lines, and when."""
+        lines = [text.split(" ", 1) for text in (self.held(name) or b"").decode().splitlines()]
+        return [move for _, move in lines], [float(when) for when, _ in lines]
+
+    def is_free(self, line, chip="gpiochip0"):
+        """Whether nobody has a line."""
+        held = os.open(self.path(f"lines/{chip}-{line}"), os.O_RDWR | os.O_CREAT, 0o600)
+        try:
+            fcntl.flock(held, fcntl.LOCK_EX | fcntl.LOCK_NB)
+            return True
+        except BlockingIOError:
+            return False
+        finally:
+            os.close(held)
+
+    def assertNothingSent(self):
+        os.set_blocking(self.master, False)
+        try:
+            self.assertEqual(os.read(self.master, 1), b"")
+        except OSError as error:
+            self.assertIn(error.errno, (errno.EAGAIN, errno.EIO))
+
+
+class Moved(GpioPlace):
+    def test_what_is_moved_and_held(self):
+        """Each line by itself, in this order, with these waits; both are held while COMMAND runs, and free behind it."""
+        said = self.line("ttyUSB0", "--boot", BOOT, "--", "cp", "lines/moves", "during")
+        self.assertSilent(said)
+        self.assertEqual(self.moves("during")[0], ENTRY)
+        moves, times = self.moves()
+        self.assertEqual(moves[:len(ENTRY + LEAVE)], ENTRY + LEAVE)
+        self.assertEqual(sorted(moves[len(ENTRY + LEAVE):]), FREE)
+        # a reset is held for 100 ms, and the program begins 200 ms behind it at the soonest
+        self.assertGreaterEqual(times[2] - times[1], 0.099)
+        self.assertGreaterEqual(times[4] - times[3], 0.199)
+        self.assertTrue(self.is_free(18) and self.is_free(23))
+
+    def test_each_client_of_one_that_resets(self):
+        """The line that stands already isn't let go of."""
+        client = "import os, socket; s = socket.socket(socket.AF_UNIX); s.connect(os.environ['STMFLASH_DEVICE']); s.sendall(b'a')"
+        script = f'python3 -c "{client}"; python3 -c "{client}"'
+        started = self.start("ttyUSB0", "--boot", "18&-23,23,,", "--resets", "--", "sh", "-c", script)
+        self.assertEqual(self.read_from(self.master, 2), b"aa")
+        self.assertSilent(self.ended(started))
+        moves = self.moves()[0]
+        self.assertEqual(moves[:8], [*ENTRY, "23 free", "23=0", "23 free", "23=1"])
+        self.assertEqual(sorted(moves[8:]), FREE)
+
+    def test_another_chip(self):
+        said = self.line("ttyUSB0", "--boot", "4", "--gpio-chip", "gpiochip4", "--", "sh", "-c", "ls lines | sort | tr '\\n' ' '")
+        self.assertTold(said, "gpiochip4-4 moves ")
+
+    def test_one_that_was_ended_by_others(self):
+        """Whoever ends a gpioset lets its line go: the next sequence has it again."""
+        script = "kill $(cat lines/gpiochip0-18); until grep -q free lines/moves; do sleep 0.01; done; sleep 0.2"
+        self.assertSilent(self.line("ttyUSB0", "--boot", "18:18", "--", "sh", "-c", script))
+        self.assertEqual(self.moves()[0], ["18=1", "18 free", "18=1", "18 free"])
+
+
+class MovedByVersion2(Moved):
+    version = "2"
+
+
+class Ended(GpioPlace):
+    """However the companion ends, the lines are let go of, and where it can it moves them before as it was told."""
+
+    def begin(self, *words, **more):
+        started = self.start("ttyUSB0", "--boot", BOOT, "--", "sleep", "60", *words, **more)
+        self.until(lambda: self.moves()[0] == ENTRY, "the sequence isn't played")
+        return started
+
+    def assertLeft(self):
+        moves = self.moves()[0]
+        self.assertEqual(moves[:len(ENTRY + LEAVE)], ENTRY + LEAVE)
+        self.assertEqual(sorted(moves[len(ENTRY + LEAVE):]), FREE)
+
+    def test_by_a_signal(self):
+        self.assertEqual(end_with(self.begin(), signal.SIGTERM), 128 + signal.SIGTERM)
+        self.assertLeft()
+
+    def test_by_a_signal_in_a_reset(self):
+        started = self.start("ttyUSB0", "--boot", "18&-23" + 5000 * "," + "23", "--", "true")
+        self.until(lambda: "23=0" in self.moves()[0], "the sequence isn't played")
+        self.assertEqual(end_with(started, signal.SIGTERM), 128 + signal.SIGTERM)
+        moves = self.moves()[0]
+        self.assertEqual((moves[:4], sorted(moves[4:])), (ENTRY, FREE))
+
+    def test_by_the_key_of_a_terminal(self):
+        """Which goes to all that were started there: the lines stay until the companion has moved them."""
+        def before():
+            os.setsid()
+            default_signals()
+
+        started = self.begin(before=before)
+        os.killpg(started.pid, signal.SIGINT)
+        self.ended(started)
+        self.assertEqual(started.returncode, 128 + signal.SIGINT)
+        self.assertLeft()
+
+    def test_by_signal_9(self):
+        started = self.begin()
+        started.kill()
+        self.until(lambda: self.is_free(18) and self.is_free(23), "the lines aren't let go of")
+        self.ended(started)
+        # what the killed has left in the folder for what is temporary goes with the next call
+        self.line("ttyUSB0", "--", "true")
+
+
+class Refused(GpioPlace):
+    """One line, and a status, before a byte is sent; what was had by then is let go of."""
+
+    def assertRefused(self, text, *words, status=1, **more):
+        said = self.line("ttyUSB0", *(words or ("--boot", BOOT)), "--", "sh", "-c", "echo went; echo > $TMPDIR/went", **more)
+        self.assertLineFault(said, text, status)
+        self.assertNothingSent()
+        self.assertTrue(self.is_free(18) and self.is_free(23))
+
+    def test_no_gpioset(self):
+        os.mkdir(self.path("bin"))
+        os.symlink(shutil.which("sh"), self.path("bin/sh"))
+        self.assertRefused("a sequence names GPIO lines, and gpioset isn't there: apt install gpiod", PATH=self.path("bin"))
+        # no sequence with lines needs one
+        self.assertSilent(self.line("ttyUSB0", "--boot", ",", "--", "sh", "-c", ":", PATH=self.path("bin")))
+
+    def test_other_versions(self):
+        for tells in ("gpioset (libgpiod) v3.0", "gpioset (libgpiod) v0.3", "hello", ""):
+            with self.subTest(tells=tells):
+                self.assertRefused(f"gpioset is of libgpiod 1 or 2, and this one says {tells!r}", GPIO_TELLS=tells)
+                self.assertEqual(self.moves()[0], [])
+
+    def test_a_line_that_others_have(self):
+        """The first, or the second when the first is had already."""
+        for line, before in ((18, []), (23, ["18=1", "18 free"])):
+            with self.subTest(line=line), open(self.path(f"lines/gpiochip0-{line}"), "wb") as held:
+                fcntl.flock(held, fcntl.LOCK_EX)
+                text = f"GPIO line {line} of gpiochip0: busy: another program or a driver has it; gpioinfo tells which"
+                said = self.line("ttyUSB0", "--boot", BOOT, "--", "echo", "went")
+                self.assertLineFault(said, text)
+                self.assertNothingSent()
+                self.assertEqual(self.moves()[0], before)
+
+    def test_what_gpioset_says(self):
+        at = "GPIO line 18 of gpiochip0: "
+        for said, text in (
+                ("error setting the GPIO line values: Permission denied", "no permission"),
+                ("cannot find GPIO chip 'gpiochip0'", None),
+                ("error setting the GPIO line values: No such file or directory", None),
+                ("unable to request lines: Invalid argument", "unable to request lines: Invalid argument")):
+            with self.subTest(said=said):
+                if text is None:
+                    chips = sorted(name for name in os.listdir("/dev") if name.startswith("gpiochip"))
+                    text = f"no such chip; this machine has {', '.join(chips) or 'none'}"
+                if os.path.exists("/dev/gpiochip0") and text == "no permission":
+                    continue
+                self.assertRefused(at + text, GPIO_REFUSAL=said)
+
+    def test_one_that_never_has_its_line(self):
+        self.assertRefused("GPIO line 18 of gpiochip0: gpioset didn't get it within 5 s", GPIO_HANGS="1")
+
+    def test_words(self):
+        """Those that can't be done are refused before anything is touched."""
+        for words, text in (
+                (("--boot", "18:23"), "GPIO line 23 is moved in the end alone: name it in --boot too"),
+                (("--after", "4"), "GPIO line 4 is moved in the end alone"),
+                (("--boot", "rts", "--gpio-chip", "gpiochip1"), "--gpio-chip names the chip of GPIO lines, and --boot names none"),
+                (("--gpio-chip", "gpiochip1"), "--gpio-chip names the chip of GPIO lines, and --boot names none"),
+                (("--boot", "18", "--gpio-chip="), "'' is no chip"),
+                (("--boot", "18", "--gpio-chip=-1"), "'-1' is no chip"),
+                (("--boot", "018"), "'018' is no signal")):
+            with self.subTest(words=words):
+                said = self.line("ttyUSB0", *words, "--", "echo", "went")
+                self.assertEqual((said.status, said.out), (2, b""))
+                self.assertIn(b"stmflash-line: error: " + text.encode(), said.err)
+                self.assertEqual(self.moves()[0], [])
+
+    @unittest.skipIf(shutil.which("gpioset") is None, "gpiod is not installed")
+    def test_the_real_one(self):
+        """It takes the words, and says that there is no such chip."""
+        said = self.line("ttyUSB0", "--boot", "4", "--gpio-chip", "gpiochip99", "--", "echo", "went", PATH=os.environ["PATH"])
+        self.assertEqual((said.status, said.out), (1, b""))
+        self.assertRegex(said.err.decode(), r"\Astmflash-line: GPIO line 4 of gpiochip99: no such chip; this machine has .*\n\Z")
+
+
+class BesideSignals(WiredPlace):
+    def test_lines_and_signals_in_one_sequence(self):
+        os.mkdir(self.path("lines"))
+        more = {"PATH": FOLDER + ":" + os.environ["PATH"], "GPIO_VERSION": "2", "GPIO_PLACE": self.path("lines")}
+        self.assertSilent(self.play("--boot", "18&-rts,rts:-18", "--", "cp", "lines/moves", "during", **more))
+        self.assertEqual(self.calls()[0], ["RTS inactive", "RTS active"])
+        self.assertTrue(self.held("during").endswith(b" 18=1\n"))
+        moves = [text.split()[1] for text in self.held("lines/moves").decode().splitlines()]
+        self.assertEqual(moves, ["18=1", "18", "18=0", "18"])
+
+
+class Sessions(GpioPlace):
+    def port(self):
+        self.made = self.board()
+
+    def test_a_board_that_was_reset(self):
+        """The word --resets says it of lines too, and the session goes through."""
+        self.assertEqual(self.made.store(), ERASED)
+        said = self.line("ttyUSB0", "--boot", BOOT, "--resets", "--", *self.stmflash("info"))
+        self.assertEqual((said.status, said.out.split(b"\n")[0], said.err), (0, b"id 0412", b""))

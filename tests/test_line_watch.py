@@ -1,0 +1,280 @@
+"""A line that watches: over a board that follows the model nothing changes; a reply that no such board gives ends the line, and is
+told (tests/planted has the boards)."""
+
+import os
+import random
+import sys
+import time
+import unittest
+
+from boards import LinePlace
+from place import COUNTING, TOP, Said, program
+from stmflash_line.watch import Watch
+
+import pty_boards
+
+CODES = bytes.fromhex("00 01 02 11 21 31 44 63 73 82 92")
+CHIP = {"id": 0x440, "base": 0x08000000, "pages": [[2, 1024]], "erase": "extended"}
+TABLE = b'[[chip]]\nid = 0x440\nbase = 0x08000000\npages = [[8, 1024]]\nerase = "extended"\n'
+SUMMARY = r"stmflash-line: \S+: watched: [0-9]+ bytes of replies, each as a device of the model sends it(; [0-9]+ more were due)?\n"
+# so many writes are stopped
+STOPS = int(os.environ.get("STMFLASH_LINE_STOPS", "3"))
+# what a write of 13 blocks with -v finds on boards that do otherwise
+FOUND = {
+    "76-before-an-ack": "76 came in Extended Erase, and 79 was due",
+    "read-protected": "1F came in Read Memory, and 79 was due",
+    "lists-43-and-44": "it lists the codes ",
+    "erases-the-page-before": "FF stands at 08001000, and 00 was read or written there before",
+    "writes-a-wrong-last-byte": "FE stands at 080010FF, and FF was read or written there before",
+}
+
+
+def told(watch, came):
+    """What of a text of replies is handed on, and what there is to say of the first that isn't due."""
+    clean, text = watch.due_of(bytes.fromhex(came))
+    return clean.hex(" ").upper(), text
+
+
+class Bytes(unittest.TestCase):
+    """One conversation, byte by byte."""
+
+    def setUp(self):
+        self.watch = Watch([CHIP])
+
+    def host(self, sent):
+        self.watch.put(bytes.fromhex(sent))
+
+    def board(self, came):
+        self.assertEqual(told(self.watch, came), (bytes.fromhex(came).hex(" ").upper(), None))
+
+    def learn(self, codes=CODES):
+        self.host("00 FF")
+        self.board(f"79 {len(codes):02X} 31 {codes.hex()} 79")
+        self.host("02 FD")
+        self.board("79 01 04 40 79")
+
+    def assertOtherwise(self, came, clean, text):
+        self.assertEqual(told(self.watch, came), (clean, text))
+
+    def read(self, address, data):
+        self.host("11 EE")
+        self.board("79")
+        place = bytes.fromhex(address)
+        check = place[0] ^ place[1] ^ place[2] ^ place[3]
+        self.host(f"{address} {check:02X}")
+        self.board("79")
+        count = len(bytes.fromhex(data)) - 1
+        self.host(f"{count:02X} {count ^ 255:02X}")
+        return "79 " + data
+
+    def test_before_it_knows_the_board(self):
+        """Whatever comes, until codes and id were told one behind the other; also in pieces."""
+        self.host("7F")
+        self.board("79 79 41")
+        self.learn()
+        self.assertOtherwise("79", "", "79 came unasked")
+        self.watch.begin()
+        self.board("79")
+        self.host("00 FF")
+        for byte in f"79 0B 31 {CODES.hex(' ')} 79".split():
+            self.board(byte)
+        self.host("11 EE")
+        self.board("79")
+        self.host("02 FD")
+        self.board("79 01 04 40 79")
+        self.board("79")
+        self.assertEqual(self.watch.told(), "nothing, since no chip of the table has told its codes and id")
+
+    def test_a_chip_that_no_table_has(self):
+        self.watch = Watch([])
+        self.learn()
+        self.board("79")
+
+    def test_lists_of_codes(self):
+        for codes in ("00 02 11 31 43 44", "00 02 11 31", "00 02 11 44", "00 02 11 31 44 7F"):
+            with self.subTest(codes=codes):
+                self.watch.begin()
+                self.host("00 FF")
+                count = len(bytes.fromhex(codes))
+                clean = f"79 {count:02X} 31 {codes}"
+                self.assertOtherwise(clean + " 79", clean, f"it lists the codes {codes}")
+
+    def test_other_answers(self):
+        for sent, came, clean, text in (
+                ("00 FF", "79 0B 32", "79 0B", "32 came in Get, and 31 was due"),
+                ("02 FD", "79 01 04 41", "79 01 04", "41 came in Get ID, and 40 was due"),
+                ("7F 7F", "79", "", "79 came in 7F, and 1F was due"),
+                ("7F", "1F", "", "1F came unasked"),
+                ("11 EF", "79", "", "79 came in Read Memory, and 1F was due"),
+                ("31 CE 08 00 08 00 00", "79 79", "79", "79 came in Write Memory, and 1F was due"),
+                ("44 BB 00 00 00 02 02", "79 79", "79", "79 came in Extended Erase, and 1F was due"),
+                ("44 BB 00 00 00 01 01", "79 76", "79", "76 came in Extended Erase, and 79 was due"),
+                ("44 BB FF FF 00", "79 1F", "79", "1F came in Extended Erase, and 79 was due"),
+                ("44 BB FF FF 01", "79 79", "79", "79 came in Extended Erase, and 1F was due"),
+                ("43 BC", "79", "", "79 came in Erase Memory, and 1F was due")):
+            with self.subTest(sent=sent):
+                self.watch.begin()
+                self.learn()
+                self.host(sent)
+                self.assertOtherwise(came, clean, text)
+
+    def test_what_stands_in_the_flash(self):
+        """A byte that isn't known may be any; one that was read, written over an erased one, or erased stands."""
+        self.learn()
+        self.board(self.read("08000000", "11 22"))
+        self.board(self.read("08000000", "11 22"))
+        self.assertOtherwise(self.read("08000001", "23"), "79", "23 stands at 08000001, and 22 was read or written there before")
+        self.watch.begin()
+        self.learn()
+        self.host("44 BB 00 00 00 00 00")
+        self.board("79 79")
+        self.host("31 CE 08 00 00 00 08 03 01 02 03 04 07")
+        self.board("79 79 79")
+        self.assertOtherwise(self.read("08000000", "01 02 03 05"), "79 01 02 03",
+                             "05 stands at 08000003, and 04 was read or written there before")
+        self.watch.begin()
+        self.learn()
+        # over bytes that aren't known: any may come to stand
+        self.host("31 CE 08 00 00 00 08 03 01 02 03 04 07")
+        self.board("79 79 79")
+        self.board(self.read("08000000", "00 00 00 00"))
+        self.host("44 BB FF FF 00")
+        self.board("79 79")
+        self.assertOtherwise(self.read("080007FF", "00"), "79", "00 stands at 080007FF, and FF was read or written there before")
+
+    def test_where_a_board_tells_which_it_is(self):
+        """Outside the flash: it may be told, or refused, and what comes is judged again behind the next codes and id."""
+        for came in ("79 79 01 02", "1F"):
+            with self.subTest(came=came):
+                self.watch = Watch([{**CHIP, "unique": [0x1FFFF7AC, 12], "size_at": 0x1FFFF7CC}])
+                for place in ("1F FF F7 AC BB", "1F FF F7 CC DB"):
+                    self.learn()
+                    self.host("11 EE")
+                    self.board("79")
+                    self.host(place)
+                    self.board(came)
+                self.learn()
+                self.host("11 EE")
+                self.board("79")
+                self.host("1F FF F7 D0 C7")
+                self.assertOtherwise("79", "", "79 came in Read Memory, and 1F was due")
+
+    def test_a_read_whose_page_was_erased_before_its_bytes_came(self):
+        self.learn()
+        came = self.read("08000000", "11")
+        self.host("44 BB 00 00 00 00 00")
+        self.board(came + " 79 79")
+        self.board(self.read("08000000", "FF"))
+
+    def test_what_the_model_leaves_open(self):
+        """Behind Go the program runs; of a protection, and of counts that mean something else, nothing is promised."""
+        for sent in ("21 DE 08 00 00 00 08", "73 8C", "63 9C", "44 BB FF F0 00"):
+            with self.subTest(sent=sent):
+                self.watch.begin()
+                self.learn()
+                self.host(sent)
+                self.board("48 65 6C 6C 6F")
+        self.watch.begin()
+        self.learn()
+        self.host("21 DE 07 00 00 00 07")
+        self.assertOtherwise("79 79", "79", "79 came in Go, and 1F was due")
+
+
+class WatchedPlace(LinePlace):
+    def setUp(self):
+        super().setUp()
+        self.store("table", TABLE)
+
+    def planted(self, name):
+        """A port with a planted board behind it."""
+        words = "--id 0440 --pages 8 --size 1024 --erase 44 --clients 1000"
+        shim = f'#!/bin/sh\nexec {sys.executable} {TOP}/tests/planted "$9" --plant {name} {words} --flash "$7"\n'
+        self.store("planted", shim.encode())
+        os.chmod(self.path("planted"), 0o755)
+        made = pty_boards.PtyBoard(self.path("planted"), self.path("ttyUSB0"), "0440", self.path("table"))
+        self.addCleanup(made.stop)
+        return made
+
+    def watched(self, name, *words, **more):
+        return self.line("ttyUSB0", "--watch", "--", *self.stmflash(name, *words), STMFLASH_TABLE=self.path("table"), **more)
+
+    def assertWatched(self, said, out=None, status=0):
+        self.assertRegex(said.err.decode(), rf"\A{SUMMARY}\Z")
+        self.assertEqual(said.status, status)
+        if out is not None:
+            self.assertEqual(said.out, out)
+
+
+class Boards(WatchedPlace):
+    def test_sessions_with_a_board_of_the_model(self):
+        """Each is as it is without a watch, and says that it was watched."""
+        board = self.board(chip="0440")
+        self.store("image", COUNTING[:3328])
+        self.assertWatched(self.watched("write", "-f", "-v", "-S", "0x08001000", "image", "--quiet"))
+        flash = board.store()
+        self.assertEqual(flash[4096:4096 + 3328], COUNTING[:3328])
+        self.assertWatched(self.watched("read", "copy", "--quiet"))
+        self.assertEqual(self.held("copy"), flash)
+        self.assertWatched(self.watched("erase", "0", "--quiet"))
+        self.assertWatched(self.watched("undo", "2"), b"undone 2\n")
+        self.assertEqual(board.store(), b"\xff" * 8192)
+        # which asks for neither codes nor id
+        said = self.watched("go", "0x08000000")
+        text = b"stmflash-line: ttyUSB0: watched: nothing, since no chip of the table has told its codes and id\n"
+        self.assertEqual((said.status, said.err), (0, text))
+
+    def test_stops_and_undos(self):
+        """A write that was stopped behind any byte is taken back over a line that watches, without a false word."""
+        seed = time.time_ns()
+        chance = random.Random(seed)
+        board = self.board(chip="0440")
+        self.store("image", chance.randbytes(3000))
+        self.assertWatched(self.watched("write", "-f", "image", "--quiet"))
+        flash = board.store()
+        os.remove(self.path("journal"))
+        for _ in range(STOPS):
+            count = chance.randint(1, 5000)
+            board.hear(count)
+            self.store("image", chance.randbytes(3000))
+            self.watched("write", "-f", "-S", "0x08000400", "image", "--give-up", "1", "--quiet")
+            board.hear(None)
+            if self.is_there("journal"):
+                said = self.watched("undo")
+                self.assertWatched(said)
+                os.remove(self.path("journal"))
+            self.assertEqual(board.store(), flash, f"after {count} bytes of seed {seed}")
+
+    def test_boards_that_do_otherwise(self):
+        """The byte isn't handed on, the session ends, and one line tells of it."""
+        self.store("image", bytes(range(256)) * 13)
+        for name, text in FOUND.items():
+            with self.subTest(board=name):
+                board = self.planted(name)
+                said = self.watched("write", "-f", "-v", "-S", "0x08001000", "image", "--quiet")
+                board.stop()
+                self.assertEqual((said.status, said.out), (1, b""))
+                lines = said.err.decode().splitlines()
+                self.assertIn("stmflash: line failed", lines)
+                told_of = rf"ttyUSB0: the board does otherwise than the model: {text}.*; stmflash-trial tells more"
+                self.assertRegex("\n".join(lines), told_of)
+                self.assertEqual(len(lines), 2)
+                for left in ("journal", "ttyUSB0", "ttyUSB0.flash"):
+                    self.remove(left) if self.is_there(left) else None
+
+    def test_a_command_that_passes_over_it(self):
+        """The status isn't 0."""
+        self.planted("read-protected")
+        words = [program(), "read", "--table", "table", "--device", "{}", "--journal", "journal", "--wait", "1000", "copy"]
+        said = self.line("ttyUSB0", "--watch", "--", "sh", "-c", '"$@" 2>/dev/null; true', "sh", *words,
+                         STMFLASH_TABLE=self.path("table"))
+        self.assertLineFault(said, "ttyUSB0: the board does otherwise than the model: 1F came in Read Memory, and 79 was due; "
+                             "stmflash-trial tells more")
+
+    def test_tables(self):
+        self.plain()
+        for text, told_of in ((None, "No such file or directory; --watch needs the chip table, which STMFLASH_TABLE names"),
+                              (b"[[chip", "is no chip table"), (b"[[chip]]\nid = 1\n", "is no chip table")):
+            with self.subTest(text=text):
+                self.remove("table") if text is None else self.store("table", text)
+                said = self.line("ttyUSB0", "--watch", "--", "true", STMFLASH_TABLE=self.path("table"))
+                self.assertEqual(said, Said(1, b"", f"stmflash-line: {self.path('table')}: {told_of}\n".encode()))

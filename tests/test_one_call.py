@@ -1,0 +1,266 @@
+"""A write with what follows it in the same call: the journal kept, Go, and the write done again where its line failed."""
+
+import os
+import select
+import socket
+import threading
+
+from place import PATIENCE, SIZE, ZEROS, Place, Said
+from served import WAIT, Served
+
+IMAGE = b"a new program, whatever it does"
+WRITTEN = b"segment 1: 1 pages written\nverified 31 bytes\n"
+GO = ("--go", "0x08000000")
+# what is sent for Go at the flash's first byte, its address and the check of that
+GO_FRAMES = b"\x21\xde\x08\x00\x00\x00\x08"
+
+
+class OneCall(Place):
+    def setUp(self):
+        super().setUp()
+        self.store("image", IMAGE)
+
+    def write(self, *words, **more):
+        return self.use("write", *words, "image", **more)
+
+    def assertStands(self, journal, line):
+        flash = self.held("flash")
+        self.assertEqual(flash[:len(IMAGE)], IMAGE)
+        self.assertFile("flash.line", line)
+        if journal is None:
+            self.assertFile("journal", None)
+        else:
+            self.assertIn(journal, self.held("journal"))
+
+    def test_all_steps(self):
+        self.store("flash", ZEROS)
+        self.assertTold(self.write("-v", "--keep", *GO), WRITTEN.decode() + "kept 1\n")
+        self.assertStands(None, b"gone\n")
+        self.assertEqual(self.held("flash")[len(IMAGE):], ZEROS[len(IMAGE):])
+
+    def test_keep_alone(self):
+        self.assertTold(self.write("--keep"), "segment 1: 1 pages written\nkept 1\n")
+        self.assertStands(None, b"idle\n")
+
+    def test_keeps_what_was_there_too(self):
+        self.use("erase", "9")
+        self.assertTold(self.write("--keep"), "segment 2: 1 pages written\nkept 2\n")
+        self.assertStands(None, b"idle\n")
+
+    def test_moves_the_journal(self):
+        self.assertTold(self.write("-v", "--keep-to", "kept", *GO), WRITTEN.decode() + "kept 1\n")
+        self.assertStands(None, b"gone\n")
+        said = self.call("log", "--journal", "kept")
+        self.assertIn(b"1 can be undone", said.out)
+        # the way back stands under the other name
+        self.store("flash.line", b"fresh\n")
+        self.assertTold(self.use("undo", journal="kept"), "undone 1\n")
+        self.assertFile("flash", b"\xff" * SIZE)
+
+    def test_go_wants_a_journal_that_is_kept(self):
+        self.assertFault(self.write(*GO), "usage: --go needs --keep or --keep-to", 2)
+        self.assertFile("flash", None)
+        self.assertFile("journal", None)
+
+    def test_a_name_that_is_there(self):
+        self.store("kept", b"another")
+        for name in ("kept", "image", "table", "journal", "flash.line", "none/kept"):
+            with self.subTest(name=name):
+                self.store("flash.line", b"fresh\n")
+                self.assertFault(self.write("--keep-to", name), f"cannot write {name}")
+                self.assertFile("kept", b"another")
+                self.assertFile("flash", None)
+                self.assertFile("journal", None)
+                self.remove("flash.line")
+
+    def test_bad_numbers(self):
+        for words in (("--keep", "--go", "08"), ("--again", "0"), ("--again", "1001"), ("--again", "x")):
+            with self.subTest(words=words):
+                self.assertFault(self.write(*words), f"usage: bad number {words[-1]}", 2)
+
+    def test_a_write_that_fails_is_followed_by_nothing(self):
+        self.store("image", b"x" * (SIZE + 1))
+        self.assertFault(self.write("--keep", *GO), "address outside the flash")
+        self.assertFile("flash.line", b"idle\n")
+        self.store("journal", b"stmjournal 1 0412\nopen 1\n")
+        self.assertFault(self.write("--keep", *GO), "unfinished command, undo first")
+        self.assertFile("journal", b"stmjournal 1 0412\nopen 1\n")
+
+    def steps(self, *words, line=None):
+        """After how many steps all of these is done, by halves; the device stands so before."""
+        low, high = 0, 20000
+        while low < high:
+            middle = (low + high) // 2
+            self.begin(line)
+            if self.write(*words, "--stop", str(middle)).status == 3:
+                low = middle + 1
+            else:
+                high = middle
+        return low
+
+    def begin(self, line=None):
+        for name in ("flash", "flash.line", "journal", "kept"):
+            if self.is_there(name):
+                self.remove(name)
+        if line is not None:
+            self.store("flash.line", line)
+
+    def test_stopped_behind_each_step(self):
+        written, gone = self.steps("-v"), self.steps("-v", "--keep", *GO)
+        self.assertGreater(gone, written)
+        for at in (written - 1, written, written + 1, gone - 1):
+            with self.subTest(at=at):
+                self.begin()
+                said = self.write("-v", "--keep", *GO, "--stop", str(at))
+                if at < written:
+                    self.assertFault(said, "stopped", 3)
+                    self.assertNotEqual(self.held("journal"), None)
+                else:
+                    # how far it went: the write and the keep stand, the Go doesn't
+                    self.assertEqual(said, Said(3, WRITTEN + b"kept 1\n", b"stmflash: stopped\n"))
+                    self.assertFile("journal", None)
+                # the last byte of all is Go's answer, behind which the device is gone already
+                self.assertEqual(self.held("flash.line") == b"gone\n", at == gone - 1)
+
+    def test_steps_are_counted_from_where_the_call_begins(self):
+        # how the simulator was brought to where its device stands is none of them
+        for line in (b"idle\n", b"rest 11EE\n"):
+            with self.subTest(line=line):
+                written = self.steps("-v", line=line)
+                self.begin(line)
+                self.assertEqual(self.write("-v", "--keep", *GO, "--stop", str(written + 1)).status, 3)
+                self.assertFile("flash.line", b"rest 7F\n")
+
+
+class Lines(Served):
+    """A line to a served simulator that is cut after so many bytes of the host, a number for each connection; those behind it are
+    whole. What was sent over each is kept."""
+
+    def setUp(self):
+        super().setUp()
+        self.store("image", IMAGE)
+        self.store("flash", ZEROS)
+        self.sent = []
+        self.simulator = None
+
+    def lay(self, cuts, clients):
+        self.serve(clients)
+        listener = socket.socket(socket.AF_UNIX, socket.SOCK_STREAM)
+        self.addCleanup(listener.close)
+        listener.bind(self.path("line"))
+        listener.listen()
+        listener.settimeout(PATIENCE)
+
+        def carry():
+            for turn in range(clients):
+                try:
+                    host, _ = listener.accept()
+                except OSError:
+                    return
+                with host, self.connect("board") as board:
+                    self.carry(host, board, cuts[turn] if turn < len(cuts) else None)
+
+        thread = threading.Thread(target=carry, daemon=True)
+        thread.start()
+        return thread
+
+    def tearDown(self):
+        # the board's files are written once its client is gone
+        if self.simulator is not None:
+            self.simulator.kill()
+            self.simulator.communicate()
+        for name in os.listdir(self.folder):
+            if name.endswith(".new"):
+                self.remove(name)
+        super().tearDown()
+
+    def carry(self, host, board, cut):
+        self.sent.append(b"")
+        while True:
+            ready, _, _ = select.select([host, board], [], [], PATIENCE)
+            if board in ready:
+                came = board.recv(4096)
+                if not came:
+                    return
+                host.sendall(came)
+            elif host in ready:
+                came = host.recv(4096)[:cut]
+                if not came:
+                    return
+                self.sent[-1] += came
+                board.sendall(came)
+                if cut is not None:
+                    cut -= len(came)
+                    if cut == 0:
+                        return
+            else:
+                return
+
+    def write(self, *words):
+        return self.use("write", *words, "--wait", WAIT, "image", device="line")
+
+    def test_one_connection(self):
+        self.lay([], 1)
+        self.assertTold(self.write("-v", "--keep", *GO), WRITTEN.decode() + "kept 1\n")
+        self.assertEqual(len(self.sent), 1)
+        self.assertTrue(self.sent[0].endswith(GO_FRAMES))
+
+    def test_nothing_behind_a_write_that_was_cut(self):
+        self.lay([60], 1)
+        said = self.write("-v", "--keep", *GO)
+        self.assertEqual((said.status, said.out), (1, b""))
+        self.assertNotIn(b"\x21\xde", self.sent[0])
+
+    def whole(self):
+        """What a write that isn't cut sends, and where its erase frame stands."""
+        self.lay([], 1)
+        self.assertEqual(self.write("-v").status, 0)
+        sent = self.sent.pop()
+        for name in ("line", "journal"):
+            self.remove(name)
+        self.simulator.wait(PATIENCE)
+        self.store("flash", ZEROS)
+        self.store("flash.line", b"fresh\n")
+        return sent
+
+    def test_again(self):
+        erase = self.whole().index(b"\x43\xbc")
+        self.lay([erase + 3], 3)
+        said = self.write("-v", "--again", "2", "--keep", *GO)
+        self.assertEqual((said.status, said.out), (0, WRITTEN + b"kept 1\n"))
+        self.assertRegex(said.err.decode(), r"^again 1 of 2: [^;]*; taken back\n$")
+        self.assertEqual(len(self.sent), 3)
+        self.assertFile("journal", None)
+        self.simulator.wait(PATIENCE)
+        self.assertEqual(self.held("flash")[:len(IMAGE)], IMAGE)
+        self.assertEqual(self.held("flash")[len(IMAGE):], ZEROS[len(IMAGE):])
+        self.assertFile("flash.line", b"gone\n")
+
+    def test_again_where_nothing_was_begun(self):
+        self.lay([1], 2)
+        said = self.write("--again", "1")
+        self.assertEqual((said.status, said.out), (0, b"segment 1: 1 pages written\n"))
+        self.assertRegex(said.err.decode(), r"^again 1 of 1: [^;]*; nothing was begun\n$")
+
+    def test_again_in_vain(self):
+        sent = self.whole()
+        erase = sent.index(b"\x43\xbc")
+        # the write is cut, and so is each undo of it
+        self.lay([erase + 3, 1, 1], 3)
+        said = self.write("--again", "2")
+        self.assertEqual((said.status, said.out), (1, b""))
+        self.assertRegex(said.err.decode(), r"^again 1 of 2: [^;]*; not taken back: .*\n"
+                         r"again 2 of 2: [^;]*; not taken back: .*\n"
+                         r"stands: segment 1 is unfinished, undo first\nstmflash: [^\n]*\n$")
+        self.assertIn(b"erase 0", self.held("journal"))
+
+    def test_no_other_fault_is_tried_again(self):
+        self.store("journal", b"stmjournal 1 0412\nopen 1\n")
+        self.assertEqual(self.use("write", "--again", "3", "image"),
+                         Said(1, b"", b"stands: segment 1 is unfinished, undo first\n"
+                                      b"stmflash: unfinished command, undo first\n"))
+
+    def test_what_was_there_is_left(self):
+        self.store("journal", b"stmjournal 1 0412\nopen 1\nend 1\n")
+        self.lay([1], 2)
+        self.assertEqual(self.write("--again", "1").out, b"segment 2: 1 pages written\n")

@@ -1,0 +1,91 @@
+"""What packaging/deb refuses: no package says of a program that it is proved which isn't. And what a release is made of."""
+
+import os
+import shutil
+import subprocess
+import tempfile
+import unittest
+
+from place import TOP, is_unproved, program
+
+
+class Packaging(unittest.TestCase):
+    def test_no_package_of_a_program_that_is_not_proved(self):
+        if shutil.which("readelf") is None:
+            self.skipTest("there is no binutils")
+        with tempfile.TemporaryDirectory() as folder:
+            # a program that isn't of the kit, and a file that is none, with the kit's word in it
+            other, text = os.path.realpath(shutil.which("readelf")), os.path.join(folder, "text")
+            with open(text, "w", encoding="utf-8") as file:
+                file.write("rattle logic=dac8208d\n")
+            for path in (other, text, *[program().removesuffix("-under-qemu")] * is_unproved()):
+                ran = subprocess.run([os.path.join(TOP, "packaging", "deb"), path, folder], capture_output=True, text=True, timeout=60)
+                self.assertEqual((ran.returncode, ran.stdout), (1, ""))
+                self.assertEqual(ran.stderr, f"packaging/deb: {path} isn't proved, and no package is made of it\n")
+            self.assertEqual(os.listdir(folder), ["text"])
+
+    def test_what_a_program_says_of_its_proof(self):
+        """A program that says that it is proved has no package of one that isn't, and one that says nothing has none."""
+        for tool, package in (("readelf", "binutils"), ("gcc", "gcc")):
+            if shutil.which(tool) is None:
+                self.skipTest(f"there is no {package}")
+        with open(os.path.join(TOP, "packaging", "changelog"), encoding="utf-8") as file:
+            version = file.read()[len("stmflash ("):].split("-")[0]
+        with tempfile.TemporaryDirectory() as folder:
+            path = os.path.join(folder, "one")
+            for said in (f"stmflash {version}, proved by rattle-kit-13f", f"stmflash {version}"):
+                text = f'#include <stdio.h>\nint main(void) {{ return puts("{said}") < 0; }}\n'
+                subprocess.run(["gcc", "-x", "c", "-", "-o", path], input=text, text=True, check=True)
+                words = [os.path.join(TOP, "packaging", "deb"), "--unproved", path, folder]
+                ran = subprocess.run(words, capture_output=True, text=True, timeout=60)
+                self.assertEqual((ran.returncode, ran.stdout), (1, ""))
+                self.assertEqual(ran.stderr, f"packaging/deb: the program says `{said}`, and not `stmflash {version}, not proved`\n")
+                self.assertEqual(os.listdir(folder), ["one"])
+
+    def release(self, clone, folder):
+        words = [os.path.join(clone, "packaging", "release"), folder]
+        ran = subprocess.run(words, capture_output=True, text=True, timeout=60)
+        return ran.returncode, ran.stderr, ran.stdout
+
+    def test_a_release(self):
+        """It is made of what was committed and has a version, and its sums are those of its files."""
+        for tool, package in (("git", "git"), ("dpkg-deb", "dpkg-dev")):
+            if shutil.which(tool) is None:
+                self.skipTest(f"there is no {package}")
+        with tempfile.TemporaryDirectory() as room:
+            clone, folder = os.path.join(room, "clone"), os.path.join(room, "release")
+            shutil.copytree(TOP, clone, ignore=shutil.ignore_patterns("out", "bin", ".git", "crates", "__pycache__"))
+            git = ["git", "-C", clone, "-c", "user.name=a", "-c", "user.email=a@example.org"]
+            log = os.path.join(clone, "CHANGELOG.md")
+            with open(log, encoding="utf-8") as file:
+                text = file.read()
+            released = text[:text.index("## ")] + text[text.index("## 0"):]
+            unreleased = released.replace("## 0", "## Unreleased\n\n- One.\n\n## 0", 1)
+
+            def commit(text):
+                with open(log, "w", encoding="utf-8") as file:
+                    file.write(text)
+                for words in (["add", "--all"], ["commit", "--quiet", "--message", "one"]):
+                    subprocess.run([*git, *words], check=True)
+
+            subprocess.run([*git, "init", "--quiet"], check=True, capture_output=True)
+            commit(unreleased)
+            self.assertEqual(self.release(clone, folder), (1, "packaging/release: CHANGELOG.md has changes of no version yet\n", ""))
+            commit(released)
+            with open(os.path.join(clone, "more"), "w", encoding="utf-8"):
+                pass
+            self.assertEqual(self.release(clone, folder), (1, "packaging/release: there are changes that aren't committed\n", ""))
+            self.assertFalse(os.path.exists(folder))
+            os.remove(os.path.join(clone, "more"))
+            status, err, out = self.release(clone, folder)
+            self.assertEqual((status, err), (0, ""))
+            self.assertIn("git tag --sign", out)
+            with open(os.path.join(folder, "NOTES.md"), encoding="utf-8") as file:
+                notes = file.read()
+            self.assertEqual(notes.count("\n## "), 0)
+            self.assertTrue(notes.startswith("## 0") and notes in released)
+            subprocess.run(["sha256sum", "--check", "--quiet", "SHA256SUMS"], cwd=folder, check=True)
+
+
+if __name__ == "__main__":
+    unittest.main()

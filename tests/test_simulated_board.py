@@ -1,0 +1,136 @@
+"""The simulator as a board: a file beside its flash says its unique id, and how many KiB its flash has."""
+
+import os
+import tomllib
+
+import telling
+from place import TOP, Place
+
+HEAD = "[[chip]]\n"
+NAME = "2B0035000A51363034393332"
+OTHER = "2B0035000A5136303439333F"
+INFO = "id 0410\nbase 08000000\npages %d\nsize %d\nerase 43\nerased FF\nversion 22\ncodes 00 02 11 21 31 43 73 82 92\n"
+COUNTING = bytes(i % 251 for i in range(65536))
+
+
+def entry(number):
+    """The entry of a chip in chips.toml, alone, since a whole table is read slowly; and how many bytes its unique id has."""
+    with open(os.path.join(TOP, "chips.toml")) as file:
+        for text in file.read().split(HEAD)[1:]:
+            chip = tomllib.loads(text)
+            if f"{chip['id']:04X}" == number:
+                return (HEAD + text).encode(), chip["unique"][1]
+    raise KeyError(number)
+
+
+class SimulatedBoard(Place):
+    def setUp(self):
+        super().setUp()
+        self.store("table", telling.TABLE)
+        self.store("image", b"an image")
+
+    def at(self, *words, **more):
+        return self.use(*words, device="sim:0410:flash", **more)
+
+    def test_a_part_of_64_kib_has_64_pages(self):
+        self.store("flash.board", f"unique {NAME}\nsize 64\n".encode())
+        told = INFO % (64, 65536) + f"board {NAME}\nflash 64 KiB\n"
+        self.assertTold(self.at("info"), told)
+        self.store("flash", COUNTING)
+        self.assertFault(self.at("erase", "64"), "address outside the flash")
+        self.assertTold(self.at("erase", "63"), "segment 1: 1 pages erased\n")
+        self.assertTrue(self.held("journal").startswith(f"stmjournal 3 0410 {NAME}\n".encode()))
+        self.assertTold(self.at("undo"), "undone 1\n")
+        self.assertFile("flash", COUNTING)
+        self.assertFile("flash.board", f"unique {NAME}\nsize 64\n".encode())
+
+    def test_two_boards_of_a_kind_are_told_apart(self):
+        self.store("flash", COUNTING + COUNTING)
+        self.store("flash.board", f"unique {NAME}\n".encode())
+        self.assertTold(self.at("write", "image"), "segment 1: 1 pages written\n")
+        written, journal = self.held("flash"), self.held("journal")
+        self.store("flash.board", f"unique {OTHER}".encode())
+        for words in (("undo",), ("erase", "1"), ("info",)):
+            self.assertFault(self.at(*words), "journal is of another board")
+            self.assertFile("flash", written)
+            self.assertFile("journal", journal)
+        self.store("flash.board", f"unique {NAME.lower()}".encode())
+        self.assertFault(self.at("undo", "--board", OTHER[-4:]), "device is another board")
+        self.assertTold(self.at("undo", "--board", NAME[-4:]), "undone 1\n")
+        self.assertFile("flash", COUNTING + COUNTING)
+
+    def test_a_size_alone_is_told(self):
+        self.store("flash.board", b"size 16\n")
+        self.assertTold(self.at("info"), INFO % (16, 16384) + "flash 16 KiB\n")
+        self.remove("flash")
+        self.store("flash.board", b"")
+        self.assertTold(self.at("info"), INFO % (128, 131072) + "flash 128 KiB\n")
+
+    def test_what_no_board_is(self):
+        for text in (b"unique 12\n", b"unique\n", b"size\n", b"size x\n", b"size 123456\n", b"size -1\n", b"board 1\n", b"\xff",
+                     f"unique {NAME}0\n".encode(), f" unique {NAME}\n".encode(), b"unique " + 66 * b"1"):
+            with self.subTest(text=text):
+                self.store("flash.board", text)
+                self.assertFault(self.at("info"), "bad simulator file flash.board")
+                self.assertFile("flash", None)
+                self.assertFile("journal", None)
+
+
+# how many pages each part of ten families has, by the KiB with which it is sold
+PARTS = {
+    "0410": {64: 64, 128: 128},
+    "0411": {128: 5, 256: 6, 512: 8, 768: 10, 1024: 12},
+    "0412": {16: 16, 32: 32},
+    "0414": {256: 128, 384: 192, 512: 256},
+    "0416": {32: 128, 64: 256, 128: 512},
+    "0418": {64: 32, 128: 64, 256: 128},
+    "0420": {16: 16, 32: 32, 64: 64, 128: 128},
+    "0423": {128: 5, 256: 6},
+    "0435": {128: 64, 256: 128},
+    "0458": {64: 4, 128: 5},
+}
+
+
+class EverySize(Place):
+    """Each part of a family has its own pages by the table of the family, and nothing beyond them is touched."""
+
+    def part(self, number, length, kib, pages):
+        name = (3 * NAME)[:2 * length]
+        self.store("flash.board", f"unique {name}\nsize {kib}\n".encode())
+        flash = bytes(i % 251 for i in range(1024 * kib))
+        self.store("flash", flash)
+        end = 0x08000000 + len(flash)
+
+        def at(*words):
+            return self.use(*words, device=f"sim:{number}:flash")
+
+        told = at("info")
+        self.assertEqual((told.status, told.err), (0, b""))
+        lines = told.out.decode().splitlines()
+        self.assertEqual(lines[:4], [f"id {number}", "base 08000000", f"pages {pages}", f"size {len(flash)}"])
+        self.assertEqual(lines[-2:], [f"board {name}", f"flash {kib} KiB"])
+        for words in (("write", "-S", hex(end - 7), "image"), ("erase", str(pages))):
+            self.assertFault(at(*words), "address outside the flash")
+            self.assertFile("flash", flash)
+            self.assertFile("journal", None)
+        self.assertTold(at("write", "-S", hex(end - 8), "image"), "segment 1: 1 pages written\n")
+        self.assertFile("flash", flash[:-8] + b"an image")
+        self.assertTold(at("undo"), "undone 1\n")
+        self.assertFile("flash", flash)
+        self.remove("flash", "flash.line", "journal")
+
+    def family(self, number):
+        table, length = entry(number)
+        self.store("table", table)
+        self.store("image", b"an image")
+        for kib, pages in PARTS[number].items():
+            with self.subTest(number=number, kib=kib):
+                self.part(number, length, kib, pages)
+
+
+def add_test(number):
+    setattr(EverySize, f"test_{number}", lambda self: self.family(number))
+
+
+for one in PARTS:
+    add_test(one)

@@ -1,0 +1,131 @@
+"""tools/trials: what it refuses of a file that was sent in, of files together and of the table; docs/TRIED.md is what it makes."""
+
+import os
+import shutil
+import subprocess
+import sys
+import unittest
+
+from place import PATIENCE, TOP, Place, Said
+
+TRIALS = os.path.join(TOP, "tools", "trials")
+SENT = os.path.join(TOP, "trials", "0412-22-simulator-1.toml")
+NAME = "0412-22-part-1.toml"
+TABLE = '[[chip]]\nid = 0x412\nbase = 0x08000000\npages = [[32, 1024]]\nerase = "page"\n'
+HOLDS = 'name = "{}"\nresult = "holds"'
+DIFFERS = 'name = "{}"\nresult = "differs"'
+
+
+def run(*words):
+    ran = subprocess.run([sys.executable, TRIALS, *words], stdin=subprocess.DEVNULL, capture_output=True, timeout=PATIENCE)
+    return Said(ran.returncode, ran.stdout, ran.stderr)
+
+
+class Page(unittest.TestCase):
+    def test_it_is_current(self):
+        self.assertEqual(run("--check"), Said(0, b"", b""))
+
+
+class Sent(Place):
+    def setUp(self):
+        super().setUp()
+        os.mkdir(self.path("trials"))
+        self.store("table", TABLE.encode())
+        with open(SENT, encoding="utf-8") as held:
+            self.text = held.read()
+
+    def put(self, text, name=NAME):
+        self.store("trials/" + name, text.encode())
+
+    def trials(self, *words):
+        return run("--folder", self.path("trials"), "--table", self.path("table"), "--page", self.path("page"), *words)
+
+    def assertRefused(self, text, at=NAME):
+        said = self.trials()
+        self.assertEqual((said.status, said.out), (1, b""))
+        self.assertEqual(said.err.decode(), f"{at}: {text}\n")
+        self.assertFalse(self.is_there("page"))
+
+    def changed(self, old, new):
+        self.assertIn(old, self.text)
+        return self.text.replace(old, new, 1)
+
+    def test_a_page(self):
+        self.put(self.text)
+        self.assertEqual(self.trials(), Said(0, b"", b""))
+        page = self.held("page").decode()
+        self.assertIn("Real boards: 0, of 0 of the 1 chips in the table. Simulated ones: 1, which say nothing of a chip.", page)
+        self.assertIn("| 0412 | 22 | simulator (simulated) | follows the model | - |", page)
+        self.assertEqual(self.trials("--check"), Said(0, b"", b""))
+        self.store("page", page.encode() + b"more\n")
+        said = self.trials("--check")
+        self.assertEqual((said.status, said.err), (1, b"trials: docs/TRIED.md isn't current: python3 tools/trials\n"))
+
+    def test_files(self):
+        row = HOLDS.format("quiet")
+        for old, new, text in (
+                ("trial = 1", "trial = 2", "is of form 2, and 1 is known"),
+                ('date = "20', 'date = "1st of 20', None),
+                ('who = "the stmflash authors"\n', "", 'who isn\'t there: add a line who = ".." of who tried it'),
+                ('who = "the stmflash authors"', 'who = "/home/me"', "who is one short text, without a path"),
+                ('part = "simulator"', 'part = " "', "part is one short text, without a path"),
+                ('part = "simulator"', f'part = "{81 * "a"}"', "part is one short text, without a path"),
+                ("baud = 115200", 'baud = "115200"', "baud is no int"),
+                ("baud = 115200", 'baud = 115200\nserial = "A50285BI"', "serial is nothing that a trial writes"),
+                ("id = 1042", "id = 1088", "its name has to be 0440-22-PART-NUMBER.toml, in small letters"),
+                ("version = 34", "version = 35", "its name has to be 0412-23-PART-NUMBER.toml, in small letters"),
+                ("erased = 255", "erased = 0", "an erased place held 00, and the table has FF"),
+                (row, HOLDS.format("silence"), "no row is named 'silence'"),
+                ("[[row]]\n" + row + '\nfound = ""\n', "", "not each row is there once: quiet"),
+                ("[[row]]\n" + row, "[[row]]\n" + row + "\n[[row]]\n" + row, "not each row is there once: one stands twice"),
+                (row, row.replace("holds", "held"), "quiet: 'held' is no result"),
+                (row, DIFFERS.format("quiet"), "it follows the model, and its reason doesn't name quiet"),
+                ("not tried: reset-in-frame, ", "not tried: ", "it follows the model, and its reason doesn't name reset-in-frame"),
+                ('verdict = "follows the model"', 'verdict = "use with these options"', "it needs an option, and no row differs"),
+                ('verdict = "follows the model"', 'verdict = "fine"', "'fine' is no verdict")):
+            with self.subTest(new=new):
+                made = self.changed(old, new)
+                self.put(made)
+                if text is None:
+                    day = made.split('date = "')[1].split('"')[0]
+                    text = f"{day!r} is no date"
+                self.assertRefused(text)
+
+    def test_what_is_no_file_of_a_trial(self):
+        self.put("hello")
+        said = self.trials()
+        self.assertEqual(said.status, 1)
+        self.assertTrue(said.err.startswith(f"{NAME}: can't be read: ".encode()))
+        self.store("table", TABLE.replace("0x412", "0x413").encode())
+        self.put(self.text)
+        self.assertRefused("no chip of the table has the id 0412")
+
+    def test_other_verdicts(self):
+        """Of one id and version: until somebody has looked. Simulated boards say nothing of real ones."""
+        other = self.changed('verdict = "follows the model"', 'verdict = "don\'t use"')
+        self.put(self.text)
+        self.put(other, "0412-22-part-2.toml")
+        self.assertRefused(f"0412-22-part-2.toml: don't use, and {NAME}: follows the model; "
+                           'once somebody has looked, looked = ".." in both', at="trials")
+        self.put(other.replace("baud", 'looked = "another adapter"\nbaud', 1), "0412-22-part-2.toml")
+        self.assertEqual(self.trials().status, 0)
+
+    def test_a_real_board_stands_in_the_table(self):
+        self.put(self.changed("simulated = true\n", ""))
+        day = self.text.split('date = "')[1].split('"')[0]
+        line = f'tried = [{{ "part" = "simulator", "version" = 34, "who" = "the stmflash authors", "when" = "{day}", ' \
+               f'"verdict" = "follows the model", "file" = "trials/{NAME}" }}]'
+        self.assertRefused(f"the table's entry 0412 has to have: {line}", at="trials")
+        self.store("table", (TABLE + line + "\n").encode())
+        self.assertEqual(self.trials(), Said(0, b"", b""))
+        self.assertIn("Real boards: 1, of 1 of the 1 chips in the table.", self.held("page").decode())
+        os.remove(self.path("page"))
+        shutil.rmtree(self.path("trials"))
+        os.mkdir(self.path("trials"))
+        self.assertRefused("the table's entry 0412 has to have: no tried", at="trials")
+
+    def test_the_program_passes_over_it(self):
+        """A table with such an entry is one that it reads."""
+        said = self.call("sim", "--table", "table", "--id", "0412", "--flash", "flash", "--socket", "/none/board")
+        self.store("table", (TABLE + 'tried = [{ part = "a", version = 34 }]\n').encode())
+        self.assertEqual(self.call("sim", "--table", "table", "--id", "0412", "--flash", "flash", "--socket", "/none/board"), said)
