@@ -1,6 +1,7 @@
 #!/usr/bin/env sh
 # The main job, shown on a simulated chip: a write is stopped half way and taken back, then done, verified and taken back.
-# The program is built here with no proof, which is the fastest way, and stays at bin/stmflash-unproved; `make` proves it.
+# The program is built here with no proof, which is the fastest way, and stays at bin/stmflash-unproved; `make` proves it. It is
+# built from a copy of the code, so that `--version` says of it that it isn't proved (tools/unproved-sources).
 set -eu
 top=$(cd "$(dirname "$0")/.." && pwd)
 program="$top/bin/stmflash-unproved"
@@ -11,8 +12,9 @@ trap 'rm -rf "$demo"' EXIT
 # been taken and is its client.
 echo "Building stmflash without waiting for its proofs (\`make\` waits for them). This takes about a minute."
 mkdir -p "$demo/room" "$top/bin"
+sh "$top/tools/unproved-sources" "$demo/source"
 (
-    cd "$top/crates/stmflash"
+    cd "$demo/source/crates/stmflash"
     TMPDIR="$demo/room" rt try -- sim --table "$top/chips.toml" --id 0412 --flash "$demo/first.bin" --socket "$demo/first" \
         > "$demo/said" 2>&1 || true
     touch "$demo/over"
@@ -23,7 +25,7 @@ done
 made=$(find "$demo/room" -type f -name program)
 if [ -z "$made" ]; then
     wait
-    cat "$demo/said"
+    sed "s|$demo/source|$top|g" "$demo/said"
     exit 1
 fi
 rm -f "$program"

@@ -8,7 +8,7 @@ import sys
 import time
 
 sys.path.append(os.path.join(os.path.dirname(os.path.abspath(__file__)), "..", "soak"))
-from device import Chip, Device  # noqa: E402
+from device import ACK, GET, Chip, Device  # noqa: E402
 from program import stand, standing  # noqa: E402
 
 BASE = 0x08000000
@@ -22,6 +22,21 @@ CHIPS = {number: Chip(number, BASE, [size] * pages, extended, erased) for number
 )}
 # how long a program may take to begin, in seconds
 PATIENCE = 30
+
+
+# the code of Get Version, which only a simulator that is served has
+GET_VERSION = 0x01
+
+
+class Served(Device):
+    """A device behind a simulator that is served: Get lists Get Version too."""
+
+    def do(self, rest):
+        if rest[0] != GET:
+            super().do(rest)
+            return
+        get, *others = self.chip.codes()
+        self.owed.extend([len(others) + 2, self.chip.version(), get, GET_VERSION, *others, ACK])
 
 
 class NotStarted(Exception):

@@ -6,7 +6,7 @@ import random
 import subprocess
 import time
 
-from board import BASE, CHIPS, Board, Device, flash_of, stand, table
+from board import BASE, CHIPS, Board, Device, Served, flash_of, stand, table
 from disk import Disk
 from record import Reader, run
 
@@ -106,7 +106,7 @@ class Story:
 
     def stands(self, files):
         """The device as it stands before the session."""
-        device = Device(self.chip, files.get("flash", self.flashes[0]))
+        device = (Served if self.way == BOARD else Device)(self.chip, files.get("flash", self.flashes[0]))
         if not stand(device, files.get("flash.line", b"fresh\n")):
             raise Unrecorded("%s: no device stands so" % self.name)
         device.owed.clear()

@@ -13,9 +13,18 @@ import tempfile
 
 sys.path.insert(0, os.path.dirname(os.path.abspath(__file__)))
 
+import beginnings
 from journal import BadLine, Journal
+import meddling
 from program import World
+from session import Fault
 import stories
+
+
+COUNTED = ("sessions", "stopped", "refused", "undone", "reset", "without power", "pages lost", "kept", "gone", "again", "put back",
+           "at another board", "of a board")
+# the flashes of two boards of one kind
+BOARDS = ("F", "G")
 
 
 class Difference(Exception):
@@ -23,7 +32,7 @@ class Difference(Exception):
 
 
 class Story:
-    """A chip with a flash, and uses of the program one after another."""
+    """Two boards of a kind, each with a flash, one journal, and uses of the program one after another."""
 
     def __init__(self, program, seed, index, allowed, room):
         self.program = program
@@ -32,28 +41,50 @@ class Story:
         self.room = room
         self.chance = random.Random(self.name)
         self.told = []
-        self.counts = {"sessions": 0, "stopped": 0, "refused": 0, "undone": 0, "reset": 0, "without power": 0, "pages lost": 0}
+        self.counts = dict.fromkeys(COUNTED, 0)
         self.begin()
 
     def begin(self):
         chance = self.chance
         number = chance.choice((0x0412, 0x0A01, chance.randrange(0x10000)))
-        self.chip = stories.draw_chip(chance, number)
-        chips = [stories.draw_chip(chance, (number + step) % 0x10000) for step in range(1, chance.randrange(1, 4))]
-        chips.insert(chance.randrange(len(chips) + 1), self.chip)
-        files = {"T": stories.table_text(chance, chips)}
+        self.kind = beginnings.draw_chip(chance, number)
+        chips = [beginnings.draw_chip(chance, (number + step) % 0x10000) for step in range(1, chance.randrange(1, 4))]
+        chips.insert(chance.randrange(len(chips) + 1), self.kind)
+        files = {"T": beginnings.table_text(chance, chips)}
         self.world = World(chips, files)
-        flash = stories.draw_flash(chance, self.chip)
-        if flash is not None and chance.random() < 0.005:
-            flash += b"\0"
-        for name, held in (("F", flash), ("F.line", stories.draw_line(chance, self.chip)),
-                           ("J", stories.draw_journal(chance, self.chip))):
-            if held is not None:
-                files[name] = held
-        # the flash before each segment, where all the premises of the headline hold
-        self.before = [] if "J" not in files and files.get("F.line", b"fresh\n") in (b"fresh\n", b"idle\n") else None
+        self.chips = {}
+        for name in BOARDS:
+            self.begin_board(name)
+        journal = beginnings.draw_journal(chance, self.chips["F"])
+        if journal is not None:
+            files["J"] = journal
+        # the board that the segments of the journal are of, and its flash before each, where all the premises of the headline hold
+        self.home = "F"
+        self.aside = None
+        stand = [files.get(name + ".line", b"fresh\n") in (b"fresh\n", b"idle\n") for name in BOARDS]
+        self.before = [] if journal is None and all(stand) else None
         for name, held in files.items():
             self.write(name, held)
+
+    def begin_board(self, name):
+        chance = self.chance
+        other = self.chips["F"].unique if self.chips else b""
+        board = beginnings.draw_board(chance, self.kind, other)
+        try:
+            if board is not None:
+                self.world.files[name + ".board"] = board
+            chip = self.world.chip_of(self.kind.number, name)
+        except Fault:
+            chip = self.kind.without_places()
+        self.chips[name] = chip
+        flash = beginnings.draw_flash(chance, chip)
+        if flash is not None and chance.random() < 0.005:
+            flash += b"\0"
+        # the other board is mostly as it was reset, so that the premises hold
+        line = beginnings.draw_line(chance, chip) if name == "F" or chance.random() < 0.05 else None
+        for file, held in ((name, flash), (name + ".line", line)):
+            if held is not None:
+                self.world.files[file] = held
 
     def path(self, name):
         return os.path.join(self.room, name)
@@ -67,8 +98,8 @@ class Story:
         if self.world.files.pop(name, None) is not None:
             os.remove(self.path(name))
 
-    def flash(self):
-        return self.world.files.get("F", bytes([self.chip.erased]) * self.chip.size)
+    def flash(self, name):
+        return self.world.files.get(name, bytes([self.kind.erased]) * self.chips[name].size)
 
     def journal(self):
         try:
@@ -76,13 +107,19 @@ class Story:
         except BadLine:
             return None
 
+    def is_gone(self, name):
+        return self.world.files.get(name + ".line") == b"gone\n"
+
+    def is_fresh(self, name):
+        return self.world.files.get(name + ".line", b"fresh\n") == b"fresh\n"
+
     def tell(self, text):
         self.told.append(text)
 
     def play(self):
         for _ in range(self.chance.randrange(3, 16)):
             self.use()
-            self.meddle()
+            meddling.meddle(self)
         self.take_back()
 
     def take_back(self):
@@ -91,19 +128,37 @@ class Story:
             journal = self.journal()
             if journal is None or journal.depth() == 0 or (self.allowed is not None and "undo" not in self.allowed):
                 return
-            self.use("undo")
+            self.use("undo", self.home)
 
-    def use(self, name=None):
+    def draw_name(self, journal):
+        """At which board the next use is: mostly the one that the journal is of; else it is a swap."""
+        if journal is None or journal.number is None:
+            return self.chance.choice(("F", "F", "F", "G"))
+        other = "G" if self.home == "F" else "F"
+        return other if self.chance.random() < 0.22 else self.home
+
+    def use(self, only=None, name=None):
+        """A use that is drawn, or of this subcommand at this board."""
         chance = self.chance
         journal = self.journal()
         unfinished = journal is not None and journal.is_unfinished()
-        allowed = self.allowed if name is None else [name]
-        use, image = stories.draw_use(chance, self.chip, self.flash(), unfinished, allowed)
-        use.number = "%04X" % self.chip.number
+        allowed = self.allowed if only is None else [only]
+        name = name or self.draw_name(journal)
+        chip, flash = self.chips[name], self.flash(name)
+        if chip.size < self.kind.size and chance.random() < 0.15:
+            # as if it had all pages of its kind
+            chip, flash = self.kind, flash + bytes([chip.erased]) * (self.kind.size - len(flash))
+        use, image = stories.draw_use(chance, chip, flash, unfinished, self.is_gone(name), allowed, name)
+        use.number = "%04X" % self.kind.number
         if chance.random() < 0.05:
             use.number = use.number.lower()
         if chance.random() < 0.003:
-            use.number = "%04X" % (self.chip.number ^ 0x8000)
+            use.number = "%04X" % (self.kind.number ^ 0x8000)
+        if use.again == 1000 and self.chips[name].size < self.kind.size:
+            # one with all pages of its kind fails each time
+            use.again = 3
+        if use.name == "undo" and chance.random() < (0.3 if self.is_fresh(name) else 0.01):
+            use.is_fresh = True
         if image is not None:
             self.write("I", image)
         if chance.random() < 0.4:
@@ -129,8 +184,10 @@ class Story:
     def compare(self, use):
         """The program and the model do this use; all that is left has to be the same."""
         self.tell(" ".join(use.words()))
-        flash = self.flash()
+        flash = self.flash(use.file)
+        text = self.world.files.get("J", b"")
         journal = self.journal()
+        was_fresh = self.is_fresh(use.file)
         (status, out, err), rig = self.world.run(use)
         done = subprocess.run([self.program, *use.words()], cwd=self.room, capture_output=True)
         self.same("exit status", status, done.returncode)
@@ -144,87 +201,61 @@ class Story:
         self.counts["stopped"] += status == 3
         self.counts["refused"] += status in (1, 2)
         self.counts["undone"] += use.name == "undo" and status == 0
+        kept = b"kept" in out
+        self.counts["kept"] += kept
+        self.counts["gone"] += use.go is not None and self.is_gone(use.file)
+        self.counts["again"] += b"again 1 of" in err
+        if use.is_fresh and not was_fresh or use.name == "protect" and status == 3:
+            # it isn't known what 7F does there, nor what the settling of another board's journal
+            self.before = None
+        self.look_elsewhere(use, status, flash, text, journal)
+        # what leads back from here, where the journal was moved: as good as the flash is left alone
+        self.aside = self.way_back(flash) if kept and use.to is not None else None
         self.keep_promise(use, status, flash, journal)
+
+    def way_back(self, flash):
+        return None if self.before is None else [*self.before, flash]
 
     def same(self, name, wanted, found):
         if wanted != found:
             raise Difference("%s: the model has %s, the program %s" % (name, shown(wanted, found), shown(found, wanted)))
 
+    def look_elsewhere(self, use, status, flash, text, journal):
+        """A journal that names a board changes no other one, and isn't changed there. One that names none is of any: then who takes
+        it to another board breaks a premise."""
+        if self.before is None or use.name in ("go", "protect"):
+            return
+        now = self.flash(use.file), self.world.files.get("J", b"")
+        told = b"" if use.no_board else self.told_by(use.file)
+        self.counts["of a board"] += journal.unique is not None
+        if journal.is_of_other(told):
+            self.counts["at another board"] += 1
+            if now != (flash, text) or status == 0 and journal.depth() > 0:
+                raise Difference("a journal of another board was taken for that of %s" % use.file)
+        elif use.file != self.home and journal.depth() == 0:
+            self.home = use.file
+        elif use.file != self.home and now != (flash, text):
+            self.before = None
+
+    def told_by(self, name):
+        """The unique id that a board tells a host that asks as it should; none is no byte."""
+        unique = self.chips[name].unique
+        asked = self.kind.unique_at is not None and self.kind.unique_at[1] == len(unique)
+        is_there = name + ".board" in self.world.files
+        return unique if asked and is_there and set(unique) not in ({0x00}, {0xFF}) else b""
+
     def keep_promise(self, use, status, flash, journal):
         """The headline, of the flash alone: what an undo and a write that report success leave."""
-        if self.before is None or use.name in ("go", "protect"):
+        if self.before is None or use.name in ("go", "protect") or use.file != self.home:
             return
         after = self.journal()
         depth = after.depth()
         if use.name in ("write", "erase") and depth > len(self.before):
             self.before.append(flash)
         if use.name == "undo" and status == 0 and journal.depth() > 0:
-            if self.flash() != self.before[depth]:
+            if self.flash(use.file) != self.before[depth]:
                 raise Difference("the flash isn't as it was before segment %d" % (depth + 1))
         del self.before[depth:]
-
-    def meddle(self):
-        """What others do between two uses: a reset of the device, and seldom something that breaks a premise."""
-        chance = self.chance
-        if chance.random() < 0.2:
-            self.counts["reset"] += "F.line" in self.world.files
-            self.tell("(reset)")
-            self.remove("F.line")
-        journal = self.journal()
-        if chance.random() < (0.5 if journal is not None and journal.is_unfinished() else 0.1):
-            self.lose_power()
-        if chance.random() < 0.02:
-            self.tell("(a torn tail)")
-            self.write("J", self.world.files.get("J", b"") + chance.choice((b"page 3 FF0", b"und", b"open", b"x" * 40)))
-        if chance.random() < 0.02:
-            self.spoil()
-
-    def lose_power(self):
-        """The device loses its power, it may be inside an erase or a write: it is reset, and pages that the unfinished newest segment
-        keeps hold any bytes."""
-        chance = self.chance
-        journal = self.journal()
-        risked = journal.risked_pages() if journal is not None else []
-        lost = [page for page in risked if page < self.chip.pages() and chance.random() < 0.7]
-        held = bytearray(self.flash())
-        for page in lost:
-            part = self.chip.part(page)
-            kind = chance.randrange(3)
-            if kind == 0:
-                held[part] = chance.randbytes(self.chip.sizes[page])
-            elif kind == 1:
-                held[part] = bytes(byte & chance.randrange(256) for byte in held[part])
-            else:
-                held[part] = bytes([self.chip.erased]) * self.chip.sizes[page]
-        self.tell("(without power, pages %s)" % lost)
-        self.counts["without power"] += "F.line" in self.world.files
-        self.counts["pages lost"] += len(lost)
-        if lost:
-            self.write("F", bytes(held))
-        self.remove("F.line")
-
-    def spoil(self):
-        chance = self.chance
-        kind = chance.randrange(5)
-        self.tell("(meddled with, %d)" % kind)
-        self.before = None
-        text = self.world.files.get("J", b"")
-        if kind == 0:
-            self.remove("J")
-        elif kind == 1:
-            self.write("J", text + b"a bad line\n")
-        elif kind == 2 and text:
-            self.write("J", text[:chance.randrange(len(text))])
-        elif kind == 3:
-            held = bytearray(self.flash())
-            held[chance.randrange(len(held))] ^= 0x55
-            self.write("F", bytes(held))
-        else:
-            line = stories.draw_line(chance, self.chip)
-            if line is None:
-                self.remove("F.line")
-            else:
-                self.write("F.line", line)
 
 
 def shown(held, other):

@@ -14,14 +14,18 @@ OPEN, STEP, REFUSED, DONE = "open", "step", "refused", "done"
 
 
 class Chip:
-    """A chip of the table: where its flash begins, how its pages lie, how they are erased and what they hold then."""
+    """A chip of the table: where its flash begins, how its pages lie, how they are erased and what they hold then; where it tells
+    its board, by an address and how many bytes, and the size of its flash. That of a device has its unique id too, or no byte."""
 
-    def __init__(self, number, base, sizes, extended, erased):
+    def __init__(self, number, base, sizes, extended, erased, unique_at=None, size_at=None, unique=b""):
         self.number = number
         self.base = base
         self.sizes = sizes
         self.extended = extended
         self.erased = erased
+        self.unique_at = unique_at
+        self.size_at = size_at
+        self.unique = unique
         self.starts = []
         at = 0
         for size in sizes:
@@ -35,6 +39,29 @@ class Chip:
     def has(self, address, length):
         """Whether so many bytes from the address on lie in the flash."""
         return self.base <= address and address + length <= self.base + self.size
+
+    def has_places(self):
+        return self.unique_at is not None or self.size_at is not None
+
+    def without_places(self):
+        return Chip(self.number, self.base, self.sizes, self.extended, self.erased)
+
+    def of_board(self, unique, kib):
+        """The chip of a device with this unique id, and with the pages that lie inside so many KiB; None, or where no page lies
+        inside: with all."""
+        inside = self.sizes
+        if kib is not None:
+            inside = [size for start, size in zip(self.starts, self.sizes) if start + size <= 1024 * kib]
+        return Chip(self.number, self.base, inside or self.sizes, self.extended, self.erased, self.unique_at, self.size_at, unique)
+
+    def told(self):
+        """What the device tells beside its flash, by the address and the length of a read."""
+        found = {}
+        if self.unique_at is not None and self.unique_at[1] == len(self.unique):
+            found[self.unique_at] = self.unique
+        if self.size_at is not None:
+            found[self.size_at, 2] = (self.size // 1024).to_bytes(2, "little")
+        return found
 
     def part(self, page):
         """The places of a page, counted from the flash's first byte."""
@@ -70,16 +97,17 @@ def named_pages(rest):
 
 
 def judge_address(chip, rest, after):
-    if exclusive_or(rest[2:6]) != rest[6] or not chip.has(number(rest[2:6]), 1):
-        return REFUSED
-    return after
+    address = number(rest[2:6])
+    right = chip.has(address, 1) or rest[0] == READ and address in [at for at, _ in chip.told()]
+    return after if right and exclusive_or(rest[2:6]) == rest[6] else REFUSED
 
 
 def judge_read(chip, rest):
     if len(rest) < 9:
         return OPEN
-    right = rest[8] == rest[7] ^ 0xFF and chip.has(number(rest[2:6]), rest[7] + 1)
-    return DONE if right else REFUSED
+    address, length = number(rest[2:6]), rest[7] + 1
+    right = chip.has(address, length) or (address, length) in chip.told()
+    return DONE if right and rest[8] == rest[7] ^ 0xFF else REFUSED
 
 
 def judge_write(chip, rest):
@@ -166,8 +194,7 @@ class Device:
         elif code == GET_ID:
             self.owed.extend([1, self.chip.number >> 8, self.chip.number & 0xFF, ACK])
         elif code == READ:
-            at = number(rest[2:6]) - self.chip.base
-            self.owed.extend(self.flash[at:at + rest[7] + 1])
+            self.owed.extend(self.read(number(rest[2:6]), rest[7] + 1))
         elif code == GO:
             self.phase = GONE
         elif code == WRITE:
@@ -179,6 +206,12 @@ class Device:
             self.phase = FRESH
             if code == READOUT_UNPROTECT:
                 self.flash[:] = bytes([self.chip.erased]) * self.chip.size
+
+    def read(self, address, length):
+        if not self.chip.has(address, length):
+            return self.chip.told()[address, length]
+        at = address - self.chip.base
+        return self.flash[at:at + length]
 
     def write(self, at, data):
         for byte in data:

@@ -1,4 +1,4 @@
-"""Images: HEX texts of docs/HEX.md, and raw bytes. An image is a dict of address to byte."""
+"""Images: HEX texts of docs/HEX.md, raw bytes, and the CRC of some. An image is a dict of address to byte."""
 
 SPACES = b"\r\n \t"
 DIGITS = b"0123456789abcdefABCDEF"
@@ -85,3 +85,45 @@ class Hex:
 
 def read_hex(text):
     return Hex(text).read()
+
+
+def record(kind, offset, data):
+    body = bytes([len(data), offset >> 8, offset & 0xFF, kind]) + bytes(data)
+    return b":" + (body + bytes([-sum(body) & 0xFF])).hex().upper().encode() + b"\n"
+
+
+def write_hex(image, blank=None):
+    """The canonical text; with a blank byte the one of what stays where its lines that hold nothing else are left out."""
+    found, upper = [], 0
+    for start, data in lines_of(image):
+        if blank is not None and set(data) == {blank}:
+            continue
+        if start >> 16 != upper:
+            upper = start >> 16
+            found.append(record(4, 0, upper.to_bytes(2, "big")))
+        found.append(record(0, start & 0xFFFF, data))
+    return b"".join(found) + record(1, 0, b"")
+
+
+def lines_of(image):
+    """The address and bytes of each data record: runs, cut also where the upper sixteen bits change, and then by 16 bytes."""
+    start, data = None, bytearray()
+    for address in sorted(image):
+        if data and (address != start + len(data) or len(data) == 16 or address % 65536 == 0):
+            yield start, bytes(data)
+            data.clear()
+        if not data:
+            start = address
+        data.append(image[address])
+    if data:
+        yield start, bytes(data)
+
+
+def crc(data):
+    """The number that the chip's unit has for these words of four bytes, the low byte first; bit by bit."""
+    value = 0xFFFFFFFF
+    for at in range(0, len(data), 4):
+        value ^= int.from_bytes(data[at:at + 4], "little")
+        for _ in range(32):
+            value = (value << 1 ^ (0x04C11DB7 if value >> 31 else 0)) & 0xFFFFFFFF
+    return value

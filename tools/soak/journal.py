@@ -2,7 +2,7 @@
 
 import re
 
-HEADER = re.compile(rb"stmjournal ([12]) ([0-9A-F]{4})")
+HEADER = re.compile(rb"stmjournal (?:[12] ([0-9A-F]{4})|3 ([0-9A-F]{4}) ((?:[0-9A-F]{2}){8,32}))")
 NUMBERED = re.compile(rb"(open|erase|program|end|undone) (0|[1-9][0-9]*)")
 PAGE = re.compile(rb"page (0|[1-9][0-9]*) ((?:[0-9A-F]{2})+)")
 GREATEST = 65535
@@ -39,6 +39,8 @@ class Journal:
     def __init__(self, text):
         self.version = None
         self.number = None
+        # the unique id of a header of version 3
+        self.unique = None
         self.header_line = None
         self.stack = []
         self.lines = 0
@@ -60,8 +62,9 @@ class Journal:
             found = HEADER.fullmatch(line)
             if not found:
                 return False
-            self.version = int(found[1])
-            self.number = int(found[2], 16)
+            self.version = line[11] - ord("0")
+            self.number = int(found[1] or found[2], 16)
+            self.unique = bytes.fromhex(found[3].decode()) if found[3] else None
             self.header_line = self.lines
             return True
         found = PAGE.fullmatch(line)
@@ -120,18 +123,28 @@ class Journal:
         """The pages that a stopped command may have been at work on."""
         return [kept.page for kept in self.stack[-1].kept] if self.is_unfinished() else []
 
-    def add(self, rig, line, number=None):
-        """Adds a line in one append; with a number before the first segment, the header too."""
+    def is_of_other(self, unique):
+        """Whether it names a board, and another than the one of this unique id, which may be none."""
+        return self.unique is not None and self.unique != unique
+
+    def add(self, rig, line, chip=None):
+        """Adds a line in one append; with a chip before the first segment, the header too."""
         text = b""
         if self.torn:
             text += b"!\n"
-        header = number is not None and self.number is None
-        if header:
-            text += b"stmjournal 2 %04X\n" % number
+        header = header_of(chip) if chip is not None and self.number is None else None
+        if header is not None:
+            text += header + b"\n"
         rig.append(text + line + b"\n")
         if self.torn:
             self.lines += 1
             self.torn = False
-        if header:
-            self.take(b"stmjournal 2 %04X" % number)
+        if header is not None:
+            self.take(header)
         self.take(line)
+
+
+def header_of(chip):
+    if chip.unique:
+        return b"stmjournal 3 %04X %s" % (chip.number, chip.unique.hex().upper().encode())
+    return b"stmjournal 2 %04X" % chip.number

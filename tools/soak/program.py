@@ -3,62 +3,22 @@
 import re
 
 from device import CONNECT, CONNECTED, FRESH, GO, GONE, PROTECTIONS, Device
-from image import ImageFault, read_hex, read_raw
+from image import ImageFault, crc, read_hex, read_raw, write_hex
+from journal import Journal
 from rig import Rig, Stopped
 import session
 from session import Erase, Fault, Read, Verify, Write
+from use import Use
 from wire import WireFault
 
 KINDS = dict(zip(("write-unprotect", "readout-protect", "readout-unprotect"), PROTECTIONS))
+MOST_AGAIN = 1000
+OTHER_BOARD = "device is another board"
+NO_BOARD = "device tells no board"
 
 
 class Usage(Exception):
     pass
-
-
-class Use:
-    """One use of the program: a subcommand, its options and further words, by name."""
-
-    def __init__(self, name, **given):
-        self.name = name
-        self.force = given.pop("force", False)
-        self.verify = given.pop("verify", False)
-        self.range = given.pop("range", None)
-        self.image = given.pop("image", None)
-        self.pages = given.pop("pages", None)
-        self.all = given.pop("all", False)
-        self.count = given.pop("count", None)
-        self.address = given.pop("address", None)
-        self.kind = given.pop("kind", None)
-        self.stop = given.pop("stop", None)
-        self.number = given.pop("number", None)
-        assert not given
-
-    def words(self):
-        found = [self.name, "--table", "T", "--device", "sim:%s:F" % self.number, "--journal", "J"]
-        if self.stop is not None:
-            found += ["--stop", str(self.stop)]
-        if self.force:
-            found.append("-f")
-        if self.verify:
-            found.append("-v")
-        if self.range is not None:
-            start, length = self.range
-            found += ["-S", hex(start) + ("" if length is None else ":%d" % length)]
-        if self.all:
-            found.append("--all")
-        if self.name == "read":
-            found.append("OUT")
-        if self.image is not None:
-            found.append("I")
-        found += [str(page) for page in self.pages or []]
-        if self.count is not None:
-            found.append(str(self.count))
-        if self.address is not None:
-            found.append("0x%08X" % self.address)
-        if self.kind is not None:
-            found.append(self.kind)
-        return found
 
 
 class World:
@@ -71,44 +31,181 @@ class World:
     def copy(self):
         return World(self.table, dict(self.files))
 
+    def chip_of(self, number, name):
+        """The chip of the simulator whose flash has this name."""
+        chip = session.find(self.table, number)
+        text = self.files.get(name + ".board")
+        if text is None:
+            return chip.without_places()
+        board = read_board(text)
+        if board is None:
+            raise Fault("bad simulator file %s.board" % name)
+        return chip.of_board(*board)
+
     def device(self, use):
-        chip = session.find(self.table, int(use.number, 16))
-        flash = self.files.get("F", bytes([chip.erased]) * chip.size)
+        name = use.file
+        chip = self.chip_of(int(use.number, 16), name)
+        flash = self.files.get(name, bytes([chip.erased]) * chip.size)
         if len(flash) != chip.size:
-            raise Fault("bad simulator file F")
+            raise Fault("bad simulator file %s" % name)
         device = Device(chip, flash)
-        if not stand(device, self.files.get("F.line", b"fresh\n")):
-            raise Fault("bad simulator file F")
+        if not stand(device, self.files.get(name + ".line", b"fresh\n")):
+            raise Fault("bad simulator file %s" % name)
         return device
 
-    def store(self, rig):
-        self.files["F"] = bytes(rig.device.flash)
-        self.files["F.line"] = standing(rig.device)
+    def ask(self, rig, use):
+        """Which board the device is, or None where it isn't asked."""
+        if use.name in ("go", "protect"):
+            return None
+        if use.no_board or not session.find(self.table, int(use.number, 16)).has_places():
+            if use.board is not None:
+                raise Fault(NO_BOARD)
+            return None
+        journal = session.load(rig)
+        if use.name != "undo" and journal.is_unfinished():
+            raise Fault(session.UNFINISHED)
+        if use.name == "undo" and journal.depth() == 0:
+            return None
+        board = session.ask_board(rig, self.table, use.is_fresh)
+        if use.board is not None and not board.unique:
+            raise Fault(NO_BOARD)
+        if use.board is not None and not board.unique.hex().endswith(use.board.lower()):
+            raise Fault(OTHER_BOARD)
+        return board
+
+    def store(self, rig, name):
+        self.files[name] = bytes(rig.device.flash)
+        self.files[name + ".line"] = standing(rig.device)
         if len(rig.journal) > 0:
             self.files["J"] = bytes(rig.journal)
 
     def run(self, use):
-        """The exit status, standard output, standard error, and the rig where a device was opened."""
-        rig = None
+        """The exit status, standard output, standard error, and the rig of the first session, where there was one."""
         try:
             check_words(use)
             image = read_image(use, self.files.get("I"))
+            self.check_new(use)
+            if use.again is not None:
+                return self.run_again(use, image)
+            lines, fault, rig = self.once(use, image)
+        except FAULTS as failed:
+            lines, fault, rig = [], failed, None
+        return told(lines, fault, b""), rig
+
+    def check_new(self, use):
+        """The journal is moved to a name that isn't there yet, none of the others, and can be made."""
+        if use.to is not None and (use.to in self.files or use.to in others(use.file) or "/" in use.to):
+            raise Fault("cannot write %s" % use.to)
+
+    def once(self, use, image):
+        """One session, and what follows it: the lines of what was done, the fault or none, and the rig or none."""
+        rig, lines = None, []
+        try:
             rig = Rig(self.device(use), self.files.get("J", b""), use.stop)
             if use.name == "undo" and "J" not in self.files:
                 raise Fault("cannot read J")
-            out = do(rig, self.table, use, image, self.files)
-            said = 0, out, b""
-        except Usage as fault:
-            said = 2, b"", b"stmflash: usage: %s\n" % str(fault).encode()
-        except Stopped:
-            said = 3, b"", b"stmflash: stopped\n"
-        except WireFault:
-            said = 1, b"", b"stmflash: %s\n" % session.DEVICE.encode()
-        except (Fault, ImageFault) as fault:
-            said = 1, b"", b"stmflash: %s\n" % str(fault).encode()
+            board = self.ask(rig, use)
+            table = self.table if board is None else board.table(self.table)
+            lines.append(do(rig, table, use, image, self.files, use.is_fresh and board is None))
+            if use.name == "info" and board is not None:
+                lines.append(tell_board(board, session.find(table, board.number)))
+            if use.keeps():
+                lines.append(self.keep(rig, use.to))
+            if use.go is not None:
+                session.go(rig, use.go)
+            fault = None
+        except FAULTS as failed:
+            fault = failed
         if rig is not None:
-            self.store(rig)
-        return said, rig
+            self.store(rig, use.file)
+        return lines, fault, rig
+
+    def keep(self, rig, name):
+        """The journal is removed, or moved; that is no step."""
+        count = session.load(rig).depth()
+        if name is not None:
+            self.files[name] = bytes(rig.journal)
+        self.files.pop("J", None)
+        rig.journal.clear()
+        return b"kept %d\n" % count
+
+    def standing(self):
+        """How many segments the journal's file has, and whether the newest is unfinished."""
+        journal = session.load(Rig(None, self.files.get("J", b"")))
+        return journal.depth(), journal.is_unfinished()
+
+    def run_again(self, use, image):
+        """A write that is broken off is taken back and done again, each time in a session of its own."""
+        before, _ = self.standing()
+        err = b""
+        lines, fault, rig = self.once(use, image)
+        for turn in range(use.again):
+            if lines or not isinstance(fault, WireFault):
+                break
+            why = text(fault)
+            count = max(self.standing()[0] - before, 0)
+            stays, back = None, b"nothing was begun"
+            if count > 0:
+                undo = Use("undo", count=count, number=use.number, stop=use.stop, file=use.file, board=use.board,
+                           no_board=use.no_board)
+                _, stays, _ = self.once(undo, None)
+                back = b"taken back" if stays is None else b"not taken back: " + text(stays)
+            err += b"again %d of %d: %s; %s\n" % (turn + 1, use.again, why, back)
+            if stays is None:
+                lines, fault, _ = self.once(use, image)
+            else:
+                fault = stays
+        if fault is not None and not lines:
+            err += stands(before, *self.standing())
+        return told(lines, fault, err), rig
+
+
+FAULTS = (Usage, Stopped, WireFault, Fault, ImageFault)
+
+
+def text(fault):
+    """The program's words for a fault."""
+    if isinstance(fault, Usage):
+        return b"usage: %s" % str(fault).encode()
+    if isinstance(fault, Stopped):
+        return b"stopped"
+    return session.DEVICE.encode() if isinstance(fault, WireFault) else str(fault).encode()
+
+
+def told(lines, fault, err):
+    """The exit status, standard output and standard error."""
+    if fault is None:
+        return 0, b"".join(lines), err
+    status = 2 if isinstance(fault, Usage) else 3 if isinstance(fault, Stopped) else 1
+    return status, b"".join(lines), err + b"stmflash: %s\n" % text(fault)
+
+
+def stands(before, depth, is_unfinished):
+    if is_unfinished:
+        return b"stands: segment %d is unfinished, undo first\n" % depth
+    if depth > before:
+        return b"stands: segment %d, which can be undone\n" % depth
+    return b"stands: nothing of this write\n"
+
+
+def others(name):
+    """The names that no journal is moved to, also where no file has them."""
+    return "T", "I", "J", name, name + ".line"
+
+
+def read_board(text):
+    """What a simulator's file says of its board: its unique id or no byte, and how many KiB its flash has, or None. None where it
+    says something else."""
+    unique, kib = b"", None
+    for line in text.split(b"\n"):
+        found = re.fullmatch(rb"unique ((?:[0-9A-Fa-f]{2}){8,32})|size ([0-9]{1,5})", line)
+        if found is None and line:
+            return None
+        if line.startswith(b"unique"):
+            unique = bytes.fromhex(found[1].decode())
+        elif line:
+            kib = int(found[2])
+    return unique, kib
 
 
 def stand(device, line):
@@ -143,8 +240,20 @@ def standing(device):
 
 
 def check_words(use):
+    if use.board is not None and not re.fullmatch("[0-9A-Fa-f]{1,64}", use.board):
+        raise Usage("bad board %s" % use.board)
+    if use.board is not None and use.no_board:
+        raise Usage("give --board or --no-board, not both")
     if use.name == "erase" and bool(use.pages) == use.all:
         raise Usage("give pages or --all")
+    if use.again is not None and not 1 <= use.again <= MOST_AGAIN:
+        raise Usage("bad number %d" % use.again)
+    if use.go is not None and not use.keeps():
+        raise Usage("--go needs --keep or --keep-to")
+    if use.skip_blank and not use.is_hex():
+        raise Usage("--skip-blank needs HEX")
+    if use.name == "crc" and use.range is not None and (use.range[0] % 4 or (use.range[1] or 0) % 4):
+        raise Usage("%s is not whole words of 4 bytes" % use.range_word())
 
 
 def read_image(use, text):
@@ -173,13 +282,27 @@ def tell(chip, version, codes):
         " ".join("%02X" % code for code in codes))).encode()
 
 
-def do(rig, table, use, image, files):
+def tell_board(board, chip):
+    """What `info` prints behind that, where the device was asked."""
+    found = b""
+    if board.unique:
+        found += b"board %s\n" % board.unique.hex().upper().encode()
+    if board.kib is not None:
+        size = 1024 * board.kib
+        beside = ", more than the pages" if size > chip.size else ", less than the pages" if size < chip.size else ""
+        found += b"flash %d KiB%s\n" % (board.kib, beside.encode())
+    return found
+
+
+def do(rig, table, use, image, files, is_fresh):
     """What is printed."""
     if use.name == "info":
         return tell(*session.info(rig, table))
     if use.name == "read":
-        files["OUT"] = read(rig, table, use)
+        files[use.out] = read_out(rig, table, use)
         return b""
+    if use.name == "crc":
+        return b"crc %08X\n" % crc(read(rig, table, use)[1])
     if use.name in ("write", "verify"):
         return use_image(rig, table, use, image)
     if use.name == "erase":
@@ -187,7 +310,7 @@ def do(rig, table, use, image, files):
         (segment, count), = session.run(rig, table, [Erase(pages)])
         return b"segment %d: %d pages erased\n" % (segment, count)
     if use.name == "undo":
-        return b"undone %d\n" % session.undo(rig, table, use.count or 0)
+        return b"undone %d\n" % session.undo(rig, table, use.count or 0, is_fresh)
     if use.name == "go":
         session.go(rig, use.address)
     else:
@@ -196,15 +319,26 @@ def do(rig, table, use, image, files):
 
 
 def read(rig, table, use):
+    """Where the part begins, its bytes, and what an erased place holds where `info` told it."""
     start, length = use.range or (None, None)
-    if length is None:
+    chip = None
+    if length is None or use.name == "read" and use.is_hex():
         chip = session.info(rig, table)[0]
+    if length is None:
         if start is None:
             start = chip.base
         if not chip.has(start, 1):
             raise Fault(session.OUT_OF_FLASH)
         length = chip.base + chip.size - start
-    return session.run(rig, table, [Read(start, length)])[0]
+    return start, session.run(rig, table, [Read(start, length)])[0], chip and chip.erased
+
+
+def read_out(rig, table, use):
+    """What OUT holds then."""
+    start, data, erased = read(rig, table, use)
+    if not use.is_hex():
+        return data
+    return write_hex(read_raw(data, start), erased if use.skip_blank else None)
 
 
 def use_image(rig, table, use, image):

@@ -17,6 +17,7 @@ UNFINISHED = "unfinished command, undo first"
 OUT_OF_FLASH = "address outside the flash"
 IN_SESSION = "journal is open, refused"
 OTHER_DEVICE = "journal belongs to another device"
+OTHER_BOARD = "journal is of another board"
 NO_ERASE = "no erase command"
 FULL = "journal is full"
 DEVICE = "device does not follow the protocol"
@@ -61,9 +62,47 @@ def find(table, number):
     raise Fault("unknown chip %04X" % number)
 
 
-def check_fits(journal, chip):
-    """The least line that this chip can't have: a page that it hasn't, or of another size; on a chip with a page 257 page 1
-    without it; a header of version 1 where there are more than 256 pages."""
+class Board:
+    """What a device told: its number, its unique id or no byte, and how many KiB its flash has, or None."""
+
+    def __init__(self, number, unique, kib):
+        self.number = number
+        self.unique = unique
+        self.kib = kib
+
+    def table(self, table):
+        """The table for its session."""
+        return [chip.of_board(self.unique, self.kib) if chip.number == self.number else chip for chip in table]
+
+
+def ask_board(rig, table, is_fresh):
+    """The question before a session, of a device that is settled as the session will."""
+    journal = load(rig)
+    if journal.is_unfinished():
+        settle_by(rig, journal, find(table, journal.number), is_fresh)
+    else:
+        wire.settle(rig, CONNECT)
+    wire.get_commands(rig)
+    number = wire.get_id(rig)
+    unique, kib = None, None
+    for chip in table:
+        if chip.number == number and chip.unique_at is not None:
+            unique = wire.read_unless_refused(rig, *chip.unique_at)
+        if chip.number == number and chip.size_at is not None:
+            kib = wire.read_unless_refused(rig, chip.size_at, 2)
+    if unique is None or set(unique) in ({0x00}, {0xFF}):
+        unique = b""
+    if kib in (None, b"\x00\x00", b"\xff\xff"):
+        return Board(number, unique, None)
+    return Board(number, unique, int.from_bytes(kib, "little"))
+
+
+def check_of(journal, chip):
+    """The journal is of no other board, and there is no line that this chip can't have, of which the least is told: a page that it
+    hasn't, or of another size; on a chip with a page 257 page 1 without it; a header of version 1 where there are more than 256
+    pages."""
+    if journal.is_of_other(chip.unique):
+        raise Fault(OTHER_BOARD)
     bad = []
     if chip.pages() > 256 and journal.version == 1:
         bad.append(journal.header_line)
@@ -88,7 +127,7 @@ def open_session(rig, table):
     if journal.number is not None and journal.number != number:
         raise Fault(OTHER_DEVICE)
     chip = find(table, number)
-    check_fits(journal, chip)
+    check_of(journal, chip)
     return journal, chip, version, codes
 
 
@@ -188,7 +227,7 @@ def change(rig, journal, chip, command):
     """A Write or an Erase, as one segment. Its number, and how many pages were changed."""
     rig.begin("open line")
     segment = journal.depth() + 1
-    journal.add(rig, b"open %d" % segment, chip.number)
+    journal.add(rig, b"open %d" % segment, chip)
     count = 0
     if isinstance(command, Write):
         pages = touched(chip, command.image)
@@ -255,16 +294,25 @@ def settling_limit(chip, intent):
     return wire.SHORT_LIMIT if intent is not None and chip.erase_code() == ERASE else wire.LIMIT
 
 
-def undo(rig, table, count):
+def settle_by(rig, journal, chip, is_fresh):
+    """By the journal's intent, as a device of this chip; one that is said to be fresh from reset is connected."""
+    intent = journal.intent()
+    if intent is not None and is_fresh:
+        wire.connect_alone(rig)
+    else:
+        wire.settle(rig, settling_byte(intent), settling_limit(chip, intent), in_batches=intent is not None)
+
+
+def undo(rig, table, count, is_fresh=False):
     """How many segments were taken back: the newest so many, or all where that is 0 or more than there are."""
     journal = load(rig)
     depth = journal.depth()
     if depth == 0:
         return 0
     chip = find(table, journal.number)
-    check_fits(journal, chip)
+    check_of(journal, chip)
     work = journal.intent()
-    wire.settle(rig, settling_byte(work), settling_limit(chip, work), in_batches=work is not None)
+    settle_by(rig, journal, chip, is_fresh)
     _, codes = wire.get_commands(rig)
     if chip.erase_code() not in codes:
         raise Fault(NO_ERASE)

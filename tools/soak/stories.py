@@ -1,47 +1,10 @@
-"""Random chips, flashes, images and uses, drawn from one source of chance a story."""
+"""Random images and uses, drawn from one source of chance a story."""
 
-from device import Chip
-from program import KINDS, Use
+from program import KINDS, Use, others
 
-SIZES = (256, 256, 256, 512, 768, 1024, 2048)
-COUNTS = (1, 2, 3, 4, 8, 16, 32, 128, 255, 256)
-MORE_COUNTS = COUNTS + (257, 258, 259, 300, 512, 512)
-GREATEST_FLASH = 131072
 TOP = 1 << 32
+NAMES = ("info", "read", "crc", "write", "write", "write", "write", "verify", "erase", "erase", "undo", "undo")
 MARKED_PAGES = (0, 1, 2, 5, 127, 128, 255, 256, 257, 258, 259, 511)
-
-
-def draw_sizes(chance, extended):
-    count = chance.choice(MORE_COUNTS if extended else COUNTS)
-    if count > 32 or chance.random() < 0.5:
-        return [256 if count > 128 else chance.choice(SIZES[:5])] * count
-    return [chance.choice(SIZES) for _ in range(count)]
-
-
-def draw_chip(chance, number):
-    extended = chance.random() < 0.5
-    sizes = draw_sizes(chance, extended)
-    while sum(sizes) > GREATEST_FLASH:
-        sizes.pop()
-    last = TOP - sum(sizes)
-    base = chance.choice((0x08000000, 0x08000000, 0x01000000, last, chance.randrange(0x01000000, last + 1) // 256 * 256))
-    return Chip(number, base, sizes, extended, chance.choice((0xFF, 0x00)))
-
-
-def table_text(chance, chips):
-    text = ""
-    for chip in chips:
-        runs = []
-        for size in chip.sizes:
-            if runs and runs[-1][1] == size and chance.random() < 0.95:
-                runs[-1][0] += 1
-            else:
-                runs.append([1, size])
-        text += "[[chip]]\nid = 0x%X\nbase = 0x%08X\npages = %s\n" % (chip.number, chip.base, runs)
-        text += 'erase = "%s"\n' % ("extended" if chip.extended else "page")
-        if chip.erased != 0xFF or chance.random() < 0.3:
-            text += "erased = %d\n" % chip.erased
-    return text.encode()
 
 
 def draw_content(chance, chip, length):
@@ -57,16 +20,6 @@ def draw_content(chance, chip, length):
         end = min(length, at + chance.randrange(300))
         found[at:end] = bytes([chip.erased]) * (end - at) if kind < 4 else chance.randbytes(end - at)
     return bytes(found)
-
-
-def draw_flash(chance, chip):
-    """None is a missing file."""
-    kind = chance.randrange(6)
-    if kind == 0:
-        return None
-    if kind < 3:
-        return draw_content(chance, chip, chip.size)
-    return b"".join(draw_content(chance, chip, size) for size in chip.sizes)
 
 
 def draw_page(chance, chip):
@@ -169,18 +122,35 @@ def draw_image(chance, chip, flash):
     return text, {"force": chance.random() < 0.8, "range": (start, length)}
 
 
-def draw_read(chance, chip):
+def draw_part(chance, chip):
+    """A part of the flash by its range; none is all of it."""
     kind = chance.randrange(10)
     if kind == 0 and chip.size <= 32768:
-        return Use("read")
+        return None
     start = draw_address(chance, chip)
     left = chip.base + chip.size - start
     if kind == 1 and 0 < left <= 4096:
-        return Use("read", range=(start, None))
+        return start, None
     length = draw_length(chance)
     if kind != 2:
         length = max(min(length, left), 0)
-    return Use("read", range=(start, length))
+    return start, length
+
+
+def draw_read(chance, chip):
+    out = chance.choice(("OUT", "OUT", "OUT.hex"))
+    as_hex = chance.random() < 0.3
+    blank = chance.random() < (0.5 if as_hex or out == "OUT.hex" else 0.02)
+    return Use("read", range=draw_part(chance, chip), out=out, hex=as_hex, skip_blank=blank)
+
+
+def draw_crc(chance, chip):
+    """Mostly whole words."""
+    part = draw_part(chance, chip)
+    if part is not None and chance.random() < 0.9:
+        start, length = part
+        part = start // 4 * 4, length and length // 4 * 4
+    return Use("crc", range=part)
 
 
 def draw_erase(chance, chip):
@@ -200,12 +170,53 @@ def draw_leave(chance, chip):
     return Use("protect", kind=chance.choice(sorted(KINDS)))
 
 
-def draw_use(chance, chip, flash, unfinished, allowed):
-    """A use, and the image's file where it has one."""
+def draw_sequel(chance, chip, is_gone, name):
+    """What follows a write: nothing most of the time. To a device that is gone it is often to be done again, but once: a session
+    with it settles to the end."""
+    found = {}
+    if chance.random() < (0.8 if is_gone else 0.12):
+        found["again"] = 1 if is_gone else chance.choice((0, 1001, 1, 2, 1000))
+    kind = chance.random()
+    if kind < 0.15:
+        found["keep"] = True
+    if 0.12 < kind < 0.35:
+        found["to"] = chance.choice(("K",) * 20 + others(name) + ("none/K",))
+    if chance.random() < (0.5 if kind < 0.35 else 0.01):
+        found["go"] = chance.choice((chip.base, chip.base, draw_address(chance, chip)))
+    return found
+
+
+def draw_wanted(chance, chip):
+    """The digits of a board that is wanted: those of this one, or its last ones, or others."""
+    digits = chip.unique.hex() or "%024x" % chance.getrandbits(96)
+    kind = chance.random()
+    if kind < 0.7:
+        found = digits[chance.choice((0, 0, -1, -2, -8, chance.randrange(len(digits)))):]
+    elif kind < 0.97:
+        found = chance.choice((digits[:-1], "0" + digits, digits[:-1] + "%x" % (int(digits[-1], 16) ^ 1), digits[:6], digits * 4))
+    else:
+        found = chance.choice(("", "0x" + digits, "g", digits + " "))
+    return chance.choice((found, found.upper(), found.lower()))
+
+
+def draw_use(chance, chip, flash, unfinished, is_gone, allowed, name):
+    """A use of the simulator of this name, and the image's file where it has one."""
+    use, image = draw_task(chance, chip, flash, unfinished, is_gone, allowed, name)
+    use.file = name
+    if use.name not in ("go", "protect"):
+        if chance.random() < 0.12:
+            use.board = draw_wanted(chance, chip)
+        use.no_board = chance.random() < (0.02 if use.board is not None else 0.05)
+    return use, image
+
+
+def draw_task(chance, chip, flash, unfinished, is_gone, allowed, file):
     if unfinished and chance.random() < 0.75:
         name = "undo"
+    elif is_gone and chance.random() < 0.5:
+        name = "write"
     else:
-        name = chance.choice(("info", "read", "write", "write", "write", "write", "verify", "erase", "erase", "undo", "undo"))
+        name = chance.choice(NAMES)
         if chance.random() < 0.03:
             name = "leave"
     if allowed is not None and name not in allowed:
@@ -214,6 +225,8 @@ def draw_use(chance, chip, flash, unfinished, allowed):
         return Use("info"), None
     if name == "read":
         return draw_read(chance, chip), None
+    if name == "crc":
+        return draw_crc(chance, chip), None
     if name == "erase":
         return draw_erase(chance, chip), None
     if name == "undo":
@@ -221,58 +234,6 @@ def draw_use(chance, chip, flash, unfinished, allowed):
     if name == "leave":
         return draw_leave(chance, chip), None
     text, given = draw_image(chance, chip, flash)
-    return Use(name, image="I", verify=name == "write" and chance.random() < 0.3, **given), text
-
-
-def draw_rest(chance, chip):
-    """What a device may have been left with, by this host or another: the start of some frame; seldom no such thing."""
-    base = chip.base.to_bytes(4, "big")
-    check = base[0] ^ base[1] ^ base[2] ^ base[3]
-    code = chip.erase_code()
-    frames = (
-        bytes([0x11, 0xEE]) + base + bytes([check, 3]),
-        bytes([0x31, 0xCE]) + base + bytes([check, 3, 1, 2, 3]),
-        bytes([code, code ^ 0xFF]) + bytes([0, 0, 0, 0] if chip.extended else [0, 1]),
-        bytes([code, code ^ 0xFF]) + bytes([0, 1, 0, 2] if chip.extended else [3, 1]),
-        bytes([chance.randrange(256)]),
-        chance.randbytes(chance.randrange(1, 5)),
-    )
-    frame = chance.choice(frames)
-    return frame[:chance.randrange(1, len(frame) + 1)]
-
-
-def draw_line(chance, chip):
-    """None is a missing file, a device that was reset."""
-    kind = chance.random()
-    if kind < 0.6:
-        return None
-    if kind < 0.75:
-        return b"idle\n"
-    if kind < 0.8:
-        return b"fresh\n"
-    if kind < 0.805:
-        return b"gone\n"
-    if kind < 0.82:
-        return chance.choice((b"rest \n", b"idle", b"rest 1\n", b"", b"rest 11ee\n", b"idle\n\n", b"rest 11EEFF\n"))
-    return b"rest %s\n" % draw_rest(chance, chip).hex().upper().encode()
-
-
-def draw_journal(chance, chip):
-    """None is a missing file. Mostly a session begins with no journal."""
-    kind = chance.random()
-    if kind < 0.85:
-        return None
-    if kind < 0.92:
-        return b"stmjournal 1 %04X\n" % chip.number
-    return chance.choice((
-        b"",
-        b"stmjournal 2 %04X\n" % chip.number,
-        b"stmjournal 2 %04X\n" % (chip.number ^ 1),
-        b"stmjournal 3 %04X\n" % chip.number,
-        b"stmjournal 2 %04X\nopen 1\npage 0 FF\nend 1\n" % chip.number,
-        b"stmjournal 2 %04X\nopen 1\npage 1 %s\nend 1\n" % (chip.number, b"00" * chip.sizes[-1]),
-        b"stmjournal 1 %04X\nopen 1\npage 0 %s" % (chip.number, b"FF" * (chip.sizes[0] // 2)),
-        b"stmjournal 2 %04X\nopen 2\n" % chip.number,
-        b"torn",
-        b"a void line!\n",
-    ))
+    if name == "write":
+        given.update(draw_sequel(chance, chip, is_gone, file), verify=chance.random() < 0.3)
+    return Use(name, image="I", **given), text

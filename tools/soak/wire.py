@@ -67,6 +67,15 @@ def connect(rig, byte):
         raise WireFault()
 
 
+def connect_alone(rig):
+    """7F once, for a device that is fresh."""
+    rig.begin("settle")
+    rig.put(CONNECT)
+    if rig.get() != ACK:
+        raise WireFault()
+    drain(rig)
+
+
 def send(rig, frame):
     """A step of a frame: its bytes, and the acknowledgement."""
     for byte in frame:
@@ -118,6 +127,20 @@ def read(rig, address, length):
     send(rig, pair(READ))
     send(rig, checked(address.to_bytes(4, "big")))
     send(rig, pair(length - 1))
+    return bytes(take(rig) for _ in range(length))
+
+
+def read_unless_refused(rig, address, length):
+    """The bytes, or None where the device refuses a step of the frame."""
+    rig.begin("board")
+    for step in (pair(READ), checked(address.to_bytes(4, "big")), pair(length - 1)):
+        for byte in step:
+            rig.put(byte)
+        reply = rig.get()
+        if reply == NACK:
+            return None
+        if reply != ACK:
+            raise WireFault()
     return bytes(take(rig) for _ in range(length))
 
 

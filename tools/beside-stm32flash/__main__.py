@@ -1,0 +1,226 @@
+#!/usr/bin/env python3
+"""line/stm32flash beside the real stm32flash: the same words, each on a simulator of its own with the same flash.
+
+    python3 tools/beside-stm32flash PROGRAM [--sample N] [--kills N] [--seed TEXT] [--jobs N] [--show]
+
+PROGRAM is a stmflash. Compared are the status, the flash afterwards, what was read, and what is printed but for numbers, names and
+progress. docs/SWITCH.md has a row for each call that differs: the rows have to be just those that do.
+
+--sample N   N of the calls, evenly spread; all without it
+--kills N    also kills each of three scripts at N moments, drawn from --seed: the next call has to give the flash back, or to go
+             on, as it says; by turns it is one that does nothing and the script once more. --undo gives back what went through
+--show       prints of each call what differs, and both texts; of each kill what came of it
+
+Left out, with a word, where Debian's stm32flash or python3-serial isn't installed.
+"""
+
+import argparse
+import concurrent.futures
+import os
+import random
+import re
+import shlex
+import shutil
+import subprocess
+import sys
+import tempfile
+
+sys.dont_write_bytecode = True
+sys.path.insert(0, os.path.dirname(os.path.abspath(__file__)))
+
+from kills import kills
+from room import CHIP, PAGE_SIZE, SIZE, TOP, Room, images
+
+PAGE = os.path.join(TOP, "docs", "SWITCH.md")
+# `<` gives fw.bin on standard input
+CALLS = """
+(none)
+-h
+-b 115200
+-b 12345
+-m 9e1
+-r out
+-r out -S 0x08000010:100
+-r out -S 0x08007ff0:100
+-r out -s 2 -e 3
+-r out -s 32
+-r out -s 33
+-r - -S 0x08000000:64
+-r none/out
+-r out -v
+-r out -w fw.bin
+-r out -S 0x20000000:64
+-r out -S abc
+-r out -F 256:257
+-r out -F 20:6
+-r out -F 10
+-w full.bin
+-w full.bin -v
+-w fw.bin -v
+-w fw.hex -v
+-w at400.hex -v
+-w at0.hex
+-w bad.hex
+-w bad.hex -f -v
+-w long.bin
+-w empty.bin
+-w none.bin
+-w full.bin -v -n 3
+-w full.bin -S 0x08002000
+-w full.bin -S 0x08002000:1024 -v
+-w full.bin -S 0x08002004
+-w full.bin -S 0x08008000
+-w full.hex -S 0x08001000 -v
+-w full.bin -s 2
+-w full.bin -e 1
+-w full.bin -e 0
+-w full.bin -s 2 -S 0x08000000
+-w - -S 0x08001000:2048 <
+-w full.bin -v -g 0x0
+-w full.bin -v -g 0x08000000 -R
+-w full.bin -R
+-g 0x0
+-g 0x3
+-g 0x20000000
+-o
+-o -v
+-o -s 2 -e 3
+-o -e 0
+-o -s 31 -e 5
+-o -S 0x08000400:2048
+-o -S 0x08000400:1000
+-o -w fw.bin
+-C
+-C -S 0x08000000:1024
+-C -S 0x08000000:1023
+-C -s 1 -e 2
+-u
+-j
+-k
+-u -j
+-R
+-c
+-i rts
+-i foo
+-i 5
+-Z
+""".strip().split("\n")
+# lines of every call that tells the device which ours doesn't have: what the bootloader isn't asked for, and what no table has
+LEFT_OUT = re.compile(r"Option [12] |- (RAM|Option RAM|System RAM) ")
+# a chip's name is another table's
+NUMBER, NAME = re.compile("0x[0-9a-fA-F]+|[0-9]+"), re.compile(rf"(?<=0x{CHIP} )\(.*\)")
+PROGRESS = re.compile(r"\r?(Wrote|Wrote and verified|Read|CRC) address 0x[0-9a-f]+ \([0-9.]+%\) ")
+
+
+def lines(result, words):
+    """What was printed, without numbers, names, progress, blank lines and the usage."""
+    said = []
+    for stream in ("out", "err"):
+        data = result[stream]
+        if stream == "out" and "-r - " in " ".join(words) + " ":
+            said.append(data.hex())
+            continue
+        for line in PROGRESS.sub("", data.decode(errors="replace")).split("\n"):
+            if line.startswith("Usage:"):
+                break
+            line = line.strip()
+            if line and not LEFT_OUT.match(line):
+                said.append(f"{stream} {NUMBER.sub('#', NAME.sub('()', line))}")
+    return said
+
+
+def differences(first, theirs, ours, words):
+    """What differs: `status A B`, `flash`, or `rest` where ours has left what theirs has erased, and `text`."""
+    found = set()
+    if theirs["status"] != ours["status"]:
+        found.add(f"status {theirs['status']} {ours['status']}")
+    if theirs["flash"] != ours["flash"]:
+        places = [i for i in range(SIZE) if theirs["flash"][i] != ours["flash"][i]]
+        rest = all(theirs["flash"][i] == 0xFF and ours["flash"][i] == first[i] for i in places)
+        # a page that ours has left as it was, whole, wasn't written by it
+        pages = {i // PAGE_SIZE for i in places}
+        written = all(first[n * PAGE_SIZE:(n + 1) * PAGE_SIZE] != ours["flash"][n * PAGE_SIZE:(n + 1) * PAGE_SIZE] for n in pages)
+        found.add("rest" if rest and written else "flash")
+    if theirs["read"] != ours["read"]:
+        found.add("read")
+    if lines(theirs, words) != lines(ours, words):
+        found.add("text")
+    return found
+
+
+def compare(program, source, call, show):
+    room, words = Room(program, source), shlex.split(call)
+    try:
+        theirs, ours = room.real(words), room.ours(words)
+        found = differences(room.held("first"), theirs, ours, words)
+        if show:
+            texts = [[line for line in lines(one, words) if line not in lines(other, words)]
+                     for one, other in ((theirs, ours), (ours, theirs))]
+            print(f"{call}: {', '.join(sorted(found)) or 'alike'}\n    theirs {texts[0]}\n    ours   {texts[1]}", flush=True)
+        return found
+    except (OSError, subprocess.SubprocessError) as error:
+        return {f"no end: {error}"}
+    finally:
+        room.end()
+
+
+def told():
+    """What docs/SWITCH.md says of each call: the calls are the first column of its table, what differs the second."""
+    found = {}
+    with open(PAGE, encoding="utf-8") as page:
+        for row in re.findall(r"^\| (`.*?) \| ([^|]*) \|", page.read(), re.M):
+            for call in re.findall("`([^`]*)`", row[0]):
+                found.setdefault(call, set()).update(part.strip() for part in row[1].split(","))
+    return found
+
+
+def check_table(found):
+    """Each fault of the table: a row too many, one too few, another difference."""
+    rows = told()
+    faults = [f"{call}: is in the table, and isn't tried" for call in rows if call not in CALLS]
+    for call, kinds in found.items():
+        if kinds != rows.get(call, set()):
+            wanted = sorted(rows.get(call, ())) or "nothing"
+            faults.append(f"{call}: differs in {sorted(kinds) or 'nothing'}, and the table says {wanted}")
+    return faults
+
+
+def missing():
+    if shutil.which("stm32flash") is None:
+        return "stm32flash"
+    if subprocess.run(["/usr/bin/python3", "-c", "from serial import Serial"], stderr=subprocess.DEVNULL).returncode:
+        return "python3-serial"
+    return None
+
+
+def main():
+    words = argparse.ArgumentParser(description=__doc__, formatter_class=argparse.RawDescriptionHelpFormatter)
+    words.add_argument("program")
+    words.add_argument("--sample", type=int, metavar="N")
+    words.add_argument("--kills", type=int, default=0, metavar="N")
+    words.add_argument("--seed", default=str(random.SystemRandom().randrange(1000000)))
+    words.add_argument("--jobs", type=int, default=os.cpu_count() or 1, metavar="N")
+    words.add_argument("--show", action="store_true")
+    given = words.parse_args()
+    if lacking := missing():
+        print(f"left out: our stm32flash wasn't tried beside the real one, there is no {lacking}")
+        return 0
+    program = os.path.abspath(given.program)
+    sample = min(given.sample if given.sample is not None else len(CALLS), len(CALLS))
+    calls = [CALLS[i * len(CALLS) // sample] for i in range(sample)]
+    with tempfile.TemporaryDirectory(prefix="beside-") as source, concurrent.futures.ThreadPoolExecutor(given.jobs) as pool:
+        images(source)
+        begun = {call: pool.submit(compare, program, source, call, given.show) for call in calls}
+        found = {call: one.result() for call, one in begun.items()}
+        faults = check_table(found)
+        killed, wrong = kills(pool, program, source, given.kills, given.seed, given.show) if given.kills else ("", [])
+    for fault in faults + wrong:
+        print("FAILED: " + fault)
+    alike = sum(not kinds for kinds in found.values())
+    print(f"beside stm32flash: {len(calls)} calls, {alike} alike, the others as docs/SWITCH.md says{killed}: "
+          f"{len(faults + wrong)} faults")
+    return 1 if faults or wrong else 0
+
+
+if __name__ == "__main__":
+    sys.exit(main())

@@ -1,0 +1,125 @@
+"""A folder of one call's own, with images and a board of each kind."""
+
+import os
+import random
+import shutil
+import subprocess
+import sys
+import tempfile
+import time
+
+TOP = os.path.dirname(os.path.dirname(os.path.dirname(os.path.abspath(__file__))))
+sys.dont_write_bytecode = True
+sys.path.insert(0, os.path.join(TOP, "line"))
+
+from pty_boards import PtyBoard
+
+OURS, SHIM = os.path.join(TOP, "line", "stm32flash"), os.path.join(TOP, "tools", "stm32flash-shim")
+TABLE = os.path.join(TOP, "chips.toml")
+CHIP, SIZE, PAGE_SIZE, PATIENCE = "0412", 32768, 1024, 200
+
+
+def plain(words):
+    return [word for word in words if word not in ("<", "(none)")]
+
+
+def mode(words):
+    # a pseudo-terminal keeps no parity, which the real one looks at
+    return [] if "-m" in words else ["-m", "8n1"]
+
+
+def images(folder):
+    """The files that calls name, and the flash at first."""
+    chance = random.Random(5)
+
+    def store(name, data):
+        with open(os.path.join(folder, name), "wb") as file:
+            file.write(data)
+        return data
+    full = store("full.bin", chance.randbytes(3 * PAGE_SIZE))
+    part = store("fw.bin", chance.randbytes(3000))
+    store("slow.bin", chance.randbytes(5000))
+    store("long.bin", chance.randbytes(SIZE + 1))
+    store("empty.bin", b"")
+    store("bad.hex", b":0400000001020304F3\n:00000001FF\n")
+    for name, data, at in (("full.hex", full, 0x08000000), ("fw.hex", part, 0x08000000), ("at400.hex", part, 0x08000400),
+                           ("at0.hex", part, 0)):
+        store(name, hex_text(data, at))
+    return store("first", chance.randbytes(SIZE))
+
+
+def hex_text(data, at):
+    def record(kind, offset, held):
+        whole = bytes([len(held)]) + offset.to_bytes(2, "big") + bytes([kind]) + held
+        return b":" + (whole + bytes([-sum(whole) % 256])).hex().upper().encode() + b"\n"
+    lines = [record(4, 0, (at >> 16).to_bytes(2, "big"))] if at >> 16 else []
+    lines += [record(0, (at + i) % 65536, data[i:i + 16]) for i in range(0, len(data), 16)]
+    return b"".join(lines) + record(1, 0, b"")
+
+
+class Room:
+    """A folder of one call's own, with the images, and a board of each kind."""
+
+    def __init__(self, program, source):
+        self.program = program
+        self.folder = tempfile.mkdtemp(prefix="beside-")
+        for name in os.listdir(source):
+            shutil.copy(os.path.join(source, name), self.folder)
+
+    def path(self, name):
+        return os.path.join(self.folder, name)
+
+    def store(self, name, data):
+        with open(self.path(name), "wb") as file:
+            file.write(data)
+
+    def held(self, name):
+        if not os.path.exists(self.path(name)):
+            return None
+        with open(self.path(name), "rb") as file:
+            return file.read()
+
+    def given(self, words):
+        return self.held("fw.bin") if words[-1:] == ["<"] else b""
+
+    def real(self, words):
+        """The real one with these words: status, standard output and error, flash, and what it read."""
+        shutil.copy(self.path("first"), self.path("real"))
+        simulator = subprocess.Popen([self.program, "sim", "--table", TABLE, "--id", CHIP, "--flash", "real", "--socket", "board",
+                                      "--clients", "1"], cwd=self.folder, stdin=subprocess.DEVNULL)
+        while not os.path.exists(self.path("board")):
+            time.sleep(0.01)
+        ran = subprocess.run([sys.executable, SHIM, "board", "stm32flash", *mode(words), *plain(words)], cwd=self.folder,
+                             input=self.given(words), capture_output=True, timeout=PATIENCE)
+        simulator.wait(PATIENCE)
+        return self.result(ran, self.held("real"))
+
+    def board(self, **more):
+        shutil.copy(self.path("first"), self.path("port.flash"))
+        os.makedirs(self.path("bin"), exist_ok=True)
+        if not os.path.exists(self.path("bin/stmflash")):
+            os.symlink(self.program, self.path("bin/stmflash"))
+        return PtyBoard(self.program, self.path("port"), CHIP, TABLE, **more)
+
+    def settings(self):
+        return {**os.environ, "PATH": self.path("bin") + ":" + os.environ["PATH"], "XDG_STATE_HOME": self.path("state"),
+                "STMFLASH_TABLE": TABLE, "STMFLASH_WAIT": "100"}
+
+    def ours(self, words):
+        """The same of ours."""
+        board = self.board()
+        try:
+            ran = subprocess.run([OURS, *mode(words), *plain(words), self.path("port")], cwd=self.folder, input=self.given(words),
+                                 capture_output=True, timeout=PATIENCE, env=self.settings())
+            return self.result(ran, board.store())
+        finally:
+            board.stop()
+
+    def result(self, ran, flash):
+        read = self.held("out")
+        if read is not None:
+            os.remove(self.path("out"))
+        return {"status": ran.returncode, "out": ran.stdout, "err": ran.stderr, "flash": flash, "read": read}
+
+    def end(self):
+        shutil.rmtree(self.folder, ignore_errors=True)

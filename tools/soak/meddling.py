@@ -1,0 +1,85 @@
+"""What others do between two uses of the program."""
+
+import beginnings
+
+
+def meddle(story):
+    """What others do between two uses: a reset of the device, and seldom something that breaks a premise."""
+    chance = story.chance
+    if "K" in story.world.files and chance.random() < 0.7:
+        put_back(story)
+    for name in ("F", "G"):
+        # a device that is gone answers nothing before it is reset
+        if chance.random() < (0.7 if story.is_gone(name) else 0.2):
+            story.counts["reset"] += name + ".line" in story.world.files
+            story.tell("(reset of %s)" % name)
+            story.remove(name + ".line")
+    journal = story.journal()
+    if chance.random() < (0.5 if journal is not None and journal.is_unfinished() else 0.1):
+        lose_power(story)
+    if chance.random() < 0.02:
+        story.tell("(a torn tail)")
+        story.write("J", story.world.files.get("J", b"") + chance.choice((b"page 3 FF0", b"und", b"open", b"x" * 40)))
+    if chance.random() < 0.02:
+        spoil(story)
+
+
+def put_back(story):
+    """The journal that was moved is one again, in the place of what is there."""
+    story.tell("(the journal that was moved is put back)")
+    story.counts["put back"] += 1
+    story.write("J", story.world.files["K"])
+    story.remove("K")
+    story.before = story.aside
+
+
+def lose_power(story):
+    """The device loses its power, it may be inside an erase or a write: it is reset, and pages that the unfinished newest segment
+    keeps hold any bytes."""
+    chance = story.chance
+    name = story.home
+    chip = story.chips[name]
+    journal = story.journal()
+    risked = journal.risked_pages() if journal is not None else []
+    lost = [page for page in risked if page < chip.pages() and chance.random() < 0.7]
+    held = bytearray(story.flash(name))
+    for page in lost:
+        part = chip.part(page)
+        kind = chance.randrange(3)
+        if kind == 0:
+            held[part] = chance.randbytes(chip.sizes[page])
+        elif kind == 1:
+            held[part] = bytes(byte & chance.randrange(256) for byte in held[part])
+        else:
+            held[part] = bytes([chip.erased]) * chip.sizes[page]
+    story.tell("(%s without power, pages %s)" % (name, lost))
+    story.counts["without power"] += name + ".line" in story.world.files
+    story.counts["pages lost"] += len(lost)
+    if lost:
+        story.write(name, bytes(held))
+    story.remove(name + ".line")
+
+
+def spoil(story):
+    chance = story.chance
+    name = story.home
+    kind = chance.randrange(5)
+    story.tell("(meddled with, %d)" % kind)
+    story.before = None
+    text = story.world.files.get("J", b"")
+    if kind == 0:
+        story.remove("J")
+    elif kind == 1:
+        story.write("J", text + b"a bad line\n")
+    elif kind == 2 and text:
+        story.write("J", text[:chance.randrange(len(text))])
+    elif kind == 3:
+        held = bytearray(story.flash(name))
+        held[chance.randrange(len(held))] ^= 0x55
+        story.write(name, bytes(held))
+    else:
+        line = beginnings.draw_line(chance, story.chips[name])
+        if line is None:
+            story.remove(name + ".line")
+        else:
+            story.write(name + ".line", line)

@@ -1,0 +1,178 @@
+"""A program that goes wrong in one way, over the right one: `stand_in.py NAME PROGRAM WORDS..`, run by planted.py."""
+
+import os
+import re
+import subprocess
+import sys
+
+sys.path.insert(0, os.path.dirname(os.path.abspath(__file__)))
+
+from journal import BadLine, Journal
+
+VALUED = ("--keep-to", "--go", "--again", "--stop", "-S", "--board")
+NAMED = re.compile(rb"stmjournal 3 (....) [0-9A-F]+\n")
+
+
+def without(*names):
+    """Words that aren't handed on, each with its value where it has one."""
+    def edit(words):
+        found = list(words)
+        for name in names:
+            if name in found:
+                at = found.index(name)
+                del found[at:at + (2 if name in VALUED else 1)]
+        return found
+    return edit
+
+
+def removing(words):
+    """A journal that is to be moved is removed."""
+    return [*without("--keep-to")(words), "--keep"] if "--keep-to" in words else words
+
+
+def summing_all(words):
+    return without("-S")(words) if words[0] == "crc" else words
+
+
+def stopping_before_go(words):
+    """A stop that isn't heeded any more where a program is to be started."""
+    return without("--stop")(words) if "--go" in words else words
+
+
+def file_as(name, change):
+    """What happens to a file behind the use that wrote it."""
+    def behind(words, out):
+        if os.path.exists(name) and (name in words or name == "J"):
+            with open(name, "rb") as file:
+                held = file.read()
+            with open(name, "wb") as file:
+                file.write(change(held))
+        return out
+    return behind
+
+
+def left_behind(words, out):
+    """The journal stays beside the name that it was moved to."""
+    if os.path.exists("K") and "--keep-to" in words and b"kept" in out:
+        with open("K", "rb") as moved, open("J", "wb") as file:
+            file.write(moved.read())
+    return out
+
+
+def read(name):
+    try:
+        with open(name, "rb") as file:
+            return file.read()
+    except FileNotFoundError:
+        return None
+
+
+def store(name, held):
+    with open(name, "wb") as file:
+        file.write(held)
+
+
+def unnamed(is_so):
+    """While the program runs, a journal of which this is so names no board: so that isn't compared."""
+    heads = []
+
+    def before(words):
+        held = read("J") or b""
+        found = NAMED.match(held)
+        if found and is_so(held):
+            heads.append(found[0])
+            store("J", b"stmjournal 2 %s\n" % found[1] + held[found.end():])
+        return words
+
+    def behind(words, out):
+        name = "J" if os.path.exists("J") else "K"
+        held = read(name)
+        if heads and held is not None and held.startswith(b"stmjournal 2 "):
+            store(name, heads[0] + held.partition(b"\n")[2])
+        return out
+
+    return before, behind
+
+
+def is_unfinished(held):
+    try:
+        return Journal(held).is_unfinished()
+    except BadLine:
+        return False
+
+
+def with_all_pages():
+    """While the program does anything but tell, the table knows no place of a size: so its own size wins."""
+    tables = []
+
+    def before(words):
+        tables.append(read("T"))
+        if words[0] != "info":
+            store("T", re.sub(rb"size_at = .*\n", b"", tables[0]))
+        return words
+
+    def behind(words, out):
+        store("T", tables[0])
+        return out
+
+    return before, behind
+
+
+def minding_case(words):
+    """A board that is wanted in small letters is none."""
+    found = list(words)
+    if "--board" in found:
+        at = found.index("--board") + 1
+        found[at] = re.sub("[a-f]", "0", found[at])
+    return found
+
+
+def same(words):
+    return words
+
+
+def right(words, out):
+    return out
+
+
+def said(old, new):
+    return lambda words, out: out.replace(old, new)
+
+
+# how the words are changed, and then what was printed and is left
+PLANTED = {
+    "keeps_nothing": (without("--keep"), right),
+    "removes_in_place_of_moving": (removing, right),
+    "moves_it_and_leaves_it": (same, left_behind),
+    "moves_a_line_less": (same, file_as("K", lambda held: held[:held[:-1].rfind(b"\n") + 1])),
+    "tells_another_count": (same, said(b"kept 1\n", b"kept 0\n")),
+    "starts_nothing": (without("--go"), right),
+    "heeds_no_stop_behind_a_write": (stopping_before_go, right),
+    "is_not_done_again": (without("--again"), right),
+    "verifies_nothing": (without("-v"), right),
+    "reads_raw_bytes": (without("--hex"), right),
+    "writes_hex_in_small_letters": (same, file_as("OUT.hex", bytes.lower)),
+    "leaves_blank_lines_in": (without("--skip-blank"), right),
+    "sums_another_part": (summing_all, right),
+    "tells_a_sum_without_zeros": (same, said(b"crc 0", b"crc ")),
+    "compares_no_board": unnamed(lambda held: True),
+    "compares_the_board_of_a_finished_journal": unnamed(is_unfinished),
+    "lets_the_size_of_the_table_win": with_all_pages(),
+    "begins_a_journal_of_no_board": (same, file_as("J", lambda held: NAMED.sub(rb"stmjournal 2 \1\n", held, count=1))),
+    "wants_any_board": (without("--board"), right),
+    "minds_the_case_of_a_board": (minding_case, right),
+    "asks_all_the_same": (without("--no-board"), right),
+    "takes_none_for_fresh": (without("--fresh"), right),
+    "tells_no_board": (same, lambda words, out: re.sub(rb"board [0-9A-F]+\n", b"", out)),
+}
+
+
+def main():
+    before, behind = PLANTED[sys.argv[1]]
+    ran = subprocess.run([sys.argv[2], *before(sys.argv[3:])], stdout=subprocess.PIPE)
+    sys.stdout.buffer.write(behind(sys.argv[3:], ran.stdout))
+    return ran.returncode
+
+
+if __name__ == "__main__":
+    sys.exit(main())
