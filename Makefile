@@ -21,7 +21,15 @@
 #               completions, unit, udev rule; it proves and builds nothing, so that it needs no `rt`, also under sudo
 #   make install-as-stm32flash PREFIX=/usr/local DESTDIR=
 #               the words of stm32flash over what `make install` installs (docs/SWITCH.md): a program of that name, never unasked
-#   make deb    a Debian package of the proved program, in bin/ (dpkg-deb, binutils); of another one: STMFLASH_BINARY=
+#   make arm64  the proved program for 64-bit ARM, at bin/stmflash-arm64, over what `make` kept: nothing is proved anew
+#               (gcc-aarch64-linux-gnu, libc6-dev-arm64-cross)
+#   make arm64-unproved
+#               the same code for 64-bit ARM without waiting for proofs, at bin/stmflash-arm64-unproved, which says so: three minutes
+#   make deb    a Debian package of the proved program, in bin/ (dpkg-deb, binutils); of another one: STMFLASH_BINARY=; of the one for
+#               64-bit ARM: ARCH=arm64
+#   make release
+#               packages for both processors and of stm32flash's words, made twice and the same, with SHA256SUMS and notes, in
+#               bin/release/; how they are signed is printed
 #   make pictures
 #               draws docs/pictures/ from runs of the program and from the figures that `make bench` left (python3)
 #   make bench  builds what is measured, measures it beside its peers, and prints ratios (needs python3; Debian's binutils
@@ -34,7 +42,9 @@
 
 PREFIX ?= /usr/local
 DESTDIR ?=
-STMFLASH_BINARY ?= bin/stmflash
+# the processor that `make deb` packs for: amd64 or arm64
+ARCH ?= amd64
+STMFLASH_BINARY ?= bin/stmflash$(if $(filter arm64,$(ARCH)),-arm64)
 # what is installed and packed
 BINARY ?= $(STMFLASH_BINARY)
 JOBS ?= $(shell nproc)
@@ -46,7 +56,7 @@ CHECKS ?= $(shell awk -v most=$(JOBS) '/^MemAvailable/ { n = int($$2 / 5000000) 
 WITHOUT ?=
 SOAKED = $(if $(wildcard bin/stmflash),bin/stmflash,bin/stmflash-unproved)
 
-.PHONY: all demo tests check try test wrong-bodies soak install install-as-stm32flash deb pictures bench beside clean
+.PHONY: all arm64 arm64-unproved demo tests check try test wrong-bodies soak install install-as-stm32flash deb release pictures bench beside clean
 
 all:
 	cd crates/stmflash && rt check
@@ -57,6 +67,18 @@ all:
 # where it isn't there; "make" proves again what was changed since
 bin/stmflash:
 	@$(MAKE) --no-print-directory all
+
+bin/stmflash-arm64:
+	@$(MAKE) --no-print-directory arm64
+
+arm64:
+	@python3 -B arm64/build bin/stmflash-arm64
+	@ln -sf ../arm64/under-qemu bin/stmflash-arm64-under-qemu
+	@echo "bin/stmflash-arm64 is built of what was proved"
+
+arm64-unproved:
+	@python3 -B arm64/build --unproved bin/stmflash-arm64-unproved
+	@ln -sf ../arm64/under-qemu bin/stmflash-arm64-unproved-under-qemu
 
 demo:
 	@sh tools/demo.sh
@@ -94,6 +116,7 @@ test:
 	python3 tools/take-back-stored
 	sh packaging/try-deb crates/stmflash/out/stmflash
 	sh packaging/try-deb-as-stm32flash crates/stmflash/out/stmflash
+	sh arm64/try $(WITHOUT)
 	sh tools/demo.sh
 	python3 tests/run crates/stmflash/out/stmflash --brief crates/stmflash/out/stmflash.by-rattle bin/stmflash-unproved \
 	    --without $(WITHOUT)
@@ -154,6 +177,9 @@ deb: $(STMFLASH_BINARY)
 	@mkdir -p bin
 	@packaging/deb $(STMFLASH_BINARY) bin
 
+release: bin/stmflash bin/stmflash-arm64
+	@packaging/release $(CURDIR)/bin/release bin/stmflash bin/stmflash-arm64
+
 pictures:
 	@test -x bin/stmflash || test -x bin/stmflash-unproved || sh tools/demo.sh
 	python3 tools/pictures/stopped-write $(SOAKED) docs/pictures/stopped-write.svg
@@ -170,6 +196,7 @@ bench: all
 	python3 bench/read
 	python3 bench/program
 	python3 bench/line
+	python3 bench/words
 
 beside: all
 	sh tools/beside.sh bin/stmflash

@@ -6,8 +6,9 @@ _stmflash_ports() { mapfile -t COMPREPLY < <(compgen -G "$1*" | grep -E '^/dev/(
 
 _stmflash() {
     local word=${COMP_WORDS[COMP_CWORD]} before=${COMP_WORDS[COMP_CWORD-1]} subcommand="" i
-    local subcommands="info read write verify erase undo go protect log keep sim help"
+    local subcommands="info read crc write verify erase undo go protect log keep sim help"
     local device="--table --device --journal --no-lock --wait --stop --give-up --progress --quiet --fresh --help"
+    local asked="$device --board --no-board"
     COMPREPLY=()
     for ((i = 1; i < COMP_CWORD; i++)); do
         if [[ " $subcommands " == *" ${COMP_WORDS[i]} "* ]]; then
@@ -16,12 +17,12 @@ _stmflash() {
         fi
     done
     case $before in
-        --table | --journal | --flash | --socket) _stmflash_files "$word"; return ;;
+        --table | --journal | --flash | --socket | --keep-to) _stmflash_files "$word"; return ;;
         --device)
             _stmflash_files "$word"
             [[ sim: == "$word"* ]] && COMPREPLY+=(sim:)
             return ;;
-        --wait | --stop | --give-up | --id | --clients | --mode | -S) return ;;
+        --wait | --stop | --give-up | --board | --id | --clients | --mode | -S | --go | --again) return ;;
     esac
     if [[ $word != -* ]]; then
         case $subcommand in
@@ -34,12 +35,14 @@ _stmflash() {
     case $subcommand in
         "") _stmflash_words "$word" "--help --version -h -V" ;;
         help) ;;
-        info) _stmflash_words "$word" "$device --raw -h" ;;
-        read) _stmflash_words "$word" "$device -S -h" ;;
-        write) _stmflash_words "$word" "$device -f -v -S -h" ;;
-        verify) _stmflash_words "$word" "$device -f -S -h" ;;
-        erase) _stmflash_words "$word" "$device --all -h" ;;
-        undo | go | protect) _stmflash_words "$word" "$device -h" ;;
+        info) _stmflash_words "$word" "$asked --raw -h" ;;
+        read) _stmflash_words "$word" "$asked -S --hex --skip-blank -h" ;;
+        crc) _stmflash_words "$word" "$asked -S -h" ;;
+        write) _stmflash_words "$word" "$asked -f -v -S --keep --keep-to --go --again -h" ;;
+        verify) _stmflash_words "$word" "$asked -f -S -h" ;;
+        erase) _stmflash_words "$word" "$asked --all -h" ;;
+        undo) _stmflash_words "$word" "$asked -h" ;;
+        go | protect) _stmflash_words "$word" "$device -h" ;;
         log) _stmflash_words "$word" "--journal --help -h" ;;
         keep) _stmflash_words "$word" "--journal --no-lock --help -h" ;;
         sim) _stmflash_words "$word" "--table --id --flash --no-lock --socket --clients --mode --help -h" ;;
@@ -67,10 +70,10 @@ _stmflash_line() {
         --socket) _stmflash_files "$word"; return ;;
         --baud) _stmflash_words "$word" "9600 19200 38400 57600 115200"; return ;;
         --wiring) _stmflash_words "$word" "dtr-reset,rts-boot0 rts-reset,dtr-boot0 dtr-reset rts-reset inverted-"; return ;;
-        --boot | --after | --idle) return ;;
+        --boot | --after | --idle | --gpio-chip) return ;;
     esac
     if [[ $word == -* ]]; then
-        _stmflash_words "$word" "--baud --wiring --boot --resets --after --idle --socket --help -h --"
+        _stmflash_words "$word" "--baud --wiring --boot --resets --after --gpio-chip --idle --watch --socket --help -h --"
     else
         _stmflash_ports "${word:-/dev/tty}"
     fi

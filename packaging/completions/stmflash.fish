@@ -1,7 +1,8 @@
 # Completion of stmflash for fish.
 
-set -l all info read write verify erase undo go protect log keep sim help
-set -l device info read write verify erase undo go protect
+set -l all info read crc write verify erase undo go protect log keep sim help
+set -l asked info read crc write verify erase undo
+set -l device $asked go protect
 
 function __stmflash_in --description 'Whether one of these subcommands was given'
     __fish_seen_subcommand_from $argv
@@ -12,6 +13,7 @@ complete -c stmflash -s h -l help -d 'Print help'
 complete -c stmflash -n "not __stmflash_in $all" -s V -l version -d 'Print version'
 complete -c stmflash -n "not __stmflash_in $all" -a info -d 'Tells what the device is'
 complete -c stmflash -n "not __stmflash_in $all" -a read -d 'Reads the flash into a file'
+complete -c stmflash -n "not __stmflash_in $all" -a crc -d 'Tells the CRC of the flash'
 complete -c stmflash -n "not __stmflash_in $all" -a write -d 'Writes an image'
 complete -c stmflash -n "not __stmflash_in $all" -a verify -d 'Compares the flash with an image'
 complete -c stmflash -n "not __stmflash_in $all" -a erase -d 'Erases pages'
@@ -34,10 +36,18 @@ complete -c stmflash -n "__stmflash_in $device" -l give-up -x -d 'Seconds of sil
 complete -c stmflash -n "__stmflash_in $device" -l progress -d 'A line for each page, also where it is no terminal'
 complete -c stmflash -n "__stmflash_in $device" -l quiet -d 'No progress'
 complete -c stmflash -n "__stmflash_in $device" -l fresh -d 'The device was just reset'
+complete -c stmflash -n "__stmflash_in $asked" -l board -x -d 'The unique id that is wanted, or its last digits'
+complete -c stmflash -n "__stmflash_in $asked" -l no-board -d 'Does not ask which board it is'
 complete -c stmflash -n "__stmflash_in info" -l raw -d 'What a device of any chip tells'
-complete -c stmflash -n "__stmflash_in read write verify" -s S -x -d 'address[:length]'
+complete -c stmflash -n "__stmflash_in read crc write verify" -s S -x -d 'address[:length]'
 complete -c stmflash -n "__stmflash_in write verify" -s f -d 'Takes the file as raw bytes'
 complete -c stmflash -n "__stmflash_in write" -s v -d 'Verifies what was written'
+complete -c stmflash -n "__stmflash_in read" -l hex -d 'Writes Intel HEX'
+complete -c stmflash -n "__stmflash_in read" -l skip-blank -d 'Leaves out what is erased'
+complete -c stmflash -n "__stmflash_in write" -l keep -d 'Keeps what was written once all is done'
+complete -c stmflash -n "__stmflash_in write" -l keep-to -r -F -d 'The same, and renames the journal'
+complete -c stmflash -n "__stmflash_in write" -l go -x -d 'Then runs what stands at an address'
+complete -c stmflash -n "__stmflash_in write" -l again -x -d 'How often a failed write is done again'
 complete -c stmflash -n "__stmflash_in erase" -l all -d 'Every page'
 complete -c stmflash -n "__stmflash_in read write verify keep" -F
 complete -c stmflash -n "__stmflash_in protect" -a 'write-unprotect readout-protect readout-unprotect'
