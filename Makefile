@@ -103,29 +103,9 @@ try:
 	$(if $(filter stm_words stmflash,$(NAMED)),sh tools/demo.sh && python3 tests/run bin/stmflash-unproved --without $(WITHOUT),\
 	    cd crates/$(or $(TESTS_$(NAMED)),$(NAMED)) && rt try --test)
 
-# `rt ci` leaves the program that it proved at crates/stmflash/out/, as each of two compilers built it: stmflash by LLVM,
-# stmflash.by-rattle by Rattle's own.
+# each step of it stands in tools/gate
 test:
-	python3 -m unittest discover -q -s tools/wrong-bodies
-	RT_JOBS=$(CHECKS) rt ci
-	RT_JOBS=$(CHECKS) python3 tools/wrong-bodies --built
-	python3 tools/allocations crates/refused_memory/out/refused_memory
-	python3 tools/refused-program crates/stmflash/out/stmflash
-	python3 tools/large-journals crates/stmflash/out/stmflash
-	python3 tools/large-images crates/hex_bench/out/hex_bench
-	python3 tools/take-back-stored
-	sh packaging/try-deb crates/stmflash/out/stmflash
-	sh packaging/try-deb-as-stm32flash crates/stmflash/out/stmflash
-	sh arm64/try $(WITHOUT)
-	sh tools/demo.sh
-	python3 tests/run crates/stmflash/out/stmflash --brief crates/stmflash/out/stmflash.by-rattle bin/stmflash-unproved \
-	    --without $(WITHOUT)
-	sh tools/socket.sh bin/stmflash-unproved
-	python3 tools/kills bin/stmflash-unproved 60
-	python3 tools/crashes crates/stmflash/out/stmflash --states 300 --plants
-	python3 tools/soak bin/stmflash-unproved --sessions 300 --jobs $(JOBS)
-	python3 tools/soak crates/stmflash/out/stmflash --sessions 2000 --jobs $(JOBS)
-	python3 tools/beside-stm32flash crates/stmflash/out/stmflash --sample 24 --kills 2 --jobs $(JOBS)
+	python3 tools/gate --checks $(CHECKS) --jobs $(JOBS) --without $(WITHOUT)
 
 wrong-bodies:
 	python3 tools/wrong-bodies --by-hand

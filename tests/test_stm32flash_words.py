@@ -299,7 +299,8 @@ class TakingBack(Words):
         self.store("image", b"new")
         for words in (("-g", "0x08000000"), ("-R",)):
             with self.subTest(words=words):
-                self.well("-w", "image", "-v", *words)
+                # with a wait as long as stmflash's own, so that no call is done again for want of a processor
+                self.well("-w", "image", "-v", *words, STMFLASH_WAIT="500")
                 calls = self.held("calls").decode().splitlines()
                 self.assertEqual([call.split()[0] for call in calls], ["info", "write"])
                 self.assertRegex(calls[1], " -v --keep-to [^ ]*/kept-00000[12] --go 0x08000000 ")
