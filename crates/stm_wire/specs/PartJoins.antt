@@ -10,7 +10,7 @@ use Rattle.stm_wire.specs.Dialogue.{GoesOn, puts_of, gets_of}
 use Rattle.stm_wire.specs.DialogueLaws.{GoesOn-append, GoesOn-nothing, GoesOn-weaker}
 use Rattle.stm_wire.specs.DialogueLaws.{gets_of-append, line_calls_are_few, puts_of-append}
 use Rattle.stm_wire.specs.Parts.{AreFew, IsPart, IsSession}
-use Rattle.stm_wire.specs.SentList.{IsFrame, get, get_id, read, write, erase, IsSettlingRun}
+use Rattle.stm_wire.specs.SentList.{IsFrame, get, get_id, read, write, erase, tells, IsSettlingRun}
 use Rattle.stm_wire.specs.Settling.{Talks}
 
 few-join : (m n : ℕ) (xs ys : List Call) → AreFew m xs → AreFew n ys → AreFew (m + n) (xs ++ ys)
@@ -244,6 +244,7 @@ frame_of_any chip frame (get_id e) = get_id e
 frame_of_any chip frame (read c page address size is some limit within e) = cc
 frame_of_any chip frame (write c page address sent is some limit within e) = cc
 frame_of_any chip frame (erase c page is exists e) = cc
+frame_of_any chip frame (tells c place is known e) = cc
 
 frames_of_any : (chip : Option ChipData) (frames : List (List ℕ))
     → AllByRecursion (IsFrame None) frames → AllByRecursion (IsFrame chip) frames
