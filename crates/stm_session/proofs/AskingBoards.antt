@@ -18,9 +18,9 @@ use Rattle.stm_wire.specs.Rig.{RigState}
 use Rattle.stm_session.specs.declared.asking_board.Board.{Board}
 use Rattle.stm_session.specs.declared.fault.Fault.{Fault}
 use Rattle.stm_session.specs.Asking.{Asks, IsStill}
-use Rattle.stm_session.specs.AskingBoard.{AsksBoard, AsksSize, AsksUnique, IsAnswered, IsAsked, came_in, places_in, size_told, unique_told}
+use Rattle.stm_session.specs.AskingBoard.{AsksBoard, AsksSize, AsksUnique, IsAnswered, came_in, places_in, size_told, unique_told}
 use Rattle.stm_session.specs.Fault.{Cause, IsOutsideFault, cause_of, fault_of}
-use Rattle.stm_session.specs.Order.{Step, Begin, IsAsking, IsInOrder, Sends, Stops, StopsBy, asking_steps, torn_behind}
+use Rattle.stm_session.specs.Order.{Step, Begin, IsAsked, IsAsking, IsInOrder, Sends, Stops, StopsBy, asking_steps, torn_behind}
 use Rattle.stm_session.specs.Unwritten.{AppendsNothing}
 use Rattle.stm_wire.specs.declared.chip.EraseKind.{EraseKind}
 use Rattle.stm_wire.specs.declared.chip.EraseKind.TheVariants.{Page, Extended}
@@ -115,7 +115,7 @@ read_broken_length address size answer same = omega (arith, same, length-read_tu
 
 -- a read that was answered
 module _ (address size : ℕ) (bytes : List ℕ) (a b : RigState) where
-  refused_length : (frame : List ℕ) (turns : List Turn) → IsRefusedRead address size frame turns → length turns ≤ 12 + size
+  pub refused_length : (frame : List ℕ) (turns : List Turn) → IsRefusedRead address size frame turns → length turns ≤ 12 + size
   refused_length frame turns (at_code f t) = omega (arith, ap length t)
   refused_length frame turns (at_address f t) = omega (arith, ap length t)
   refused_length frame turns (at_count f t) = omega (arith, ap length t)

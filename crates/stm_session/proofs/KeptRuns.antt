@@ -23,7 +23,7 @@ use Rattle.stm_session.specs.Contents.{content}
 use Rattle.stm_session.specs.Fresh.{Settles, Way}
 use Rattle.stm_session.specs.Answers.{OutcomeData}
 use Rattle.stm_session.specs.Meaning.{CommandData, is_change}
-use Rattle.stm_session.specs.Order.{Step, Adds, AreCutShort, IsAfter, ReachesAndDoes, ReachesAndStops, Session, SettlesThen, asking_steps, page_reads, page_address}
+use Rattle.stm_session.specs.Order.{Step, Adds, AreCutShort, IsAfter, IsConfirmedInPart, ReachesAndDoes, ReachesAndStops, Session, SettlesThen, asking_steps, page_reads, page_address}
 use Rattle.stm_session.specs.RunOrder.{AreBegun, AreDone, none as nothing_done, more as more_done, IsBegunIf, IsDoneIf, IsReading, RunsInOrder, RunStops}
 use Rattle.stm_session.specs.Kept.{KeepsFirst, RunKeeps, RunStopsKept, reads}
 use Rattle.stm_session.specs.Undoable.{has_companion}
@@ -42,6 +42,14 @@ stops_as way id torn P Q cause old new weaker (version, codes, calls) =
     let at : Cut Q (asking_steps version codes id) = GoesOn-weaker _ _ old.calls new.calls calls
     (λ all x. let cut = x.5 in (x.0, x.1, x.2, x.3, x.4, record { done = cut.done; failed = cut.failed; allowed = (cut.allowed.0, cut.allowed.1, weaker cut.allowed.0 cut.allowed.2); last = cut.last; fails = cut.fails; is = cut.is })) in
     (version, codes, at)
+
+-- behind the question whether the board is still the chip's
+pub after_as : (these : List Step) (P Q : List Step → Type 0) → ((xs : List Step) → P xs → Q xs) → (xs : List Step) → IsAfter these P xs → IsAfter these Q xs
+after_as these P Q weaker xs (own, is, p) = (own, is, weaker own p)
+
+pub confirmed_as : (chip : ChipData) (P Q : List Step → Type 0) → ((xs : List Step) → P xs → Q xs) → (xs : List Step) → IsConfirmedInPart chip P xs → IsConfirmedInPart chip Q xs
+confirmed_as chip P Q weaker xs (inl asked) = inl asked
+confirmed_as chip P Q weaker xs (inr (own, is, p)) = inr (own, is, weaker own p)
 
 -- the first lines of a segment
 begun_lines : (chip : ChipData) (s : StateData) → Leads chip None (Adds (begin_entries chip.id chip.unique s) ∷ []) (Some [])
@@ -230,8 +238,8 @@ module _ (lengths : (set : Pairs) (address : ℕ) (bytes : List ℕ) → length 
   -- runs
   pub run_keeps : (table : List ChipData) (commands : List CommandData) (old new : RigState) → RunsInOrder table commands old new → RunKeeps table old new
   run_keeps table commands old new =
-      as_session table old _ _ (λ chip l sound. does_as (Settles 0x7F 131072) chip.id l.is_torn _ _ old new (λ steps are. let leads = done_leads chip commands are.0 l.state are.1 steps are.2 in (leads.keeps, leads.behind)))
+      as_session table old _ _ (λ chip l sound. does_as (Settles 0x7F 131072) chip.id l.is_torn _ _ old new (after_as _ _ _ (λ steps are. let leads = done_leads chip commands are.0 l.state are.1 steps are.2 in (leads.keeps, leads.behind))))
 
   pub run_stops_kept : (table : List ChipData) (commands : List CommandData) (old new : RigState) (fault : Fault) → RunStops table commands old new fault → RunStopsKept table old new fault
   run_stops_kept table commands old new fault (inl unreached) = inl unreached
-  run_stops_kept table commands old new fault (inr cut) = inr (as_session table old _ _ (λ chip l sound. stops_as (Settles 0x7F 131072) chip.id l.is_torn _ _ (cause_of fault) old new (λ steps are. begun_keep fault chip commands l.state steps are)) cut)
+  run_stops_kept table commands old new fault (inr cut) = inr (as_session table old _ _ (λ chip l sound. stops_as (Settles 0x7F 131072) chip.id l.is_torn _ _ (cause_of fault) old new (confirmed_as chip _ _ (λ steps are. begun_keep fault chip commands l.state steps are))) cut)

@@ -17,7 +17,7 @@ use Rattle.stm_session.specs.Fresh.{undo_way}
 use Rattle.stm_session.specs.Kept.{IsOfNewest, PutsBack, PutsBackFrom, UndoPutsBack, UndoStopsBack, erases, erasing, programming, reads, undoing, writes}
 use Rattle.stm_session.specs.Order.{Step, Adds, Sends, Tells, AreAllTakenBack, AreReturned, AreTaken, AreTakenBack, BeginTaking, IsReturned, IsTakenBack, UndoStopsFrom, UndoesInOrderFrom, behind, page_address, read_steps, restore_steps, rewrite_steps, untold, write_steps}
 use Rattle.stm_session.proofs.Keeping.{newest-listed}
-use Rattle.stm_session.proofs.KeptRuns.{as_session, does_as, stops_as}
+use Rattle.stm_session.proofs.KeptRuns.{after_as, as_session, confirmed_as, does_as, stops_as}
 use Rattle.stm_session.proofs.KeptSteps.{AreInside, bytes_inside, frames_inside, here, later as further}
 
 -- the numbers of kept pages
@@ -130,11 +130,11 @@ taken_puts_back taken chip s steps sound = all_puts chip untold (intent_of s) ta
 
 pub undo_puts_back : (is_fresh : Bool) (table : List ChipData) (taken : ℕ) (old new : RigState) → UndoesInOrderFrom is_fresh table taken old new → UndoPutsBack is_fresh table old new
 undo_puts_back is_fresh table taken old new =
-    as_session table old _ _ (λ chip l sound. does_as (undo_way is_fresh chip.kind (intent_of l.state)) chip.id l.is_torn _ _ old new (λ steps are. taken_puts_back taken chip l.state steps sound are))
+    as_session table old _ _ (λ chip l sound. does_as (undo_way is_fresh chip.kind (intent_of l.state)) chip.id l.is_torn _ _ old new (after_as _ _ _ (λ steps are. taken_puts_back taken chip l.state steps sound are)))
 
 pub undo_stops_back : (is_fresh : Bool) (table : List ChipData) (count : ℕ) (old new : RigState) (fault : Fault) → UndoStopsFrom is_fresh table count old new fault → UndoStopsBack is_fresh table old new fault
 undo_stops_back is_fresh table count old new fault (inl fetched) = inl fetched
 undo_stops_back is_fresh table count old new fault (inr cut) =
     inr (as_session table old _ _ (λ chip l sound. ⊎_elim (λ reached. inl reached)
-    (λ stopped. inr (stops_as (undo_way is_fresh chip.kind (intent_of l.state)) chip.id l.is_torn (BeginTaking count chip l.state) _ (cause_of fault) old new
-    (λ steps (begun : BeginTaking count chip l.state steps). let rest = begun.3.0 in puts_front chip (pages_of_segments l.state.stack) steps rest (taken_puts_back begun.0 chip l.state (steps ++ rest) sound begun.3.1)) stopped))) cut)
+    (λ stopped. inr (stops_as (undo_way is_fresh chip.kind (intent_of l.state)) chip.id l.is_torn _ _ (cause_of fault) old new
+    (confirmed_as chip (BeginTaking count chip l.state) _ (λ steps (begun : BeginTaking count chip l.state steps). let rest = begun.3.0 in puts_front chip (pages_of_segments l.state.stack) steps rest (taken_puts_back begun.0 chip l.state (steps ++ rest) sound begun.3.1))) stopped))) cut)

@@ -61,6 +61,7 @@ pub mod Changes
 pub mod Turns
 pub mod Beginnings
 pub mod AskingBoards
+pub mod Confirmings
 pub mod Closings
 pub mod CommandChecks
 pub mod Comparisons
@@ -76,6 +77,7 @@ pub mod ReadRuns
 pub mod OneCommands
 pub mod Arrivals
 pub mod RunOrders
+pub mod Confirmed
 pub mod KeptSteps
 pub mod KeptRuns
 pub mod KeptUndoes

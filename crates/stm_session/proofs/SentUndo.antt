@@ -11,7 +11,7 @@ use Rattle.stm_chip.specs.Document.{IsChipWith}
 use Rattle.stm_journal.specs.Calls.{AreFetches}
 use Rattle.stm_session.specs.declared.fault.Fault.{Fault}
 use Rattle.stm_session.specs.Fresh.{byte_of, limit_of, undo_way}
-use Rattle.stm_session.specs.Sending.{SendsAsUndo, is_whole, most_of_reaching, most_of_undo}
+use Rattle.stm_session.specs.Sending.{SendsAsUndo, is_whole, most_of_confirming, most_of_reaching, most_of_undo}
 use Rattle.stm_session.proofs.Sending.{fetches_get, fetches_put}
 
 -- a fault that is passed on
@@ -36,7 +36,7 @@ module _ (table : List ChipData) (count : ℕ) (old : RigState) where
         limit = omega arith;
         asked = λ some. omega arith;
         told = none;
-        calls = silent_is_session None 0x7F 0 (is_whole result) (most_of_reaching 0 + most_of_undo 0) AreFetches old.calls new.calls fetches_put fetches_get fetches;
+        calls = silent_is_session None 0x7F 0 (is_whole result) (most_of_reaching 0 + (most_of_confirming + most_of_undo 0)) AreFetches old.calls new.calls fetches_put fetches_get fetches;
       }
 
   -- the journal is one of a chip of the table
@@ -58,14 +58,14 @@ module _ (table : List ChipData) (count : ℕ) (old : RigState) where
           limit = omega arith;
           asked = λ some. omega arith;
           told = tt;
-          calls = session_longer (Some chip) byte limit whole (most_of_reaching limit) (most_of_reaching limit + most_of_undo 0) old.calls new.calls (omega arith)
+          calls = session_longer (Some chip) byte limit whole (most_of_reaching limit) (most_of_reaching limit + (most_of_confirming + most_of_undo 0)) old.calls new.calls (omega arith)
               (session_of_any (Some chip) byte limit whole (most_of_reaching limit) old.calls new.calls (silent_then_session None byte limit whole (most_of_reaching limit) AreFetches old.calls mid.calls new.calls fetches_put fetches_get fetches meets));
         }
 
     -- and segments were taken back
     pub sends_back : (taken : ℕ) (mid met new : RigState) (result : Result ℕ Fault) → taken ≤ 65535 → (0 < count → taken ≤ count) → IfOk result (λ n. n ≡ taken)
         → GoesOn AreFetches old.calls mid.calls → (let way = undo_way is_fresh chip.kind intent in GoesOn (IsSession None (byte_of way) (limit_of way) true (most_of_reaching (limit_of way))) mid.calls met.calls)
-        → GoesOn (IsPart (Some chip) (is_whole result) (most_of_undo taken)) met.calls new.calls → SendsAsUndo table count old new result
+        → GoesOn (IsPart (Some chip) (is_whole result) (most_of_confirming + most_of_undo taken)) met.calls new.calls → SendsAsUndo table count old new result
     sends_back taken mid met new result most asked told fetches meets back =
         let way = undo_way is_fresh chip.kind intent in
         let byte = byte_of way in
@@ -79,6 +79,6 @@ module _ (table : List ChipData) (count : ℕ) (old : RigState) where
           limit = most;
           asked = asked;
           told = told;
-          calls = session_joins (Some chip) byte limit (is_whole result) (most_of_reaching limit) (most_of_undo taken) old.calls met.calls new.calls
+          calls = session_joins (Some chip) byte limit (is_whole result) (most_of_reaching limit) (most_of_confirming + most_of_undo taken) old.calls met.calls new.calls
               (session_of_any (Some chip) byte limit true (most_of_reaching limit) old.calls met.calls (silent_then_session None byte limit true (most_of_reaching limit) AreFetches old.calls mid.calls met.calls fetches_put fetches_get fetches meets)) back;
         }

@@ -87,6 +87,14 @@ module _ (d : Device) (is : IsDevice d) (here : UniquePlace) (known : d.chip.pla
           let none = sym may ∙ can in
           sym (told_is ∙ rw none refl)
 
+  -- where it has as many bytes, just these come
+  pub unique_same : (count : ℕ) (bytes : List ℕ) (told : Bool) → count ≡ here.length → IsTold here.address count bytes d told → (length d.chip.unique == here.length) ≡ true → (told ≡ true) × (bytes ≡ d.chip.unique)
+  unique_same count bytes told same t one = at told (subst (λ (n : ℕ). IsTold here.address n bytes d told) same t)
+    where
+      at : (told : Bool) → IsTold here.address here.length bytes d told → (told ≡ true) × (bytes ≡ d.chip.unique)
+      at true (can, are) = (refl, are ∙ bytes_are one)
+      at false can = absurd (clash (can_read d.chip here.address here.length) (may ∙ one) can)
+
 -- a read of the size
 module _ (d : Device) (is : IsDevice d) (address : ℕ) (known : d.chip.places.size ≡ Some address) where
   size_outside : IsTrue (is_outside d.chip address 2)

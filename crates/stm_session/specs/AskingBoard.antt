@@ -1,17 +1,16 @@
 -- Which board a device is, how that is asked, on any line, and what it does to a device that follows
 -- the model.
 use Rattle.std.specs.Prelude.{◌≡◌, ◌⊎◌, ℕ, ◌+◌, ◌*◌, Bool, true, false, ◌==◌, ◌||◌, get_or}
-use Rattle.std.specs.Prelude.{if◌then◌else◌, List, [], ◌∷◌, ◌++◌, length, Option, Some, None}
+use Rattle.std.specs.Prelude.{if◌then◌else◌, List, [], ◌∷◌, ◌++◌, Option, Some, None}
 use Rattle.std.specs.Prelude.{option_map}
 use Rattle.std.specs.List.{list_all}
 use Rattle.stm_wire.specs.declared.places.BoardPlaces.{BoardPlaces}
 use Rattle.stm_wire.specs.declared.places.UniquePlace.{UniquePlace}
 use Rattle.stm_wire.specs.Call.{Call}
 use Rattle.stm_wire.specs.Chip.{ChipData}
-use Rattle.stm_wire.specs.Dialogue.{Turn, GoesOn}
-use Rattle.stm_wire.specs.Frames.{get_id_turns, get_turns, read_turns}
+use Rattle.stm_wire.specs.Dialogue.{GoesOn}
+use Rattle.stm_wire.specs.Frames.{get_id_turns, get_turns}
 use Rattle.stm_wire.specs.Places.{no_places}
-use Rattle.stm_wire.specs.Refused.{IsRefusedRead}
 use Rattle.stm_wire.specs.Rig.{RigState}
 use Rattle.stm_journal.specs.Calls.{AreFetches}
 use Rattle.stm_journal.specs.Journals.{Loaded, IsLoaded}
@@ -21,7 +20,8 @@ use Rattle.stm_session.specs.declared.asking_board.Board.{Board}
 use Rattle.stm_session.specs.declared.fault.Fault.{Fault}
 use Rattle.stm_session.specs.Fault.{Cause, IsHeard, cause_of}
 use Rattle.stm_session.specs.Fresh.{Settles, Way, byte_of, limit_of, undo_way}
-use Rattle.stm_session.specs.Order.{Step, AreCutShort, Begin, Sends, SettlesFirst, SettlesThen, acts_of}
+use Rattle.stm_session.specs.Order.{Step, AreCutShort, Begin, IsAsked, Sends, SettlesFirst}
+use Rattle.stm_session.specs.Order.{SettlesThen, acts_of}
 use Rattle.stm_session.specs.Refusal.{chip_with}
 use Rattle.stm_wire.specs.Settling.{SettlesWithin}
 
@@ -50,13 +50,6 @@ size_told None = None
 size_told (Some bytes) = size_in (get_or bytes 0 0 + 256 * get_or bytes 1 0)
 
 -- The steps:
-
--- so many bytes are asked for at an address, in one frame: these come, or the device refuses
-abbrev pub IsAsked : ℕ → ℕ → Option (List ℕ) → List Step → Type 0
-IsAsked address count (Some bytes) steps =
-    (length bytes ≡ count) × (steps ≡ Sends (read_turns address bytes) ∷ [])
-IsAsked address count None steps = (frame : List ℕ) × (turns : List Turn)
-    × IsRefusedRead address count frame turns × (steps ≡ Sends turns ∷ [])
 
 -- the place of a unique id is asked once, where it is known, and tells this
 abbrev pub AsksUnique : Option UniquePlace → List ℕ → List Step → Type 0

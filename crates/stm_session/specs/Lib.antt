@@ -4,6 +4,7 @@ pub mod Unwritten
 pub mod Fresh
 pub mod Order
 pub mod Told
+pub mod Confirming
 pub mod Undoable
 pub mod Moments
 pub mod PowerLoss

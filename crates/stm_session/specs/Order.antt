@@ -1,15 +1,17 @@
 -- In which order a session sends frames and appends lines, on any line: at Ok all of it, at a fault
 -- a beginning. Fetches are left out: they change nothing.
 use Rattle.std.specs.Prelude.{◌≡◌, ◌≢◌, ◌⊎◌, ℕ, zero, suc, ◌+◌, ◌*◌, ◌/◌, ◌%◌, ◌<◌, ◌≤◌, Bool}
-use Rattle.std.specs.Prelude.{false, if◌then◌else◌, List, [], ◌∷◌, ◌++◌, length, take, drop, map}
-use Rattle.std.specs.Prelude.{bytes_eq, Option, Some, None, Result, IfErr}
+use Rattle.std.specs.Prelude.{◌==◌, false, if◌then◌else◌, List, [], ◌∷◌, ◌++◌, length, take, drop}
+use Rattle.std.specs.Prelude.{map, bytes_eq, Option, Some, None, Result, IfErr}
 use Rattle.stm_wire.specs.declared.intent.Intent.{Intent}
 use Rattle.stm_wire.specs.declared.fault.WireFault.{WireFault}
 use Rattle.stm_wire.specs.declared.fault.WireFault.TheVariants.{Line}
+use Rattle.stm_wire.specs.declared.places.UniquePlace.{UniquePlace}
 use Rattle.stm_wire.specs.Call.{Call, Put, Get, Append, Fetch}
 use Rattle.stm_wire.specs.Chip.{ChipData, erased_byte, page_offset, page_size}
 use Rattle.stm_wire.specs.Dialogue.{Turn, GoesOn, IsBrokenOff, calls_of}
 use Rattle.stm_wire.specs.Frames.{erase_turns, get_id_turns, get_turns, read_turns, write_turns}
+use Rattle.stm_wire.specs.Refused.{IsRefusedRead}
 use Rattle.stm_wire.specs.Rig.{RigState}
 use Rattle.stm_wire.specs.Settling.{SettlesWithin}
 use Rattle.stm_session.specs.Fresh.{EndsWell, Way, byte_of, limit_of, undo_way}
@@ -317,6 +319,44 @@ abbrev pub StopsShort : {T : Type 0} → Way → Bool → RigState → RigState 
 StopsShort way torn old new result =
     IfErr result (λ fault. GoesOn (ReachesInPart way (cause_of fault) torn) old.calls new.calls)
 
+-- Whether the board is still the one that the chip is of:
+
+-- so many bytes are asked for at an address, in one frame: these come, or the device refuses
+abbrev pub IsAsked : ℕ → ℕ → Option (List ℕ) → List Step → Type 0
+IsAsked address count (Some bytes) steps =
+    (length bytes ≡ count) × (steps ≡ Sends (read_turns address bytes) ∷ [])
+IsAsked address count None steps = (frame : List ℕ) × (turns : List Turn)
+    × IsRefusedRead address count frame turns × (steps ≡ Sends turns ∷ [])
+
+-- a unique id of as many bytes as stand at its place
+abbrev pub place_of : Option UniquePlace → List ℕ → Option UniquePlace
+place_of None unique = None
+place_of (Some place) unique = if length unique == place.length then Some place else None
+
+-- where a device is asked once more: where it told its unique id before, which is the chip's
+abbrev pub confirmed_at : ChipData → Option UniquePlace
+confirmed_at chip = place_of chip.places.unique chip.unique
+
+-- it tells just this
+abbrev pub confirm_steps : Option UniquePlace → List ℕ → List Step
+confirm_steps None unique = []
+confirm_steps (Some place) unique = Sends (read_turns place.address unique) ∷ []
+
+abbrev pub confirming : ChipData → List Step
+confirming chip = confirm_steps (confirmed_at chip) chip.unique
+
+-- or whatever comes
+abbrev pub IsConfirming : Option UniquePlace → List Step → Type 0
+IsConfirming None steps = steps ≡ []
+IsConfirming (Some place) steps = (came : Option (List ℕ))
+    × IsAsked place.address place.length came steps
+
+-- Steps that are allowed behind the question, where its answer was that; else it alone, or a
+-- beginning of it.
+abbrev pub IsConfirmedInPart : ChipData → (List Step → Type 0) → List Step → Type 0
+IsConfirmedInPart chip P steps =
+    Begin (IsConfirming (confirmed_at chip)) steps ⊎ IsAfter (confirming chip) P steps
+
 -- Which steps a session may do goes by its chip and by the journal's state.
 abbrev pub StepsOf : Type 1
 StepsOf = ChipData → StateData → List Step → Type 0
@@ -348,19 +388,22 @@ pub record Session (table : List ChipData) (old : RigState)
   pub does : Does chip journal
 
 -- An undo that does such steps: settling by the intent of the journal that was loaded, or
--- connecting, Get, Get ID, by which the device is the journal's chip, and then these.
+-- connecting, Get, Get ID, by which the device is the journal's chip, the question whether it is
+-- still the chip's board, and then these.
 abbrev pub UndoDoes : Bool → StepsOf → List ChipData → RigState → RigState → Type 0
 UndoDoes is_fresh P table old new = Session table old (λ chip l.
     ReachesAndDoes (undo_way is_fresh chip.kind (intent_of l.state)) chip.id l.is_torn
-    (P chip l.state) old new)
+    (IsAfter (confirming chip) (P chip l.state)) old new)
 
 -- One that is broken off: nothing was done but reading the journal; or settling or connecting, Get
--- and Get ID, or a part of these; or all of these, and then such steps were cut short.
+-- and Get ID, or a part of these; or all of these, and then that question, and such steps, were cut
+-- short.
 abbrev pub UndoDoesInPart : Bool → StepsOf → List ChipData → RigState → RigState → Fault → Type 0
 UndoDoesInPart is_fresh P table old new fault = GoesOn AreFetches old.calls new.calls
     ⊎ Session table old (λ chip l. let way = undo_way is_fresh chip.kind (intent_of l.state) in
     GoesOn (ReachesInPart way (cause_of fault) l.is_torn) old.calls new.calls
-    ⊎ ReachesAndStops way chip.id l.is_torn (P chip l.state) (cause_of fault) old new)
+    ⊎ ReachesAndStops way chip.id l.is_torn (IsConfirmedInPart chip (P chip l.state))
+    (cause_of fault) old new)
 
 -- so many of the journal's segments are taken back, the page of its intent first
 abbrev pub AreTakenAs : Tells → ℕ → StepsOf

@@ -17,8 +17,9 @@ use Rattle.stm_session.specs.Came.{FaultTells, TellsWhatCame}
 use Rattle.stm_session.specs.ChangeOrder.{IsOneSegment, IsSegmentBegun}
 use Rattle.stm_session.specs.Contents.{command_of}
 use Rattle.stm_session.specs.Meaning.{CommandData, is_change}
-use Rattle.stm_session.specs.Order.{Step, Sends, StepsOf, IsInOrder, ReachesAndDoes}
-use Rattle.stm_session.specs.Order.{ReachesAndStops, ReachesInPart, Session, StopsBy}
+use Rattle.stm_session.specs.Order.{Step, Sends, StepsOf, IsAfter, IsConfirmedInPart, IsInOrder}
+use Rattle.stm_session.specs.Order.{ReachesAndDoes, ReachesAndStops, ReachesInPart, Session}
+use Rattle.stm_session.specs.Order.{StopsBy, confirming}
 
 -- bytes of one page are read
 pub record IsReading (chip : ChipData) (step : Step) : Type 0 where
@@ -61,11 +62,12 @@ pub data AreDone (chip : ChipData) : List CommandData → List OutcomeData → S
       → length last.stack ≡ length mid.stack + segments_of c
       → AreDone chip (commands ++ c ∷ []) (outcomes ++ said ∷ []) s last (before ++ own)
 
--- A run that does such steps: settling by 7F, Get, Get ID, by which the device is the chip, and
--- then these.
+-- A run that does such steps: settling by 7F, Get, Get ID, by which the device is the chip, the
+-- question whether it is still the chip's board, and then these.
 abbrev pub RunDoes : StepsOf → List ChipData → RigState → RigState → Type 0
 RunDoes P table old new = Session table old (λ chip l.
-    ReachesAndDoes (Settles 0x7F 131072) chip.id l.is_torn (P chip l.state) old new)
+    ReachesAndDoes (Settles 0x7F 131072) chip.id l.is_torn
+    (IsAfter (confirming chip) (P chip l.state)) old new)
 
 -- its commands, with these outcomes
 abbrev pub RunsTelling : List ChipData → List CommandData → List OutcomeData → RigState → RigState
@@ -123,14 +125,14 @@ abbrev pub StopsTelling : {T : Type 0} → (Fault → List Step → Type 0) → 
 StopsTelling Allowed torn old new result =
     IfErr result (λ fault. StopsBy (Allowed fault) (cause_of fault) torn old new)
 
--- A run that is broken off: its device isn't reached, or isn't one for it; or it is, and then such
--- steps were cut short.
+-- A run that is broken off: its device isn't reached, or isn't one for it; or it is, and then that
+-- question, and such steps, were cut short.
 abbrev pub RunDoesInPart : StepsOf → List ChipData → RigState → RigState → Fault → Type 0
 RunDoesInPart P table old new fault =
     ((torn : Bool)
     → GoesOn (ReachesInPart (Settles 0x7F 131072) (cause_of fault) torn) old.calls new.calls)
     ⊎ Session table old (λ chip l. ReachesAndStops (Settles 0x7F 131072) chip.id l.is_torn
-    (P chip l.state) (cause_of fault) old new)
+    (IsConfirmedInPart chip (P chip l.state)) (cause_of fault) old new)
 
 -- a beginning of its commands
 abbrev pub RunStops : List ChipData → List CommandData → RigState → RigState → Fault → Type 0

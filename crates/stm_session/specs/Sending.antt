@@ -24,11 +24,19 @@ most_of_command = 13 * 2097152
 abbrev pub most_calls : ℕ → ℕ
 most_calls n = 4100 * 131076 + 268 + n * most_of_command
 
+-- of the question whether a device is still the board that it was: a read of 32 bytes at most
+abbrev pub most_of_confirming : ℕ
+most_of_confirming = 44
+
+-- of a run of so many commands
+abbrev pub most_of_run : ℕ → ℕ
+most_of_run n = most_calls 0 + (most_of_confirming + n * most_of_command)
+
 -- of settling with so many bytes at most, Get and Get ID
 abbrev pub most_of_reaching : ℕ → ℕ
 most_of_reaching limit = 4100 * (limit + 4) + 268
 
--- of an undo of so many segments: a page is written first, and none is
+-- of an undo of so many segments, once its device is known: a page is written first, and none is
 -- larger than the greatest flash
 abbrev pub most_of_undo : ℕ → ℕ
 most_of_undo taken = 3 * 2097152 + taken * most_of_command
@@ -69,7 +77,7 @@ pub record SendsAsRun (table : List ChipData) (whole : Bool) (n : ℕ)
     (old new : RigState) : Type 0 where
   pub chip : Option ChipData
   pub listed : IsOfTable table chip
-  pub calls : GoesOn (IsSession chip 0x7F 131072 whole (most_calls n)) old.calls new.calls
+  pub calls : GoesOn (IsSession chip 0x7F 131072 whole (most_of_run n)) old.calls new.calls
 
 -- how an undo settles its device, whose journal is one of this chip; where there is none
 -- it sends no settling byte
@@ -92,7 +100,8 @@ pub record SendsAsUndo (table : List ChipData) (count : ℕ) (old new : RigState
   pub told : IfOk result (λ n. n ≡ taken)
   pub calls : let way = way_of_undo is_fresh chip intent in
       GoesOn (IsSession chip (byte_of way) (limit_of way) (is_whole result)
-      (most_of_reaching (limit_of way) + most_of_undo taken)) old.calls new.calls
+      (most_of_reaching (limit_of way) + (most_of_confirming + most_of_undo taken)))
+      old.calls new.calls
 
 -- nothing of a dialogue, or all of it, or it was broken off
 abbrev pub IsBegun : List Turn → List Call → Type 0

@@ -10,7 +10,8 @@ use Rattle.stm_journal.specs.Calls.{AreFetches}
 use Rattle.stm_journal.specs.PageFetching.{Brings}
 use Rattle.stm_session.specs.declared.fault.Fault.{Fault}
 use Rattle.stm_session.specs.Order.{Step, StepsOf, Tells, AreTakenAs, BeginTold, IsInOrder}
-use Rattle.stm_session.specs.Order.{UndoDoes, UndoDoesInPart, acts_of, acts_of_steps}
+use Rattle.stm_session.specs.Order.{UndoDoes, UndoDoesInPart, acts_of, acts_of_steps, behind}
+use Rattle.stm_session.specs.Order.{confirming}
 
 -- some calls
 abbrev pub AreCalls : List Call → Type 0
@@ -41,17 +42,26 @@ EndsWith steps calls = (torn : Bool) × (earlier : List Call)
 abbrev pub ToldBy : {R : Type 0} → (R → RigState) → RigState → RigState → Tells
 ToldBy view old new steps page = ToldBehind view EndsWith old new steps page
 
+-- as steps tell it that come behind the question whether the board is still the chip's
+abbrev pub behind_confirming : ChipData → Tells → Tells
+behind_confirming chip Told = behind (confirming chip) Told
+
+-- so many of the journal's segments are taken back, behind that question
+abbrev pub AreTakenTold : Tells → ℕ → StepsOf
+AreTakenTold Told taken chip s steps = AreTakenAs (behind_confirming chip Told) taken chip s steps
+
 -- An undo at Ok: its steps, in which each page that is read or rewritten is given the bytes that
 -- the journal told.
 abbrev pub UndoGivesTold : {R : Type 0} → (R → RigState) → Bool → List ChipData → ℕ → RigState
     → RigState → Type 0
 UndoGivesTold view is_fresh table taken old new =
-    UndoDoes is_fresh (AreTakenAs (ToldBy view old new) taken) table old new
+    UndoDoes is_fresh (AreTakenTold (ToldBy view old new) taken) table old new
 
 -- a beginning of them
 abbrev pub BeginTakingTold : Tells → ℕ → StepsOf
 BeginTakingTold Told count chip s steps = (taken : ℕ) × (taken ≤ length s.stack)
-    × (0 < count → taken ≤ count) × BeginTold (λ T. AreTakenAs T taken chip s) Told steps
+    × (0 < count → taken ≤ count)
+    × BeginTold (λ T. AreTakenAs T taken chip s) (behind_confirming chip Told) steps
 
 -- An undo at a fault: such a beginning, each step whole but the last, which failed.
 abbrev pub UndoStopsTold : {R : Type 0} → (R → RigState) → Bool → List ChipData → ℕ → RigState

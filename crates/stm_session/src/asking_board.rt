@@ -1,20 +1,21 @@
 // Asking a device which board it is, and what size its flash has.
 ghost use Rattle.std.specs.Prelude.{◌≡◌, ◌≤◌, Bool, ℕ, List, IsTrue, length};
-ghost use Rattle.std.specs.Prelude.{IfErr, IfOk, IfSome, Option, ◌+◌, ◌==◌};
+ghost use Rattle.std.specs.Prelude.{IfErr, IfOk, IfSome, Option, Some, ◌+◌, ◌==◌};
 ghost use Rattle.std.specs.List.{list_all};
+ghost use Rattle.stm_wire.specs.declared.places.UniquePlace.{UniquePlace as PlaceData};
+ghost use Rattle.stm_wire.specs.Chip.{ChipData};
 ghost use Rattle.stm_wire.specs.Device.{IsSettled};
 ghost use Rattle.stm_wire.specs.Dialogue.{GoesOn};
-ghost use Rattle.stm_wire.specs.Parts.{AreFew};
+ghost use Rattle.stm_wire.specs.Parts.{AreFew, IsPart};
 ghost use Rattle.stm_wire.specs.Refused.{IsTold};
 ghost use Rattle.stm_wire.specs.UniqueId.{is_unique_length};
-ghost use Rattle.stm_journal.specs.Journals.{IsLoaded};
-ghost use Rattle.stm_journal.specs.States.{intent_of, is_unfinished};
 ghost use Rattle.stm_session.specs.Asking.{Asks};
 ghost use Rattle.stm_session.specs.AskingBoard.{AsksBoard, AsksSize, AsksUnique, IsAnswered};
-ghost use Rattle.stm_session.specs.AskingBoard.{IsAsked, came_in, most_of_asking, places_in};
+ghost use Rattle.stm_session.specs.AskingBoard.{came_in, most_of_asking, places_in};
 ghost use Rattle.stm_session.specs.AskingBoard.{size_in, size_told, unique_told};
 ghost use Rattle.stm_session.specs.Fault.{HasSessionCause, IsOfLine};
-ghost use Rattle.stm_session.specs.Order.{Step, Begin, IsInOrder, Stops};
+ghost use Rattle.stm_session.specs.Order.{Step, Begin, IsAsked, IsInOrder, Stops};
+ghost use Rattle.stm_session.specs.Sending.{is_whole};
 ghost use Rattle.stm_session.specs.ToldBoard.{IsBoardOf, ToldBoardIsTheDevices, chip_of_board};
 ghost use Rattle.stm_session.specs.ToldBoard.{size_of, unique_of};
 ghost use Rattle.stm_session.specs.Unwritten.{AppendsNothing};
@@ -93,7 +94,7 @@ fn size_in(is_told: bool, bytes: [u8; 2]) -> Option<u16>
 }
 
 /// Asks a settled device for the bytes at an address, unless it refuses that: whether it told them.
-fn ask_place<R: Rig>(rig: &mut R, address: u32, buf: &mut [u8]) -> Result<bool, Fault>
+pub fn ask_place<R: Rig>(rig: &mut R, address: u32, buf: &mut [u8]) -> Result<bool, Fault>
     requires some { 1 ≤ length buf.old }
     requires limit { length buf.old ≤ 256 }
     ensures size { length buf.new ≡ length buf.old }
@@ -103,6 +104,12 @@ fn ask_place<R: Rig>(rig: &mut R, address: u32, buf: &mut [u8]) -> Result<bool, 
         HasSessionCause old new result }
     ensures few { let old = R.view rig.old in let new = R.view rig.new in
         GoesOn (AreFew (12 + length buf.old)) old.calls new.calls }
+    // At the place of a chip's unique id no other frame is put, or of that no more than its head.
+    ensures puts { let old = R.view rig.old in let new = R.view rig.new in
+        (chip : ChipData) (place : PlaceData) → chip.places.unique ≡ Some place
+        → address ≡ place.address → length buf.old ≡ place.length
+        → GoesOn (IsPart (Some chip) (is_whole result) (12 + length buf.old))
+        old.calls new.calls }
     ensures order { let old = R.view rig.old in let new = R.view rig.new in
         (torn : Bool) → IfOk result (λ told. (steps : List Step)
         × IsAsked address (length buf.old) (came_in told buf.new) steps

@@ -11,6 +11,7 @@ mod command;
 mod command_check;
 mod commanding;
 mod comparing;
+mod confirming;
 mod contact;
 mod content;
 mod erasing;

@@ -15,7 +15,7 @@ use crate::Fault;
 use crate::journal_chip::find_named;
 use crate::journal_device::meet;
 use crate::laws_of_steps::step_laws;
-use crate::segments_back::go_back;
+use crate::segments_back::go_back_confirmed;
 use std::alloc::Global;
 use stm_chip::Table;
 use stm_journal::Journal;
@@ -72,7 +72,7 @@ fn undo_from<R: Rig>(
     let chip = find_named(&journal, table, id)?;
     meet(rig, &journal, chip, is_fresh)?;
     let taken = taken_count(count, depth);
-    go_back(alloc, rig, &mut journal, chip, taken)?;
+    go_back_confirmed(alloc, rig, &mut journal, chip, taken)?;
     Ok(taken)
 }
 
@@ -81,7 +81,8 @@ fn undo_from<R: Rig>(
 /// believed: it is written before any other is read. Answers how many; where there is none it is 0,
 /// and no byte is sent. A bad journal, a chip that the table hasn't, and a page or header that
 /// isn't one of that chip are refused before a byte is sent; a device that lists no command to
-/// erase pages, or isn't the journal's, once it has answered Get and Get ID (AN3155, 3.1 and 3.3).
+/// erase pages, or isn't the journal's, once it has answered Get and Get ID (AN3155, 3.1 and 3.3);
+/// and one that is another board than the chip's by now, once it was asked for its unique id again.
 pub fn undo<R: Rig>(alloc: Global, rig: &mut R, table: &Table, count: u32) -> Result<u32, Fault>
     ensures cause { HasSessionCause (R.view rig.old) (R.view rig.new) result }
     ensures silent { let old = R.view rig.old in let new = R.view rig.new in

@@ -14,13 +14,15 @@ ghost use Rattle.stm_session.specs.Promises.{RunContract};
 ghost use Rattle.stm_session.specs.Refusals.{lies_in_flash};
 ghost use Rattle.stm_session.specs.Running.{AreKindsOf};
 ghost use Rattle.stm_session.specs.Runs.{Runs};
-ghost use Rattle.stm_session.specs.Order.{Follows};
+ghost use Rattle.stm_session.specs.Order.{Follows, IsAfter, IsConfirmedInPart, confirming};
 ghost use Rattle.stm_session.specs.RunOrder.{AreBegun, AreDone, RunStops, RunsInOrder};
 ghost use Rattle.stm_session.specs.RunOrder.{RunsTelling, StopsTelling};
 ghost use Rattle.stm_session.specs.Sending.{SendsAsRun, is_whole, most_of_command};
+ghost use Rattle.stm_session.specs.Sending.{most_of_confirming};
 ghost use Rattle.stm_session.specs.Steps.{IsSteady};
 
 use crate::command_check::check_commands;
+use crate::confirming::confirm;
 use crate::laws_of_steps::step_laws;
 use crate::one_command::run_command;
 use crate::opening::open;
@@ -74,8 +76,47 @@ fn run_commands<R: Rig>(
     Ok(outcomes)
 }
 
+/// Asks a settled device once more whether it is the chip's board, and does the commands.
+fn run_confirmed<R: Rig>(
+    alloc: Global,
+    rig: &mut R,
+    journal: &mut Journal,
+    chip: &Chip,
+    commands: &[Command],
+) -> Result<Vec<Outcome>, Fault>
+    requires in_flash { list_all (lies_in_flash chip.now) (commands_in commands.now) ≡ true }
+    requires room { length journal.old.state.stack + length (changes_of (commands_in commands.now))
+        ≤ 65535 }
+    requires finished { is_unfinished journal.old.state ≡ false }
+    ensures puts { let old = R.view rig.old in let new = R.view rig.new in
+        let most = most_of_confirming + length commands.now * most_of_command in
+        GoesOn (IsPart (Some chip.now) (is_whole result) most) old.calls new.calls }
+    ensures kinds { IfOk result (λ outcomes. AreKindsOf commands.now outcomes.items) }
+    ensures order { let old = R.view rig.old in let new = R.view rig.new in
+        let cs = commands_in commands.now in
+        IfOk result (λ outcomes. let said = map outcome_data outcomes.items in
+        let Done = AreDone chip.now cs said journal.old.state journal.new.state in
+        Follows (IsAfter (confirming chip.now) Done) journal.old journal.new old new) }
+    ensures stops { let old = R.view rig.old in let new = R.view rig.new in
+        let cs = commands_in commands.now in
+        StopsTelling (λ fault. IsConfirmedInPart chip.now
+        (AreBegun fault chip.now cs journal.old.state)) journal.old.is_torn old new result }
+    ensures spared { commands.now ≡ [] → IfErr result (λ fault. fault ≢ Fault.Memory) }
+    ensures cause { HasSessionCause (R.view rig.old) (R.view rig.new) result }
+    ensures named { IfErr result (λ fault. fault ≢ Fault.Unfinished) }
+    ensures honest { let old = R.view rig.old in let new = R.view rig.new in
+        (flashes : List (List ℕ)) → IsSteady flashes journal.old old → old.device.chip ≡ chip.now
+        → Runs (commands_in commands.now) flashes old new result
+        (λ outcomes. map outcome_data outcomes.items) }
+{
+    step_laws();
+    confirm(rig, chip)?;
+    let outcomes = run_commands(alloc, rig, journal, chip, commands)?;
+    Ok(outcomes)
+}
+
 /// Does commands, one after another: a write or an erase is one segment of the journal. Whatever
-/// can be refused is refused before the first is begun; a verify whose image differs ends the run,
+/// can be refused is refused before the first is begun, a device that is another board by now too; a verify whose image differs ends the run,
 /// and the commands before it stand.
 pub fn run<R: Rig>(
     alloc: Global,
@@ -104,6 +145,6 @@ pub fn run<R: Rig>(
     let mut opened = open(alloc, rig, table)?;
     let chip = opened.chip;
     check_commands(&opened.journal, chip, &opened.commands, commands)?;
-    let outcomes = run_commands(alloc, rig, &mut opened.journal, chip, commands)?;
+    let outcomes = run_confirmed(alloc, rig, &mut opened.journal, chip, commands)?;
     Ok(Report { outcomes })
 }

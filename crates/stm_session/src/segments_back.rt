@@ -1,5 +1,5 @@
 // Taking the newest segments back, one after another, and before them the page at work.
-ghost use Rattle.std.specs.Prelude.{◌≡◌, ◌≤◌, ◌*◌, List, ℕ, length, Some, OnOk};
+ghost use Rattle.std.specs.Prelude.{◌≡◌, ◌≤◌, ◌+◌, ◌*◌, List, ℕ, length, Some, OnOk};
 ghost use Rattle.stm_wire.specs.Dialogue.{GoesOn};
 ghost use Rattle.stm_wire.specs.Parts.{IsPart};
 ghost use Rattle.stm_journal.specs.Fits.{AllFit};
@@ -8,12 +8,14 @@ ghost use Rattle.stm_journal.specs.States.{intent_of};
 ghost use Rattle.stm_session.specs.Fault.{HasSessionCause};
 ghost use Rattle.stm_session.specs.SegmentsBack.{GoesBack, GoesBackBy, undo_lines};
 ghost use Rattle.stm_session.specs.Order.{BeginTold, Follows, AreAllTakenBack, AreTakenBack};
-ghost use Rattle.stm_session.specs.Order.{Stops};
-ghost use Rattle.stm_session.specs.Told.{ToldIn};
-ghost use Rattle.stm_session.specs.Sending.{is_whole, most_of_command, most_of_undo};
+ghost use Rattle.stm_session.specs.Order.{IsAfter, IsConfirmedInPart, Stops, confirming};
+ghost use Rattle.stm_session.specs.Told.{ToldIn, behind_confirming};
+ghost use Rattle.stm_session.specs.Sending.{is_whole, most_of_command, most_of_confirming};
+ghost use Rattle.stm_session.specs.Sending.{most_of_undo};
 ghost use Rattle.stm_session.specs.Steps.{IsSteady};
 
 use crate::Fault;
+use crate::confirming::confirm;
 use crate::laws_of_steps::step_laws;
 use crate::page_at_work::rewrite_at_work;
 use crate::segment_back::take_back;
@@ -91,5 +93,43 @@ pub fn go_back<R: Rig>(
     step_laws();
     rewrite_at_work(alloc, rig, journal, chip)?;
     take_back_newest(alloc, rig, journal, chip, taken)?;
+    Ok(())
+}
+
+/// The same, once a settled device has told that it is still the chip's board.
+pub fn go_back_confirmed<R: Rig>(
+    alloc: Global,
+    rig: &mut R,
+    journal: &mut Journal,
+    chip: &Chip,
+    taken: u32,
+) -> Result<(), Fault>
+    requires one { 1 ≤ taken }
+    requires some { taken ≤ length journal.old.state.stack }
+    requires fits { AllFit chip.now journal.old.state.stack }
+    ensures cause { HasSessionCause (R.view rig.old) (R.view rig.new) result }
+    ensures puts { let old = R.view rig.old in let new = R.view rig.new in
+        let most = most_of_confirming + most_of_undo taken in
+        GoesOn (IsPart (Some chip.now) (is_whole result) most) old.calls new.calls }
+    ensures order { let old = R.view rig.old in let new = R.view rig.new in
+        let intent = intent_of journal.old.state in
+        let segments = pages_of_segments journal.old.state.stack in
+        let Told = behind_confirming chip.now (ToldIn R.view journal.old.is_torn old new) in
+        let Taken = AreAllTakenBack chip.now Told intent taken segments in
+        OnOk result (Follows (IsAfter (confirming chip.now) Taken) journal.old journal.new
+        old new) }
+    ensures stops { let old = R.view rig.old in let new = R.view rig.new in
+        let intent = intent_of journal.old.state in
+        let segments = pages_of_segments journal.old.state.stack in
+        let Told = behind_confirming chip.now (ToldIn R.view journal.old.is_torn old new) in
+        let Begun = BeginTold (λ T. AreAllTakenBack chip.now T intent taken segments) Told in
+        Stops (IsConfirmedInPart chip.now Begun) journal.old.is_torn old new result }
+    ensures honest { let old = R.view rig.old in let new = R.view rig.new in
+        (flashes : List (List ℕ)) → IsSteady flashes journal.old old → old.device.chip ≡ chip.now
+        → GoesBackBy (undo_lines taken old) taken flashes journal.new old new result }
+{
+    step_laws();
+    confirm(rig, chip)?;
+    go_back(alloc, rig, journal, chip, taken)?;
     Ok(())
 }

@@ -1,9 +1,12 @@
-use Rattle.std.proofs.Common.{◌≡◌, ◌∷◌, ◌+◌, [], ℕ, List, Option, Some, length, rules, refl}
+use Rattle.std.proofs.Common.{◌≡◌, ◌∷◌, ◌+◌, [], ℕ, Bool, List, Option, Some, length, rules, refl}
 use Rattle.stm_wire.specs.Frames.{read_turns}
-use Rattle.stm_session.specs.AskingBoard.{IsAsked}
-use Rattle.stm_session.specs.Order.{Step, Begin, Sends}
+use Rattle.stm_wire.specs.Dialogue.{GoesOn}
+use Rattle.stm_wire.specs.Parts.{IsPart}
+use Rattle.stm_session.specs.Order.{Step, Begin, IsAsked, Sends}
 use Rattle.stm_session.proofs.AskingBoards.{few_broken, place_asked, place_failed, read_broken_length, read_few, read_ordered, read_unwritten}
+use Rattle.stm_session.proofs.Confirmings.{place_broken, place_held}
 use Rattle.stm_session.proofs.CutShort.{begin_all, command_stops}
+use Rattle.stm_session.proofs.Sending.{with_fault}
 use Rattle.stm_session.proofs.Unwritings.{broken_appends_nothing}
 use Rattle.stm_session.proofs.asking_board.ask_place.Goals as goal
 
@@ -31,6 +34,23 @@ returns-clause-few g c =
     let n = length c.args.buf.now in
     let same : length c.read_unless_refused.new.buf ≡ n = search rules in
     read_few c.args.address n c.read_unless_refused.new.buf (V c.args.rig.now) (V c.read_unless_refused.new.rig) c.in_ok-is_told.is_told same c.in_ok-is_told.ensures.held
+
+pub returns-in_err-is_told-clause-puts : goal.returns-in_err-is_told-clause-puts
+returns-in_err-is_told-clause-puts g c chip place known at size =
+    let V = g.R.Rig.view in
+    let a = (V c.args.rig.now).calls in
+    let b = (V c.read_unless_refused.new.rig).calls in
+    let n = length c.args.buf.now in
+    let broken = c.in_err-is_told.ensures.broken in
+    let P : Bool → Type 0 = λ w. GoesOn (IsPart (Some chip) w (12 + n)) a b in
+    with_fault P _ c.from_residual.result c.from_residual.ensures.1 (place_broken chip place known c.args.address n at size broken.0 _ a b broken.1 broken.2.recorded)
+
+pub returns-clause-puts : goal.returns-clause-puts
+returns-clause-puts g c chip place known at size =
+    let V = g.R.Rig.view in
+    let n = length c.args.buf.now in
+    let same : length c.read_unless_refused.new.buf ≡ n = search rules in
+    place_held chip place known c.args.address n at size c.read_unless_refused.new.buf (V c.args.rig.now) (V c.read_unless_refused.new.rig) c.in_ok-is_told.is_told same c.in_ok-is_told.ensures.held
 
 pub returns-clause-order : goal.returns-clause-order
 returns-clause-order g c torn =

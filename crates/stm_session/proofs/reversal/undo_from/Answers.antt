@@ -25,16 +25,16 @@ use Rattle.std.proofs.Common.{◌++◌}
 use Rattle.std.proofs.Common.{inl, inr}
 use Rattle.stm_session.specs.Fault.{cause_of}
 use Rattle.stm_journal.specs.Newest.{pages_of_segments}
-use Rattle.stm_session.specs.Order.{Step, AreCutShort, AreTakenAs, BeginTaking, BeginTold, IsAfter, SettlesFirst, UndoStopsFrom, asking_steps, so_far, untold}
-use Rattle.stm_session.specs.Told.{BeginTakingTold, ToldBy, ToldIn, UndoStopsTold}
+use Rattle.stm_session.specs.Order.{Step, AreCutShort, AreTakenAs, BeginTaking, BeginTold, IsAfter, IsConfirmedInPart, SettlesFirst, UndoStopsFrom, asking_steps, confirming, so_far, untold}
+use Rattle.stm_session.specs.Told.{BeginTakingTold, ToldBy, ToldIn, UndoStopsTold, behind_confirming}
 use Rattle.stm_session.proofs.Tellings.{all_as}
 use Rattle.stm_session.proofs.ToldPages.{told_by}
-use Rattle.stm_session.proofs.KeptRuns.{stops_as}
+use Rattle.stm_session.proofs.KeptRuns.{confirmed_as, stops_as}
 use Rattle.stm_session.proofs.Orders.{fetched_and, fetched_then, settled_then}
 use Rattle.stm_session.proofs.Reaching.{at_fault, fetched_stops, reached_stops}
 use Rattle.stm_session.proofs.SentUndo.{own-id}
 use Rattle.stm_session.proofs.reversal.undo_from.Given.{Over}
-use Rattle.stm_session.proofs.reversal.undo_from.Goals.{After-go_back, After-meet}
+use Rattle.stm_session.proofs.reversal.undo_from.Goals.{After-go_back_confirmed, After-meet}
 use Rattle.stm_session.proofs.reversal.undo_from.Goals as goal
 
 pub returns-in_err-journal-clause-promised : goal.returns-in_err-journal-clause-promised
@@ -150,10 +150,10 @@ returns-in_err-meet-clause-promised g c said =
     (g.met.R.Rig.model c.meet.new.rig goes.honest) goes is)))
 
 -- the segments are gone back over, of a device that was met
-gone : (g : Over) (c : After-go_back g) (made : Result (Unit {0}) Fault) → c.go_back.result ≡ made
+gone : (g : Over) (c : After-go_back_confirmed g) (made : Result (Unit {0}) Fault) → c.go_back_confirmed.result ≡ made
     → (g.R.Rig.view c.args.rig.now).is_honest → (result : Result ℕ Fault)
     → let a = g.R.Rig.view c.args.rig.now in let b = g.R.Rig.view c.load.new.rig in
-    let d = g.R.Rig.view c.meet.new.rig in let e = g.R.Rig.view c.go_back.new.rig in
+    let d = g.R.Rig.view c.meet.new.rig in let e = g.R.Rig.view c.go_back_confirmed.new.rig in
     let l = c.in_ok-journal.journal in let taken = c.taken_count-taken.result in
     (Harmless a.device (byte_at_journal a.journal) (risked_at a.journal)
     → length a.device.owed ≤ 4096
@@ -165,7 +165,7 @@ gone : (g : Over) (c : After-go_back g) (made : Result (Unit {0}) Fault) → c.g
     → ((flashes : List (List ℕ)) → Undoable flashes a.device a.journal → IsModel d
     → Goes {T = Unit {0}} flashes [] l b d (Ok (tt {0})) (λ _. Unit {0})
     → IsFlashSettled a d.device.flash
-    → GoesBackBy (undo_lines taken d) taken flashes c.go_back.new.journal d e made
+    → GoesBackBy (undo_lines taken d) taken flashes c.go_back_confirmed.new.journal d e made
     → Undoes taken flashes a e result)
     → UndoContract c.args.table.now c.args.count a e result
 gone g c made was h result meets goes undoes =
@@ -175,7 +175,7 @@ gone g c made was h result meets goes undoes =
     let a = V c.args.rig.now in
     let b = V c.load.new.rig in
     let d = V c.meet.new.rig in
-    let e = V c.go_back.new.rig in
+    let e = V c.go_back_confirmed.new.rig in
     let loads = c.in_ok-journal.ensures.honest h in
     let some : 1 ≤ length l.state.stack =
     omega (arith, c.if-depth-eq0.false, c.depth-depth.ensures.value) in
@@ -204,34 +204,34 @@ gone g c made was h result meets goes undoes =
     c.taken_count-taken.ensures.value
     ∙ ap (λ (n : ℕ). taken_count c.args.count n) (c.depth-depth.ensures.value ∙ sym depth) in
     let G : Result (Unit {0}) Fault → Type 0 =
-    λ r. GoesBackBy (undo_lines taken d) taken flashes c.go_back.new.journal d e r in
+    λ r. GoesBackBy (undo_lines taken d) taken flashes c.go_back_confirmed.new.journal d e r in
     let U : ℕ → Type 0 = λ n. Undoes n flashes a e result in
     subst U count_is
     (undoes flashes u model went settled
-    (subst G was (c.go_back.ensures.honest flashes went.steady still))))
+    (subst G was (c.go_back_confirmed.ensures.honest flashes went.steady still))))
 
-pub returns-in_err-go_back-clause-promised : goal.returns-in_err-go_back-clause-promised
-returns-in_err-go_back-clause-promised g c said =
+pub returns-in_err-go_back_confirmed-clause-promised : goal.returns-in_err-go_back_confirmed-clause-promised
+returns-in_err-go_back_confirmed-clause-promised g c said =
     let V = g.R.Rig.view in
     let table = c.args.table.now in
     let l = c.in_ok-journal.journal in
     let a = V c.args.rig.now in
-    let e = V c.go_back.new.rig in
+    let e = V c.go_back_confirmed.new.rig in
     let some : 1 ≤ length l.state.stack =
     omega (arith, c.if-depth-eq0.false, c.depth-depth.ensures.value) in
     let found = c.in_ok-chip.ensures in
-    let last = c.from_residual-in_err-go_back in
-    let at = goal.at.returns-in_err-go_back-clause-promised g c in
+    let last = c.from_residual-in_err-go_back_confirmed in
+    let at = goal.at.returns-in_err-go_back_confirmed-clause-promised g c in
     let P : Result ℕ Fault → Type 0 = λ r. UndoContract table c.args.count a e r in
     contract_when table c.args.count a e last.result
     (λ h. err_as P last.result _ last.ensures.1 (λ x is.
-    gone g at.After-go_back _ c.in_err-go_back.was h (Err x)
+    gone g at.After-go_back_confirmed _ c.in_err-go_back_confirmed.was h (Err x)
     (told g at.After-meet _ c.in_ok-meet.was h said) (met g at.After-meet _ c.in_ok-meet.was h said)
     (λ flashes u model went settled back.
     undoes_stopped table l a (V c.load.new.rig) (c.in_ok-journal.ensures.honest h) some c.in-Some.id
     (sym c.in-Some.ensures) c.step_laws.ensures c.in_ok-chip.chip.now found.chip found.accepted
     c.taken_count-taken.result flashes u (V c.meet.new.rig) model went settled e
-    c.go_back.new.journal _ x (g.met.R.Rig.model c.go_back.new.rig back.honest) back is)))
+    c.go_back_confirmed.new.journal _ x (g.met.R.Rig.model c.go_back_confirmed.new.rig back.honest) back is)))
 
 pub returns-clause-promised : goal.returns-clause-promised
 returns-clause-promised g c said =
@@ -239,7 +239,7 @@ returns-clause-promised g c said =
     let table = c.args.table.now in
     let l = c.in_ok-journal.journal in
     let a = V c.args.rig.now in
-    let e = V c.go_back.new.rig in
+    let e = V c.go_back_confirmed.new.rig in
     let some : 1 ≤ length l.state.stack =
     omega (arith, c.if-depth-eq0.false, c.depth-depth.ensures.value) in
     let found = c.in_ok-chip.ensures in
@@ -248,14 +248,14 @@ returns-clause-promised g c said =
     (omega (arith, some, c.depth-depth.ensures.value)) in
     let at = goal.at.returns-clause-promised g c in
     contract_when table c.args.count a e _ (λ h.
-    gone g at.After-go_back _ c.in_ok-go_back.was h _
+    gone g at.After-go_back_confirmed _ c.in_ok-go_back_confirmed.was h _
     (told g at.After-meet _ c.in_ok-meet.was h said) (met g at.After-meet _ c.in_ok-meet.was h said)
     (λ flashes u model went settled back.
     undoes_all table l a (V c.load.new.rig) (c.in_ok-journal.ensures.honest h) some c.in-Some.id
     (sym c.in-Some.ensures) c.step_laws.ensures c.in_ok-chip.chip.now found.chip found.accepted
-    taken.result flashes u (V c.meet.new.rig) model went settled e c.go_back.new.journal
+    taken.result flashes u (V c.meet.new.rig) model went settled e c.go_back_confirmed.new.journal
     taken.result
-    refl one (g.met.R.Rig.model c.go_back.new.rig back.honest) back))
+    refl one (g.met.R.Rig.model c.go_back_confirmed.new.rig back.honest) back))
 
 pub returns-in_err-journal-clause-puts : goal.returns-in_err-journal-clause-puts
 returns-in_err-journal-clause-puts g c =
@@ -286,30 +286,30 @@ returns-in_err-meet-clause-puts g c =
     sends_failed c.args.table.now c.args.count a d _ c.from_residual-in_err-meet.result c.from_residual-in_err-meet.ensures.1
     (sends_met c.args.table.now c.args.count a c.args.is_fresh intent c.in-Some.id chip c.in_ok-chip.ensures.chip (V c.load.new.rig) d _ c.in_ok-journal.ensures.calls c.in_err-meet.ensures.puts)
 
-pub returns-in_err-go_back-clause-puts : goal.returns-in_err-go_back-clause-puts
-returns-in_err-go_back-clause-puts g c =
+pub returns-in_err-go_back_confirmed-clause-puts : goal.returns-in_err-go_back_confirmed-clause-puts
+returns-in_err-go_back_confirmed-clause-puts g c =
     let V = g.R.Rig.view in
     let a = V c.args.rig.now in
-    let d = V c.go_back.new.rig in
+    let d = V c.go_back_confirmed.new.rig in
     let intent = intent_of c.in_ok-journal.journal.state in
     let chip = c.in_ok-chip.chip.now in
     let taken = c.taken_count-taken in
     let limit : taken.result ≤ 65535 = omega (arith, taken.ensures.most, c.depth-depth.ensures.value, c.depth-depth.ensures.sound.depth) in
-    sends_failed c.args.table.now c.args.count a d _ c.from_residual-in_err-go_back.result c.from_residual-in_err-go_back.ensures.1
+    sends_failed c.args.table.now c.args.count a d _ c.from_residual-in_err-go_back_confirmed.result c.from_residual-in_err-go_back_confirmed.ensures.1
     (sends_back c.args.table.now c.args.count a c.args.is_fresh intent c.in-Some.id chip c.in_ok-chip.ensures.chip taken.result (V c.load.new.rig) (V c.meet.new.rig) d _ limit taken.ensures.asked tt
-    c.in_ok-journal.ensures.calls c.in_ok-meet.ensures.puts c.in_err-go_back.ensures.puts)
+    c.in_ok-journal.ensures.calls c.in_ok-meet.ensures.puts c.in_err-go_back_confirmed.ensures.puts)
 
 pub returns-clause-puts : goal.returns-clause-puts
 returns-clause-puts g c =
     let V = g.R.Rig.view in
     let a = V c.args.rig.now in
-    let d = V c.go_back.new.rig in
+    let d = V c.go_back_confirmed.new.rig in
     let intent = intent_of c.in_ok-journal.journal.state in
     let chip = c.in_ok-chip.chip.now in
     let taken = c.taken_count-taken in
     let limit : taken.result ≤ 65535 = omega (arith, taken.ensures.most, c.depth-depth.ensures.value, c.depth-depth.ensures.sound.depth) in
     sends_back c.args.table.now c.args.count a c.args.is_fresh intent c.in-Some.id chip c.in_ok-chip.ensures.chip taken.result (V c.load.new.rig) (V c.meet.new.rig) d _ limit taken.ensures.asked refl
-    c.in_ok-journal.ensures.calls c.in_ok-meet.ensures.puts c.in_ok-go_back.ensures.puts
+    c.in_ok-journal.ensures.calls c.in_ok-meet.ensures.puts c.in_ok-go_back_confirmed.ensures.puts
 
 pub returns-then-depth-eq0-clause-order : goal.returns-then-depth-eq0-clause-order
 returns-then-depth-eq0-clause-order g c some = absurd (omega (arith, some))
@@ -326,12 +326,12 @@ returns-clause-order g c some =
     let a = (V c.args.rig.now).calls in
     let b = (V c.load.new.rig).calls in
     let d = (V c.meet.new.rig).calls in
-    let e = (V c.go_back.new.rig).calls in
-    let back = c.in_ok-go_back.ensures.order in
+    let e = (V c.go_back_confirmed.new.rig).calls in
+    let back = c.in_ok-go_back_confirmed.ensures.order in
     let met = c.in_ok-meet.ensures.order l.is_torn in
     let asking = asking_steps met.0 met.1 chip.id in
-    let Told = ToldIn V l.is_torn (V c.meet.new.rig) (V c.go_back.new.rig) in
-    let taken = all_as chip Told untold (intent_of l.state) c.taken_count-taken.result (pages_of_segments l.state.stack) back.0 (λ steps page told. tt) back.1 in
+    let Told = behind_confirming chip (ToldIn V l.is_torn (V c.meet.new.rig) (V c.go_back_confirmed.new.rig)) in
+    let taken = all_as chip Told untold (intent_of l.state) c.taken_count-taken.result (pages_of_segments l.state.stack) back.1.0 (λ steps page told. tt) back.1.2 in
     record {
       journal = l;
       loaded = λ h. (c.in_ok-journal.ensures.honest h).loaded;
@@ -339,7 +339,7 @@ returns-clause-order g c some =
       chip = chip;
       listed = own-id c.args.table.now c.in-Some.id chip c.in_ok-chip.ensures.chip;
       board = c.in_ok-chip.ensures.board;
-      does = (met.0, met.1, back.0, taken, fetched_then way l.is_torn (asking ++ back.0) a b e c.in_ok-journal.ensures.calls (settled_then way l.is_torn asking back.0 b d e refl met.2 back.2.acts));
+      does = (met.0, met.1, back.0, (back.1.0, back.1.1, taken), fetched_then way l.is_torn (asking ++ back.0) a b e c.in_ok-journal.ensures.calls (settled_then way l.is_torn asking back.0 b d e refl met.2 back.2.acts));
     }
 
 pub returns-clause-given : goal.returns-clause-given
@@ -351,13 +351,13 @@ returns-clause-given g c some =
     let a = V c.args.rig.now in
     let b = V c.load.new.rig in
     let d = V c.meet.new.rig in
-    let e = V c.go_back.new.rig in
-    let back = c.in_ok-go_back.ensures.order in
+    let e = V c.go_back_confirmed.new.rig in
+    let back = c.in_ok-go_back_confirmed.ensures.order in
     let met = c.in_ok-meet.ensures.order l.is_torn in
     let asking = asking_steps met.0 met.1 chip.id in
     let opened = fetched_then way l.is_torn asking a.calls b.calls d.calls c.in_ok-journal.ensures.calls met.2 in
     let told = told_by V (λ calls. SettlesFirst way l.is_torn asking calls) l.is_torn a d e opened in
-    let taken = all_as chip (ToldIn V l.is_torn d e) (ToldBy V a e) (intent_of l.state) c.taken_count-taken.result (pages_of_segments l.state.stack) back.0 told back.1 in
+    let taken = all_as chip (behind_confirming chip (ToldIn V l.is_torn d e)) (behind_confirming chip (ToldBy V a e)) (intent_of l.state) c.taken_count-taken.result (pages_of_segments l.state.stack) back.1.0 (λ steps page. told (confirming chip ++ steps) page) back.1.2 in
     record {
       journal = l;
       loaded = λ h. (c.in_ok-journal.ensures.honest h).loaded;
@@ -369,7 +369,7 @@ returns-clause-given g c some =
         met.0,
         met.1,
         back.0,
-        taken,
+        (back.1.0, back.1.1, taken),
         fetched_then way l.is_torn (asking ++ back.0) a.calls b.calls e.calls c.in_ok-journal.ensures.calls (settled_then way l.is_torn asking back.0 b.calls d.calls e.calls refl met.2 back.2.acts),
       );
     }
@@ -406,8 +406,8 @@ returns-in_err-meet-clause-stops g c =
       does = inl (fetched_stops way _ l.is_torn a.calls b.calls d.calls c.in_ok-journal.ensures.calls (c.in_err-meet.ensures.stops l.is_torn));
     }))
 
-pub returns-in_err-go_back-clause-stops : goal.returns-in_err-go_back-clause-stops
-returns-in_err-go_back-clause-stops g c =
+pub returns-in_err-go_back_confirmed-clause-stops : goal.returns-in_err-go_back_confirmed-clause-stops
+returns-in_err-go_back_confirmed-clause-stops g c =
     let V = g.R.Rig.view in
     let l = c.in_ok-journal.journal in
     let chip = c.in_ok-chip.chip.now in
@@ -417,21 +417,22 @@ returns-in_err-go_back-clause-stops g c =
     let a = V c.args.rig.now in
     let b = V c.load.new.rig in
     let d = V c.meet.new.rig in
-    let e = V c.go_back.new.rig in
+    let e = V c.go_back_confirmed.new.rig in
     let taken = c.taken_count-taken in
     let within : taken.result ≤ length l.state.stack = omega (arith, taken.ensures.most, c.depth-depth.ensures.value) in
     let met = c.in_ok-meet.ensures.order l.is_torn in
-    let cause = cause_of c.in_err-go_back.field-0.0 in
-    let Told = ToldIn V l.is_torn d e in
-    let Own = BeginTold (λ T. AreTakenAs T taken.result chip l.state) Told in
-    let Back = BeginTaking c.args.count chip l.state in
+    let cause = cause_of c.in_err-go_back_confirmed.field-0.0 in
+    let Told = behind_confirming chip (ToldIn V l.is_torn d e) in
+    let Begun = BeginTold (λ T. AreTakenAs T taken.result chip l.state) Told in
+    let Own = IsConfirmedInPart chip Begun in
+    let Back = IsConfirmedInPart chip (BeginTaking c.args.count chip l.state) in
     let Cut = AreCutShort (IsAfter (asking_steps met.0 met.1 chip.id) Own) cause l.is_torn in
     let P : Fault → Type 0 = λ x. UndoStopsFrom c.args.is_fresh c.args.table.now c.args.count a e x in
-    let back = fetched_and way Cut a.calls b.calls e.calls c.in_ok-journal.ensures.calls (reached_stops way chip.id met.0 met.1 Own cause l.is_torn b d e met.2 c.in_err-go_back.ensures.stops) in
+    let back = fetched_and way Cut a.calls b.calls e.calls c.in_ok-journal.ensures.calls (reached_stops way chip.id met.0 met.1 Own cause l.is_torn b d e met.2 c.in_err-go_back_confirmed.ensures.stops) in
     let begun : (steps : List Step) → Own steps → Back steps =
-    λ steps own.
-    (taken.result, within, taken.ensures.asked, (own.0, all_as chip (so_far (length steps) Told) untold intent taken.result segments (steps ++ own.0) (λ ys page told. tt) own.1)) in
-    at_fault P _ c.from_residual-in_err-go_back.result c.from_residual-in_err-go_back.ensures.1
+    confirmed_as chip Begun (BeginTaking c.args.count chip l.state) (λ steps own.
+    (taken.result, within, taken.ensures.asked, (own.0, all_as chip (so_far (length steps) Told) untold intent taken.result segments (steps ++ own.0) (λ ys page told. tt) own.1))) in
+    at_fault P _ c.from_residual-in_err-go_back_confirmed.result c.from_residual-in_err-go_back_confirmed.ensures.1
     (inr (record {
       journal = l;
       loaded = λ h. (c.in_ok-journal.ensures.honest h).loaded;
@@ -475,8 +476,8 @@ returns-in_err-meet-clause-given_stops g c =
       does = inl (fetched_stops way _ l.is_torn a.calls b.calls d.calls c.in_ok-journal.ensures.calls (c.in_err-meet.ensures.stops l.is_torn));
     }))
 
-pub returns-in_err-go_back-clause-given_stops : goal.returns-in_err-go_back-clause-given_stops
-returns-in_err-go_back-clause-given_stops g c =
+pub returns-in_err-go_back_confirmed-clause-given_stops : goal.returns-in_err-go_back_confirmed-clause-given_stops
+returns-in_err-go_back_confirmed-clause-given_stops g c =
     let V = g.R.Rig.view in
     let l = c.in_ok-journal.journal in
     let chip = c.in_ok-chip.chip.now in
@@ -486,26 +487,27 @@ returns-in_err-go_back-clause-given_stops g c =
     let a = V c.args.rig.now in
     let b = V c.load.new.rig in
     let d = V c.meet.new.rig in
-    let e = V c.go_back.new.rig in
+    let e = V c.go_back_confirmed.new.rig in
     let taken = c.taken_count-taken in
     let within : taken.result ≤ length l.state.stack = omega (arith, taken.ensures.most, c.depth-depth.ensures.value) in
     let met = c.in_ok-meet.ensures.order l.is_torn in
     let asking = asking_steps met.0 met.1 chip.id in
-    let cause = cause_of c.in_err-go_back.field-0.0 in
-    let Told = ToldIn V l.is_torn d e in
+    let cause = cause_of c.in_err-go_back_confirmed.field-0.0 in
+    let Told = behind_confirming chip (ToldIn V l.is_torn d e) in
     let Given = ToldBy V a e in
     let opened = fetched_then way l.is_torn asking a.calls b.calls d.calls c.in_ok-journal.ensures.calls met.2 in
     let told = told_by V (λ calls. SettlesFirst way l.is_torn asking calls) l.is_torn a d e opened in
-    let Own = BeginTold (λ T. AreTakenAs T taken.result chip l.state) Told in
-    let Back = BeginTakingTold Given c.args.count chip l.state in
+    let Begun = BeginTold (λ T. AreTakenAs T taken.result chip l.state) Told in
+    let Own = IsConfirmedInPart chip Begun in
+    let Back = IsConfirmedInPart chip (BeginTakingTold Given c.args.count chip l.state) in
     let Cut = AreCutShort (IsAfter asking Own) cause l.is_torn in
     let P : Fault → Type 0 = λ x. UndoStopsTold V c.args.is_fresh c.args.table.now c.args.count a e x in
-    let back = fetched_and way Cut a.calls b.calls e.calls c.in_ok-journal.ensures.calls (reached_stops way chip.id met.0 met.1 Own cause l.is_torn b d e met.2 c.in_err-go_back.ensures.stops) in
+    let back = fetched_and way Cut a.calls b.calls e.calls c.in_ok-journal.ensures.calls (reached_stops way chip.id met.0 met.1 Own cause l.is_torn b d e met.2 c.in_err-go_back_confirmed.ensures.stops) in
     let begun : (steps : List Step) → Own steps → Back steps =
-    λ steps own.
+    confirmed_as chip Begun (BeginTakingTold Given c.args.count chip l.state) (λ steps own.
     let n = length steps in
-    (taken.result, within, taken.ensures.asked, (own.0, all_as chip (so_far n Told) (so_far n Given) intent taken.result segments (steps ++ own.0) (λ ys page is lt. told ys page (is lt)) own.1)) in
-    at_fault P _ c.from_residual-in_err-go_back.result c.from_residual-in_err-go_back.ensures.1
+    (taken.result, within, taken.ensures.asked, (own.0, all_as chip (so_far n Told) (so_far n (behind_confirming chip Given)) intent taken.result segments (steps ++ own.0) (λ ys page is lt. told (confirming chip ++ ys) page (is lt)) own.1))) in
+    at_fault P _ c.from_residual-in_err-go_back_confirmed.result c.from_residual-in_err-go_back_confirmed.ensures.1
     (inr (record {
       journal = l;
       loaded = λ h. (c.in_ok-journal.ensures.honest h).loaded;
