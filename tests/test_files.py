@@ -7,7 +7,7 @@ import subprocess
 import threading
 
 import syncs
-from place import COUNTING, ERASED, PATIENCE, SIZE, ZEROS, Place, Said, program
+from place import COUNTING, ERASED, PATIENCE, SIZE, TABLE, ZEROS, Place, Said, program
 from test_disk import files_up_to
 
 
@@ -57,6 +57,42 @@ class Files(Place):
                 said = self.call("sim", "--table", "table", "--id", "0412", "--flash", "flash", "--socket", socket)
                 self.assertFault(said, f"cannot write {socket}")
                 self.assertHolds(None, None)
+
+    def test_what_says_the_board_is_only_read(self):
+        """No file that is to be written is FILE.board, by whatever name, and whether it is there or not."""
+        self.store("image", b"\xaa")
+        sim = ("sim", "--table", "table", "--id", "0412", "--flash", "flash", "--socket")
+        for board in (None, b"size 16\n"):
+            names = ["flash.board", "./flash.board"]
+            if board is None:
+                os.symlink("flash.board", self.path("soft"))
+                names.append("soft")
+            else:
+                self.store("flash.board", board)
+                os.link(self.path("flash.board"), self.path("hard"))
+                names += ["hard", "soft"]
+            for name in names:
+                for call in (lambda: self.use("write", "image", journal=name), lambda: self.use("read", name),
+                             lambda: self.use("write", "--keep-to", name, "image"), lambda: self.call(*sim, name)):
+                    with self.subTest(name=name, board=board):
+                        self.assertFault(call(), f"cannot write {name}")
+                        self.assertFile("flash.board", board)
+                        self.assertHolds(None, None)
+                        self.assertFile("journal", None)
+
+    def test_what_a_simulator_writes_is_none_that_says_the_board(self):
+        sim = ("sim", "--table", "table", "--id", "0412", "--flash", "flash", "--socket", "board")
+        for board in (None, b"size 16\n"):
+            if board is not None:
+                self.store("flash.board", board)
+            for name in ("flash", "flash.line"):
+                os.symlink("flash.board", self.path(name))
+                for call in (lambda: self.use("info"), lambda: self.call(*sim)):
+                    with self.subTest(name=name, board=board):
+                        self.assertFault(call(), f"cannot write {name}")
+                        self.assertFile("flash.board", board)
+                        self.assertEqual(os.readlink(self.path(name)), "flash.board")
+                self.remove(name)
 
     def test_names_that_end_in_new(self):
         """What is written beside a file has a name that no file has, and follows no link."""
@@ -323,6 +359,23 @@ class Files(Place):
                 ran = subprocess.run(words, executable=program(), cwd=self.folder, env={}, timeout=PATIENCE, input=COUNTING[5:500],
                                      capture_output=True)
                 self.assertEqual((ran.returncode, ran.stdout, ran.stderr), (0, b"verified 495 bytes\n", b""))
+
+    def test_a_table_may_come_from_standard_input(self):
+        """Also by a pipe, whose bytes come once; and of a simulator that is served."""
+        self.store("image", b"\xaa")
+        for name in ("/dev/stdin", "/dev/fd/0"):
+            with self.subTest(name=name):
+                words = ["stmflash", "write", "-v", "--keep", "--again", "2", "--table", name, "--device", "sim:0412:flash",
+                         "--journal", "journal", "image"]
+                ran = subprocess.run(words, executable=program(), cwd=self.folder, env={}, timeout=PATIENCE, input=TABLE,
+                                     capture_output=True)
+                told = b"segment 1: 1 pages written\nverified 1 bytes\nkept 1\n"
+                self.assertEqual((ran.returncode, ran.stdout, ran.stderr), (0, told, b""))
+                self.remove("flash", "flash.line")
+                words = ["stmflash", "sim", "--table", name, "--id", "0412", "--flash", "flash", "--socket", "table"]
+                ran = subprocess.run(words, executable=program(), cwd=self.folder, env={}, timeout=PATIENCE, input=TABLE,
+                                     capture_output=True)
+                self.assertEqual((ran.returncode, ran.stdout, ran.stderr), (1, b"", b"stmflash: cannot connect table\n"))
 
     def test_files_without_an_end(self):
         self.store("flash", COUNTING)

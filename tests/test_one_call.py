@@ -1,11 +1,14 @@
 """A write with what follows it in the same call: the journal kept, Go, and the write done again where its line failed."""
 
+import fcntl
 import os
 import select
 import socket
+import subprocess
 import threading
+import time
 
-from place import PATIENCE, SIZE, ZEROS, Place, Said
+from place import PATIENCE, SIZE, ZEROS, Place, Said, program
 from served import WAIT, Served
 
 IMAGE = b"a new program, whatever it does"
@@ -13,6 +16,28 @@ WRITTEN = b"segment 1: 1 pages written\nverified 31 bytes\n"
 GO = ("--go", "0x08000000")
 # what is sent for Go at the flash's first byte, its address and the check of that
 GO_FRAMES = b"\x21\xde\x08\x00\x00\x00\x08"
+
+
+def full_pipe():
+    """Both ends of a pipe that holds as much as it can: who writes to it waits until it is read."""
+    told, into = os.pipe()
+    os.set_blocking(into, False)
+    try:
+        while os.write(into, b"."):
+            pass
+    except BlockingIOError:
+        os.set_blocking(into, True)
+    return told, into
+
+
+def is_free(name):
+    """Whether no program has a file for itself."""
+    with open(name, "rb") as file:
+        try:
+            fcntl.flock(file, fcntl.LOCK_SH | fcntl.LOCK_NB)
+        except BlockingIOError:
+            return False
+    return True
 
 
 class OneCall(Place):
@@ -253,6 +278,45 @@ class Lines(Served):
                          r"again 2 of 2: [^;]*; not taken back: .*\n"
                          r"stands: segment 1 is unfinished, undo first\nstmflash: [^\n]*\n$")
         self.assertIn(b"erase 0", self.held("journal"))
+
+    def use_between(self, cuts, add, *words):
+        """Writes over a line that is cut so, while what it tells has to wait. Behind the second connection, when the journal is
+        nobody's, `add` is called. Answers what was told."""
+        self.lay(cuts, len(cuts))
+        told, into = full_pipe()
+        files = ("--table", "table", "--device", "line", "--journal", "journal", "--wait", WAIT)
+        words = ["stmflash", "write", *files, *words, "image"]
+        with subprocess.Popen(words, executable=program(), cwd=self.folder, env={}, stdin=subprocess.DEVNULL,
+                              stdout=subprocess.DEVNULL, stderr=into) as writing, open(told, "rb") as told:
+            os.close(into)
+            end = time.monotonic() + PATIENCE
+            while len(self.sent) < 2 or not is_free(self.path("journal")):
+                self.assertLess(time.monotonic(), end, "the journal stays in use")
+                time.sleep(0.02)
+            add()
+            err = told.read().lstrip(b".")
+        return Said(writing.returncode, b"", err)
+
+    def test_all_that_stands_is_told(self):
+        """The write is cut in its verify, and each undo of it at once; meanwhile another program begins a segment."""
+        sent = self.whole()
+        for more, stands in ((b"", "segment 1, which can be undone"), (b"open 2\nend 2\n", "segments 1-2, which can be undone"),
+                             (b"open 2\nend 2\nopen 3\n", "segments 1-3, of which 3 is unfinished, undo first")):
+            with self.subTest(more=more):
+
+                def add(more=more):
+                    with open(self.path("journal"), "ab") as journal:
+                        journal.write(more)
+
+                said = self.use_between([len(sent) - 3, 1, 1], add, "-v", "--again", "2")
+                self.assertEqual(said.status, 1)
+                self.assertRegex(said.err.decode(), r"^again 1 of 2: [^;]*; not taken back: .*\nagain 2 of 2: [^;]*; "
+                                 rf"not taken back: .*\nstands: {stands}\nstmflash: [^\n]*\n$")
+                self.assertTrue(self.held("journal").endswith(b"end 1\n" + more))
+                self.assertServed()
+                self.remove("line", "journal", "flash.line")
+                self.sent.clear()
+                self.store("flash", ZEROS)
 
     def test_no_other_fault_is_tried_again(self):
         self.store("journal", b"stmjournal 1 0412\nopen 1\n")

@@ -165,6 +165,21 @@ class Options(Place):
         self.assertFault(said, "usage: --stop needs a simulator", 2)
         self.assertFault(self.use("info", "--wait", "1", device="socket"), "cannot read table")
 
+    def test_a_serial_port_is_no_socket(self):
+        """It is told how the line to one is joined, and nothing is opened or written."""
+        ours, theirs = os.openpty()
+        self.addCleanup(os.close, ours)
+        self.addCleanup(os.close, theirs)
+        os.symlink(os.ttyname(theirs), self.path("port"))
+        for name in (os.ttyname(theirs), "port", "/dev/null"):
+            with self.subTest(name=name):
+                told = f"cannot connect {name}: serial ports want stmflash-line {name} -- stmflash .. (no --device)"
+                self.assertFault(self.use("erase", "5", device=name), told)
+        for name in (".", "table", "absent"):
+            with self.subTest(name=name):
+                self.assertFault(self.use("erase", "5", device=name), f"cannot connect {name}")
+        self.assertEqual(sorted(os.listdir(self.folder)), ["port", "table"])
+
     def test_reads_a_part(self):
         self.store("flash", COUNTING)
         for part, start, end in PARTS:

@@ -71,9 +71,23 @@ class SimulatedBoard(Place):
                      f"unique {NAME}0\n".encode(), f" unique {NAME}\n".encode(), b"unique " + 66 * b"1"):
             with self.subTest(text=text):
                 self.store("flash.board", text)
-                self.assertFault(self.at("info"), "bad simulator file flash.board")
-                self.assertFile("flash", None)
-                self.assertFile("journal", None)
+                self.assertNoBoard()
+
+    def assertNoBoard(self):
+        self.assertFault(self.at("info"), "bad simulator file flash.board")
+        self.assertFile("flash", None)
+        self.assertFile("journal", None)
+
+    def test_a_text_that_is_too_long(self):
+        """Up to 256 bytes are read whole. Of each longer text they say a board too: another size, a shorter unique id, none."""
+        size, unique = b"size 16\n", f"unique {NAME}\n".encode()
+        for text in (size + 249 * b"\n", size + 248 * b"\n" + b"size 64\n", 233 * b"\n" + unique, 257 * b"\n", 255 * b"\n" + size,
+                     4096 * b"\n"):
+            with self.subTest(text=text):
+                self.store("flash.board", text)
+                self.assertNoBoard()
+        self.store("flash.board", size + 248 * b"\n")
+        self.assertTold(self.at("info"), INFO % (16, 16384) + "flash 16 KiB\n")
 
 
 # how many pages each part of ten families has, by the KiB with which it is sold

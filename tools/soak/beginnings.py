@@ -75,7 +75,8 @@ def draw_board(chance, chip, other):
     chance.shuffle(lines)
     text = "".join(lines).encode()
     if chance.random() < 0.01:
-        return chance.choice((text + b"x\n", text + b"unique 12\n", b" " + text, text + b"size\n", text + b"size 100000\n"))
+        return chance.choice((text + b"x\n", text + b"unique 12\n", b" " + text, text + b"size\n", text + b"size 100000\n",
+                              text + 257 * b"\n"))
     return text.rstrip(b"\n") if chance.random() < 0.1 else text
 
 

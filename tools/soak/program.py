@@ -181,6 +181,9 @@ def told(lines, fault, err):
 
 
 def stands(before, depth, is_unfinished):
+    if depth > before + 1:
+        end = b"of which %d is unfinished, undo first" % depth if is_unfinished else b"which can be undone"
+        return b"stands: segments %d-%d, %s\n" % (before + 1, depth, end)
     if is_unfinished:
         return b"stands: segment %d is unfinished, undo first\n" % depth
     if depth > before:
@@ -190,12 +193,14 @@ def stands(before, depth, is_unfinished):
 
 def others(name):
     """The names that no journal is moved to, also where no file has them."""
-    return "T", "I", "J", name, name + ".line"
+    return "T", "I", "J", name, name + ".line", name + ".board"
 
 
 def read_board(text):
     """What a simulator's file says of its board: its unique id or no byte, and how many KiB its flash has, or None. None where it
     says something else."""
+    if len(text) > 256:
+        return None
     unique, kib = b"", None
     for line in text.split(b"\n"):
         found = re.fullmatch(rb"unique ((?:[0-9A-Fa-f]{2}){8,32})|size ([0-9]{1,5})", line)

@@ -1,5 +1,6 @@
 -- Which action a task asks for, and what each does with a device.
-use Rattle.std.specs.Prelude.{◌≡◌, ◌≢◌, ℕ, ◌≤◌, Bool, true, false, List, [], ◌∷◌, Some, None}
+use Rattle.std.specs.Prelude.{◌≡◌, ◌≢◌, ℕ, ◌≤◌, Bool, true, false, List, [], ◌∷◌}
+use Rattle.std.specs.Prelude.{Option, Some, None}
 use Rattle.std.specs.Prelude.{Result, Ok, Err, IfErr, IfOk, IsTrue, OnOk, MatchResult}
 use Rattle.stm_image.specs.Pairs.{Pairs}
 use Rattle.stm_wire.specs.declared.protection.Protection.{Protection}
@@ -35,7 +36,7 @@ use Rattle.stmflash.specs.declared.content.Content.{Content}
 use Rattle.stmflash.specs.declared.failure.Failure.{Failure}
 use Rattle.stmflash.specs.declared.failure.Failure.TheVariants.{Session}
 use Rattle.stmflash.specs.Conduct.{Asks, AsksFirst, ErasesAll, Identifies, RunsIfRoom, RunsTold}
-use Rattle.stmflash.specs.Content.{ComesOf, ImageOn, is_hex}
+use Rattle.stmflash.specs.Content.{ComesOf, ImageOn, IsCopy, is_hex}
 use Rattle.stmflash.specs.Protections.{protection_of}
 use Rattle.stmflash.specs.ReadingFor.{ReadsAsHex, SumsUp}
 use Rattle.stmflash.specs.Reading.{ReadsRange}
@@ -184,3 +185,11 @@ Works view table (work.Sum range) old new result =
 Works view table (work.ReadHex range skips) old new result =
     AsksFirst view table (λ fault. Session fault) (ReadsAsHex view table range skips) old new result
 Works view table (work.Act does) old new result = Does view table does old new result
+
+-- What is done again is a write, of the same image; nothing else is.
+abbrev pub IsDoneAgain : Work → Option Work → Type 0
+IsDoneAgain (work.Act (action.Write content)) again = (copy : Content) × IsCopy content copy
+    × (again ≡ Some (work.Act (action.Write copy)))
+IsDoneAgain (work.Act (action.WriteAndVerify content)) again = (copy : Content)
+    × IsCopy content copy × (again ≡ Some (work.Act (action.WriteAndVerify copy)))
+IsDoneAgain other again = again ≡ None

@@ -2,6 +2,7 @@
 
 use crate::action::Action;
 use crate::answer::Answer;
+use crate::chip_tables::ChipTables;
 use crate::escaped::Escaped;
 use crate::failure::Failure;
 use crate::files::is_there;
@@ -12,10 +13,10 @@ use crate::output::Output;
 use crate::steps::Steps;
 use crate::work::Work;
 use std::fs::Files;
+use std::io;
 use std::io::{IsTerminal, Write};
 use std::net::Net;
 use std::time::Clock;
-use stm_chip::Table;
 use stm_words::{Options, Sequel};
 
 /// What a journal says of the write that was begun behind so many segments.
@@ -55,37 +56,52 @@ impl Standing {
 pub fn use_again<'a, R: Locks + Net + Clock + AllocGlobal, E: Write + IsTerminal>(
     rt: &R,
     options: &Options<'a>,
-    table: &Table,
+    tables: &ChipTables<'a>,
     work: Work,
     sequel: &Sequel<'a>,
     err: &mut E,
 ) -> Result<Steps<'a>, Failure<'a>> {
     let before = Standing::of(rt, options.journal)?;
-    let first = work.copy(rt.alloc())?;
-    let mut done = use_once(rt, options, table, first, sequel, Output::Printed, err);
+    let Some(first) = work.copy(rt.alloc())? else {
+        return use_once(rt, options, tables, work, sequel, Output::Printed, err);
+    };
+    let mut done = use_once(rt, options, tables, first, sequel, Output::Printed, err);
     for turn in 0..sequel.again {
         let failure = match done {
             Err(failure) if failure.is_broken_off() => failure,
             done => return tell_standing(rt, options, before, done, err),
         };
-        let back = take_back(rt, options, table, before, err);
+        let back = take_back(rt, options, tables, before, err);
         tell_turn(turn, sequel.again, &failure, &back, err);
         done = match back {
-            Ok(_) => {
-                let next = work.copy(rt.alloc())?;
-                use_once(rt, options, table, next, sequel, Output::Printed, err)
-            }
+            Ok(_) => use_copy(rt, options, tables, &work, failure, sequel, err),
             Err(failure) => Err(failure),
         };
     }
     tell_standing(rt, options, before, done, err)
 }
 
+/// Does once more what failed so. What isn't done again stays failed.
+fn use_copy<'a, R: Locks + Net + Clock + AllocGlobal, E: Write + IsTerminal>(
+    rt: &R,
+    options: &Options<'a>,
+    tables: &ChipTables<'a>,
+    work: &Work,
+    failure: Failure<'a>,
+    sequel: &Sequel<'a>,
+    err: &mut E,
+) -> Result<Steps<'a>, Failure<'a>> {
+    match work.copy(rt.alloc())? {
+        Some(next) => use_once(rt, options, tables, next, sequel, Output::Printed, err),
+        None => Err(failure),
+    }
+}
+
 /// Takes back what was begun behind a place of the journal, and answers how many segments.
 fn take_back<'a, R: Locks + Net + Clock + AllocGlobal, E: Write + IsTerminal>(
     rt: &R,
     options: &Options<'a>,
-    table: &Table,
+    tables: &ChipTables<'a>,
     before: Standing,
     err: &mut E,
 ) -> Result<u32, Failure<'a>> {
@@ -97,7 +113,7 @@ fn take_back<'a, R: Locks + Net + Clock + AllocGlobal, E: Write + IsTerminal>(
     let steps = use_once(
         rt,
         options,
-        table,
+        tables,
         undo,
         &Sequel::none(),
         Output::Printed,
@@ -148,18 +164,28 @@ fn tell_standing<'a, R: Files + AllocGlobal, E: Write>(
 ) -> Result<Steps<'a>, Failure<'a>> {
     if done.is_err() {
         if let Ok(now) = Standing::of(rt, options.journal) {
-            let _ = match now.begun_since(before) {
-                _ if now.is_unfinished => {
-                    writeln!(
-                        err,
-                        "stands: segment {} is unfinished, undo first",
-                        now.depth
-                    )
-                }
-                0 => writeln!(err, "stands: nothing of this write"),
-                _ => writeln!(err, "stands: segment {}, which can be undone", now.depth),
-            };
+            let _ = tell_segments(before, now, err);
         }
     }
     done
+}
+
+/// Tells which segments stand behind those that there were, and an unfinished one also where it was
+/// there before.
+fn tell_segments<E: Write>(before: Standing, now: Standing, err: &mut E) -> io::Result<()> {
+    let first = before.depth.saturating_add(1);
+    let newest = now.depth;
+    match (now.begun_since(before), now.is_unfinished) {
+        (0 | 1, true) => writeln!(err, "stands: segment {newest} is unfinished, undo first"),
+        (_, true) => writeln!(
+            err,
+            "stands: segments {first}-{newest}, of which {newest} is unfinished, undo first"
+        ),
+        (0, false) => writeln!(err, "stands: nothing of this write"),
+        (1, false) => writeln!(err, "stands: segment {newest}, which can be undone"),
+        (_, false) => writeln!(
+            err,
+            "stands: segments {first}-{newest}, which can be undone"
+        ),
+    }
 }

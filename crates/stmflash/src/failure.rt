@@ -74,6 +74,9 @@ pub enum Failure<'a> {
     /// Nothing answers at a socket, or it can't be made.
     #[error("cannot connect {0}")]
     CannotConnect(&'a str),
+    /// The device is a character device of the system, as a serial port is, and no socket.
+    #[error("cannot connect {0}: serial ports want stmflash-line {0} -- stmflash .. (no --device)")]
+    IsPort(&'a str),
     /// The device is another board than the one that is wanted.
     #[error("device is another board")]
     OtherBoard,

@@ -3,7 +3,7 @@
 use crate::failure::Failure;
 use crate::names::is_same_file;
 use crate::replacement::try_beside;
-use crate::simulator_file::line_name;
+use crate::simulator_names::SimulatorNames;
 use crate::tables::is_table;
 use std::fs;
 use std::fs::Files;
@@ -47,7 +47,7 @@ impl<'a> NamedFiles<'a> {
     }
 
     /// Refuses a file that is to be written and is one of the others: the journal, then OUT, then
-    /// the simulator's own two.
+    /// the two that a simulator writes.
     pub fn check<R: Files + AllocGlobal>(&self, rt: &R) -> Result<(), Failure<'a>> {
         if self.is_read(rt, self.journal) || self.is_devices(rt, self.journal)? {
             return Err(Failure::CannotWrite(self.journal));
@@ -92,20 +92,20 @@ impl<'a> NamedFiles<'a> {
         Ok(())
     }
 
-    /// Refuses a simulator's files of which one is a file that is read, or the other.
+    /// Refuses a simulator's files of which one that is written is a file that is read, or another.
     fn check_simulator<R: Files + AllocGlobal>(
         &self,
         rt: &R,
         file: &'a str,
     ) -> Result<(), Failure<'a>> {
-        let line = line_name(rt.alloc(), file)?;
+        let names = SimulatorNames::of(rt.alloc(), file)?;
         if self.is_read(rt, file) {
             return Err(Failure::CannotWrite(file));
         }
-        if self.is_read(rt, line.as_str()) || is_same_file(rt, file, line.as_str()) {
+        if self.is_read(rt, names.line()) {
             return Err(Failure::CannotWriteLine(file));
         }
-        Ok(())
+        names.check(rt)
     }
 
     /// Whether the name is that of a table or of the image.
@@ -119,14 +119,11 @@ impl<'a> NamedFiles<'a> {
         }
     }
 
-    /// Whether the name is that of one of a simulator's two files, or of the device's socket.
+    /// Whether the name is that of one of a simulator's files, or of the device's socket.
     fn is_devices<R: Files + AllocGlobal>(&self, rt: &R, name: &str) -> Result<bool, Failure<'a>> {
         match self.device {
             Device::Simulator { file, .. } => {
-                Ok(
-                    is_same_file(rt, name, file)
-                        || is_same_file(rt, name, line_name(rt.alloc(), file)?.as_str()),
-                )
+                Ok(SimulatorNames::of(rt.alloc(), file)?.have(rt, name))
             }
             Device::Socket(path) => Ok(is_same_file(rt, name, path)),
         }

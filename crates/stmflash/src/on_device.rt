@@ -4,6 +4,7 @@
 use crate::again::use_again;
 use crate::answer::Answer;
 use crate::board::{Question, has_telling_chip, tells_board};
+use crate::chip_tables::ChipTables;
 use crate::escaped::Escaped;
 use crate::failure::Failure;
 use crate::files::is_there;
@@ -19,12 +20,13 @@ use crate::simulator_rig::SimulatorRig;
 use crate::socket_line::SocketLine;
 use crate::socket_rig::SocketRig;
 use crate::steps::{Steps, failed_by, failure_of, take_steps};
-use crate::tables::read_chips;
 use crate::unusable::Unusable;
 use crate::work::Work;
+use std::fs;
 use std::fs::Files;
 use std::io::{IsTerminal, Write};
 use std::net::Net;
+use std::os::unix::fs::FileTypeExt;
 use std::time::Clock;
 use stm_chip::Table;
 use stm_session::Fault;
@@ -44,7 +46,7 @@ pub fn use_device<'a, R: Locks + Net + Clock + AllocGlobal, E: Write + IsTermina
     sequel: &Sequel<'a>,
     err: &mut E,
 ) -> Result<Steps<'a>, Failure<'a>> {
-    let table = read_chips(rt, options.table)?;
+    let tables = ChipTables::read(rt, options.table)?;
     let files = NamedFiles::of(options, &task);
     let work = Work::of(rt, task)?.on_fresh(options.is_fresh);
     files.check(rt)?;
@@ -54,9 +56,9 @@ pub fn use_device<'a, R: Locks + Net + Clock + AllocGlobal, E: Write + IsTermina
     let output = Output::open(rt, files)?;
     tell_notes(rt, options, &work, err);
     if sequel.again > 0 {
-        return use_again(rt, options, &table, work, sequel, err);
+        return use_again(rt, options, &tables, work, sequel, err);
     }
-    let steps = use_once(rt, options, &table, work, sequel, output, err)?;
+    let steps = use_once(rt, options, &tables, work, sequel, output, err)?;
     Ok(Steps {
         board: steps.board,
         answer: steps.answer.beside(rt.alloc(), options.table)?,
@@ -69,7 +71,7 @@ pub fn use_device<'a, R: Locks + Net + Clock + AllocGlobal, E: Write + IsTermina
 pub fn use_once<'a, R: Locks + Net + Clock + AllocGlobal, E: Write + IsTerminal>(
     rt: &R,
     options: &Options<'a>,
-    table: &Table,
+    tables: &ChipTables<'a>,
     work: Work,
     sequel: &Sequel<'a>,
     output: Output<'a, R>,
@@ -77,8 +79,9 @@ pub fn use_once<'a, R: Locks + Net + Clock + AllocGlobal, E: Write + IsTerminal>
 ) -> Result<Steps<'a>, Failure<'a>> {
     let style = Style::of(rt, options, err);
     let screen = Screen::new(err, rt, rt.alloc(), style);
+    let table = tables.chips();
     // its chip becomes that of the device's board
-    let own = read_chips(rt, options.table)?;
+    let own = tables.copy(rt.alloc())?;
     match options.device {
         Device::Simulator { id, file } => {
             let Some(chip) = table.find(id) else {
@@ -282,6 +285,14 @@ fn use_simulator<'a, R: Locks + Clock + AllocGlobal, W: Write + Drop>(
     Ok(steps)
 }
 
+/// Why there is no line to the device of this name: it is a port, or nothing listens there.
+fn unconnected<'a, R: Files>(rt: &R, path: &'a str) -> Failure<'a> {
+    match fs::metadata(rt, path) {
+        Ok(told) if told.file_type().is_char_device() => Failure::IsPort(path),
+        _ => Failure::CannotConnect(path),
+    }
+}
+
 /// Does it on what listens at a socket.
 fn on_socket<'a, R: Locks + Net + Clock + AllocGlobal, W: Write + Drop>(
     rt: &R,
@@ -305,7 +316,7 @@ fn on_socket<'a, R: Locks + Net + Clock + AllocGlobal, W: Write + Drop>(
         u64::from(options.give_up),
     ) {
         Ok(line) => line,
-        Err(e) => return Err(Failure::of_file(&e, Failure::CannotConnect(path))),
+        Err(e) => return Err(Failure::of_file(&e, unconnected(rt, path))),
     };
     let rig = SocketRig::new(line, journal);
     let mut rig = ProgressRig::new(rig, Course::new(rt.alloc(), table, work.goal()), screen);

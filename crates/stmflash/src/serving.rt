@@ -6,13 +6,14 @@ ghost use Rattle.stmflash.specs.Serving.{fed_all};
 
 use crate::answer::Answer;
 use crate::bound_socket::BoundSocket;
+use crate::chip_tables::ChipTables;
 use crate::failure::Failure;
 use crate::locks::Locks;
-use crate::names::is_same_file;
 use crate::replies::tell_all;
-use crate::simulator_file::{SimulatorFiles, line_name};
+use crate::simulator_file::SimulatorFiles;
+use crate::simulator_names::SimulatorNames;
 use crate::standing::line_of;
-use crate::tables::{is_table, read_chips};
+use crate::tables::is_table;
 use std::fs::Files;
 use std::io::{ErrorKind, Read, Write};
 use std::net::Net;
@@ -76,8 +77,8 @@ pub fn serve<'a, R: Locks + Net + AllocGlobal>(
     rt: &R,
     served: &Served<'a>,
 ) -> Result<Answer, Failure<'a>> {
-    let table = read_chips(rt, served.table)?;
-    match table.find(served.id) {
+    let tables = ChipTables::read(rt, served.table)?;
+    match tables.chips().find(served.id) {
         Some(chip) => serve_chip(rt, chip, served),
         None => Err(Failure::Session(Fault::UnknownChip(served.id))),
     }
@@ -127,18 +128,17 @@ fn serve_socket<'a, R: Locks + Net + AllocGlobal>(
 }
 
 /// Refuses a socket that is one of the simulator's files, and files of which one
-/// is a table or the other.
+/// that is written is a table or another.
 fn check<'a, R: Files + AllocGlobal>(rt: &R, served: &Served<'a>) -> Result<(), Failure<'a>> {
-    let line = line_name(rt.alloc(), served.flash)?;
+    let names = SimulatorNames::of(rt.alloc(), served.flash)?;
     if is_table(rt, served.flash, served.table) {
         return Err(Failure::CannotWrite(served.flash));
     }
-    if is_table(rt, line.as_str(), served.table) || is_same_file(rt, line.as_str(), served.flash) {
+    if is_table(rt, names.line(), served.table) {
         return Err(Failure::CannotWriteLine(served.flash));
     }
-    if is_same_file(rt, served.socket, served.flash)
-        || is_same_file(rt, served.socket, line.as_str())
-    {
+    names.check(rt)?;
+    if names.have(rt, served.socket) {
         return Err(Failure::CannotWrite(served.socket));
     }
     Ok(())

@@ -1,26 +1,25 @@
 // Which board a simulator is: a file beside that of its flash says so, where it is there.
+ghost use Rattle.std.specs.Prelude.{◌≡◌};
+ghost use Rattle.stm_wire.specs.Chip.{at_places};
+ghost use Rattle.stm_wire.specs.Places.{no_places};
 
 use crate::failure::Failure;
 use crate::files::{open_if_there, read_up_to};
+use crate::simulator_names::board_file;
 use hex::FromHexError;
 use std::alloc::{AllocError, Global};
 use std::fs::Files;
 use std::io;
 use stm_wire::{BoardPlaces, Chip, UniqueId};
 
-/// How many bytes the file is read to: more than its two lines have.
-const LINES: u64 = 256;
+/// How many bytes the file has at most: more than its two lines have.
+const MOST: u64 = 256;
 
 /// What the file says: the unique id of the board, and how many KiB its flash has.
 #[derive(Clone, Copy)]
 struct SimulatedBoard {
     unique: UniqueId,
     size: Option<u32>,
-}
-
-/// The name of the file that says which board a simulator is.
-pub fn board_file(alloc: Global, file: &str) -> Result<String, AllocError> {
-    format!(in alloc; "{file}.board")
 }
 
 /// The unique id that these digits write, where they are 8 to 32 bytes.
@@ -77,8 +76,11 @@ fn with_line(
     }
 }
 
-/// The board that a text says. None where it has another form.
+/// The board that a text says. None where it has another form, or is too long.
 fn board_of(alloc: Global, text: &[u8]) -> Result<Option<SimulatedBoard>, AllocError> {
+    if text.len() as u64 > MOST {
+        return Ok(None);
+    }
     let mut board = SimulatedBoard {
         unique: UniqueId::none(),
         size: None,
@@ -92,12 +94,22 @@ fn board_of(alloc: Global, text: &[u8]) -> Result<Option<SimulatedBoard>, AllocE
     Ok(Some(board))
 }
 
-/// The text of the file, or None where it isn't there.
+/// The text of the file, up to one byte more than it may have; None where it isn't there.
 fn read_board<R: Files + AllocGlobal>(rt: &R, name: &str) -> io::Result<Option<Vec<u8>>> {
     match open_if_there(rt, name)? {
-        Some(file) => Ok(Some(read_up_to(rt.alloc(), file, LINES)?)),
+        Some(file) => Ok(Some(read_up_to(rt.alloc(), file, MOST + 1)?)),
         None => Ok(None),
     }
+}
+
+/// The chip of a device that tells no board.
+fn without_board(chip: Chip) -> Chip
+    ensures { result ≡ at_places no_places chip }
+{
+    let Some(chip) = chip.at_places(BoardPlaces::none()) else {
+        unreachable!()
+    };
+    chip
 }
 
 /// The chip of the simulator whose flash has this name: that of the board which the file beside it
@@ -113,10 +125,7 @@ pub fn simulated_chip<'a, R: Files + AllocGlobal>(
         Err(e) => return Err(Failure::of_file(&e, Failure::CannotReadBoard(file))),
     };
     let Some(text) = text else {
-        return match chip.at_places(BoardPlaces::none()) {
-            Some(chip) => Ok(chip),
-            None => Err(Failure::BadBoardFile(file)),
-        };
+        return Ok(without_board(chip));
     };
     match board_of(rt.alloc(), text.as_slice())? {
         Some(board) => {

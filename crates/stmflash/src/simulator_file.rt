@@ -14,16 +14,12 @@ use crate::names::{is_named, is_same_file};
 use crate::replacement::{ALONE, Replacement, remove_leftovers};
 use crate::restoring::stand;
 use crate::simulated_board::simulated_chip;
+use crate::simulator_names::line_name;
 use crate::standing::{Standing, line_of, read_standing};
 use crate::unusable::Unusable;
 use std::alloc::{AllocError, Global};
 use std::fs::Files;
 use stm_wire::{Chip, MemoryRig};
-
-/// The name of the file that tells where a simulator stands.
-pub fn line_name(alloc: Global, file: &str) -> Result<String, AllocError> {
-    format!(in alloc; "{file}.line")
-}
 
 /// A simulator between two runs, as its two files hold it.
 #[derive(Drop)]

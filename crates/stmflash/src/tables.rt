@@ -1,18 +1,13 @@
-// The chip tables: which are read where no word names one, and their chips.
+// The chip tables: which are read where no word names one, and which names are theirs.
 
 use crate::failure::Failure;
-use crate::files::read_file;
 use crate::names::is_same_file;
 use std::alloc::AllocError;
 use std::env::{Env, VarError};
 use std::fs::Files;
 use std::io::ErrorKind;
 use std::{env, fs};
-use stm_chip::{Table, TableFault, read_table};
 use stm_words::TableNames;
-
-/// How many bytes the file of a chip table has at most.
-const TABLE: u32 = 1 << 20;
 
 /// Where a chip table is installed; the first that is there is taken.
 static INSTALLED: [&str; 2] = [
@@ -84,42 +79,6 @@ fn is_missing<R: Files>(rt: &R, name: &str) -> bool {
     match fs::metadata(rt, name) {
         Ok(_) => false,
         Err(e) => matches!(e.kind(), ErrorKind::NotFound | ErrorKind::NotADirectory),
-    }
-}
-
-/// The chips of these tables, one read over the other. Of tables that no word names it is told
-/// which is refused.
-pub fn read_chips<'a, R: Files + AllocGlobal>(
-    rt: &R,
-    names: TableNames<'a>,
-) -> Result<Table, Failure<'a>> {
-    let Some(over) = names.over else {
-        return Ok(read_one(rt, names.lowest)??);
-    };
-    let mut table = read_standing(rt, names.lowest)?;
-    for name in over {
-        table = read_standing(rt, *name)?.over(table)?;
-    }
-    Ok(table)
-}
-
-/// The chips of a table that no word names.
-fn read_standing<'a, R: Files + AllocGlobal>(rt: &R, name: &'a str) -> Result<Table, Failure<'a>> {
-    match read_one(rt, name)? {
-        Ok(table) => Ok(table),
-        Err(TableFault::Memory) => Err(Failure::Memory),
-        Err(fault) => Err(Failure::StandingTable(name, fault)),
-    }
-}
-
-/// The chips that a file names, or what is wrong with its text.
-fn read_one<'a, R: Files + AllocGlobal>(
-    rt: &R,
-    name: &'a str,
-) -> Result<Result<Table, TableFault>, Failure<'a>> {
-    match read_file(rt, name, TABLE) {
-        Ok(text) => Ok(read_table(rt.alloc(), text.as_slice())),
-        Err(e) => Err(Failure::of_file(&e, Failure::CannotRead(name))),
     }
 }
 

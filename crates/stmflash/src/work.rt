@@ -1,6 +1,6 @@
 // What is done on a device, whether or not the table has its chip.
-ghost use Rattle.std.specs.Prelude.{◌≡◌};
-ghost use Rattle.stmflash.specs.Action.{Works};
+ghost use Rattle.std.specs.Prelude.{◌≡◌, IfOk};
+ghost use Rattle.stmflash.specs.Action.{IsDoneAgain, Works};
 ghost use Rattle.stmflash.specs.Board.{asking_of, once_asked};
 
 use crate::action::Action;
@@ -111,15 +111,19 @@ impl Work {
         }
     }
 
-    /// The same once more. Only what may be done again has an image that is copied.
-    pub fn copy(&self, alloc: Global) -> Result<Work, AllocError> {
-        Ok(match self {
-            Work::Act(Action::Write(content)) => Work::Act(Action::Write(content.copy(alloc)?)),
-            Work::Act(Action::WriteAndVerify(content)) => {
-                Work::Act(Action::WriteAndVerify(content.copy(alloc)?))
+    /// The same once more. None of what isn't done again: of all but a write.
+    pub fn copy(&self, alloc: Global) -> Result<Option<Work>, AllocError>
+        ensures { IfOk result (IsDoneAgain self.now) }
+    {
+        match self {
+            Work::Act(Action::Write(content)) => {
+                Ok(Some(Work::Act(Action::Write(content.copy(alloc)?))))
             }
-            _ => Work::Identify,
-        })
+            Work::Act(Action::WriteAndVerify(content)) => {
+                Ok(Some(Work::Act(Action::WriteAndVerify(content.copy(alloc)?))))
+            }
+            _ => Ok(None),
+        }
     }
 
     /// Which pages it goes through.
