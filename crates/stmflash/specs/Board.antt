@@ -1,9 +1,9 @@
 -- Which board a device is: how it is asked before its session, and what the session makes of it.
-use Rattle.std.specs.Prelude.{◌≡◌, ◌⊎◌, ◌-◌, ℕ, Bool, true, false, ◌&&◌, nat_le, nat_lt, List, length}
-use Rattle.std.specs.Prelude.{drop, Option, Some, None, Result, Ok, Err, IfErr, IfOk, IsTrue}
+use Rattle.std.specs.Prelude.{◌≡◌, ◌≢◌, ◌⊎◌, ◌-◌, ◌≤◌, ℕ, Bool, true, false, nat_lt, List, []}
+use Rattle.std.specs.Prelude.{length, drop, map, Option, Some, None, Result, Ok, Err, IfErr, IfOk}
 use Rattle.std.specs.Prelude.{MatchResult, if◌then◌else◌}
 use Rattle.std.specs.Borrow.{Bor}
-use Rattle.std.specs.Str.{str_eq_ignore_ascii_case}
+use Rattle.std.specs.Char.{to_ascii_lowercase}
 use Rattle.hex.specs.Hex.{encode_upper}
 use Rattle.stm_wire.specs.Chip.{ChipData}
 use Rattle.stm_wire.specs.Dialogue.{GoesOn}
@@ -28,7 +28,8 @@ use Rattle.stmflash.specs.declared.action.Action.TheVariants as action
 use Rattle.stmflash.specs.declared.board.Asking.{Asking}
 use Rattle.stmflash.specs.declared.board.Asking.TheVariants.{OfFinished, OfBegun}
 use Rattle.stmflash.specs.declared.failure.Failure.{Failure}
-use Rattle.stmflash.specs.declared.failure.Failure.TheVariants.{Memory, NoBoard, Session}
+use Rattle.stmflash.specs.declared.failure.Failure.TheVariants.{Memory, NoBoard, OtherBoard}
+use Rattle.stmflash.specs.declared.failure.Failure.TheVariants.{Session}
 use Rattle.stmflash.specs.declared.work.Work.{Work}
 use Rattle.stmflash.specs.declared.work.Work.TheVariants as work
 
@@ -37,8 +38,8 @@ abbrev pub is_said_fresh : Asking → Bool
 is_said_fresh OfFinished = false
 is_said_fresh (OfBegun is_fresh) = is_fresh
 
--- whether it is asked beside this journal: before an undo where there is something to take back; any
--- other session wants a journal that is finished
+-- whether it is asked beside this journal: before an undo where there is something to take back;
+-- any other session wants a journal that is finished
 abbrev pub due_beside : Asking → StateData → Result Bool Fault
 due_beside OfFinished s = if is_unfinished s then Err Unfinished else Ok true
 due_beside (OfBegun is_fresh) s = Ok (nat_lt 0 (depth s))
@@ -51,6 +52,80 @@ pub record IsDue (asking : Asking) (old new : RigState) (due : Result Bool Fault
   pub loads : old.is_honest → Loads old new journal
   pub is : MatchResult journal (λ l. due ≡ due_beside asking l.state)
       (λ fault. due ≡ Err (fault_of_journal fault))
+
+-- What `ask_board` promises.
+pub record AsksWhich (table : List ChipData) (is_fresh : Bool) (old new : RigState)
+    (asked : Result Board Fault) : Type 0 where
+  pub unwritten : GoesOn AppendsNothing old.calls new.calls
+  pub cause : HasSessionCause old new asked
+  pub few : GoesOn (AreFew most_of_board) old.calls new.calls
+  pub order : IfOk asked (λ board. AsksFor table is_fresh old (λ way torn.
+      AnswersInOrder table board way torn old new))
+  pub stops : IfErr asked (AskingStops table is_fresh old new)
+  pub finished : old.is_honest → is_unfinished_at old.journal ≡ false → IsSafe old.device
+      → AsksFinished table old new asked
+  pub unfinished : old.is_honest → is_unfinished_at old.journal ≡ true
+      → IsAsSaid is_fresh old.device
+      → (flashes : List (List ℕ)) → Undoable flashes old.device old.journal
+      → NamesKind table old.device.chip → AsksUnfinished table flashes old new asked
+
+-- a unique id, in hexadecimal digits, ends in these, of either case
+abbrev pub EndsIn : List ℕ → List ℕ → Type 0
+EndsIn unique digits = (length digits ≤ length (encode_upper unique))
+    × (map to_ascii_lowercase (drop (length (encode_upper unique) - length digits)
+    (encode_upper unique)) ≡ map to_ascii_lowercase digits)
+
+-- A board is wanted whose unique id ends in these digits: it is the one that came; or it told none,
+-- or another, or there was no memory to compare them.
+pub record AllowsNamed (board : Board) (digits : List ℕ)
+    (allowed : Result (Option Board) Failure) : Type 0 where
+  pub ok : IfOk allowed (λ came. (came ≡ Some board) × (board.unique ≢ [])
+      × EndsIn board.unique digits)
+  pub err : IfErr allowed (λ failure. (failure ≡ Memory)
+      ⊎ ((failure ≡ NoBoard) × (board.unique ≡ []))
+      ⊎ ((failure ≡ OtherBoard) × ¬ EndsIn board.unique digits))
+
+-- The board that came, unless another is wanted.
+abbrev pub Allows : Board → Option (Bor (List ℕ)) → Result (Option Board) Failure → Type 0
+Allows board None allowed = allowed ≡ Ok (Some board)
+Allows board (Some digits) allowed = AllowsNamed board digits.now allowed
+
+-- A device is asked which board it is; what it told is allowed or not.
+pub record AsksAndAllows {R : Type 0} (view : R → RigState) (table : List ChipData)
+    (is_fresh : Bool) (wanted : Option (Bor (List ℕ))) (old new : R)
+    (answer : Result (Option Board) Failure) : Type 0 where
+  pub asked : Result Board Fault
+  pub asks : AsksWhich table is_fresh (view old) (view new) asked
+  pub is : MatchResult asked (λ board. Allows board wanted answer)
+      (λ fault. answer ≡ Err (Session fault))
+
+-- the device is asked where that is due; else nothing is called
+abbrev pub AsksIf : {R : Type 0} → (R → RigState) → List ChipData → Bool → Option (Bor (List ℕ))
+    → Bool → R → R → Result (Option Board) Failure → Type 0
+AsksIf view table is_fresh wanted true old new answer =
+    AsksAndAllows view table is_fresh wanted old new answer
+AsksIf view table is_fresh wanted false old new answer = (new ≡ old) × (answer ≡ Ok None)
+
+-- The journal is read, and the device asked where that is due beside it; where it can't be read, or
+-- has to be finished, nothing more is called.
+pub record AsksWhereDue {R : Type 0} (view : R → RigState) (table : List ChipData)
+    (asking : Asking) (wanted : Option (Bor (List ℕ))) (old new : R)
+    (answer : Result (Option Board) Failure) : Type 0 where
+  pub mid : R
+  pub due : Result Bool Fault
+  pub reads : IsDue asking (view old) (view mid) due
+  pub is_fresh : Bool
+  pub is : MatchResult due (λ is. AsksIf view table is_fresh wanted is mid new answer)
+      (λ fault. (new ≡ mid) × (answer ≡ Err (Session fault)))
+  pub said : is_fresh ≡ is_said_fresh asking
+
+-- A device that isn't asked is none that is wanted, and nothing is called.
+abbrev pub AsksFirst : {R : Type 0} → (R → RigState) → List ChipData → Option Asking
+    → Option (Bor (List ℕ)) → R → R → Result (Option Board) Failure → Type 0
+AsksFirst view table (Some asking) wanted old new answer =
+    AsksWhereDue view table asking wanted old new answer
+AsksFirst view table None (Some digits) old new answer = (new ≡ old) × (answer ≡ Err NoBoard)
+AsksFirst view table None None old new answer = (new ≡ old) × (answer ≡ Ok None)
 
 -- The table for the session with a board: its chip, where there is one, is the board's.
 abbrev pub IsOfBoard : List ChipData → Board → List ChipData → Type 0
@@ -66,6 +141,11 @@ asking_of (work.Act (action.Protect kind)) = None
 asking_of (work.Act (action.Undo count)) = Some (OfBegun false)
 asking_of (work.Act (action.UndoFresh count)) = Some (OfBegun true)
 asking_of other = Some OfFinished
+
+-- whether, and beside which journals, the device of a work is asked
+abbrev pub asking_if : Bool → Work → Option Asking
+asking_if true work = asking_of work
+asking_if false work = None
 
 -- a device that was asked is connected by that, and not fresh from reset any more
 abbrev pub once_asked : Work → Work

@@ -1,8 +1,10 @@
 -- The steps of one call: a session, the journal that is kept, Go, each only behind one that
 -- answered Ok.
-use Rattle.std.specs.Prelude.{◌≡◌, ℕ, Bool, true, false, List, [], Option, Some, None}
+use Rattle.std.specs.Prelude.{◌≡◌, ◌↔◌, ℕ, Bool, true, false, List, [], Option, Some, None}
 use Rattle.std.specs.Prelude.{Result, Ok, Err, IfErr, IfOk, MatchResult, OnErr, OnOk}
+use Rattle.std.specs.declared.alloc.AllocError.{AllocError}
 use Rattle.stm_wire.specs.Chip.{ChipData}
+use Rattle.stm_wire.specs.Device.{Device}
 use Rattle.stm_wire.specs.Dialogue.{GoesOn}
 use Rattle.stm_wire.specs.Rig.{RigState}
 use Rattle.stm_journal.specs.Calls.{AreFetches}
@@ -10,10 +12,29 @@ use Rattle.stm_session.specs.declared.asking_board.Board.{Board}
 use Rattle.stm_words.specs.declared.sequel.Sequel.{Sequel}
 use Rattle.stmflash.specs.declared.action.Action.TheVariants as action
 use Rattle.stmflash.specs.declared.answer.Answer.{Answer}
+use Rattle.stmflash.specs.declared.board.Asking.{Asking}
+use Rattle.stmflash.specs.declared.board.Question.{Question}
 use Rattle.stmflash.specs.declared.failure.Failure.{Failure}
+use Rattle.stmflash.specs.declared.failure.Failure.TheVariants.{Memory}
 use Rattle.stmflash.specs.declared.steps.Steps.{Steps}
 use Rattle.stmflash.specs.declared.work.Work.{Work}
 use Rattle.stmflash.specs.Action.{Does, Works}
+use Rattle.stmflash.specs.Board.{AsksFirst, IsOfBoard, asking_if, once_asked}
+
+-- what a Rig tells of itself is the same
+pub record Stays (old new : RigState) : Type 0 where
+  pub honest : old.is_honest ↔ new.is_honest
+  pub device : new.device ≡ old.device
+  pub journal : new.journal ≡ old.journal
+  pub line_failures : new.line_failures ≡ old.line_failures
+  pub journal_failures : new.journal_failures ≡ old.journal_failures
+  pub moment : new.moment ≡ old.moment
+  pub left_since : (t : ℕ) (d : Device) (journal : List ℕ)
+      → old.left_since t d journal ↔ new.left_since t d journal
+  pub calls : new.calls ≡ old.calls
+  pub has_room : old.has_room ↔ new.has_room
+  pub long_gets : new.long_gets ≡ old.long_gets
+  pub told : new.told ≡ old.told
 
 -- the journal is empty, and the device is as it was, but for what it owed
 pub record EndsJournal (old new : RigState) : Type 0 where
@@ -49,7 +70,8 @@ MayGo view table (Some address) old new gone = (said : Result Answer Failure)
 -- behind a journal that was kept, or wasn't to be, Go is sent; behind one that couldn't be kept
 -- nothing is, and that is why the steps end
 pub record GoesBehind {R : Type 0} (view : R → RigState) (table : List ChipData)
-    (address : Option ℕ) (mid new : R) (kept : Result (Option ℕ) Failure) (steps : Steps) : Type 0 where
+    (address : Option ℕ) (mid new : R) (kept : Result (Option ℕ) Failure) (steps : Steps)
+    : Type 0 where
   pub ok : IfOk kept (λ count. (steps.kept ≡ count)
       × ((gone : Result (Unit {0}) Failure) × MayGo view table address mid new gone
       × MatchResult gone (λ done. steps.failure ≡ None) (λ failure. steps.failure ≡ Some failure)))
@@ -76,3 +98,40 @@ pub record TakesKnown {R : Type 0} (view : R → RigState) (table : List ChipDat
   pub ok : IfOk said (λ answer. (steps : Steps) × (result ≡ Ok steps)
       × Follows view table board sequel written new answer steps)
   pub err : IfErr said (λ failure. (new ≡ written) × (result ≡ Err failure))
+
+-- A device told which board it is. Its size is heard, which changes nothing that the Rig tells of
+-- itself. The session has the table of that board, and the work is that of a device that was asked;
+-- where there was no memory for the table nothing more is called.
+pub record TakesTold {R : Type 0} (view : R → RigState) (table : List ChipData) (board : Board)
+    (work : Work) (sequel : Sequel) (old new : R) (result : Result Steps Failure) : Type 0 where
+  pub heard : R
+  pub hears : Stays (view old) (view heard)
+  pub next : Work
+  pub own : Result (List ChipData) AllocError
+  pub is_own : IfOk own (IsOfBoard table board)
+  pub goes_on : MatchResult own
+      (λ own. TakesKnown view own (Some board) next sequel heard new result)
+      (λ error. (new ≡ heard) × (result ≡ Err Memory))
+  pub is_next : next ≡ once_asked work
+
+-- A device that was asked, or wasn't: where no board came its session has the table and the work as
+-- they are.
+abbrev pub TakesAsked : {R : Type 0} → (R → RigState) → List ChipData → Option Board → Work → Sequel
+    → R → R → Result Steps Failure → Type 0
+TakesAsked view table None work sequel old new result =
+    TakesKnown view table None work sequel old new result
+TakesAsked view table (Some board) work sequel old new result =
+    TakesTold view table board work sequel old new result
+
+-- The steps of one call. The device is asked first which board it is, where that is due; a failure
+-- of that is the answer, and nothing more is called.
+pub record TakesSteps {R : Type 0} (view : R → RigState) (table : List ChipData)
+    (question : Question) (work : Work) (sequel : Sequel) (old new : R)
+    (result : Result Steps Failure) : Type 0 where
+  pub mid : R
+  pub came : Result (Option Board) Failure
+  pub asking : Option Asking
+  pub asks : AsksFirst view table asking question.wanted old mid came
+  pub goes_on : MatchResult came (λ board. TakesAsked view table board work sequel mid new result)
+      (λ failure. (new ≡ mid) × (result ≡ Err failure))
+  pub is_asking : asking ≡ asking_if question.is_asked work

@@ -1,6 +1,7 @@
 // Which board a device is, asked before its session.
-ghost use Rattle.std.specs.Prelude.{◌≡◌, IfOk, MatchOption};
+ghost use Rattle.std.specs.Prelude.{◌≡◌, ◌↔◌, IfOk, IsTrue, MatchOption};
 ghost use Rattle.stm_chip.specs.Document.{IsChipWith, IsNewId};
+ghost use Rattle.stmflash.specs.Board.{Allows, AsksAndAllows, AsksFirst, AsksWhereDue, EndsIn};
 ghost use Rattle.stmflash.specs.Board.{IsDue, IsOfBoard, is_said_fresh};
 
 use crate::failure::Failure;
@@ -72,7 +73,9 @@ fn is_due<L: Rig>(alloc: Global, rig: &mut L, asking: Asking) -> Result<bool, Fa
 }
 
 /// Whether a unique id ends in these hexadecimal digits, of either case.
-fn ends_in(alloc: Global, unique: &UniqueId, digits: &str) -> Result<bool, AllocError> {
+fn ends_in(alloc: Global, unique: &UniqueId, digits: &str) -> Result<bool, AllocError>
+    ensures { IfOk result (λ is. IsTrue is ↔ EndsIn unique.now digits.now) }
+{
     let name = hex::encode_upper(alloc, unique.as_bytes())?;
     let name = name.as_bytes();
     let digits = digits.as_bytes();
@@ -87,7 +90,9 @@ fn allow<'a>(
     alloc: Global,
     board: Board,
     wanted: Option<&'a str>,
-) -> Result<Option<Board>, Failure<'a>> {
+) -> Result<Option<Board>, Failure<'a>>
+    ensures { Allows board wanted.entry result }
+{
     let Some(digits) = wanted else {
         return Ok(Some(board));
     };
@@ -101,20 +106,36 @@ fn allow<'a>(
     }
 }
 
-/// Asks a device which board it is, where the journal lets its session begin, and refuses one that
-/// isn't wanted.
+/// Asks a device which board it is, and refuses one that isn't wanted.
+fn ask_and_allow<'a, L: Rig>(
+    alloc: Global,
+    rig: &mut L,
+    table: &Table,
+    is_fresh: bool,
+    wanted: Option<&'a str>,
+) -> Result<Option<Board>, Failure<'a>>
+    ensures { AsksAndAllows L.view table.now is_fresh wanted.entry rig.old rig.new result }
+{
+    let board = ask_board(alloc, rig, table, is_fresh)?;
+    allow(alloc, board, wanted)
+}
+
+/// The same where the journal lets its session begin.
 fn ask_where_due<'a, L: Rig>(
     alloc: Global,
     rig: &mut L,
     table: &Table,
     asking: Asking,
     wanted: Option<&'a str>,
-) -> Result<Option<Board>, Failure<'a>> {
-    if !is_due(alloc, rig, asking)? {
-        return Ok(None);
+) -> Result<Option<Board>, Failure<'a>>
+    ensures { AsksWhereDue L.view table.now asking wanted.entry rig.old rig.new result }
+{
+    let is_fresh = asking.is_said_fresh();
+    if is_due(alloc, rig, asking)? {
+        ask_and_allow(alloc, rig, table, is_fresh, wanted)
+    } else {
+        Ok(None)
     }
-    let board = ask_board(alloc, rig, table, asking.is_said_fresh())?;
-    allow(alloc, board, wanted)
 }
 
 /// Asks a device which board it is, and refuses one that isn't wanted. A device that isn't asked is
@@ -125,7 +146,9 @@ pub fn ask_first<'a, L: Rig>(
     table: &Table,
     asking: Option<Asking>,
     wanted: Option<&'a str>,
-) -> Result<Option<Board>, Failure<'a>> {
+) -> Result<Option<Board>, Failure<'a>>
+    ensures { AsksFirst L.view table.now asking wanted.entry rig.old rig.new result }
+{
     match (asking, wanted) {
         (Some(asking), wanted) => ask_where_due(alloc, rig, table, asking, wanted),
         (None, Some(_)) => Err(Failure::NoBoard),
@@ -134,7 +157,7 @@ pub fn ask_first<'a, L: Rig>(
 }
 
 /// The same board once more.
-pub fn copy_of(board: &Board) -> Board
+fn copy_of(board: &Board) -> Board
     ensures { result ≡ board.now }
 {
     Board {
@@ -156,11 +179,18 @@ fn chip_with(table: &Table, id: u16) -> Result<Option<Chip>, AllocError>
 }
 
 /// The table for the session with a board: its chip, where it has one, is that of the board.
-pub fn table_of(table: Table, board: Board) -> Result<Table, AllocError>
+fn table_of(table: Table, board: Board) -> Result<Table, AllocError>
     ensures { IfOk result (IsOfBoard table board) }
 {
     match chip_with(&table, board.id)? {
         Some(chip) => Ok(table.with_chip(board.chip_of(chip))),
         None => Ok(table),
     }
+}
+
+/// The same, of a board that is kept.
+pub fn table_beside(table: Table, board: &Board) -> Result<Table, AllocError>
+    ensures { IfOk result (IsOfBoard table board.now) }
+{
+    table_of(table, copy_of(board))
 }

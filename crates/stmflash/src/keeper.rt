@@ -2,7 +2,7 @@
 ghost use Rattle.std.specs.Prelude.{◌≡◌, OnErr, OnOk};
 ghost use Rattle.stm_wire.specs.Dialogue.{GoesOn};
 ghost use Rattle.stm_journal.specs.Calls.{AreFetches};
-ghost use Rattle.stmflash.specs.Steps.{EndsJournal};
+ghost use Rattle.stmflash.specs.Steps.{EndsJournal, Stays};
 
 use crate::failure::Failure;
 use crate::keeping::count_kept;
@@ -19,7 +19,8 @@ use stm_wire::Rig;
 /// A Rig whose journal can be kept.
 pub trait Keeper: Rig {
     /// Hears how many KiB the flash has, by what the device told, for what it shows alone.
-    fn hear_size(&mut self, kib: Option<u16>);
+    fn hear_size(&mut self, kib: Option<u16>)
+        ensures { Stays (Self.view self.old) (Self.view self.new) };
 
     /// Lets what the journal of this name says stay for good: its file is removed, or renamed to a
     /// name that isn't there. It answers how many writes and erases stay. Nothing is sent to the

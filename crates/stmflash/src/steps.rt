@@ -1,10 +1,11 @@
 // The steps of one call: a session, then the journal that is kept, then Go, each only where the one
 // before answered Ok.
-ghost use Rattle.stmflash.specs.Steps.{Follows, MayGo, MayKeep, TakesKnown};
+ghost use Rattle.stmflash.specs.Steps.{Follows, MayGo, MayKeep, TakesAsked, TakesKnown};
+ghost use Rattle.stmflash.specs.Steps.{TakesSteps, TakesTold};
 
 use crate::action::Action;
 use crate::answer::{Answer, print_kept};
-use crate::board::{Question, ask_first, copy_of, table_of};
+use crate::board::{Question, ask_first, table_beside};
 use crate::failure::Failure;
 use crate::keeper::Keeper;
 use crate::work::Work;
@@ -63,19 +64,33 @@ pub fn take_steps<'a, L: Keeper>(
     question: Question<'a>,
     journal: &'a str,
     sequel: &Sequel<'a>,
-) -> Result<Steps<'a>, Failure<'a>> {
-    let asking = if question.is_asked {
-        work.asking()
-    } else {
-        None
-    };
-    match ask_first(alloc, rig, &table, asking, question.wanted)? {
+) -> Result<Steps<'a>, Failure<'a>>
+    ensures { TakesSteps L.view table question.entry work sequel.now rig.old rig.new result }
+{
+    let asking = work.asking_if(question.is_asked);
+    let board = ask_first(alloc, rig, &table, asking, question.wanted)?;
+    take_asked(alloc, rig, table, board, work, journal, sequel)
+}
+
+/// Does it on a device that was asked which board it is, or wasn't.
+fn take_asked<'a, L: Keeper>(
+    alloc: Global,
+    rig: &mut L,
+    table: Table,
+    board: Option<Board>,
+    work: Work,
+    journal: &'a str,
+    sequel: &Sequel<'a>,
+) -> Result<Steps<'a>, Failure<'a>>
+    ensures { TakesAsked L.view table board work sequel.now rig.old rig.new result }
+{
+    match board {
         Some(board) => take_told(alloc, rig, table, board, work, journal, sequel),
         None => work_then_follow(alloc, rig, &table, None, work, journal, sequel),
     }
 }
 
-/// Does it on a device that was asked which board it is.
+/// Does it on a device that told which board it is.
 fn take_told<'a, L: Keeper>(
     alloc: Global,
     rig: &mut L,
@@ -84,18 +99,13 @@ fn take_told<'a, L: Keeper>(
     work: Work,
     journal: &'a str,
     sequel: &Sequel<'a>,
-) -> Result<Steps<'a>, Failure<'a>> {
+) -> Result<Steps<'a>, Failure<'a>>
+    ensures { TakesTold L.view table board work sequel.now rig.old rig.new result }
+{
     rig.hear_size(board.size);
-    let table = table_of(table, copy_of(&board))?;
-    work_then_follow(
-        alloc,
-        rig,
-        &table,
-        Some(board),
-        work.once_asked(),
-        journal,
-        sequel,
-    )
+    let work = work.once_asked();
+    let own = table_beside(table, &board)?;
+    work_then_follow(alloc, rig, &own, Some(board), work, journal, sequel)
 }
 
 /// Does it on a device whose chip the table has, and what follows it.

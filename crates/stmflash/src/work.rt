@@ -1,7 +1,7 @@
 // What is done on a device, whether or not the table has its chip.
 ghost use Rattle.std.specs.Prelude.{◌≡◌, IfOk};
 ghost use Rattle.stmflash.specs.Action.{IsDoneAgain, Works};
-ghost use Rattle.stmflash.specs.Board.{asking_of, once_asked};
+ghost use Rattle.stmflash.specs.Board.{asking_if, asking_of, once_asked};
 
 use crate::action::Action;
 use crate::answer::Answer;
@@ -89,7 +89,7 @@ impl Work {
 
     /// Beside which journals its device is asked first which board it is. Go and a protection take no
     /// table, and ask none.
-    pub fn asking(&self) -> Option<Asking>
+    fn asking(&self) -> Option<Asking>
         ensures { result ≡ asking_of self.now }
     {
         match self {
@@ -98,6 +98,13 @@ impl Work {
             Work::Act(Action::UndoFresh(_)) => Some(Asking::OfBegun { is_fresh: true }),
             _ => Some(Asking::OfFinished),
         }
+    }
+
+    /// The same where devices are asked at all.
+    pub fn asking_if(&self, is_asked: bool) -> Option<Asking>
+        ensures { result ≡ asking_if is_asked self.now }
+    {
+        if is_asked { self.asking() } else { None }
     }
 
     /// The same for a device that was asked, and is connected by that: it isn't fresh from reset any
