@@ -13,7 +13,7 @@ import unittest
 import unittest.mock
 
 from boards import LinePlace, default_signals, pty_boards
-from place import COUNTING, ERASED, PATIENCE, SIZE, TOP, Said, program
+from place import COUNTING, ERASED, PATIENCE, SIZE, TABLE, TOP, Said, program
 
 WORDS = os.path.join(TOP, "line", "stm32flash")
 FLASH = 0x08000000
@@ -306,6 +306,37 @@ class TakingBack(Words):
                 self.assertRegex(calls[1], " -v --keep-to [^ ]*/kept-00000[12] --go 0x08000000 ")
                 self.remove("calls")
                 board = self.reset(board)
+
+    def test_another_board_at_the_port_has_its_own_journal(self):
+        self.store("table", TABLE + b"unique = [0x1FFFF7E8, 12]\n")
+        self.store("image", b"new")
+        here = self.telling(COUNTING, "A1")
+        self.well("-w", "image")
+        first = self.unplugged(here)
+        there = self.telling(ERASED, "B2")
+        said = self.well("-w", "image")
+        self.assertIn(b"another board was at this port before: its journal is put aside\n", said.err)
+        self.assertEqual(self.journals(), ["journal", "kept-000001"])
+        self.well("--undo")
+        self.assertEqual(there.store(), ERASED)
+        # the first board's journal isn't one of this
+        self.assertEqual(self.words("-m", "8n1", "--undo").err, NOTHING)
+        self.assertEqual(self.unplugged(there), ERASED)
+        here = self.telling(first, "A1")
+        self.well("--undo")
+        self.assertEqual(here.store(), COUNTING)
+
+    def telling(self, data, byte):
+        """A board that tells a unique id of this byte alone."""
+        self.store("ttyUSB0.flash.board", b"unique " + 12 * byte.encode() + b"\n")
+        return self.flash(data)
+
+    def unplugged(self, board):
+        """The flash of a board that is taken away."""
+        flash = board.store()
+        board.stop()
+        self.remove("ttyUSB0.flash.line")
+        return flash
 
     def test_a_killed_keep_is_ended(self):
         self.flash(COUNTING)

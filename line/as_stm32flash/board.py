@@ -44,10 +44,10 @@ class Board:
             self.wait = UNKNOWN
             return self.session(name, words, self.wait, **more)
 
-    def session(self, name, words, wait, show=None, out=subprocess.PIPE, files=()):
+    def session(self, name, words, wait, show=None, out=subprocess.PIPE, files=(), journal=None):
         """One session; what it printed, unless that goes to the descriptor `out`. `show` is called with each line of its
-        progress; `files` are descriptors that it may read."""
-        common = ["--table", self.tools.table, "--journal", self.journals.live, "--wait", str(wait)]
+        progress; `files` are descriptors that it may read; `journal` is another one than that in use."""
+        common = ["--table", self.tools.table, "--journal", journal or self.journals.live, "--wait", str(wait)]
         common += ["--progress" if show else "--quiet"]
         common += [] if name == "undo" else ["--give-up", str(GIVE_UP)]
         return self.run([name, *common, *words], show, out, files)
@@ -100,6 +100,24 @@ class Board:
             else:
                 self.look("keep")
 
+    def others(self):
+        """The journals that were put aside and are of another board than the one that is there. The device isn't asked where none
+        of them names a board, nor believed where it doesn't answer."""
+        named = {path: self.board_of(path) for path in self.journals.kept()}
+        if not any(named.values()):
+            return []
+        try:
+            # beside a journal that isn't there, since the one in use may be another board's too
+            own = self.information(journal=self.journals.none).get("board")
+        except Failed:
+            return []
+        return [path for path, board in named.items() if board not in (None, own)]
+
+    def board_of(self, path):
+        """Which board a journal names, or None."""
+        found = re.search("^board ([0-9A-F]+)$", self.run(["log", "--journal", path]), re.M)
+        return found[1] if found else None
+
     def kept(self, act):
         """Does a write that keeps its journal in the same session, as the newest that was put aside."""
         done = act("--keep-to", self.journals.next_kept())
@@ -108,9 +126,9 @@ class Board:
 
     # ---- sessions
 
-    def information(self):
+    def information(self, **more):
         """What the device says of itself."""
-        return dict(line.split(" ", 1) for line in self.use("info").splitlines() if " " in line)
+        return dict(line.split(" ", 1) for line in self.use("info", **more).splitlines() if " " in line)
 
     def take_back(self, fresh=False):
         """Takes back the newest write or erase. What was stopped may leave the board busy: it is waited for as stmflash does."""

@@ -19,6 +19,8 @@ INSIDE = "--through"
 WORDS = "STM32FLASH_WORDS"
 # that the entry sequence of -i resets the board, which its user says
 RESETS = "STM32FLASH_RESETS"
+# why a journal is refused that is another's, and what was at the port before
+OTHERS = {"journal belongs to another device": "a chip of another kind", "journal is of another board": "another board"}
 
 
 def main(program, given):
@@ -131,9 +133,9 @@ def greet(board, told, table):
     try:
         information = board.information()
     except Failed as fault:
-        if str(fault) == "journal belongs to another device":
+        if str(fault) in OTHERS:
             board.put_aside()
-            note("a chip of another kind was at this port before: its journal is put aside")
+            note(f"{OTHERS[str(fault)]} was at this port before: its journal is put aside")
             information = board.information()
         elif str(fault) == "no answer from the device":
             raise Fault("Failed to init device, timeout.") from None
@@ -155,7 +157,7 @@ def refuse_start(asked, chip):
 def undo(board, asked):
     """Takes back the newest write or erase at this port, also of a journal that was put aside."""
     while not board.is_unfinished() and not board.undoable():
-        if not board.journals.take_newest():
+        if not board.journals.take_newest(board.others()):
             raise Fault("ERROR: nothing that was written or erased at this port can be taken back")
     try:
         board.take_back(fresh=board.is_unfinished() and was_reset(asked))

@@ -18,6 +18,8 @@ class Journals:
     def __init__(self, port):
         self.folder = os.path.join(state_folder(), name_of(port))
         self.live = os.path.join(self.folder, "journal")
+        # a name that none has
+        self.none = os.path.join(self.folder, "none")
 
     def make(self):
         try:
@@ -47,9 +49,9 @@ class Journals:
         for path in self.kept()[:-KEPT]:
             os.remove(path)
 
-    def take_newest(self):
-        """Makes the newest that was put aside the one in use; whether there was one."""
-        kept = self.kept()
+    def take_newest(self, others=()):
+        """Makes the newest that was put aside, and is none of the others, the one in use; whether there was one."""
+        kept = [path for path in self.kept() if path not in others]
         if kept:
             os.replace(kept[-1], self.live)
         return bool(kept)
