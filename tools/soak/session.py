@@ -257,6 +257,14 @@ def verify(rig, chip, image):
                 raise Fault("differs at %08X" % (start + place))
 
 
+def confirm(rig, chip):
+    """A settled device is asked once more for its unique id, where it told one before the session."""
+    if chip.unique_at is None or chip.unique_at[1] != len(chip.unique):
+        return
+    if wire.read_unless_refused(rig, *chip.unique_at) != chip.unique:
+        raise Fault(OTHER_BOARD)
+
+
 def do(rig, journal, chip, command):
     if changes(command):
         return change(rig, journal, chip, command)
@@ -275,6 +283,7 @@ def run(rig, table, commands):
         check_inside(chip, command)
     if journal.depth() + segments > DEEPEST:
         raise Fault(FULL)
+    confirm(rig, chip)
     return [do(rig, journal, chip, command) for command in commands]
 
 
@@ -318,6 +327,7 @@ def undo(rig, table, count, is_fresh=False):
         raise Fault(NO_ERASE)
     if wire.get_id(rig) != chip.number:
         raise Fault(OTHER_DEVICE)
+    confirm(rig, chip)
     if work is not None:
         kept = next(kept for kept in journal.stack[-1].kept if kept.page == work[1])
         rewrite(rig, journal, chip, kept.page, kept.held)
