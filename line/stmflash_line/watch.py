@@ -33,27 +33,61 @@ class Told:
         self.want, self.at, self.age = want, at, age
 
 
+class Answer:
+    """What a step of a question which board it is brings: an acknowledgement, or else a refusal, where none was told before."""
+
+    def __init__(self, is_told):
+        self.is_told = is_told
+
+
+class Tells:
+    """A byte of the answer to such a question."""
+
+    def __init__(self, place, index):
+        self.place, self.index = place, index
+
+
 class Watched(Model):
-    """A device whose codes and chip are known, as a whole session may use it."""
+    """A device whose codes and chip are known, as a whole session may use it. `answers`: what it told of its board, by the address and
+    the count of a read."""
 
     # whether the model leaves open what comes now
     is_open = False
     # how often its flash was changed
     age = 0
 
-    def __init__(self, number, chip, version, codes):
+    def __init__(self, number, chip, version, codes, answers):
         super().__init__(number, chip, version, codes)
+        self.answers = answers
         # where a device tells which board it is, and how large: outside the flash, where one may also refuse
         unique, size_at = chip.get("unique"), chip.get("size_at")
-        self.tells = [range(unique[0], sum(unique))] if unique else []
-        self.tells += [range(size_at, size_at + 2)] if size_at else []
+        self.places = ([tuple(unique)] if unique else []) + ([(size_at, 2)] if size_at else [])
+
+    def places_at(self, rest):
+        """The places that begin where this frame reads."""
+        return [place for place in self.places if rest[0] == READ and place[0] == int.from_bytes(rest[2:6], "big")]
 
     def judge_address(self, rest):
-        place = int.from_bytes(rest[2:6], "big")
-        if len(rest) == 7 and rest[0] == READ and fold(rest[2:7]) == 0 and any(place in told for told in self.tells):
-            self.is_open = True
-            return False, []
+        if len(rest) == 7 and rest[0] == READ and fold(rest[2:7]) == 0:
+            if places := self.places_at(rest):
+                return False, [Answer(any(place in self.answers for place in places))]
+            address = int.from_bytes(rest[2:6], "big")
+            if any(start < address < start + count for start, count in self.places):
+                self.is_open = True
+                return False, []
         return super().judge_address(rest)
+
+    def judge_place(self, rest, places):
+        """A question which board it is, from the count on."""
+        if len(rest) == 8:
+            return False, []
+        if rest[8] != rest[7] ^ 0xFF:
+            return True, [NACK]
+        place = int.from_bytes(rest[2:6], "big"), rest[7] + 1
+        if place not in places:
+            self.is_open = True
+            return True, []
+        return True, [Answer(place in self.answers), *(Tells(place, index) for index in range(place[1]))]
 
     def judge_other(self, code):
         if code == GO:
@@ -84,6 +118,8 @@ class Watched(Model):
         return True, [ACK]
 
     def judge_bytes(self, rest):
+        if places := self.places_at(rest):
+            return self.judge_place(rest, places)
         verdict = super().judge_bytes(rest)
         self.age += verdict == (True, [ACK])
         return verdict
@@ -107,10 +143,11 @@ class Watch:
     def begin(self):
         """Another client: of the board nothing is known."""
         self.count, self.has_sent, self.is_otherwise = 0, False, False
+        self.answers = {}
         self.forget()
 
     def forget(self):
-        self.model, self.codes, self.version = None, None, None
+        self.model, self.codes, self.version, self.asks = None, None, None, False
         self.sent, self.heard = b"", b""
         # replies that are due, each with what asked for it
         self.due = collections.deque()
@@ -119,13 +156,18 @@ class Watch:
         """These bytes go to the board."""
         self.has_sent = True
         for byte in data:
+            if self.asks:
+                # whether it is part of the question hangs on an answer that isn't there yet
+                self.forget()
             if self.model is None:
                 self.sent, self.heard = (self.sent + bytes([byte]))[-2:], b""
                 if self.sent not in (ASKS_CODES[1:] + ASKS_ID[:1], ASKS_ID):
                     self.codes = None
                 continue
             before = bytes(self.model.rest)
-            self.due += [(want, before) for want in self.model.feed(byte)]
+            replies = self.model.feed(byte)
+            self.due += [(want, before) for want in replies]
+            self.asks = any(isinstance(want, Answer) for want in replies)
             if self.model.is_open:
                 # what is due of it can't be told from what comes behind
                 self.forget()
@@ -142,6 +184,10 @@ class Watch:
             want, before = self.due.popleft()
             if isinstance(want, Told):
                 self.compare(want, byte, number)
+            elif isinstance(want, Answer):
+                self.answer(want, byte, number)
+            elif isinstance(want, Tells):
+                self.compare_board(want, byte, number)
             elif want not in (None, byte):
                 raise Otherwise(f"{byte:02X} came in {name_of(before)}, and {want:02X} was due", number)
             self.count += 1
@@ -172,6 +218,25 @@ class Watch:
             place = self.model.base + told.at
             raise Otherwise(f"{byte:02X} stands at {place:08X}, and {told.want:02X} was read or written there before", number)
 
+    def answer(self, want, byte, number):
+        """A refusal ends a question which board it is."""
+        if byte != ACK and (byte != NACK or want.is_told):
+            or_refused = "" if want.is_told else f" or {NACK:02X}"
+            raise Otherwise(f"{byte:02X} came in {NAMES[READ]}, and {ACK:02X}{or_refused} was due", number)
+        self.asks = False
+        if byte == NACK:
+            self.model.rest.clear()
+            self.due.clear()
+
+    def compare_board(self, tells, byte, number):
+        """A byte of the answer which board it is: what was told there before."""
+        told = self.answers.setdefault(tells.place, [])
+        if tells.index == len(told):
+            told.append(byte)
+        elif told[tells.index] != byte:
+            at = tells.place[0] + tells.index
+            raise Otherwise(f"{byte:02X} stands at {at:08X}, and {told[tells.index]:02X} was told there before", number)
+
     def learn(self, number):
         """Takes a device for known once it has told its codes, and then its id."""
         heard = self.heard
@@ -184,7 +249,7 @@ class Watch:
             id_told = int.from_bytes(heard[2:4], "big")
             chip = next((chip for chip in self.chips if chip["id"] == id_told), None)
             if heard[:2] == bytes([ACK, 1]) and heard[4] == ACK and chip:
-                self.model = Watched(id_told, chip, self.version, self.codes)
+                self.model = Watched(id_told, chip, self.version, self.codes, self.answers)
                 self.count += 5
 
 
