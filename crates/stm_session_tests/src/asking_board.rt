@@ -16,7 +16,7 @@ unique = [0x1FFFF7E8, 12]
 size_at = 0x1FFFF7E0
 "#;
 
-fn table(rt: &HostRuntime) -> Result<Table, Fail> {
+pub fn table(rt: &HostRuntime) -> Result<Table, Fail> {
     match read_table(rt.alloc(), TABLE.as_bytes()) {
         Ok(table) => Ok(table),
         Err(_) => Err(Fail::new("no table")),

@@ -20,6 +20,8 @@ mod client;
 #[cfg(test)]
 mod comparing;
 #[cfg(test)]
+mod confirming;
+#[cfg(test)]
 mod devices;
 #[cfg(test)]
 mod every_stop;
