@@ -1,4 +1,5 @@
-"""Which board stands there: asked before each session, named by the journal, and wanted by words."""
+"""Which board stands there: asked before each session, and once more in one that does commands or takes some back; named by the
+journal, and wanted by words."""
 
 import socket
 import subprocess
@@ -19,6 +20,9 @@ OTHER = THERE.hex().upper()
 HEAD = f"stmjournal 3 0410 {NAME}\n".encode()
 # settling, Get and Get ID: what is handed on to a board that is asked and nothing more
 ASKED = b"\x00\xff\x02\xfd"
+# the places that a session is asked for: before it, and once more in it
+BEFORE = [UNIQUE_AT, SIZE_AT]
+AGAIN = [*BEFORE, UNIQUE_AT]
 # a simulator on a socket lists Get Version too
 INFO = "id 0410\nbase 08000000\npages %d\nsize %d\nerase 43\nerased FF\nversion 22\ncodes 00 01 02 11 21 31 43 73 82 92\n"
 INSIDE = INFO.replace(" 01", "")
@@ -69,7 +73,7 @@ class Board(Place):
     def assertAskedAlone(self):
         """The board was settled and asked, and nothing more was sent."""
         stand, = self.stands
-        self.assertEqual(stand.asked, [UNIQUE_AT, SIZE_AT])
+        self.assertEqual(stand.asked, BEFORE)
         self.assertEqual(stand.sent.lstrip(b"\x7f"), ASKED)
 
     def break_off(self):
@@ -85,13 +89,22 @@ class Board(Place):
         self.assertTold(self.at(HERE, "undo"), "undone 1\n")
         self.assertFile("flash", COUNTING)
 
-    def test_each_session_asks_once(self):
-        uses = (("info",), ("info", "--raw"), ("read", "out"), ("read", "--hex", "out"), ("crc",), ("verify", "flash"),
-                ("write", "image"), ("write", "-v", "image"), ("erase", "3"), ("undo",))
+    def test_each_session_asks_before_it_and_once_more(self):
+        for words in (("info",), ("info", "--raw")):
+            with self.subTest(words=words):
+                self.assertEqual(self.at(HERE, *words).status, 0)
+                self.assertEqual(self.asked(), BEFORE)
+        uses = (("read", "out"), ("read", "--hex", "out"), ("crc",), ("verify", "flash"), ("write", "image"), ("write", "-v", "image"),
+                ("erase", "3"), ("undo",))
         for words in uses:
             with self.subTest(words=words):
                 self.assertEqual(self.at(HERE, *words).status, 0)
-                self.assertEqual(self.asked(), [UNIQUE_AT, SIZE_AT])
+                self.assertEqual(self.asked(), AGAIN)
+
+    def test_what_is_refused_by_itself_is_not_asked_again(self):
+        """All checks of the commands come before."""
+        self.assertFault(self.at(HERE, "erase", "128"), "address outside the flash")
+        self.assertEqual(self.asked(), BEFORE)
 
     def test_go_and_protect_ask_nothing(self):
         for words in (("go", "0x08000000"), ("protect", "write-unprotect")):
@@ -129,7 +142,7 @@ class Board(Place):
         self.break_off()
         self.store("flash.line", b"fresh\n")
         self.assertTold(self.at(HERE, "undo", "--fresh"), "undone 1\n")
-        self.assertEqual(self.asked(), [UNIQUE_AT, SIZE_AT])
+        self.assertEqual(self.asked(), AGAIN)
         # one 7F alone, for which nothing else is sent
         self.assertTrue(self.stands[0].sent.startswith(b"\x7f" + ASKED), self.stands[0].sent[:20])
         self.assertFile("flash", COUNTING)
@@ -142,7 +155,7 @@ class Board(Place):
 
     def test_a_write_that_is_done_again_asks_again(self):
         self.assertEqual(self.at(HERE, "write", "--again", "1", "image", cuts=(True, False, False)).status, 0)
-        self.assertEqual(self.asked(), 3 * [UNIQUE_AT, SIZE_AT])
+        self.assertEqual(self.asked(), 3 * AGAIN)
         self.assertEqual(self.held("flash")[:9], b"an image" + COUNTING[8:9])
 
     def test_a_board_is_wanted(self):
@@ -212,8 +225,9 @@ class Board(Place):
         for unique, kib in ((None, None), (12 * b"\xff", size(0xFFFF)), (12 * b"\x00", size(0))):
             with self.subTest(unique=unique, kib=kib):
                 self.assertTold(self.at(unique, "info", kib=kib), INFO % (128, SIZE))
-                self.assertEqual(self.asked(), [UNIQUE_AT, SIZE_AT])
+                self.assertEqual(self.asked(), BEFORE)
                 self.assertTold(self.at(unique, "erase", "127", kib=kib), "segment 1: 1 pages erased\n")
+                self.assertEqual(self.asked(), BEFORE)
                 self.assertTrue(self.held("journal").startswith(b"stmjournal 2 0410\n"))
                 self.remove("journal")
                 self.store("flash", COUNTING)

@@ -1,7 +1,9 @@
 """A board that answers otherwise than it should where it is asked which it is: it refuses, answers late or garbled; and a cable
 that is moved to another board of the same id while a session runs.
 
-What is said here of a board that is put in behind the question is what is so, and not what is promised (docs/DECISIONS.md).
+It is asked before the session, and once more in it, behind Get and Get ID: so it is refused wherever the cable was moved between
+these two. What is said here of a board that is put in behind the second one is what is so, and not what is promised
+(docs/DECISIONS.md).
 """
 
 import contextlib
@@ -13,13 +15,14 @@ import time
 import telling
 from place import PATIENCE, Place, Said, program
 from served import WAIT
-from telling import NACK, READ, SIZE_AT, UNIQUE_AT, Stand
-from test_board import ANOTHER, COUNTING, HEAD, HERE, OTHER, THERE, size
+from telling import ACK, NACK, READ, SIZE_AT, UNIQUE_AT, Stand
+from test_board import ANOTHER, COUNTING, HEAD, HERE, THERE, size
 
 PROTOCOL = "device does not follow the protocol"
 OUTSIDE = "address outside the flash"
 GET_ID = b"\x02\xfd"
 ERASE = b"\x43\xbc"
+CONNECT = b"\x7f"
 # the flash of the other board
 ELSE = bytes((7 * i + 3) % 253 for i in range(131072))
 FRESH, SETTLED = b"fresh\n", b"idle\n"
@@ -43,7 +46,7 @@ class Late(Stand):
 
 
 def refusing(step):
-    """One that refuses a read of its board at this step of the frame: the command, or the count."""
+    """One that refuses each read of its board at this step of the frame: the command, or the count."""
     class Refusing(Stand):
         reads = 0
 
@@ -61,6 +64,30 @@ def refusing(step):
     return Refusing
 
 
+def refusing_again(step):
+    """One that tells its board before the session, and refuses the second question at this step: command, address, or count."""
+    class RefusingAgain(Stand):
+        def command(self, came):
+            if step == 0 and came == READ and len(self.asked) == 2:
+                self.reply(NACK)
+            else:
+                super().command(came)
+
+        def address(self, came):
+            if step == 1 and len(self.asked) == 2:
+                self.told[UNIQUE_AT] = None
+            super().address(came)
+
+        def count(self, came, told):
+            if step == 2 and len(self.asked) == 3:
+                self.reply(NACK)
+                self.step = self.command
+            else:
+                super().count(came, told)
+
+    return RefusingAgain
+
+
 def garbling(number, data):
     """One that says this in the place of one of its answers, counted from 0, of which board it is."""
     class Garbling(Stand):
@@ -74,12 +101,13 @@ def garbling(number, data):
 
 
 class Moved(Stand):
-    """The cable is moved to another board, before that is handed on of which `when` says so."""
+    """The cable is moved to another board, fresh or not, before that is handed on of which `when` says so."""
 
-    def __init__(self, line, here, there, when):
+    def __init__(self, line, here, there, when, is_fresh):
         super().__init__(line, here, {UNIQUE_AT: HERE, SIZE_AT: size(128)}, False)
         self.there = there
         self.when = when
+        self.is_fresh = is_fresh
         self.is_moved = False
         self.ids = 0
 
@@ -90,22 +118,34 @@ class Moved(Stand):
             self.board = self.there
             self.told = {UNIQUE_AT: THERE, SIZE_AT: size(128)}
 
-
-def behind_the_question(stand, came):
-    return len(stand.asked) == 2
-
-
-def behind_the_unique_id(stand, came):
-    return len(stand.asked) == 1
+    def command(self, came):
+        if self.is_moved and self.is_fresh:
+            # which tells nothing until it is connected
+            self.is_fresh = CONNECT not in came
+            self.hand_on(came)
+        else:
+            super().command(came)
 
 
 def before_the_unique_id(stand, came):
     return came == READ
 
 
+def behind_the_unique_id(stand, came):
+    return len(stand.asked) == 1
+
+
+def behind_the_question(stand, came):
+    return len(stand.asked) == 2
+
+
 def behind_get_id(stand, came):
-    """Behind the one of the session itself."""
+    """Behind the one of the session itself, and before the second question; or behind that of a session before it."""
     return stand.ids == 2 and came != GET_ID
+
+
+def behind_the_second_question(stand, came):
+    return len(stand.asked) == 3
 
 
 def before_the_erase(stand, came):
@@ -122,6 +162,7 @@ class BoardMoved(Place):
         self.store("flash", COUNTING)
         self.store("there", ELSE)
         self.store("journal", b"")
+        self.store("image", b"an image")
 
     def run_on(self, serve, words, more=()):
         """Runs the program on a board that is served so."""
@@ -154,7 +195,7 @@ class BoardMoved(Place):
             with telling.simulated(self, "flash", "behind") as here, telling.simulated(self, "there", "beyond") as there:
                 line, _ = listener.accept()
                 with line:
-                    self.stand = Moved(line, here, there, when)
+                    self.stand = Moved(line, here, there, when, stands == FRESH)
                     with contextlib.suppress(telling.Unacknowledged):
                         self.stand.run()
 
@@ -187,6 +228,20 @@ class BoardMoved(Place):
                     self.assertFile("flash", flash)
                     self.assertFile("journal", journal)
 
+    def test_one_that_refuses_the_second_question_is_another(self):
+        for step in range(3):
+            with self.subTest(step=step):
+                self.assertFault(self.at("erase", "5", kind=refusing_again(step)), ANOTHER)
+                self.assertFile("flash", COUNTING)
+                self.assertFile("journal", b"")
+        flash, journal = self.write_here()
+        for step, words in enumerate((("undo",), ("erase", "6"), ("read", "out"))):
+            with self.subTest(words=words):
+                self.assertFault(self.at(*words, kind=refusing_again(step)), ANOTHER)
+                self.assertFile("flash", flash)
+                self.assertFile("journal", journal)
+        self.assertFile("out", None)
+
     def test_a_late_answer_is_waited_for(self):
         self.assertTold(self.at("erase", "5", kind=Late), "segment 1: 1 pages erased\n")
         self.assertTrue(self.held("journal").startswith(HEAD))
@@ -195,8 +250,8 @@ class BoardMoved(Place):
 
     def test_another_byte_than_an_acknowledgement_ends_it(self):
         flash, journal = self.write_here()
-        # to the command, to the address, to the count, of either place
-        for number in range(6):
+        # to the command, to the address, to the count, of either place, and of the unique id once more
+        for number in range(9):
             with self.subTest(number=number):
                 self.assertFault(self.at("undo", kind=garbling(number, b"\x78")), PROTOCOL)
                 self.assertFile("flash", flash)
@@ -213,7 +268,20 @@ class BoardMoved(Place):
         self.assertTold(self.at("undo"), "undone 1\n")
         self.assertFile("flash", COUNTING)
 
-    def test_a_garbled_unique_id_begins_a_journal_of_no_board(self):
+    def test_a_unique_id_that_came_garbled_once_is_another_board(self):
+        """The answers to both questions are compared: so it is refused, whichever of them it is, and begins no journal."""
+        kinds = [garbling(number, ACK + GARBLED) for number in (2, 8)]
+        for kind in kinds:
+            self.assertFault(self.at("erase", "5", kind=kind), ANOTHER)
+            self.assertFile("flash", COUNTING)
+            self.assertFile("journal", b"")
+        flash, journal = self.write_here()
+        for kind in kinds:
+            self.assertFault(self.at("undo", kind=kind), ANOTHER)
+            self.assertFile("flash", flash)
+            self.assertFile("journal", journal)
+
+    def test_one_that_came_garbled_twice_alike_begins_a_journal_of_no_board(self):
         """Nothing tells that it was garbled. The way back is there, and is refused until its first line is put right."""
         self.assertTold(self.at("erase", "5", unique=GARBLED), "segment 1: 1 pages erased\n")
         flash, journal = self.held("flash"), self.held("journal")
@@ -250,54 +318,79 @@ class BoardMoved(Place):
 
     # a cable that is moved to another board
 
-    def test_moved_before_the_unique_id(self):
-        flash, journal = self.write_here()
-        for words in (("undo",), ("erase", "6")):
-            self.assertFault(self.moved(before_the_unique_id, SETTLED, *words), ANOTHER)
-            self.assertFile("there", ELSE)
-            self.assertFile("flash", flash)
-            self.assertFile("journal", journal)
-
-    def test_a_fresh_board_behind_the_sessions_get_id_answers_nothing(self):
-        flash, journal = self.write_here()
-        said = self.moved(behind_get_id, FRESH, "undo", more=("--give-up", "1"))
-        self.assertFault(said, "no answer from the device")
-        self.assertFile("there", ELSE)
-        self.assertFile("there.line", FRESH)
+    def assertBothAsTheyWere(self, flash, journal):
         self.assertFile("flash", flash)
+        self.assertFile("there", ELSE)
         self.assertFile("journal", journal)
+
+    def test_moved_before_the_second_question(self):
+        """It is refused, by either question, and neither board is changed, also where the session settles the other one anew."""
+        flash, journal = self.write_here()
+        for when, stands, words in ((before_the_unique_id, SETTLED, ("undo",)), (behind_the_unique_id, SETTLED, ("erase", "6")),
+                                    (behind_the_question, FRESH, ("undo",)),
+                                    (behind_the_question, SETTLED, ("write", "-S", "0x08000000", "image")),
+                                    (behind_get_id, SETTLED, ("undo",)), (behind_get_id, SETTLED, ("erase", "6"))):
+            with self.subTest(when=when.__name__, stands=stands, words=words):
+                self.assertFault(self.moved(when, stands, *words), ANOTHER)
+                self.assertBothAsTheyWere(flash, journal)
         self.assertTold(self.at("undo"), "undone 1\n")
         self.assertFile("flash", COUNTING)
 
-    def test_an_undo_that_is_moved_goes_unnoticed(self):
-        """Behind the question nobody asks again: the other board gets pages of the first one, and the journal says that they were
-        taken back. Where the session settles anew, also a board that was just reset takes part."""
-        for when, stands in ((behind_the_question, FRESH), (behind_the_question, SETTLED), (behind_the_unique_id, SETTLED),
-                             (behind_get_id, SETTLED), (before_the_erase, SETTLED)):
-            with self.subTest(when=when.__name__, stands=stands):
+    def test_moved_before_a_journal_was_begun(self):
+        """Also where the board is wanted, which is compared with the first answer."""
+        for when, stands, words in ((behind_the_unique_id, SETTLED, ("erase", "5")),
+                                    (behind_the_question, FRESH, ("erase", "--board", HERE.hex(), "5")),
+                                    (behind_get_id, SETTLED, ("read", "-S", "0x08000000:16", "out"))):
+            with self.subTest(when=when.__name__, stands=stands, words=words):
+                self.assertFault(self.moved(when, stands, *words), ANOTHER)
+                self.assertBothAsTheyWere(COUNTING, b"")
+                self.assertFile("out", None)
+
+    def test_moved_between_two_sessions_of_a_call(self):
+        """Of raw bytes without a place the device is asked where its flash begins, in a session of its own, and so is it for a whole
+        read and an erase of all pages."""
+        for stands, words in ((FRESH, ("write", "image")), (SETTLED, ("erase", "--all")), (FRESH, ("read", "out"))):
+            with self.subTest(stands=stands, words=words):
+                self.assertFault(self.moved(behind_get_id, stands, *words), ANOTHER)
+                self.assertBothAsTheyWere(COUNTING, b"")
+                self.assertFile("out", None)
+
+    def test_a_fresh_board_behind_the_sessions_get_id_answers_nothing(self):
+        flash, journal = self.write_here()
+        for when in (behind_get_id, behind_the_second_question):
+            said = self.moved(when, FRESH, "undo", more=("--give-up", "1"))
+            self.assertFault(said, "no answer from the device")
+            self.assertFile("there.line", FRESH)
+            self.assertBothAsTheyWere(flash, journal)
+        self.assertTold(self.at("undo"), "undone 1\n")
+        self.assertFile("flash", COUNTING)
+
+    def test_an_undo_that_is_moved_behind_the_second_question_goes_unnoticed(self):
+        """Nobody asks again: the other board, which is connected, gets pages of the first one, and the journal says that they were
+        taken back."""
+        for when in (behind_the_second_question, before_the_erase):
+            with self.subTest(when=when.__name__):
                 self.begin()
                 flash, journal = self.write_here()
-                self.assertTold(self.moved(when, stands, "undo"), "undone 1\n")
+                self.assertTold(self.moved(when, SETTLED, "undo"), "undone 1\n")
                 self.assertFile("flash", flash)
                 self.assertFile("there", with_page(ELSE, 5, page(COUNTING, 5)))
                 self.assertFile("journal", journal + b"erase 5\nprogram 5\nundone 1\n")
 
-    def test_an_erase_that_is_moved_goes_unnoticed(self):
+    def test_an_erase_that_is_moved_behind_the_second_question_goes_unnoticed(self):
         """The journal names the first board, and keeps a page of the other one: it is refused there, and gives that page to the
         first one."""
-        for when, stands in ((behind_the_question, FRESH), (behind_the_question, SETTLED), (behind_get_id, SETTLED)):
-            with self.subTest(when=when.__name__, stands=stands):
-                self.begin()
-                self.assertTold(self.moved(when, stands, "erase", "5"), "segment 1: 1 pages erased\n")
-                there, journal = with_page(ELSE, 5, 1024 * b"\xff"), self.held("journal")
-                self.assertFile("flash", COUNTING)
-                self.assertFile("there", there)
-                kept = page(ELSE, 5).hex().upper().encode()
-                self.assertEqual(journal, HEAD + b"open 1\npage 5 " + kept + b"\nerase 5\nend 1\n")
-                self.assertFault(self.at("undo", unique=THERE, flash="there"), ANOTHER)
-                self.assertFile("there", there)
-                self.assertTold(self.at("undo"), "undone 1\n")
-                self.assertFile("flash", with_page(COUNTING, 5, page(ELSE, 5)))
+        said = self.moved(behind_the_second_question, SETTLED, "erase", "--board", HERE.hex(), "5")
+        self.assertTold(said, "segment 1: 1 pages erased\n")
+        there, journal = with_page(ELSE, 5, 1024 * b"\xff"), self.held("journal")
+        self.assertFile("flash", COUNTING)
+        self.assertFile("there", there)
+        kept = page(ELSE, 5).hex().upper().encode()
+        self.assertEqual(journal, HEAD + b"open 1\npage 5 " + kept + b"\nerase 5\nend 1\n")
+        self.assertFault(self.at("undo", unique=THERE, flash="there"), ANOTHER)
+        self.assertFile("there", there)
+        self.assertTold(self.at("undo"), "undone 1\n")
+        self.assertFile("flash", with_page(COUNTING, 5, page(ELSE, 5)))
 
     def test_an_erase_that_is_moved_before_its_frame_loses_a_page(self):
         """The page that is kept is the first board's, and the one that is erased the other's, which nobody has any more."""
@@ -305,18 +398,3 @@ class BoardMoved(Place):
         self.assertFile("flash", COUNTING)
         self.assertFile("there", with_page(ELSE, 5, 1024 * b"\xff"))
         self.assertIn(page(COUNTING, 5).hex().upper().encode(), self.held("journal"))
-
-    def test_a_fresh_board_between_two_sessions_of_a_call_goes_unnoticed(self):
-        """Of raw bytes without a place the device is asked where its flash begins, in a session of its own."""
-        self.store("image", b"an image")
-        self.assertTold(self.moved(behind_get_id, FRESH, "write", "image"), "segment 1: 1 pages written\n")
-        self.assertFile("flash", COUNTING)
-        self.assertFile("there", b"an image" + ELSE[8:])
-        self.assertTrue(self.held("journal").startswith(HEAD))
-
-    def test_what_was_wanted_is_asked_once(self):
-        """`--board` is compared with what the question told, too."""
-        said = self.moved(behind_the_question, SETTLED, "erase", "--board", HERE.hex(), "5")
-        self.assertTold(said, "segment 1: 1 pages erased\n")
-        self.assertFile("there", with_page(ELSE, 5, 1024 * b"\xff"))
-        self.assertFault(self.at("erase", "--board", OTHER, "6"), "device is another board")

@@ -3,6 +3,7 @@ told (tests/planted has the boards)."""
 
 import os
 import random
+import re
 import sys
 import time
 import unittest
@@ -16,6 +17,9 @@ import pty_boards
 CODES = bytes.fromhex("00 01 02 11 21 31 44 63 73 82 92")
 CHIP = {"id": 0x440, "base": 0x08000000, "pages": [[2, 1024]], "erase": "extended"}
 TABLE = b'[[chip]]\nid = 0x440\nbase = 0x08000000\npages = [[8, 1024]]\nerase = "extended"\n'
+# a chip's place of its unique id and of its size, as they are asked for, and the unique ids of two boards
+UNIQUE, SIZE = "1F FF F7 AC BB", "1F FF F7 CC DB"
+HERE, THERE = "2B 00 35 00 0A 51 36 30 34 39 33 32", "2B 00 35 00 0A 51 36 30 34 39 33 3F"
 SUMMARY = r"stmflash-line: \S+: watched: [0-9]+ bytes of replies, each as a device of the model sends it(; [0-9]+ more were due)?\n"
 # so many writes are stopped
 STOPS = int(os.environ.get("STMFLASH_LINE_STOPS", "3"))
@@ -142,22 +146,90 @@ class Bytes(unittest.TestCase):
         self.board("79 79")
         self.assertOtherwise(self.read("080007FF", "00"), "79", "00 stands at 080007FF, and FF was read or written there before")
 
+    def learn_with_places(self):
+        self.watch = Watch([{**CHIP, "unique": [0x1FFFF7AC, 12], "size_at": 0x1FFFF7CC}])
+        self.learn()
+
+    def ask(self, place, count):
+        """The question at a place, as far as it has to be acknowledged, and its last step."""
+        self.host("11 EE")
+        self.board("79")
+        self.host(place)
+        self.board("79")
+        self.host(f"{count - 1:02X} {256 - count:02X}")
+
     def test_where_a_board_tells_which_it_is(self):
-        """Outside the flash: it may be told, or refused, and what comes is judged again behind the next codes and id."""
-        for came in ("79 79 01 02", "1F"):
-            with self.subTest(came=came):
-                self.watch = Watch([{**CHIP, "unique": [0x1FFFF7AC, 12], "size_at": 0x1FFFF7CC}])
-                for place in ("1F FF F7 AC BB", "1F FF F7 CC DB"):
-                    self.learn()
-                    self.host("11 EE")
+        """Outside the flash: what is told first may be anything, and is the same from then on, also behind other questions."""
+        self.learn_with_places()
+        for place, told in ((UNIQUE, HERE), (SIZE, "40 00")):
+            count = len(bytes.fromhex(told))
+            self.ask(place, count)
+            self.board("79 " + told)
+            self.learn()
+            self.ask(place, count)
+            self.board("79 " + told)
+        self.ask(UNIQUE, 12)
+        self.assertOtherwise("79 " + THERE, "79 " + THERE[:-3], "3F stands at 1FFFF7B7, and 32 was told there before")
+
+    def test_a_board_that_told_which_it_is_refuses_no_more(self):
+        for step in range(2):
+            with self.subTest(step=step):
+                self.learn_with_places()
+                self.ask(UNIQUE, 12)
+                self.board("79 " + HERE)
+                self.host("11 EE")
+                self.board("79")
+                self.host(UNIQUE)
+                if step:
                     self.board("79")
-                    self.host(place)
-                    self.board(came)
-                self.learn()
+                    self.host("0B F4")
+                self.assertOtherwise("1F", "", "1F came in Read Memory, and 79 was due")
+
+    def test_a_place_may_be_refused(self):
+        """Either step; what comes behind is judged."""
+        for step in range(2):
+            with self.subTest(step=step):
+                self.learn_with_places()
+                self.host("11 EE")
+                self.board("79")
+                self.host(UNIQUE)
+                if step:
+                    self.board("79")
+                    self.host("0B F4")
+                self.board("1F")
+                self.ask(SIZE, 2)
+                self.board("79 40 00")
                 self.host("11 EE")
                 self.board("79")
                 self.host("1F FF F7 D0 C7")
                 self.assertOtherwise("79", "", "79 came in Read Memory, and 1F was due")
+
+    def test_other_questions_which_board_it_is(self):
+        self.learn_with_places()
+        self.host("11 EE")
+        self.board("79")
+        self.host(UNIQUE)
+        self.assertOtherwise("76", "", "76 came in Read Memory, and 79 or 1F was due")
+        self.learn_with_places()
+        self.ask(UNIQUE, 12)
+        self.assertOtherwise("00", "", "00 came in Read Memory, and 79 or 1F was due")
+        self.learn_with_places()
+        self.host("11 EE")
+        self.board("79")
+        self.host(UNIQUE)
+        self.board("79")
+        self.host("0B F5")
+        self.assertOtherwise("79", "", "79 came in Read Memory, and 1F was due")
+        # of another length, from a place inside, and on before an answer: all is open until codes and id are told again
+        for place, count in ((UNIQUE, 11), ("1F FF F7 AD BA", 11)):
+            self.learn_with_places()
+            self.ask(place, count) if place == UNIQUE else self.host("11 EE " + place)
+            self.board("79 79 79 1F 00 76")
+        self.learn_with_places()
+        self.host("11 EE " + UNIQUE + " 0B F4")
+        self.board("79 79 76 00")
+        self.learn()
+        self.assertOtherwise("00", "", "00 came unasked")
 
     def test_a_read_whose_page_was_erased_before_its_bytes_came(self):
         self.learn()
@@ -222,6 +294,21 @@ class Boards(WatchedPlace):
         said = self.watched("go", "0x08000000")
         text = b"stmflash-line: ttyUSB0: watched: nothing, since no chip of the table has told its codes and id\n"
         self.assertEqual((said.status, said.err), (0, text))
+
+    def test_a_board_that_tells_which_it_is(self):
+        """It is asked before the session, and once more in it; what comes behind is watched too."""
+        self.store("table", TABLE + b"unique = [0x1FFFF7AC, 12]\nsize_at = 0x1FFFF7CC\n")
+        self.store("ttyUSB0.flash.board", f"unique {HERE.replace(' ', '')}\nsize 8\n".encode())
+        board = self.board(chip="0440")
+        self.store("image", COUNTING[:3328])
+        said = self.watched("write", "-f", "-v", "-S", "0x08001000", "image", "--quiet")
+        self.assertWatched(said)
+        # four pages are read, and then the image
+        self.assertGreater(int(re.search(rb"watched: ([0-9]+) bytes", said.err)[1]), 4 * 1024 + 3328)
+        self.assertEqual(board.store()[4096:4096 + 3328], COUNTING[:3328])
+        self.assertIn(HERE.replace(" ", "").encode(), self.held("journal"))
+        self.assertWatched(self.watched("undo"), b"undone 1\n")
+        self.assertEqual(board.store(), b"\xff" * 8192)
 
     def test_stops_and_undos(self):
         """A write that was stopped behind any byte is taken back over a line that watches, without a false word."""
