@@ -464,8 +464,8 @@ def rules():
 class Ends(TrialPlace):
     """Signals and kills: what was changed is put back, by the trial or by what it saved."""
 
-    def start_trial(self, pause="0.2"):
-        words = ["--device", "board", "--table", "table", "--save", "saved", "--yes", "--wait", "20", "--pause", pause]
+    def start_trial(self, pause="0.2", *more):
+        words = ["--device", "board", "--table", "table", "--save", "saved", "--yes", "--wait", "20", "--pause", pause, *more]
         started = subprocess.Popen([sys.executable, TRIAL, *words], cwd=self.folder, env={}, stdin=subprocess.DEVNULL,
                                    stdout=subprocess.PIPE, stderr=subprocess.PIPE)
         self.addCleanup(started.communicate)
@@ -481,13 +481,15 @@ class Ends(TrialPlace):
         for number in (signal.SIGTERM, signal.SIGINT):
             self.store("flash", self.before)
             self.serve(1)
-            # long pauses, so that the trial isn't over where the signal is late
-            started = self.start_trial("0.8")
-            time.sleep(4)
+            started = self.start_trial("0", "--progress")
+            # the row behind those that have changed something
+            while b"write-4" not in started.stderr.readline():
+                self.assertIsNone(started.poll())
             started.send_signal(number)
             out, err = started.communicate(timeout=PATIENCE)
             self.assertServed()
-            self.assertEqual((started.returncode, err), (1, b""))
+            self.assertEqual(started.returncode, 1)
+            self.assertNotIn(b"Traceback", err)
             self.assertRegex(out.decode(), r"(?m)^put-back +holds")
             self.assertTrue(out.decode().endswith(f"don't use, because the trial wasn't ended: signal {number.name}\n"), out)
             self.assertTrue(self.held("flash") == self.before)

@@ -27,6 +27,8 @@ class Trial:
         self.found = []
         # why no further row is tried; why this trial isn't whole, and in which row that came
         self.dead, self.ended, self.broken = None, None, None
+        # whether a signal may end what is done now; what a row differs by whose board is being got back
+        self.may_end, self.differs = False, None
         self.begun = time.monotonic()
 
     def run(self):
@@ -59,15 +61,36 @@ class Trial:
             raise Refused("nothing was changed")
 
     def stop(self, number, _):
-        """A signal ends the row; what was changed is still put back. A second one ends everything."""
+        """A signal ends the row that is tried, and no other one is tried then; what was changed is still put back. A second one ends
+        everything."""
         for ending in ENDING:
             signal.signal(ending, signal.SIG_DFL)
         self.ended = f"signal {signal.Signals(number).name}"
-        raise Ended(self.ended)
+        if self.may_end:
+            raise Ended(self.ended)
 
     def take(self, row):
         """Tries a row, and keeps what came of it."""
-        result, text, means = told.HOLDS, "", row.means
+        self.add(self.tried(row))
+        if row is SAVE and self.board.saved is not None:
+            self.say(f"saved in {self.words.save}: whatever comes, reset the board, and `stmflash write -v -f {self.words.save}` "
+                     "puts its flash back")
+
+    def tried(self, row):
+        """What came of a row. A signal ends it, but for the one that puts back."""
+        self.differs = None
+        try:
+            self.may_end = row is not BACK
+            self.dead = self.dead or self.ended
+            return self.outcome(row)
+        except Ended as error:
+            self.ended, self.dead, self.broken = self.ended or str(error), self.dead or str(error), self.broken or row
+            return self.differs or told.Found(row, told.NOT_TRIED, str(error), row.means)
+        finally:
+            self.may_end = False
+
+    def outcome(self, row):
+        """What came of a row that nothing ended."""
         try:
             try:
                 self.need(row)
@@ -75,18 +98,12 @@ class Trial:
                 if self.board.model and row not in TOLD:
                     self.board.hush()
             except Differs as error:
-                result, text = told.DIFFERS, str(error)
-                means = NOTE if isinstance(error, Odd) else means
+                self.differs = told.Found(row, told.DIFFERS, str(error), NOTE if isinstance(error, Odd) else row.means)
                 self.regain(row)
+                return self.differs
         except NotTried as reason:
-            result, text = told.NOT_TRIED, str(reason)
-        except Ended as error:
-            result, text = told.DIFFERS if result == told.DIFFERS else told.NOT_TRIED, text or str(error)
-            self.ended, self.dead, self.broken = self.ended or str(error), self.dead or str(error), self.broken or row
-        self.add(told.Found(row, result, text, means))
-        if row is SAVE and self.board.saved is not None:
-            self.say(f"saved in {self.words.save}: whatever comes, reset the board, and `stmflash write -v -f {self.words.save}` "
-                     "puts its flash back")
+            return told.Found(row, told.NOT_TRIED, str(reason), row.means)
+        return told.Found(row, told.HOLDS, text, row.means)
 
     def regain(self, row):
         """Gets the board back behind a row that differs."""
