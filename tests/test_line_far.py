@@ -147,7 +147,8 @@ class Rfc2217(FarPlace):
         self.far_end()
         started = self.serve_far(self.url)
         with self.connect() as client:
-            self.assertIn(self.exchange(client, b"!", 5), (b"", b"ab"))
+            # a beginning of what came before it
+            self.assertTrue(b"ab".startswith(self.exchange(client, b"!", 5)))
         with self.connect() as client:
             # what the far end sent behind the error may still be on its way
             came = self.exchange(client, b"on", 2)
