@@ -17,6 +17,8 @@ pub {name}_spec : {{M : Type 1}} → statement M
 {name}_spec = ?
 """
 OF_A_FUNCTION = ("Answers.antt", "Invariants.antt", "Proof.antt")
+# the prover knows a function by another path, as one in an `impl` of a type whose parameters are given
+NO_FUNCTION = re.compile(r"has no function `([^`]+)` for this file to be the proof of")
 
 
 def load_rt():
@@ -58,7 +60,19 @@ def leave_open(crate, room, path):
 
 def check(crate, functions, texts, asked, kept):
     """Checks these functions with these texts in place of the crate's own, and every other one taken by its contract: what was
-    said, and the status. What is checked is kept in a folder for the next check."""
+    said, and the status. What is checked is kept in a folder for the next check. A function that the prover doesn't know by its path
+    is proved there as ever."""
+    proved = set()
+    while True:
+        said, status = check_beside(crate, functions, texts, asked, kept, proved)
+        unknown = set(NO_FUNCTION.findall(said)) - proved
+        if not unknown:
+            return said, status
+        proved |= unknown
+
+
+def check_beside(crate, functions, texts, asked, kept, proved):
+    """The same, beside functions that are proved as ever."""
     with tempfile.TemporaryDirectory(prefix=f"rt-edit-{os.getpid()}-") as room:
         for part in rt.rtlib.PARTS:
             if os.path.isdir(f"{crate.folder}/{part}"):
@@ -67,7 +81,8 @@ def check(crate, functions, texts, asked, kept):
             with open(f"{room}/{path}", "w", encoding="utf-8") as file:
                 file.write(text)
         for path in taken_by_contract(crate, functions, asked):
-            leave_open(crate, room, path)
+            if path not in proved:
+                leave_open(crate, room, path)
         flags = ["--jobs", "1", "--allow-holes", *(it for path in sorted(asked) for it in ("--only", path))]
         words = [rt.rtlib.RATTLE, "check", *crate.words(flags, keeps=False), "--incremental", kept]
         how = {"cwd": room, "stdin": subprocess.DEVNULL, "stdout": subprocess.PIPE, "stderr": subprocess.STDOUT}
