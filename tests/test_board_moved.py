@@ -16,7 +16,7 @@ import telling
 from place import PATIENCE, Place, Said, program
 from served import WAIT
 from telling import ACK, NACK, READ, SIZE_AT, UNIQUE_AT, Stand
-from test_board import ANOTHER, COUNTING, HEAD, HERE, THERE, size
+from test_board import ANOTHER, CHANGED, COUNTING, HEAD, HERE, THERE, size
 
 PROTOCOL = "device does not follow the protocol"
 OUTSIDE = "address outside the flash"
@@ -231,13 +231,13 @@ class BoardMoved(Place):
     def test_one_that_refuses_the_second_question_is_another(self):
         for step in range(3):
             with self.subTest(step=step):
-                self.assertFault(self.at("erase", "5", kind=refusing_again(step)), ANOTHER)
+                self.assertFault(self.at("erase", "5", kind=refusing_again(step)), CHANGED)
                 self.assertFile("flash", COUNTING)
                 self.assertFile("journal", b"")
         flash, journal = self.write_here()
         for step, words in enumerate((("undo",), ("erase", "6"), ("read", "out"))):
             with self.subTest(words=words):
-                self.assertFault(self.at(*words, kind=refusing_again(step)), ANOTHER)
+                self.assertFault(self.at(*words, kind=refusing_again(step)), CHANGED)
                 self.assertFile("flash", flash)
                 self.assertFile("journal", journal)
         self.assertFile("out", None)
@@ -272,12 +272,12 @@ class BoardMoved(Place):
         """The answers to both questions are compared: so it is refused, whichever of them it is, and begins no journal."""
         kinds = [garbling(number, ACK + GARBLED) for number in (2, 8)]
         for kind in kinds:
-            self.assertFault(self.at("erase", "5", kind=kind), ANOTHER)
+            self.assertFault(self.at("erase", "5", kind=kind), CHANGED)
             self.assertFile("flash", COUNTING)
             self.assertFile("journal", b"")
         flash, journal = self.write_here()
-        for kind in kinds:
-            self.assertFault(self.at("undo", kind=kind), ANOTHER)
+        for kind, fault in zip(kinds, (ANOTHER, CHANGED)):
+            self.assertFault(self.at("undo", kind=kind), fault)
             self.assertFile("flash", flash)
             self.assertFile("journal", journal)
 
@@ -324,14 +324,16 @@ class BoardMoved(Place):
         self.assertFile("journal", journal)
 
     def test_moved_before_the_second_question(self):
-        """It is refused, by either question, and neither board is changed, also where the session settles the other one anew."""
+        """It is refused, by either question, and neither board is changed, also where the session settles the other one anew. The
+        journal is of another board where the first one told it."""
         flash, journal = self.write_here()
         for when, stands, words in ((before_the_unique_id, SETTLED, ("undo",)), (behind_the_unique_id, SETTLED, ("erase", "6")),
                                     (behind_the_question, FRESH, ("undo",)),
                                     (behind_the_question, SETTLED, ("write", "-S", "0x08000000", "image")),
                                     (behind_get_id, SETTLED, ("undo",)), (behind_get_id, SETTLED, ("erase", "6"))):
             with self.subTest(when=when.__name__, stands=stands, words=words):
-                self.assertFault(self.moved(when, stands, *words), ANOTHER)
+                fault = ANOTHER if when is before_the_unique_id else CHANGED
+                self.assertFault(self.moved(when, stands, *words), fault)
                 self.assertBothAsTheyWere(flash, journal)
         self.assertTold(self.at("undo"), "undone 1\n")
         self.assertFile("flash", COUNTING)
@@ -342,7 +344,7 @@ class BoardMoved(Place):
                                     (behind_the_question, FRESH, ("erase", "--board", HERE.hex(), "5")),
                                     (behind_get_id, SETTLED, ("read", "-S", "0x08000000:16", "out"))):
             with self.subTest(when=when.__name__, stands=stands, words=words):
-                self.assertFault(self.moved(when, stands, *words), ANOTHER)
+                self.assertFault(self.moved(when, stands, *words), CHANGED)
                 self.assertBothAsTheyWere(COUNTING, b"")
                 self.assertFile("out", None)
 
@@ -351,7 +353,7 @@ class BoardMoved(Place):
         read and an erase of all pages."""
         for stands, words in ((FRESH, ("write", "image")), (SETTLED, ("erase", "--all")), (FRESH, ("read", "out"))):
             with self.subTest(stands=stands, words=words):
-                self.assertFault(self.moved(behind_get_id, stands, *words), ANOTHER)
+                self.assertFault(self.moved(behind_get_id, stands, *words), CHANGED)
                 self.assertBothAsTheyWere(COUNTING, b"")
                 self.assertFile("out", None)
 

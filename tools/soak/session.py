@@ -18,6 +18,7 @@ OUT_OF_FLASH = "address outside the flash"
 IN_SESSION = "journal is open, refused"
 OTHER_DEVICE = "journal belongs to another device"
 OTHER_BOARD = "journal is of another board"
+BOARD_CHANGED = "another board answers than at first"
 NO_ERASE = "no erase command"
 FULL = "journal is full"
 DEVICE = "device does not follow the protocol"
@@ -262,7 +263,7 @@ def confirm(rig, chip):
     if chip.unique_at is None or chip.unique_at[1] != len(chip.unique):
         return
     if wire.read_unless_refused(rig, *chip.unique_at) != chip.unique:
-        raise Fault(OTHER_BOARD)
+        raise Fault(BOARD_CHANGED)
 
 
 def do(rig, journal, chip, command):

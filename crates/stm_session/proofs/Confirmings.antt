@@ -19,7 +19,7 @@ use Rattle.stm_wire.specs.SentList.{IsFrame, IsHeadOfRead, tells}
 use Rattle.stm_wire.specs.UniqueId.{is_unique_length}
 use Rattle.stm_journal.specs.Journals.{Loaded}
 use Rattle.stm_session.specs.declared.fault.Fault.{Fault}
-use Rattle.stm_session.specs.declared.fault.Fault.TheVariants.{Memory, OtherBoard, Unfinished}
+use Rattle.stm_session.specs.declared.fault.Fault.TheVariants.{Memory, BoardChanged, Unfinished}
 use Rattle.stm_session.specs.AskingBoard.{came_in}
 use Rattle.stm_session.specs.Confirming.{HasAgain, TellsAgain}
 use Rattle.stm_session.specs.Fault.{IsOfLine, cause_of}
@@ -135,8 +135,8 @@ pub does_confirm : (chip : ChipData) (l : Loaded) (a b : RigState) → GoesOn (I
 does_confirm chip l a b goes = record { acts = goes; torn = sym (confirm_torn (confirmed_at chip) chip.unique l.is_torn) }
 
 -- its faults
-pub is_no_memory : (e : Fault) → IsOfLine e ⊎ (e ≡ OtherBoard) → e ≡ Memory → ⊥
-is_no_memory e named is = ⊎_elim (λ line. subst IsOfLine is line) (λ same. let h : OtherBoard ≡ Memory = sym same ∙ is in cc) named
+pub is_no_memory : (e : Fault) → IsOfLine e ⊎ (e ≡ BoardChanged) → e ≡ Memory → ⊥
+is_no_memory e named is = ⊎_elim (λ line. subst IsOfLine is line) (λ same. let h : BoardChanged ≡ Memory = sym same ∙ is in cc) named
 
-pub is_finished : (e : Fault) → IsOfLine e ⊎ (e ≡ OtherBoard) → e ≡ Unfinished → ⊥
-is_finished e named is = ⊎_elim (λ line. subst IsOfLine is line) (λ same. let h : OtherBoard ≡ Unfinished = sym same ∙ is in cc) named
+pub is_finished : (e : Fault) → IsOfLine e ⊎ (e ≡ BoardChanged) → e ≡ Unfinished → ⊥
+is_finished e named is = ⊎_elim (λ line. subst IsOfLine is line) (λ same. let h : BoardChanged ≡ Unfinished = sym same ∙ is in cc) named

@@ -48,6 +48,7 @@ cause_of fault.Device = of_protocol
 cause_of (fault.BadJournal line) = of_refusal
 cause_of fault.OtherDevice = of_refusal
 cause_of fault.OtherBoard = of_refusal
+cause_of fault.BoardChanged = of_refusal
 cause_of fault.Full = of_refusal
 
 -- the line, the file of the journal or memory failed, and nothing else is the matter

@@ -80,7 +80,7 @@ pub fn confirm<R: Rig>(rig: &mut R, chip: &Chip) -> Result<(), Fault>
         (GoesOn (IsInOrder torn (confirming chip.now)) old.calls new.calls) }
     ensures stops { let old = R.view rig.old in let new = R.view rig.new in
         (torn : Bool) → Stops (Begin (IsConfirming (confirmed_at chip.now))) torn old new result }
-    ensures named { IfErr result (λ fault. IsOfLine fault ⊎ (fault ≡ Fault.OtherBoard)) }
+    ensures named { IfErr result (λ fault. IsOfLine fault ⊎ (fault ≡ Fault.BoardChanged)) }
     ensures honest { let old = R.view rig.old in let new = R.view rig.new in
         old.is_honest → IsSettled old.device → old.device.chip ≡ chip.now
         → Asks old new result (λ _. ⊤) }
@@ -93,6 +93,6 @@ pub fn confirm<R: Rig>(rig: &mut R, chip: &Chip) -> Result<(), Fault>
     if is_same {
         Ok(())
     } else {
-        Err(Fault::OtherBoard)
+        Err(Fault::BoardChanged)
     }
 }

@@ -47,9 +47,14 @@ pub enum Fault {
     /// The journal's header names another device.
     #[error("journal belongs to another device")]
     OtherDevice,
-    /// The journal's header names another board: a device with another unique id.
+    /// The journal's header names another board than the device told: one with another unique id.
+    /// The header is compared as the journal is loaded, and where a device is asked which it is.
     #[error("journal is of another board")]
     OtherBoard,
+    /// The device told its unique id before the session, and on being asked once more, before the
+    /// first command or page, it tells another one or refuses.
+    #[error("another board answers than at first")]
+    BoardChanged,
     /// The journal has no room for so many segments more.
     #[error("journal is full")]
     Full,

@@ -55,13 +55,13 @@ fn is_refused(rt: &HostRuntime, there: &Table, begun: &[u8]) -> Result<bool, Fai
     for journal in [b"".as_slice(), HEADER] {
         let mut rig = board(rt, there, journal)?;
         let ran = run(rt.alloc(), &mut rig, &own, &write);
-        if ran.err() != Some(Fault::OtherBoard) || !is_as_it_was(&rig, journal) {
+        if ran.err() != Some(Fault::BoardChanged) || !is_as_it_was(&rig, journal) {
             return Ok(false);
         }
     }
     let mut rig = board(rt, there, begun)?;
     let undone = undo(rt.alloc(), &mut rig, &own, 0);
-    Ok(undone == Err(Fault::OtherBoard) && is_as_it_was(&rig, begun))
+    Ok(undone == Err(Fault::BoardChanged) && is_as_it_was(&rig, begun))
 }
 
 // The board 0B tells another unique id, and the simulator of a chip without a place refuses the read.

@@ -112,6 +112,7 @@ fn texts_of_journals_and_sessions(rt: HostRuntime) -> Result<(), Fail> {
         (Fault::BadJournal(12), "bad journal line 12"),
         (Fault::OtherDevice, "journal belongs to another device"),
         (Fault::OtherBoard, "journal is of another board"),
+        (Fault::BoardChanged, "another board answers than at first"),
         (Fault::Full, "journal is full"),
     ];
     for (fault, want) in rows {

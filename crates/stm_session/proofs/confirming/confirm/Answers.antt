@@ -6,7 +6,7 @@ use Rattle.stm_wire.specs.Dialogue.{GoesOn}
 use Rattle.stm_wire.specs.DialogueLaws.{GoesOn-nothing}
 use Rattle.stm_wire.specs.Parts.{IsPart}
 use Rattle.stm_wire.specs.PartLaws.{nothing_is_part}
-use Rattle.stm_session.specs.declared.fault.Fault.TheVariants.{OtherBoard}
+use Rattle.stm_session.specs.declared.fault.Fault.TheVariants.{BoardChanged}
 use Rattle.stm_session.specs.Confirming.{TellsAgain}
 use Rattle.stm_session.specs.Fault.{Cause, IsOfLine, cause_of, of_refusal}
 use Rattle.stm_session.specs.Order.{Begin, IsConfirming, IsInOrder, StopsBy, confirm_steps, confirmed_at}
@@ -49,7 +49,7 @@ returns-in_err-is_same-clause-stops g c torn =
     by_fault (λ (k : Cause). StopsBy (Begin (IsConfirming (confirmed_at c.args.chip.now))) k torn a b) e c.from_residual.result c.from_residual.ensures.1 (subst S c.in-Some.ensures.place (c.in_err-is_same.ensures.stops torn))
 
 pub returns-in_err-is_same-clause-named : goal.returns-in_err-is_same-clause-named
-returns-in_err-is_same-clause-named g c = at_fault (λ e. IsOfLine e ⊎ (e ≡ OtherBoard)) _ c.from_residual.result c.from_residual.ensures.1 (inl c.in_err-is_same.ensures.sent)
+returns-in_err-is_same-clause-named g c = at_fault (λ e. IsOfLine e ⊎ (e ≡ BoardChanged)) _ c.from_residual.result c.from_residual.ensures.1 (inl c.in_err-is_same.ensures.sent)
 
 pub returns-in_err-is_same-clause-honest : goal.returns-in_err-is_same-clause-honest
 returns-in_err-is_same-clause-honest g c h settled chip =
