@@ -20,7 +20,8 @@ use Rattle.stm_session.specs.declared.fault.Fault.{Fault}
 use Rattle.stm_session.specs.Asking.{Asks, IsStill}
 use Rattle.stm_session.specs.AskingBoard.{AsksBoard, AsksSize, AsksUnique, IsAnswered, came_in, places_in, size_told, unique_told}
 use Rattle.stm_session.specs.Fault.{Cause, IsOutsideFault, cause_of, fault_of}
-use Rattle.stm_session.specs.Order.{Step, Begin, IsAsked, IsAsking, IsInOrder, Sends, Stops, StopsBy, asking_steps, torn_behind}
+use Rattle.stm_session.specs.Order.{Step, Begin, IsInOrder, Sends, Stops, StopsBy, torn_behind, AreCutShort, acts_of}
+use Rattle.stm_session.specs.Reaching.{IsAsked, IsAsking, asking_steps, SettlesThen}
 use Rattle.stm_session.specs.Unwritten.{AppendsNothing}
 use Rattle.stm_wire.specs.declared.chip.EraseKind.{EraseKind}
 use Rattle.stm_wire.specs.declared.chip.EraseKind.TheVariants.{Page, Extended}
@@ -38,7 +39,6 @@ use Rattle.stm_session.specs.ToldBoard.{AsksFinished, AsksUnfinished, IsBoardOf}
 use Rattle.stm_session.specs.Fault.{IsHeard, IsOutside, IsUnheard, fault_of_journal, of_file, of_line, of_memory, of_protocol, of_refusal, of_session}
 use Rattle.stm_session.specs.Fresh.{EndsWell, Way, byte_of, limit_of, undo_way}
 use Rattle.stm_session.specs.Moments.{BeginsNothing, IsSafe, IsUnbegun, SameMake}
-use Rattle.stm_session.specs.Order.{AreCutShort, SettlesThen, acts_of}
 use Rattle.stm_session.specs.Refusal.{unsent_refusal}
 use Rattle.stm_session.specs.StepLaws.{StepLaws}
 use Rattle.stm_session.specs.Steps.{Goes, IsSteady, Stands}

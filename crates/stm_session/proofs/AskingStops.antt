@@ -5,8 +5,8 @@ use Rattle.stm_wire.specs.Frames.{get_turns}
 use Rattle.stm_wire.specs.Rig.{RigState}
 use Rattle.stm_session.specs.declared.fault.Fault.{Fault}
 use Rattle.stm_session.specs.Fault.{Cause, cause_of}
-use Rattle.stm_session.specs.Order.{Step, Begin, IsAsking, IsGet, IsGetId, IsInOrder, Sends, Stops}
-use Rattle.stm_session.specs.Order.{StopsBy, id_turns}
+use Rattle.stm_session.specs.Order.{Step, Begin, IsInOrder, Sends, Stops, StopsBy}
+use Rattle.stm_session.specs.Reaching.{IsAsking, IsGet, IsGetId, id_turns}
 use Rattle.stm_session.proofs.CutShort.{begin_after, begin_on, by_fault, order_stops, part_stops}
 
 -- Get begins it

@@ -23,7 +23,8 @@ use Rattle.stm_session.specs.declared.fault.Fault.TheVariants.{Memory, BoardChan
 use Rattle.stm_session.specs.AskingBoard.{came_in}
 use Rattle.stm_session.specs.Confirming.{HasAgain, TellsAgain}
 use Rattle.stm_session.specs.Fault.{IsOfLine, cause_of}
-use Rattle.stm_session.specs.Order.{Step, Begin, DoesSteps, IsAsked, IsConfirming, IsInOrder, Sends, Stops, StopsBy, confirm_steps, confirming, confirmed_at, place_of, torn_behind}
+use Rattle.stm_session.specs.Order.{Step, Begin, DoesSteps, IsInOrder, Sends, Stops, StopsBy, torn_behind}
+use Rattle.stm_session.specs.Reaching.{IsAsked, IsConfirming, confirm_steps, confirming, confirmed_at, place_of}
 use Rattle.stm_session.specs.Sending.{most_of_confirming}
 use Rattle.stm_session.proofs.AskingBoards.{read_broken_length, refused_length}
 use Rattle.stm_session.proofs.CutShort.{begin_as, part_stops}

@@ -10,8 +10,7 @@ use Rattle.stm_journal.specs.declared.entry.Entry.{Entry}
 use Rattle.stm_journal.specs.Journals.{Loaded}
 use Rattle.stm_session.specs.declared.fault.Fault.{Fault}
 use Rattle.stm_session.specs.Fault.{Cause, cause_of}
-use Rattle.stm_session.specs.Order.{Step, AreReadsOf, Begin, DoesSteps, IsInOrder, Stops, StopsBy}
-use Rattle.stm_session.specs.Order.{page_address, page_reads, read_steps}
+use Rattle.stm_session.specs.Order.{Step, AreReadsOf, Begin, DoesSteps, IsInOrder, Stops, StopsBy, page_address, page_reads, read_steps}
 use Rattle.stm_session.specs.Steps.{Goes}
 use Rattle.stm_session.proofs.CutShort.{by_fault, page_stops, page_was_read}
 use Rattle.stm_session.proofs.Going.{goes_as, goes_failed, goes_ok}

@@ -10,7 +10,8 @@ use Rattle.stm_journal.specs.States.{StateData, names_other_board}
 use Rattle.stm_session.specs.declared.fault.Fault.{Fault}
 use Rattle.stm_session.specs.Boards.{IsForeign, IsOfItsBoard, OnlyAsks}
 use Rattle.stm_session.specs.Meaning.{CommandData}
-use Rattle.stm_session.specs.Order.{Session, UndoStopsFrom, UndoesInOrderFrom}
+use Rattle.stm_session.specs.Reaching.{Session}
+use Rattle.stm_session.specs.UndoOrder.{UndoStopsFrom, UndoesInOrderFrom}
 use Rattle.stm_session.specs.RunOrder.{RunStops, RunsInOrder}
 use Rattle.stm_session.specs.Undoable.{good_state}
 

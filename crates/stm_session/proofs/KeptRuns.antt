@@ -23,7 +23,8 @@ use Rattle.stm_session.specs.Contents.{content}
 use Rattle.stm_session.specs.Fresh.{Settles, Way}
 use Rattle.stm_session.specs.Answers.{OutcomeData}
 use Rattle.stm_session.specs.Meaning.{CommandData, is_change}
-use Rattle.stm_session.specs.Order.{Step, Adds, AreCutShort, IsAfter, IsConfirmedInPart, ReachesAndDoes, ReachesAndStops, Session, SettlesThen, asking_steps, page_reads, page_address}
+use Rattle.stm_session.specs.Order.{Step, Adds, AreCutShort, IsAfter, page_reads, page_address}
+use Rattle.stm_session.specs.Reaching.{IsConfirmedInPart, ReachesAndDoes, ReachesAndStops, Session, SettlesThen, asking_steps}
 use Rattle.stm_session.specs.RunOrder.{AreBegun, AreDone, none as nothing_done, more as more_done, IsBegunIf, IsDoneIf, IsReading, RunsInOrder, RunStops}
 use Rattle.stm_session.specs.Kept.{KeepsFirst, RunKeeps, RunStopsKept, reads}
 use Rattle.stm_session.specs.Undoable.{has_companion}

@@ -15,7 +15,8 @@ use Rattle.stm_session.specs.declared.fault.Fault.{Fault}
 use Rattle.stm_session.specs.Fault.{cause_of}
 use Rattle.stm_session.specs.Fresh.{undo_way}
 use Rattle.stm_session.specs.Kept.{IsOfNewest, PutsBack, PutsBackFrom, UndoPutsBack, UndoStopsBack, erases, erasing, programming, reads, undoing, writes}
-use Rattle.stm_session.specs.Order.{Step, Adds, Sends, Tells, AreAllTakenBack, AreReturned, AreTaken, AreTakenBack, BeginTaking, IsReturned, IsTakenBack, UndoStopsFrom, UndoesInOrderFrom, behind, page_address, read_steps, restore_steps, rewrite_steps, untold, write_steps}
+use Rattle.stm_session.specs.Order.{Step, Adds, Sends, Tells, AreAllTakenBack, AreReturned, AreTakenBack, IsReturned, IsTakenBack, behind, page_address, read_steps, restore_steps, rewrite_steps, untold, write_steps}
+use Rattle.stm_session.specs.UndoOrder.{AreTaken, BeginTaking, UndoStopsFrom, UndoesInOrderFrom}
 use Rattle.stm_session.proofs.Keeping.{newest-listed}
 use Rattle.stm_session.proofs.KeptRuns.{after_as, as_session, confirmed_as, does_as, stops_as}
 use Rattle.stm_session.proofs.KeptSteps.{AreInside, bytes_inside, frames_inside, here, later as further}

@@ -10,7 +10,8 @@ use Rattle.stm_session.specs.Fresh.{EndsWell, Way, byte_of, limit_of}
 use Rattle.stm_journal.specs.Calls.{AreFetches}
 use Rattle.stm_session.specs.declared.fault.Fault.{Fault}
 use Rattle.stm_session.specs.Fault.{Cause, IsHeard, IsRefusedLater, of_file, of_line, of_memory, of_protocol, of_refusal, of_session}
-use Rattle.stm_session.specs.Order.{Step, AreCutShort, Begin, FailsBy, IsAfter, IsAsking, ReachesInOrder, ReachesInPart, Sends, SettlesFirst, SettlesThen, StopsBy, acts_of, acts_of_steps, asking_steps, id_turns}
+use Rattle.stm_session.specs.Order.{Step, AreCutShort, Begin, FailsBy, IsAfter, Sends, StopsBy, acts_of, acts_of_steps}
+use Rattle.stm_session.specs.Reaching.{IsAsking, ReachesInOrder, ReachesInPart, SettlesFirst, SettlesThen, asking_steps, id_turns}
 use Rattle.stm_session.proofs.CutShort.{begin_all, cut_after}
 use Rattle.stm_session.proofs.Orders.{acts-append, acts-line, fetches-act, settled_and, settles_and}
 

@@ -20,8 +20,8 @@ use Rattle.stm_session.specs.declared.asking_board.Board.{Board}
 use Rattle.stm_session.specs.declared.fault.Fault.{Fault}
 use Rattle.stm_session.specs.Fault.{Cause, IsHeard, cause_of}
 use Rattle.stm_session.specs.Fresh.{Settles, Way, byte_of, limit_of, undo_way}
-use Rattle.stm_session.specs.Order.{Step, AreCutShort, Begin, IsAsked, Sends, SettlesFirst}
-use Rattle.stm_session.specs.Order.{SettlesThen, acts_of}
+use Rattle.stm_session.specs.Order.{Step, AreCutShort, Begin, Sends, acts_of}
+use Rattle.stm_session.specs.Reaching.{IsAsked, SettlesFirst, SettlesThen}
 use Rattle.stm_session.specs.Refusal.{chip_with}
 use Rattle.stm_wire.specs.Settling.{SettlesWithin}
 

@@ -9,7 +9,7 @@ use Rattle.stm_journal.specs.States.{StateData, names_other_board}
 use Rattle.stm_session.specs.declared.fault.Fault.{Fault}
 use Rattle.stm_session.specs.Fault.{cause_of}
 use Rattle.stm_session.specs.Fresh.{Settles}
-use Rattle.stm_session.specs.Order.{ReachesInPart}
+use Rattle.stm_session.specs.Reaching.{ReachesInPart}
 
 -- The journal that was loaded names no other board than that of this chip of the table.
 pub record IsOfItsBoard (table : List ChipData) (old : RigState) : Type 0 where

@@ -5,7 +5,8 @@ use Rattle.stm_wire.specs.Chip.{ChipData}
 use Rattle.stm_wire.specs.Dialogue.{GoesOn}
 use Rattle.stm_wire.specs.Frames.{read_turns}
 use Rattle.stm_wire.specs.Rig.{RigState}
-use Rattle.stm_session.specs.Order.{Step, IsConfirming, IsInOrder, Sends}
+use Rattle.stm_session.specs.Order.{Step, IsInOrder, Sends}
+use Rattle.stm_session.specs.Reaching.{IsConfirming}
 
 -- on any line: just this number came; or else whatever came
 abbrev pub TellsAgain : Bool → UniquePlace → List ℕ → Bool → RigState → RigState → Type 0

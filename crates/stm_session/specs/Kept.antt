@@ -12,8 +12,9 @@ use Rattle.stm_journal.specs.declared.entry.Entry.TheVariants.{Programs, Ends, U
 use Rattle.stm_journal.specs.declared.kept.Kept.{Kept}
 use Rattle.stm_journal.specs.Newest.{pages_of_segments}
 use Rattle.stm_session.specs.declared.fault.Fault.{Fault}
-use Rattle.stm_session.specs.Order.{Step, Adds, Sends, StepsOf, UndoDoes, UndoDoesInPart}
-use Rattle.stm_session.specs.Order.{page_address}
+use Rattle.stm_session.specs.Order.{Step, Adds, Sends, page_address}
+use Rattle.stm_session.specs.Reaching.{StepsOf}
+use Rattle.stm_session.specs.UndoOrder.{UndoDoes, UndoDoesInPart}
 use Rattle.stm_session.specs.RunOrder.{RunDoes, RunDoesInPart}
 
 -- Of a run. While a segment is begun and not ended, there are the pages that its lines keep:

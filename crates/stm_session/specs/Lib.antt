@@ -3,6 +3,8 @@ pub mod Sending
 pub mod Unwritten
 pub mod Fresh
 pub mod Order
+pub mod Reaching
+pub mod UndoOrder
 pub mod Told
 pub mod Confirming
 pub mod Undoable

@@ -1,33 +1,27 @@
 -- In which order a session sends frames and appends lines, on any line: at Ok all of it, at a fault
 -- a beginning. Fetches are left out: they change nothing.
-use Rattle.std.specs.Prelude.{◌≡◌, ◌≢◌, ◌⊎◌, ℕ, zero, suc, ◌+◌, ◌*◌, ◌/◌, ◌%◌, ◌<◌, ◌≤◌, Bool}
-use Rattle.std.specs.Prelude.{◌==◌, false, if◌then◌else◌, List, [], ◌∷◌, ◌++◌, length, take, drop}
-use Rattle.std.specs.Prelude.{map, bytes_eq, Option, Some, None, Result, IfErr}
+use Rattle.std.specs.Prelude.{◌≡◌, ◌≢◌, ℕ, zero, suc, ◌+◌, ◌*◌, ◌/◌, ◌<◌, Bool, false}
+use Rattle.std.specs.Prelude.{if◌then◌else◌, List, [], ◌∷◌, ◌++◌, length, take, drop, map, bytes_eq}
+use Rattle.std.specs.Prelude.{Option, Some, None, Result, IfErr}
 use Rattle.stm_wire.specs.declared.intent.Intent.{Intent}
 use Rattle.stm_wire.specs.declared.fault.WireFault.{WireFault}
 use Rattle.stm_wire.specs.declared.fault.WireFault.TheVariants.{Line}
-use Rattle.stm_wire.specs.declared.places.UniquePlace.{UniquePlace}
 use Rattle.stm_wire.specs.Call.{Call, Put, Get, Append, Fetch}
 use Rattle.stm_wire.specs.Chip.{ChipData, erased_byte, page_offset, page_size}
 use Rattle.stm_wire.specs.Dialogue.{Turn, GoesOn, IsBrokenOff, calls_of}
-use Rattle.stm_wire.specs.Frames.{erase_turns, get_id_turns, get_turns, read_turns, write_turns}
-use Rattle.stm_wire.specs.Refused.{IsRefusedRead}
+use Rattle.stm_wire.specs.Frames.{erase_turns, read_turns, write_turns}
 use Rattle.stm_wire.specs.Rig.{RigState}
-use Rattle.stm_wire.specs.Settling.{SettlesWithin}
-use Rattle.stm_session.specs.Fresh.{EndsWell, Way, byte_of, limit_of, undo_way}
 use Rattle.stm_chip.specs.declared.plan.Frame.{Frame}
-use Rattle.stm_chip.specs.Document.{IsChipWith}
 use Rattle.stm_chip.specs.Plan.{frames_of}
 use Rattle.stm_journal.specs.declared.entry.Entry.{Entry}
 use Rattle.stm_journal.specs.declared.entry.Entry.TheVariants.{Erases, Programs, Undoes}
 use Rattle.stm_journal.specs.declared.kept.Kept.{Kept}
-use Rattle.stm_journal.specs.Calls.{AppendsInPart, AreFetches}
-use Rattle.stm_journal.specs.Journals.{Loaded, IsLoaded, added_bytes}
-use Rattle.stm_journal.specs.Newest.{pages_of_segments}
-use Rattle.stm_journal.specs.States.{StateData, IsSound, intent_of, intent_page, names_other_board}
+use Rattle.stm_journal.specs.Calls.{AppendsInPart}
+use Rattle.stm_journal.specs.Journals.{Loaded, added_bytes}
+use Rattle.stm_journal.specs.States.{intent_page}
 use Rattle.stm_session.specs.declared.fault.Fault.{Fault}
-use Rattle.stm_session.specs.Fault.{Cause, IsHeard, of_file, of_line, of_memory, of_protocol}
-use Rattle.stm_session.specs.Fault.{of_refusal, of_session, cause_of}
+use Rattle.stm_session.specs.Fault.{Cause, of_file, of_line, of_memory, of_protocol, of_refusal}
+use Rattle.stm_session.specs.Fault.{of_session, cause_of}
 
 -- What the host does on purpose: it appends lines, in one call; or it sends a frame, whose dialogue
 -- is held to its end, with each acknowledgement and each byte of the reply.
@@ -259,175 +253,3 @@ pub record AreAllTakenBack (chip : ChipData) (Told : Tells) (intent : Option Int
   pub back : List Step
   pub are_back : AreTakenBack chip (behind first Told) taken segments back
   pub is : steps ≡ first ++ back
-
--- a device was settled, and it showed that it is; and then came such calls
-abbrev pub SettlesThen : Way → (List Call → Type 0) → List Call → Type 0
-SettlesThen way Then calls =
-    (settling rest : List Call) × SettlesWithin (byte_of way) (limit_of way) settling
-    × EndsWell way settling × (acts_of calls ≡ settling ++ rest) × Then rest
-
--- and then these steps
-abbrev pub SettlesFirst : Way → Bool → List Step → List Call → Type 0
-SettlesFirst way torn steps calls = SettlesThen way (λ rest. rest ≡ acts_of_steps torn steps) calls
-
--- which commands the device has: Get, and what it answers
-pub record IsGet (steps : List Step) : Type 0 where
-  pub version : ℕ
-  pub codes : List ℕ
-  pub is : steps ≡ Sends (get_turns version codes) ∷ []
-
--- what it is: Get ID, and what it answers
-pub record IsGetId (steps : List Step) : Type 0 where
-  pub high : ℕ
-  pub low : ℕ
-  pub is : steps ≡ Sends (get_id_turns high low) ∷ []
-
--- both
-pub record IsAsking (steps : List Step) : Type 0 where
-  pub first : List Step
-  pub is_get : IsGet first
-  pub second : List Step
-  pub is_get_id : IsGetId second
-  pub is : steps ≡ first ++ second
-
--- where it answers this number
-abbrev pub id_turns : ℕ → List Turn
-id_turns id = get_id_turns (id / 256) (id % 256)
-
-abbrev pub asking_steps : ℕ → List ℕ → ℕ → List Step
-asking_steps version codes id = Sends (get_turns version codes) ∷ Sends (id_turns id) ∷ []
-
-abbrev pub AsksInOrder : ℕ → Bool → RigState → RigState → Type 0
-AsksInOrder id torn old new = (version : ℕ) × (codes : List ℕ)
-    × GoesOn (IsInOrder torn (asking_steps version codes id)) old.calls new.calls
-
--- the device was settled so, and answered this number
-abbrev pub ReachesInOrder : Way → ℕ → Bool → RigState → RigState → Type 0
-ReachesInOrder way id torn old new = (version : ℕ) × (codes : List ℕ)
-    × GoesOn (SettlesFirst way torn (asking_steps version codes id)) old.calls new.calls
-
--- Of a session that reached no device, or was told that it is another, this was done: nothing;
--- or it was settled in part, which the line or the device ended; or it was settled, and then
--- asked, or asked in part.
-abbrev pub ReachesInPart : Way → Cause → Bool → List Call → Type 0
-ReachesInPart way cause torn calls =
-    (acts_of calls ≡ [])
-    ⊎ ((IsHeard cause × SettlesWithin (byte_of way) (limit_of way) (acts_of calls))
-    ⊎ SettlesThen way (AreCutShort (Begin IsAsking) cause torn) calls)
-
-abbrev pub StopsShort : {T : Type 0} → Way → Bool → RigState → RigState → Result T Fault → Type 0
-StopsShort way torn old new result =
-    IfErr result (λ fault. GoesOn (ReachesInPart way (cause_of fault) torn) old.calls new.calls)
-
--- Whether the board is still the one that the chip is of:
-
--- so many bytes are asked for at an address, in one frame: these come, or the device refuses
-abbrev pub IsAsked : ℕ → ℕ → Option (List ℕ) → List Step → Type 0
-IsAsked address count (Some bytes) steps =
-    (length bytes ≡ count) × (steps ≡ Sends (read_turns address bytes) ∷ [])
-IsAsked address count None steps = (frame : List ℕ) × (turns : List Turn)
-    × IsRefusedRead address count frame turns × (steps ≡ Sends turns ∷ [])
-
--- a unique id of as many bytes as stand at its place
-abbrev pub place_of : Option UniquePlace → List ℕ → Option UniquePlace
-place_of None unique = None
-place_of (Some place) unique = if length unique == place.length then Some place else None
-
--- where a device is asked once more: where it told its unique id before, which is the chip's
-abbrev pub confirmed_at : ChipData → Option UniquePlace
-confirmed_at chip = place_of chip.places.unique chip.unique
-
--- it tells just this
-abbrev pub confirm_steps : Option UniquePlace → List ℕ → List Step
-confirm_steps None unique = []
-confirm_steps (Some place) unique = Sends (read_turns place.address unique) ∷ []
-
-abbrev pub confirming : ChipData → List Step
-confirming chip = confirm_steps (confirmed_at chip) chip.unique
-
--- or whatever comes
-abbrev pub IsConfirming : Option UniquePlace → List Step → Type 0
-IsConfirming None steps = steps ≡ []
-IsConfirming (Some place) steps = (came : Option (List ℕ))
-    × IsAsked place.address place.length came steps
-
--- Steps that are allowed behind the question, where its answer was that; else it alone, or a
--- beginning of it.
-abbrev pub IsConfirmedInPart : ChipData → (List Step → Type 0) → List Step → Type 0
-IsConfirmedInPart chip P steps =
-    Begin (IsConfirming (confirmed_at chip)) steps ⊎ IsAfter (confirming chip) P steps
-
--- Which steps a session may do goes by its chip and by the journal's state.
-abbrev pub StepsOf : Type 1
-StepsOf = ChipData → StateData → List Step → Type 0
-
--- A device was settled so, and answered this number; and such steps were done,
-abbrev pub ReachesAndDoes : Way → ℕ → Bool → (List Step → Type 0) → RigState → RigState → Type 0
-ReachesAndDoes way id torn P old new = (version : ℕ) × (codes : List ℕ) × (steps : List Step)
-    × P steps × GoesOn (SettlesFirst way torn (asking_steps version codes id ++ steps))
-    old.calls new.calls
-
--- or such were broken off
-abbrev pub ReachesAndStops : Way → ℕ → Bool → (List Step → Type 0) → Cause → RigState → RigState
-    → Type 0
-ReachesAndStops way id torn P cause old new = (version : ℕ) × (codes : List ℕ)
-    × GoesOn (SettlesThen way (AreCutShort (IsAfter (asking_steps version codes id) P) cause torn))
-    old.calls new.calls
-
--- A session loaded a journal, whose state is sound as that of each journal without a bad line, and
--- took it for one of this chip of the table, whose header names no other board; and this is so of
--- both.
-pub record Session (table : List ChipData) (old : RigState)
-    (Does : ChipData → Loaded → Type 0) : Type 0 where
-  pub journal : Loaded
-  pub loaded : old.is_honest → IsLoaded journal old.journal
-  pub sound : IsSound journal.state
-  pub chip : ChipData
-  pub listed : IsChipWith table chip.id chip
-  pub board : names_other_board chip.unique journal.state ≡ false
-  pub does : Does chip journal
-
--- An undo that does such steps: settling by the intent of the journal that was loaded, or
--- connecting, Get, Get ID, by which the device is the journal's chip, the question whether it is
--- still the chip's board, and then these.
-abbrev pub UndoDoes : Bool → StepsOf → List ChipData → RigState → RigState → Type 0
-UndoDoes is_fresh P table old new = Session table old (λ chip l.
-    ReachesAndDoes (undo_way is_fresh chip.kind (intent_of l.state)) chip.id l.is_torn
-    (IsAfter (confirming chip) (P chip l.state)) old new)
-
--- One that is broken off: nothing was done but reading the journal; or settling or connecting, Get
--- and Get ID, or a part of these; or all of these, and then that question, and such steps, were cut
--- short.
-abbrev pub UndoDoesInPart : Bool → StepsOf → List ChipData → RigState → RigState → Fault → Type 0
-UndoDoesInPart is_fresh P table old new fault = GoesOn AreFetches old.calls new.calls
-    ⊎ Session table old (λ chip l. let way = undo_way is_fresh chip.kind (intent_of l.state) in
-    GoesOn (ReachesInPart way (cause_of fault) l.is_torn) old.calls new.calls
-    ⊎ ReachesAndStops way chip.id l.is_torn (IsConfirmedInPart chip (P chip l.state))
-    (cause_of fault) old new)
-
--- so many of the journal's segments are taken back, the page of its intent first
-abbrev pub AreTakenAs : Tells → ℕ → StepsOf
-AreTakenAs Told taken chip s steps =
-    AreAllTakenBack chip Told (intent_of s) taken (pages_of_segments s.stack) steps
-
-abbrev pub AreTaken : ℕ → StepsOf
-AreTaken taken = AreTakenAs untold taken
-
--- a beginning of taking some back, no more than there are, nor than are asked for where that is a
--- number
-abbrev pub BeginTaking : ℕ → StepsOf
-BeginTaking count chip s steps = (taken : ℕ) × (taken ≤ length s.stack)
-    × (0 < count → taken ≤ count) × Begin (AreTaken taken chip s) steps
-
-abbrev pub UndoesInOrderFrom : Bool → List ChipData → ℕ → RigState → RigState → Type 0
-UndoesInOrderFrom is_fresh table taken old new = UndoDoes is_fresh (AreTaken taken) table old new
-
-abbrev pub UndoesInOrder : List ChipData → ℕ → RigState → RigState → Type 0
-UndoesInOrder table taken old new = UndoesInOrderFrom false table taken old new
-
-abbrev pub UndoStopsFrom : Bool → List ChipData → ℕ → RigState → RigState → Fault → Type 0
-UndoStopsFrom is_fresh table count old new fault =
-    UndoDoesInPart is_fresh (BeginTaking count) table old new fault
-
-abbrev pub UndoStops : List ChipData → ℕ → RigState → RigState → Fault → Type 0
-UndoStops table count old new fault = UndoStopsFrom false table count old new fault

@@ -17,9 +17,9 @@ use Rattle.stm_session.specs.Came.{FaultTells, TellsWhatCame}
 use Rattle.stm_session.specs.ChangeOrder.{IsOneSegment, IsSegmentBegun}
 use Rattle.stm_session.specs.Contents.{command_of}
 use Rattle.stm_session.specs.Meaning.{CommandData, is_change}
-use Rattle.stm_session.specs.Order.{Step, Sends, StepsOf, IsAfter, IsConfirmedInPart, IsInOrder}
-use Rattle.stm_session.specs.Order.{ReachesAndDoes, ReachesAndStops, ReachesInPart, Session}
-use Rattle.stm_session.specs.Order.{StopsBy, confirming}
+use Rattle.stm_session.specs.Order.{Step, Sends, IsAfter, IsInOrder, StopsBy}
+use Rattle.stm_session.specs.Reaching.{StepsOf, IsConfirmedInPart, ReachesAndDoes, ReachesAndStops}
+use Rattle.stm_session.specs.Reaching.{ReachesInPart, Session, confirming}
 
 -- bytes of one page are read
 pub record IsReading (chip : ChipData) (step : Step) : Type 0 where

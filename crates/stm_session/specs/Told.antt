@@ -9,9 +9,10 @@ use Rattle.stm_wire.specs.Rig.{RigState}
 use Rattle.stm_journal.specs.Calls.{AreFetches}
 use Rattle.stm_journal.specs.PageFetching.{Brings}
 use Rattle.stm_session.specs.declared.fault.Fault.{Fault}
-use Rattle.stm_session.specs.Order.{Step, StepsOf, Tells, AreTakenAs, BeginTold, IsInOrder}
-use Rattle.stm_session.specs.Order.{UndoDoes, UndoDoesInPart, acts_of, acts_of_steps, behind}
-use Rattle.stm_session.specs.Order.{confirming}
+use Rattle.stm_session.specs.Order.{Step, Tells, BeginTold, IsInOrder, acts_of, acts_of_steps}
+use Rattle.stm_session.specs.Order.{behind}
+use Rattle.stm_session.specs.Reaching.{StepsOf, confirming}
+use Rattle.stm_session.specs.UndoOrder.{AreTakenAs, UndoDoes, UndoDoesInPart}
 
 -- some calls
 abbrev pub AreCalls : List Call → Type 0

@@ -14,7 +14,8 @@ ghost use Rattle.stm_session.specs.AskingBoard.{AsksBoard, AsksSize, AsksUnique,
 ghost use Rattle.stm_session.specs.AskingBoard.{came_in, most_of_asking, places_in};
 ghost use Rattle.stm_session.specs.AskingBoard.{size_in, size_told, unique_told};
 ghost use Rattle.stm_session.specs.Fault.{HasSessionCause, IsOfLine};
-ghost use Rattle.stm_session.specs.Order.{Step, Begin, IsAsked, IsInOrder, Stops};
+ghost use Rattle.stm_session.specs.Order.{Step, Begin, IsInOrder, Stops};
+ghost use Rattle.stm_session.specs.Reaching.{IsAsked};
 ghost use Rattle.stm_session.specs.Sending.{is_whole};
 ghost use Rattle.stm_session.specs.ToldBoard.{IsBoardOf, ToldBoardIsTheDevices, chip_of_board};
 ghost use Rattle.stm_session.specs.ToldBoard.{size_of, unique_of};

@@ -8,8 +8,8 @@ ghost use Rattle.stm_wire.specs.UniqueId.{is_unique_length};
 ghost use Rattle.stm_session.specs.Asking.{Asks};
 ghost use Rattle.stm_session.specs.Confirming.{HasAgain, TellsAgain};
 ghost use Rattle.stm_session.specs.Fault.{HasSessionCause, IsOfLine};
-ghost use Rattle.stm_session.specs.Order.{Begin, IsConfirming, IsInOrder, Stops, confirmed_at};
-ghost use Rattle.stm_session.specs.Order.{confirming};
+ghost use Rattle.stm_session.specs.Order.{Begin, IsInOrder, Stops};
+ghost use Rattle.stm_session.specs.Reaching.{IsConfirming, confirmed_at, confirming};
 ghost use Rattle.stm_session.specs.Sending.{is_whole, most_of_confirming};
 
 use crate::Fault;

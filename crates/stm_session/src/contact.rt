@@ -11,8 +11,8 @@ ghost use Rattle.stm_session.specs.Fault.{HasSessionCause, IsOfLine};
 ghost use Rattle.stm_session.specs.Asking.{Asks};
 ghost use Rattle.stm_session.specs.Moments.{BeginsNothing, IsSafe};
 ghost use Rattle.stm_session.specs.Opening.{AreCommandsOf, Tells};
-ghost use Rattle.stm_session.specs.Order.{AsksInOrder, Begin, IsAsking, IsGet, IsGetId, IsInOrder};
-ghost use Rattle.stm_session.specs.Order.{Sends, Stops, id_turns};
+ghost use Rattle.stm_session.specs.Order.{Begin, IsInOrder, Sends, Stops};
+ghost use Rattle.stm_session.specs.Reaching.{AsksInOrder, IsAsking, IsGet, IsGetId, id_turns};
 ghost use Rattle.stm_session.specs.Sending.{is_whole};
 
 use crate::Fault;

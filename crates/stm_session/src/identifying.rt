@@ -9,7 +9,7 @@ ghost use Rattle.stm_session.specs.Fault.{HasSessionCause};
 ghost use Rattle.stm_session.specs.Fresh.{Settles};
 ghost use Rattle.stm_session.specs.Moments.{IsSafe};
 ghost use Rattle.stm_session.specs.Opening.{Tells};
-ghost use Rattle.stm_session.specs.Order.{ReachesInOrder, StopsShort};
+ghost use Rattle.stm_session.specs.Reaching.{ReachesInOrder, StopsShort};
 ghost use Rattle.stm_session.specs.Refusal.{unsent_refusal};
 ghost use Rattle.stm_session.specs.Sending.{is_whole, most_calls};
 

@@ -6,7 +6,7 @@ ghost use Rattle.stm_wire.specs.Parts.{IsSession};
 ghost use Rattle.stm_journal.specs.Calls.{AreFetches};
 ghost use Rattle.stm_session.specs.Unwritten.{AppendsNothing};
 ghost use Rattle.stm_session.specs.Fault.{HasSessionCause};
-ghost use Rattle.stm_session.specs.Order.{ReachesInOrder, StopsShort};
+ghost use Rattle.stm_session.specs.Reaching.{ReachesInOrder, StopsShort};
 ghost use Rattle.stm_session.specs.Sending.{is_whole, most_calls};
 ghost use Rattle.stm_session.specs.Information.{Describes};
 ghost use Rattle.stm_session.specs.Promises.{InfoContract};

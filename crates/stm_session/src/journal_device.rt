@@ -14,8 +14,9 @@ ghost use Rattle.stm_session.specs.Fault.{HasSessionCause, IsLaterRefusal, cause
 ghost use Rattle.stm_session.specs.Fresh.{IsAsSaid, byte_of, limit_of, undo_way};
 ghost use Rattle.stm_session.specs.JournalDevice.{Meets};
 ghost use Rattle.stm_session.specs.Refusals.{can_erase, undo_misfit};
-ghost use Rattle.stm_session.specs.Order.{AsksInOrder, Begin, IsAsking, IsGet, IsInOrder};
-ghost use Rattle.stm_session.specs.Order.{ReachesInOrder, Sends, Stops, StopsBy, StopsShort};
+ghost use Rattle.stm_session.specs.Order.{Begin, IsInOrder, Sends, Stops, StopsBy};
+ghost use Rattle.stm_session.specs.Reaching.{AsksInOrder, IsAsking, IsGet, ReachesInOrder};
+ghost use Rattle.stm_session.specs.Reaching.{StopsShort};
 ghost use Rattle.stm_session.specs.Sending.{is_whole, most_of_reaching};
 ghost use Rattle.stm_session.specs.Steps.{Goes};
 ghost use Rattle.stm_session.specs.Undoable.{Undoable};

@@ -18,7 +18,7 @@ ghost use Rattle.stm_session.specs.Events.{OutcomesAreTheRun};
 ghost use Rattle.stm_session.specs.Kept.{RunKeeps, RunStopsKept, UndoPutsBack, UndoStopsBack};
 ghost use Rattle.stm_session.specs.Meaning.{CommandData, commands_in};
 ghost use Rattle.stm_session.specs.Moments.{IsSafe, SameMake};
-ghost use Rattle.stm_session.specs.Order.{UndoStopsFrom, UndoesInOrderFrom};
+ghost use Rattle.stm_session.specs.UndoOrder.{UndoStopsFrom, UndoesInOrderFrom};
 ghost use Rattle.stm_session.specs.PowerLoss.{
   AnyBytesAreLeft,
   FinishedLosesNothing,

@@ -13,7 +13,7 @@ ghost use Rattle.stm_session.specs.Fault.{HasSessionCause, IsOfLine, IsLaterRefu
 ghost use Rattle.stm_session.specs.Moments.{BeginsNothing, IsSafe};
 ghost use Rattle.stm_session.specs.Refusal.{RefusesUnsent, device_refusals, first_refusal};
 ghost use Rattle.stm_session.specs.Refusal.{misfit_refusal, unsent_refusal};
-ghost use Rattle.stm_session.specs.Order.{ReachesInOrder, StopsShort};
+ghost use Rattle.stm_session.specs.Reaching.{ReachesInOrder, StopsShort};
 ghost use Rattle.stm_session.specs.Sending.{is_whole, most_calls};
 ghost use Rattle.stm_session.specs.Opening.{IsCoherent, LoadsUnless, Opens, Tells};
 

@@ -19,7 +19,7 @@ use Rattle.stm_session.specs.Fresh.{IsReset}
 use Rattle.stm_session.specs.Leaving.{CanLeave, IsSettledThen, Leaves}
 use Rattle.stm_session.specs.Meaning.{erases, verifies, writes}
 use Rattle.stm_session.specs.Moments.{IsSafe}
-use Rattle.stm_session.specs.Order.{UndoStops, UndoStopsFrom, UndoesInOrder, UndoesInOrderFrom}
+use Rattle.stm_session.specs.UndoOrder.{UndoStops, UndoStopsFrom, UndoesInOrder, UndoesInOrderFrom}
 use Rattle.stm_session.specs.Promises.{UndoContract}
 use Rattle.stm_session.specs.Refusal.{RefusesUnsent, open_refusal}
 use Rattle.stm_session.specs.Sending.{IsLeaving, SendsAsUndo, is_whole_at}

@@ -21,7 +21,7 @@ use Rattle.stm_session.specs.Opening.{Tells}
 use Rattle.stm_session.specs.Refusal.{unsent_refusal}
 use Rattle.stm_session.specs.Unwritten.{AppendsNothing}
 use Rattle.stm_session.specs.Meaning.{CommandData, erases}
-use Rattle.stm_session.specs.Order.{ReachesInOrder, StopsShort}
+use Rattle.stm_session.specs.Reaching.{ReachesInOrder, StopsShort}
 use Rattle.stm_session.specs.Promises.{InfoContract, RunContract}
 use Rattle.stm_session.specs.RunOrder.{RunStops, RunsInOrder}
 use Rattle.stm_session.specs.Sending.{SendsAsRun, is_whole, most_calls}

@@ -1,7 +1,7 @@
 use Rattle.std.proofs.Common.{ℕ, ◌≤◌, false}
 use Rattle.std.proofs.lemmas.Result.{IfErr-weaker, IfOk-weaker}
 use Rattle.stm_session.specs.Kept.{UndoPutsBack, UndoStopsBack}
-use Rattle.stm_session.specs.Order.{UndoStops, UndoesInOrder}
+use Rattle.stm_session.specs.UndoOrder.{UndoStops, UndoesInOrder}
 use Rattle.stm_client.proofs.kept.take_back_kept.Goals as goal
 
 pub returns-clause-done : goal.returns-clause-done

@@ -9,7 +9,8 @@ use Rattle.stm_wire.specs.PartLaws.{nothing_is_part}
 use Rattle.stm_session.specs.declared.fault.Fault.TheVariants.{BoardChanged}
 use Rattle.stm_session.specs.Confirming.{TellsAgain}
 use Rattle.stm_session.specs.Fault.{Cause, IsOfLine, cause_of, of_refusal}
-use Rattle.stm_session.specs.Order.{Begin, IsConfirming, IsInOrder, StopsBy, confirm_steps, confirmed_at}
+use Rattle.stm_session.specs.Order.{Begin, IsInOrder, StopsBy}
+use Rattle.stm_session.specs.Reaching.{IsConfirming, confirm_steps, confirmed_at}
 use Rattle.stm_session.specs.Sending.{most_of_confirming}
 use Rattle.stm_session.proofs.Asking.{asks_failed, asks_ok, nothing_asked}
 use Rattle.stm_session.proofs.Confirmings.{has_again, place_known}

@@ -9,7 +9,8 @@ use Rattle.stm_session.proofs.Sending.{same_fault}
 use Rattle.std.proofs.Common.{◌∷◌, []}
 use Rattle.std.proofs.Common.{List}
 use Rattle.stm_wire.specs.Frames.{get_turns}
-use Rattle.stm_session.specs.Order.{Step, Sends, id_turns}
+use Rattle.stm_session.specs.Order.{Step, Sends}
+use Rattle.stm_session.specs.Reaching.{id_turns}
 use Rattle.stm_session.proofs.AskingStops.{get_id_stops, get_stops}
 use Rattle.stm_session.proofs.Orders.{order_then}
 use Rattle.stm_session.proofs.contact.ask.Goals as goal

@@ -8,7 +8,8 @@ use Rattle.stm_wire.specs.Stopped.{get}
 use Rattle.stm_session.proofs.Asking.{asked, broken_off}
 use Rattle.stm_session.proofs.Sending.{with_fault}
 use Rattle.std.proofs.Common.{◌∷◌, []}
-use Rattle.stm_session.specs.Order.{Begin, IsGet, Sends}
+use Rattle.stm_session.specs.Order.{Begin, Sends}
+use Rattle.stm_session.specs.Reaching.{IsGet}
 use Rattle.stm_session.proofs.CutShort.{begin_all, command_stops}
 use Rattle.stm_session.proofs.Orders.{order_sent}
 use Rattle.stm_session.proofs.contact.ask_commands.Goals as goal

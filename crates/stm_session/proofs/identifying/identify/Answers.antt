@@ -6,7 +6,7 @@ use Rattle.stm_session.specs.declared.contact.Told.{Told}
 use Rattle.stm_session.specs.declared.fault.Fault.{Fault}
 use Rattle.stm_session.specs.Fault.{Cause, cause_of}
 use Rattle.stm_session.specs.Fresh.{Settles}
-use Rattle.stm_session.specs.Order.{ReachesInOrder, ReachesInPart, asking_steps}
+use Rattle.stm_session.specs.Reaching.{ReachesInOrder, ReachesInPart, asking_steps}
 use Rattle.stm_session.specs.Sending.{is_whole, most_calls}
 use Rattle.stm_session.proofs.CutShort.{by_fault}
 use Rattle.stm_session.proofs.Orders.{fetched_then}

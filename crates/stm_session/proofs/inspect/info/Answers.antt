@@ -7,7 +7,7 @@ use Rattle.stm_session.proofs.InfoContracts.{info_opened, info_unopened}
 use Rattle.stm_session.proofs.Sending.{same_fault}
 use Rattle.std.proofs.Common.{ℕ, subst, sym}
 use Rattle.stm_session.specs.Fault.{Cause}
-use Rattle.stm_session.specs.Order.{ReachesInOrder, ReachesInPart}
+use Rattle.stm_session.specs.Reaching.{ReachesInOrder, ReachesInPart}
 use Rattle.stm_session.proofs.CutShort.{by_fault}
 use Rattle.stm_session.proofs.inspect.info.Goals as goal
 

@@ -5,8 +5,8 @@ use Rattle.std.proofs.Common.{◌∷◌, [], refl}
 use Rattle.std.proofs.Common.{◌≡◌, ◌++◌, ℕ, List, subst, rules}
 use Rattle.stm_wire.specs.Frames.{get_turns}
 use Rattle.stm_session.specs.Fault.{of_refusal}
-use Rattle.stm_session.specs.Order.{Step, AsksInOrder, Begin, IsAsking, IsGet, IsGetId, Sends}
-use Rattle.stm_session.specs.Order.{id_turns}
+use Rattle.stm_session.specs.Order.{Step, Begin, Sends}
+use Rattle.stm_session.specs.Reaching.{AsksInOrder, IsAsking, IsGet, IsGetId, id_turns}
 use Rattle.stm_session.proofs.AskingStops.{get_begins, get_id_stops, get_stops}
 use Rattle.stm_session.proofs.CutShort.{begin_all, halts}
 use Rattle.stm_session.proofs.Orders.{order_then}

@@ -21,7 +21,8 @@ use Rattle.std.proofs.Common.{Option, subst}
 use Rattle.std.specs.Prelude.{IfSome}
 use Rattle.stm_session.specs.declared.fault.Fault.{Fault}
 use Rattle.stm_session.specs.Fault.{Cause, cause_of}
-use Rattle.stm_session.specs.Order.{Begin, IsAsking, ReachesInPart, StopsBy, asking_steps}
+use Rattle.stm_session.specs.Order.{Begin, StopsBy}
+use Rattle.stm_session.specs.Reaching.{IsAsking, ReachesInPart, asking_steps}
 use Rattle.stm_session.proofs.CutShort.{by_fault}
 use Rattle.stm_session.proofs.Reaching.{asks_stop, settle_stops}
 use Rattle.stm_session.proofs.Orders.{settles_then}

@@ -4,10 +4,9 @@ use Rattle.stm_session.specs.Answers.{outcome_data}
 use Rattle.stm_session.specs.OneCommand.{Does}
 use Rattle.stm_session.specs.Meaning.{command_data, is_change}
 use Rattle.std.specs.Prelude.{IfOk}
-use Rattle.stm_session.specs.Order.{Follows}
+use Rattle.stm_session.specs.Order.{Follows, Stops}
 use Rattle.stm_session.specs.RunOrder.{IsDoneTelling}
 use Rattle.std.proofs.Common.{ap}
-use Rattle.stm_session.specs.Order.{Stops}
 use Rattle.stm_session.specs.RunOrder.{IsBegunBy, IsBegunTelling, StopsTelling}
 use Rattle.stm_session.proofs.Arrivals.{change_stops}
 use Rattle.stm_session.proofs.one_command.run_command.Goals as goal

@@ -12,7 +12,7 @@ use Rattle.stm_session.proofs.Orders.{fetched_then}
 use Rattle.std.proofs.Common.{ℕ, subst, sym}
 use Rattle.stm_wire.specs.Dialogue.{GoesOn}
 use Rattle.stm_session.specs.Fault.{Cause}
-use Rattle.stm_session.specs.Order.{ReachesInOrder, ReachesInPart, asking_steps}
+use Rattle.stm_session.specs.Reaching.{ReachesInOrder, ReachesInPart, asking_steps}
 use Rattle.stm_session.proofs.CutShort.{by_fault}
 use Rattle.stm_session.proofs.Reaching.{fetched_stops, told_stops, unread_stops}
 use Rattle.stm_session.proofs.opening.open.Goals as goal

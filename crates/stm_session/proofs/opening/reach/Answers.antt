@@ -8,7 +8,8 @@ use Rattle.stm_session.specs.Sending.{is_whole, most_calls}
 use Rattle.stm_session.proofs.Orders.{settles_then}
 use Rattle.stm_wire.specs.Dialogue.{GoesOn}
 use Rattle.stm_session.specs.Fault.{Cause, cause_of}
-use Rattle.stm_session.specs.Order.{Begin, IsAsking, ReachesInPart, StopsBy, asking_steps}
+use Rattle.stm_session.specs.Order.{Begin, StopsBy}
+use Rattle.stm_session.specs.Reaching.{IsAsking, ReachesInPart, asking_steps}
 use Rattle.stm_session.proofs.CutShort.{by_fault}
 use Rattle.stm_session.proofs.Reaching.{asks_stop, err_then, settle_stops, told_then}
 use Rattle.stm_session.proofs.opening.reach.Goals as goal

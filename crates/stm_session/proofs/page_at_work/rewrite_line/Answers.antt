@@ -15,8 +15,7 @@ use Rattle.stm_wire.specs.Call.{Call}
 use Rattle.stm_wire.specs.Dialogue.{GoesOn}
 use Rattle.stm_journal.specs.PageFetching.{Brings}
 use Rattle.stm_session.specs.Fault.{cause_of}
-use Rattle.stm_session.specs.Order.{Are, AreCutShort, Begin, BeginTold, IsInOrder, IsRewritten}
-use Rattle.stm_session.specs.Order.{acts_of, rewrite_steps, so_far}
+use Rattle.stm_session.specs.Order.{Are, AreCutShort, Begin, BeginTold, IsInOrder, IsRewritten, acts_of, rewrite_steps, so_far}
 use Rattle.stm_session.specs.Told.{ToldIn}
 use Rattle.stm_session.specs.Steps.{Goes, IsSteady}
 use Rattle.stm_session.specs.Undoable.{state_at}

@@ -12,10 +12,9 @@ use Rattle.std.proofs.Common.{◌*◌, length, true, Some, arith}
 use Rattle.stm_session.specs.Sending.{is_whole}
 use Rattle.stm_session.proofs.SentParts.{line_part, part_after, part_fails_after}
 use Rattle.stm_journal.specs.Journals.{Loaded}
-use Rattle.stm_session.specs.Order.{Adds, write_steps}
+use Rattle.stm_session.specs.Order.{Adds, write_steps, Step, Are, Begin}
 use Rattle.stm_session.proofs.Orders.{does_add, does_then, does_writes}
 use Rattle.std.proofs.Common.{◌++◌, List, refl}
-use Rattle.stm_session.specs.Order.{Step, Are, Begin}
 use Rattle.stm_session.proofs.CutShort.{append_stops, begin_after, then_stops}
 use Rattle.stm_session.proofs.programming.program_kept.Given.{Over}
 use Rattle.stm_session.proofs.programming.program_kept.Goals.{After-program_frames}

@@ -19,9 +19,7 @@ use Rattle.hex.specs.Hex.{encode_upper}
 use Rattle.stm_wire.specs.Call.{Call}
 use Rattle.stm_journal.specs.PageFetching.{Brings}
 use Rattle.stm_session.specs.Fault.{cause_of}
-use Rattle.stm_session.specs.Order.{Step, Are, AreCutShort, AreReadsOf, Begin, BeginTold, DoesSteps}
-use Rattle.stm_session.specs.Order.{IsInOrder, IsReturned, Tells, acts_of, page_reads}
-use Rattle.stm_session.specs.Order.{restore_steps, so_far}
+use Rattle.stm_session.specs.Order.{Step, Are, AreCutShort, AreReadsOf, Begin, BeginTold, DoesSteps, IsInOrder, IsReturned, Tells, acts_of, page_reads, restore_steps, so_far}
 use Rattle.stm_session.specs.Told.{ToldIn}
 use Rattle.stm_session.specs.Sending.{is_whole}
 use Rattle.stm_session.specs.Steps.{Goes, IsSteady}

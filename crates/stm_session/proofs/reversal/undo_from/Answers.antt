@@ -25,7 +25,9 @@ use Rattle.std.proofs.Common.{◌++◌}
 use Rattle.std.proofs.Common.{inl, inr}
 use Rattle.stm_session.specs.Fault.{cause_of}
 use Rattle.stm_journal.specs.Newest.{pages_of_segments}
-use Rattle.stm_session.specs.Order.{Step, AreCutShort, AreTakenAs, BeginTaking, BeginTold, IsAfter, IsConfirmedInPart, SettlesFirst, UndoStopsFrom, asking_steps, confirming, so_far, untold}
+use Rattle.stm_session.specs.Order.{Step, AreCutShort, BeginTold, IsAfter, so_far, untold}
+use Rattle.stm_session.specs.Reaching.{IsConfirmedInPart, SettlesFirst, asking_steps, confirming}
+use Rattle.stm_session.specs.UndoOrder.{AreTakenAs, BeginTaking, UndoStopsFrom}
 use Rattle.stm_session.specs.Told.{BeginTakingTold, ToldBy, ToldIn, UndoStopsTold, behind_confirming}
 use Rattle.stm_session.proofs.Tellings.{all_as}
 use Rattle.stm_session.proofs.ToldPages.{told_by}

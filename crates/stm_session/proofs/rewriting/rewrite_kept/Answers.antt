@@ -14,9 +14,8 @@ use Rattle.std.proofs.Common.{◌+◌, ◌*◌, true, Some, arith}
 use Rattle.stm_wire.specs.PartLaws.{part_longer}
 use Rattle.stm_session.proofs.SentParts.{part_after, part_fails, part_fails_after}
 use Rattle.std.proofs.Common.{◌++◌, append-nil}
-use Rattle.stm_session.specs.Order.{Adds, Step, erase_steps, program_steps, rewrite_steps, write_steps}
+use Rattle.stm_session.specs.Order.{Adds, Step, erase_steps, program_steps, rewrite_steps, write_steps, Are, Begin}
 use Rattle.stm_session.proofs.Orders.{does_as, does_then, some_program}
-use Rattle.stm_session.specs.Order.{Are, Begin}
 use Rattle.stm_session.proofs.CutShort.{begin_after, begin_on, part_stops, then_stops}
 use Rattle.stm_session.proofs.rewriting.rewrite_kept.Given as given
 use Rattle.stm_session.proofs.rewriting.rewrite_kept.Goals as goal

@@ -10,7 +10,7 @@ use Rattle.stm_session.specs.Sending.{SendsAsRun, is_whole, most_calls, most_of_
 use Rattle.stm_session.proofs.RunContracts.{contract_ran, contract_refused, contract_unopened, runs_err, runs_ok}
 use Rattle.stm_session.proofs.Sending.{same_fault}
 use Rattle.std.proofs.Common.{refl}
-use Rattle.stm_session.specs.Order.{IsConfirmedInPart, asking_steps}
+use Rattle.stm_session.specs.Reaching.{IsConfirmedInPart, asking_steps}
 use Rattle.stm_session.proofs.Orders.{settled_then}
 use Rattle.std.proofs.Common.{inl, inr}
 use Rattle.stm_session.specs.declared.fault.Fault.{Fault}

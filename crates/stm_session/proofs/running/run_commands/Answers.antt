@@ -17,14 +17,13 @@ use Rattle.stm_session.proofs.RunLoop.{depth_next, passes_next, room_next, taken
 use Rattle.stm_session.proofs.Runs.{HasRun, made_so_far, run_next, run_nothing}
 use Rattle.stm_session.proofs.Sending.{same_fault}
 use Rattle.stm_session.proofs.SentParts.{commands_next, commands_within}
-use Rattle.stm_session.specs.Order.{Follows}
+use Rattle.stm_session.specs.Order.{Follows, Step, StopsBy}
 use Rattle.stm_session.specs.RunOrder.{AreDone, none as none_done, more}
 use Rattle.stm_session.proofs.Orders.{does_nothing, does_then}
 use Rattle.std.proofs.Common.{drop, inl, inr}
 use Rattle.stm_session.specs.declared.fault.Fault.{Fault}
 use Rattle.stm_session.specs.declared.fault.Fault.TheVariants as faults
 use Rattle.stm_session.specs.Fault.{cause_of, of_memory}
-use Rattle.stm_session.specs.Order.{Step, StopsBy}
 use Rattle.stm_session.specs.RunOrder.{AreBegun, IsBegunTelling}
 use Rattle.stm_session.proofs.CutShort.{halts_first, stop_after}
 use Rattle.stm_session.proofs.Reaching.{at_fault}

@@ -4,7 +4,8 @@ use Rattle.stm_session.specs.declared.fault.Fault.TheVariants as faults
 use Rattle.stm_session.specs.Answers.{outcome_data}
 use Rattle.stm_session.specs.Fault.{cause_of}
 use Rattle.stm_session.specs.Meaning.{commands_in}
-use Rattle.stm_session.specs.Order.{Begin, IsConfirmedInPart, IsConfirming, StopsBy, confirmed_at, confirming}
+use Rattle.stm_session.specs.Order.{Begin, StopsBy}
+use Rattle.stm_session.specs.Reaching.{IsConfirmedInPart, IsConfirming, confirmed_at, confirming}
 use Rattle.stm_session.specs.RunOrder.{AreBegun}
 use Rattle.stm_session.specs.Sending.{most_of_command, most_of_confirming}
 use Rattle.stm_session.proofs.Confirmed.{confirmed_chip, confirmed_steady, run_confirmed, run_unconfirmed}

@@ -9,8 +9,7 @@ use Rattle.stm_session.specs.declared.fault.Fault.{Fault}
 use Rattle.stm_session.specs.Fault.{Cause}
 use Rattle.stm_journal.specs.Calls.{AppendsOnce}
 use Rattle.stm_journal.specs.Journals.{added_bytes}
-use Rattle.stm_session.specs.Order.{Step, Adds, Are, AreReturned, Begin, BeginTold, Follows}
-use Rattle.stm_session.specs.Order.{IsTakenBack, Stops, StopsBy}
+use Rattle.stm_session.specs.Order.{Step, Adds, Are, AreReturned, Begin, BeginTold, Follows, IsTakenBack, Stops, StopsBy}
 use Rattle.stm_session.specs.Told.{ToldIn}
 use Rattle.stm_session.specs.SegmentBack.{TakesBack, newest_at, return_lines, taking_lines}
 use Rattle.stm_session.specs.Sending.{is_whole, most_of_command}

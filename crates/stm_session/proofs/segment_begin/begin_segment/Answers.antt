@@ -10,10 +10,9 @@ use Rattle.stm_journal.specs.Journals.{begin_entries}
 use Rattle.stm_session.specs.Sending.{is_whole}
 use Rattle.stm_session.proofs.SentParts.{line_part}
 use Rattle.std.proofs.Common.{◌∷◌, []}
-use Rattle.stm_session.specs.Order.{Adds, DoesSteps}
+use Rattle.stm_session.specs.Order.{Adds, DoesSteps, Step, Are, Begin, Stops}
 use Rattle.stm_session.proofs.Orders.{does_add}
 use Rattle.std.proofs.Common.{List, refl}
-use Rattle.stm_session.specs.Order.{Step, Are, Begin, Stops}
 use Rattle.stm_session.proofs.CutShort.{append_stops}
 use Rattle.stm_session.proofs.segment_begin.begin_segment.Goals as goal
 

@@ -1,6 +1,6 @@
 use Rattle.std.proofs.Common.{◌≡◌, ◌∙◌, ◌*◌, ◌≤◌, ◌++◌, List, ℕ, Some, true, refl, subst, arith}
 use Rattle.stm_journal.specs.declared.kept.Kept.{Kept}
-use Rattle.stm_session.specs.Order.{AreTakenBack}
+use Rattle.stm_session.specs.Order.{AreTakenBack, Step, AreAllTakenBack, AreCutShort, BeginTold, IsInOrder, IsWorkRewritten, acts_of, behind}
 use Rattle.stm_session.specs.Sending.{most_of_command, most_of_undo}
 use Rattle.stm_session.proofs.Going.{at_exit}
 use Rattle.stm_session.proofs.GoingAll.{all_back, all_failed, work_failed}
@@ -12,7 +12,6 @@ use Rattle.stm_journal.specs.Newest.{pages_of_segments}
 use Rattle.stm_journal.specs.States.{intent_of}
 use Rattle.stm_wire.specs.Call.{Call}
 use Rattle.stm_session.specs.Fault.{cause_of}
-use Rattle.stm_session.specs.Order.{Step, AreAllTakenBack, AreCutShort, BeginTold, IsInOrder, IsWorkRewritten, acts_of, behind}
 use Rattle.stm_session.specs.Told.{ToldIn}
 use Rattle.stm_session.proofs.CutShort.{part_stops, then_stops}
 use Rattle.stm_session.proofs.Tellings.{segments_as, work_as}

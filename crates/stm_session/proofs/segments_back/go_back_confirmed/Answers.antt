@@ -1,7 +1,8 @@
 use Rattle.std.proofs.Common.{◌+◌, ◌++◌, inl, inr, List, Some, length, true, refl, arith}
 use Rattle.stm_journal.specs.Newest.{pages_of_segments}
 use Rattle.stm_journal.specs.States.{intent_of}
-use Rattle.stm_session.specs.Order.{Step, AreAllTakenBack, Begin, BeginTold, IsConfirmedInPart, IsConfirming, confirmed_at, confirming, so_far}
+use Rattle.stm_session.specs.Order.{Step, AreAllTakenBack, Begin, BeginTold, so_far}
+use Rattle.stm_session.specs.Reaching.{IsConfirmedInPart, IsConfirming, confirmed_at, confirming}
 use Rattle.stm_session.specs.SegmentsBack.{undo_lines}
 use Rattle.stm_session.specs.Sending.{most_of_confirming, most_of_undo}
 use Rattle.stm_session.specs.Told.{ToldIn, behind_confirming}

@@ -1,0 +1,59 @@
+-- In which order an undo sends frames and appends lines, on any line.
+use Rattle.std.specs.Prelude.{◌⊎◌, ℕ, ◌<◌, ◌≤◌, Bool, false, List, length}
+use Rattle.stm_wire.specs.Chip.{ChipData}
+use Rattle.stm_wire.specs.Dialogue.{GoesOn}
+use Rattle.stm_wire.specs.Rig.{RigState}
+use Rattle.stm_session.specs.Fresh.{undo_way}
+use Rattle.stm_journal.specs.Calls.{AreFetches}
+use Rattle.stm_journal.specs.Newest.{pages_of_segments}
+use Rattle.stm_journal.specs.States.{intent_of}
+use Rattle.stm_session.specs.declared.fault.Fault.{Fault}
+use Rattle.stm_session.specs.Fault.{cause_of}
+use Rattle.stm_session.specs.Order.{AreAllTakenBack, Begin, IsAfter, Tells, untold}
+use Rattle.stm_session.specs.Reaching.{IsConfirmedInPart, ReachesAndDoes, ReachesAndStops}
+use Rattle.stm_session.specs.Reaching.{ReachesInPart, Session, StepsOf, confirming}
+
+-- An undo that does such steps: settling by the intent of the journal that was loaded, or
+-- connecting, Get, Get ID, by which the device is the journal's chip, the question whether it is
+-- still the chip's board, and then these.
+abbrev pub UndoDoes : Bool → StepsOf → List ChipData → RigState → RigState → Type 0
+UndoDoes is_fresh P table old new = Session table old (λ chip l.
+    ReachesAndDoes (undo_way is_fresh chip.kind (intent_of l.state)) chip.id l.is_torn
+    (IsAfter (confirming chip) (P chip l.state)) old new)
+
+-- One that is broken off: nothing was done but reading the journal; or settling or connecting, Get
+-- and Get ID, or a part of these; or all of these, and then that question, and such steps, were cut
+-- short.
+abbrev pub UndoDoesInPart : Bool → StepsOf → List ChipData → RigState → RigState → Fault → Type 0
+UndoDoesInPart is_fresh P table old new fault = GoesOn AreFetches old.calls new.calls
+    ⊎ Session table old (λ chip l. let way = undo_way is_fresh chip.kind (intent_of l.state) in
+    GoesOn (ReachesInPart way (cause_of fault) l.is_torn) old.calls new.calls
+    ⊎ ReachesAndStops way chip.id l.is_torn (IsConfirmedInPart chip (P chip l.state))
+    (cause_of fault) old new)
+
+-- so many of the journal's segments are taken back, the page of its intent first
+abbrev pub AreTakenAs : Tells → ℕ → StepsOf
+AreTakenAs Told taken chip s steps =
+    AreAllTakenBack chip Told (intent_of s) taken (pages_of_segments s.stack) steps
+
+abbrev pub AreTaken : ℕ → StepsOf
+AreTaken taken = AreTakenAs untold taken
+
+-- a beginning of taking some back, no more than there are, nor than are asked for where that is a
+-- number
+abbrev pub BeginTaking : ℕ → StepsOf
+BeginTaking count chip s steps = (taken : ℕ) × (taken ≤ length s.stack)
+    × (0 < count → taken ≤ count) × Begin (AreTaken taken chip s) steps
+
+abbrev pub UndoesInOrderFrom : Bool → List ChipData → ℕ → RigState → RigState → Type 0
+UndoesInOrderFrom is_fresh table taken old new = UndoDoes is_fresh (AreTaken taken) table old new
+
+abbrev pub UndoesInOrder : List ChipData → ℕ → RigState → RigState → Type 0
+UndoesInOrder table taken old new = UndoesInOrderFrom false table taken old new
+
+abbrev pub UndoStopsFrom : Bool → List ChipData → ℕ → RigState → RigState → Fault → Type 0
+UndoStopsFrom is_fresh table count old new fault =
+    UndoDoesInPart is_fresh (BeginTaking count) table old new fault
+
+abbrev pub UndoStops : List ChipData → ℕ → RigState → RigState → Fault → Type 0
+UndoStops table count old new fault = UndoStopsFrom false table count old new fault
