@@ -1,5 +1,5 @@
--- Which board a device is, how that is asked, on any line, and what it does to a device that follows
--- the model.
+-- Which board a device is, how that is asked, on any line, and what it does to a device that
+-- follows the model.
 use Rattle.std.specs.Prelude.{◌≡◌, ◌⊎◌, ℕ, ◌+◌, ◌*◌, Bool, true, false, ◌==◌, ◌||◌, get_or}
 use Rattle.std.specs.Prelude.{if◌then◌else◌, List, [], ◌∷◌, ◌++◌, Option, Some, None}
 use Rattle.std.specs.Prelude.{option_map}
@@ -90,12 +90,14 @@ pub record IsAnswered (table : List ChipData) (board : Board) (steps : List Step
 abbrev pub AsksBoard : List ChipData → List Step → Type 0
 AsksBoard table steps = (board : Board) × IsAnswered table board steps
 
--- How the device is settled, by the journal: where that is finished, with 7F; else by its intent, as
--- one of the chip that it names, or connected where it is said to be fresh.
-pub data IsWayOf (table : List ChipData) (is_fresh : Bool) (s : StateData) (way : Way) : Type 0 where
+-- How the device is settled, by the journal: where that is finished, with 7F; else by its intent,
+-- as one of the chip that it names, or connected where it is said to be fresh.
+pub data IsWayOf (table : List ChipData) (is_fresh : Bool) (s : StateData)
+    (way : Way) : Type 0 where
   finished : is_unfinished s ≡ false → way ≡ Settles 0x7F 131072 → IsWayOf table is_fresh s way
   unfinished : (chip : ChipData) → is_unfinished s ≡ true → IsChipWith table chip.id chip
-      → option_map (λ header. header.id) s.header ≡ Some chip.id → way ≡ undo_way is_fresh chip.kind (intent_of s)
+      → option_map (λ header. header.id) s.header ≡ Some chip.id
+      → way ≡ undo_way is_fresh chip.kind (intent_of s)
       → IsWayOf table is_fresh s way
 
 -- A journal was loaded, and the device is settled so.

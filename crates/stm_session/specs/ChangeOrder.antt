@@ -89,7 +89,8 @@ pub record IsOneSegment (chip : ChipData) (c : Change) (s : StateData)
   pub turned : List Step
   pub are_turned : AreAllTurned chip c turned
   pub is : steps
-      ≡ Adds (begin_entries chip.id chip.unique s) ∷ (turned ++ Adds (Ends (length s.stack + 1) ∷ []) ∷ [])
+      ≡ Adds (begin_entries chip.id chip.unique s)
+      ∷ (turned ++ Adds (Ends (length s.stack + 1) ∷ []) ∷ [])
 
 -- At a fault:
 

@@ -96,8 +96,8 @@ IsBegunBy chip c s steps = IsBegunIf (is_change c) chip c s steps
 
 -- the commands before one are done, and then that one is begun; where it tells a difference, that
 -- is what came
-pub record AreBegunAt (fault : Fault) (chip : ChipData) (commands : List CommandData) (s : StateData)
-    (steps : List Step) : Type 0 where
+pub record AreBegunAt (fault : Fault) (chip : ChipData) (commands : List CommandData)
+    (s : StateData) (steps : List Step) : Type 0 where
   pub earlier : List CommandData
   pub command : CommandData
   pub later : List CommandData

@@ -35,8 +35,8 @@ size_at (Some address) size = size_told (Some (kib_bytes size))
 abbrev pub size_of : ChipData → Option ℕ
 size_of chip = size_at chip.places.size (flash_size chip)
 
--- This was told by a device of this chip: its id, and, where the table has its places, its unique id
--- and its size.
+-- This was told by a device of this chip: its id, and, where the table has its places, its unique
+-- id and its size.
 pub record IsBoardOf (table : List ChipData) (chip : ChipData) (board : Board) : Type 0 where
   pub id : board.id ≡ chip.id
   pub unique : places_in table chip.id ≡ chip.places → board.unique ≡ unique_of chip
@@ -51,8 +51,8 @@ cut_as_told (Some kib) chip = cut_to kib chip
 abbrev pub chip_of_board : ChipData → Board → ChipData
 chip_of_board chip board = of_board board.unique (cut_as_told board.size chip)
 
--- A device of the kind that the table describes: it has the pages of the table's chip that lie inside
--- the size that it tells, and a unique id that it tells, or none.
+-- A device of the kind that the table describes: it has the pages of the table's chip that lie
+-- inside the size that it tells, and a unique id that it tells, or none.
 abbrev pub IsPartOf : ChipData → ChipData → Type 0
 IsPartOf listed chip = chip ≡ of_board (unique_of chip) (cut_as_told (size_of chip) listed)
 
@@ -80,8 +80,8 @@ pub record AsksFinished (table : List ChipData) (old new : RigState)
   pub fails : IfErr result (λ fault. IsOutsideFault fault
       ⊎ (unsent_refusal (journal_of old.journal) ≡ Some fault))
 
--- With an unfinished one, on a device from which it can be taken back: each moment is one of an undo
--- that has taken nothing back yet.
+-- With an unfinished one, on a device from which it can be taken back: each moment is one of an
+-- undo that has taken nothing back yet.
 pub record AsksUnfinished (table : List ChipData) (flashes : List (List ℕ)) (old new : RigState)
     (result : Result Board Fault) : Type 0 where
   pub moments : LeavesOnly (AmidUndo 0 flashes old) old new

@@ -14,7 +14,8 @@ ghost use Rattle.stm_session.specs.Meaning.{writes};
 ghost use Rattle.stm_session.specs.Refusals.{image_fits, lies_in_flash};
 ghost use Rattle.stm_session.specs.Running.{IsKindOf};
 ghost use Rattle.stm_session.specs.Order.{Follows, Stops};
-ghost use Rattle.stm_session.specs.RunOrder.{IsBegunBy, IsBegunTelling, IsDoneTelling, StopsTelling};
+ghost use Rattle.stm_session.specs.RunOrder.{IsBegunBy, IsBegunTelling, IsDoneTelling};
+ghost use Rattle.stm_session.specs.RunOrder.{StopsTelling};
 ghost use Rattle.stm_session.specs.Sending.{is_whole, most_of_command};
 ghost use Rattle.stm_session.specs.Steps.{IsSteady};
 

@@ -117,8 +117,8 @@ fn run_confirmed<R: Rig>(
 }
 
 /// Does commands, one after another: a write or an erase is one segment of the journal. Whatever
-/// can be refused is refused before the first is begun, a device that is another board by now too; a
-/// verify whose image differs ends the run, and the commands before it stand.
+/// can be refused is refused before the first is begun, a device that is another board by now too;
+/// a verify whose image differs ends the run, and the commands before it stand.
 pub fn run<R: Rig>(
     alloc: Global,
     rig: &mut R,

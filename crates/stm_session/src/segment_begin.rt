@@ -23,7 +23,8 @@ use stm_wire::{Chip, Rig};
 pub fn begin_segment<R: Rig>(rig: &mut R, journal: &mut Journal, chip: &Chip) -> Result<u32, Fault>
     requires room { length journal.old.state.stack < 65535 }
     requires finished { is_unfinished journal.old.state ≡ false }
-    ensures begun { OnOk result (HasBegun chip.now.id chip.now.unique journal.old.state journal.new.state) }
+    ensures begun { OnOk result
+        (HasBegun chip.now.id chip.now.unique journal.old.state journal.new.state) }
     ensures number { IfOk result (λ k. k ≡ length journal.old.state.stack + 1) }
     ensures cause { HasSessionCause (R.view rig.old) (R.view rig.new) result }
     ensures named { IfErr result (λ fault. fault ≢ Fault.Unfinished) }
