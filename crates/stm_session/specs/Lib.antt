@@ -43,4 +43,5 @@ pub mod RunOrder
 pub mod Kept
 pub mod AskingBoard
 pub mod ToldBoard
+pub mod AskedBoard
 pub mod Boards

@@ -1,17 +1,17 @@
 // Reaching a device to ask which board it is: it is settled as the session that follows would.
-ghost use Rattle.std.specs.Prelude.{◌≡◌, [], Bool, List, ℕ, IfErr, IfOk, false, true};
+ghost use Rattle.std.specs.Prelude.{◌≡◌, [], Bool, List, ℕ, IfErr, IfOk};
 ghost use Rattle.stm_wire.specs.Dialogue.{GoesOn};
 ghost use Rattle.stm_wire.specs.Parts.{AreFew};
 ghost use Rattle.stm_journal.specs.Journals.{IsLoaded};
 ghost use Rattle.stm_journal.specs.States.{intent_of};
-ghost use Rattle.stm_session.specs.AskingBoard.{AnswersInOrder, AskingStops, AsksFor};
-ghost use Rattle.stm_session.specs.AskingBoard.{AsksInPart, most_of_board};
+ghost use Rattle.stm_session.specs.AskedBoard.{AsksWhich};
+ghost use Rattle.stm_session.specs.AskingBoard.{AnswersInOrder, AsksInPart, most_of_board};
 ghost use Rattle.stm_session.specs.Fault.{HasSessionCause, cause_of};
 ghost use Rattle.stm_session.specs.Fresh.{IsAsSaid, Settles, undo_way};
 ghost use Rattle.stm_session.specs.Moments.{BeginsNothing, IsSafe};
 ghost use Rattle.stm_session.specs.Steps.{Goes};
-ghost use Rattle.stm_session.specs.ToldBoard.{AsksFinished, AsksUnfinished, IsBoardOf, NamesKind};
-ghost use Rattle.stm_session.specs.Undoable.{Undoable, is_unfinished_at};
+ghost use Rattle.stm_session.specs.ToldBoard.{IsBoardOf};
+ghost use Rattle.stm_session.specs.Undoable.{Undoable};
 ghost use Rattle.stm_session.specs.Unwritten.{AppendsNothing};
 
 use crate::Fault;
@@ -94,25 +94,8 @@ pub fn ask_board<R: Rig>(
     table: &Table,
     is_fresh: bool,
 ) -> Result<Board, Fault>
-    ensures unwritten { let old = R.view rig.old in let new = R.view rig.new in
-        GoesOn AppendsNothing old.calls new.calls }
-    ensures cause { let old = R.view rig.old in let new = R.view rig.new in
-        HasSessionCause old new result }
-    ensures few { let old = R.view rig.old in let new = R.view rig.new in
-        GoesOn (AreFew most_of_board) old.calls new.calls }
-    ensures order { let old = R.view rig.old in let new = R.view rig.new in
-        IfOk result (λ board. AsksFor table.now is_fresh old (λ way torn.
-        AnswersInOrder table.now board way torn old new)) }
-    ensures stops { let old = R.view rig.old in let new = R.view rig.new in
-        IfErr result (AskingStops table.now is_fresh old new) }
-    ensures finished { let old = R.view rig.old in let new = R.view rig.new in
-        old.is_honest → is_unfinished_at old.journal ≡ false → IsSafe old.device
-        → AsksFinished table.now old new result }
-    ensures unfinished { let old = R.view rig.old in let new = R.view rig.new in
-        old.is_honest → is_unfinished_at old.journal ≡ true → IsAsSaid is_fresh old.device
-        → (flashes : List (List ℕ)) → Undoable flashes old.device old.journal
-        → NamesKind table.now old.device.chip
-        → AsksUnfinished table.now flashes old new result }
+    ensures { let old = R.view rig.old in let new = R.view rig.new in
+        AsksWhich table.now is_fresh old new result }
 {
     step_laws();
     let journal = Journal::load(alloc, rig)?;

@@ -7,7 +7,6 @@ use Rattle.std.specs.Char.{to_ascii_lowercase}
 use Rattle.hex.specs.Hex.{encode_upper}
 use Rattle.stm_wire.specs.Chip.{ChipData}
 use Rattle.stm_wire.specs.Dialogue.{GoesOn}
-use Rattle.stm_wire.specs.Parts.{AreFew}
 use Rattle.stm_wire.specs.Rig.{RigState}
 use Rattle.stm_chip.specs.Document.{HaveInPlace, IsChipWith, IsNewId}
 use Rattle.stm_journal.specs.declared.fault.JournalFault.{JournalFault}
@@ -17,13 +16,9 @@ use Rattle.stm_journal.specs.States.{StateData, depth, is_unfinished}
 use Rattle.stm_session.specs.declared.asking_board.Board.{Board}
 use Rattle.stm_session.specs.declared.fault.Fault.{Fault}
 use Rattle.stm_session.specs.declared.fault.Fault.TheVariants.{Unfinished}
-use Rattle.stm_session.specs.AskingBoard.{AnswersInOrder, AskingStops, AsksFor, most_of_board}
-use Rattle.stm_session.specs.ToldBoard.{AsksFinished, AsksUnfinished, NamesKind, chip_of_board}
-use Rattle.stm_session.specs.Fault.{HasSessionCause, fault_of_journal}
-use Rattle.stm_session.specs.Fresh.{IsAsSaid}
-use Rattle.stm_session.specs.Moments.{IsSafe}
-use Rattle.stm_session.specs.Undoable.{Undoable, is_unfinished_at}
-use Rattle.stm_session.specs.Unwritten.{AppendsNothing}
+use Rattle.stm_session.specs.AskedBoard.{AsksWhich}
+use Rattle.stm_session.specs.ToldBoard.{chip_of_board}
+use Rattle.stm_session.specs.Fault.{fault_of_journal}
 use Rattle.stmflash.specs.declared.action.Action.TheVariants as action
 use Rattle.stmflash.specs.declared.board.Asking.{Asking}
 use Rattle.stmflash.specs.declared.board.Asking.TheVariants.{OfFinished, OfBegun}
@@ -52,22 +47,6 @@ pub record IsDue (asking : Asking) (old new : RigState) (due : Result Bool Fault
   pub loads : old.is_honest → Loads old new journal
   pub is : MatchResult journal (λ l. due ≡ due_beside asking l.state)
       (λ fault. due ≡ Err (fault_of_journal fault))
-
--- What `ask_board` promises.
-pub record AsksWhich (table : List ChipData) (is_fresh : Bool) (old new : RigState)
-    (asked : Result Board Fault) : Type 0 where
-  pub unwritten : GoesOn AppendsNothing old.calls new.calls
-  pub cause : HasSessionCause old new asked
-  pub few : GoesOn (AreFew most_of_board) old.calls new.calls
-  pub order : IfOk asked (λ board. AsksFor table is_fresh old (λ way torn.
-      AnswersInOrder table board way torn old new))
-  pub stops : IfErr asked (AskingStops table is_fresh old new)
-  pub finished : old.is_honest → is_unfinished_at old.journal ≡ false → IsSafe old.device
-      → AsksFinished table old new asked
-  pub unfinished : old.is_honest → is_unfinished_at old.journal ≡ true
-      → IsAsSaid is_fresh old.device
-      → (flashes : List (List ℕ)) → Undoable flashes old.device old.journal
-      → NamesKind table old.device.chip → AsksUnfinished table flashes old new asked
 
 -- a unique id, in hexadecimal digits, ends in these, of either case
 abbrev pub EndsIn : List ℕ → List ℕ → Type 0

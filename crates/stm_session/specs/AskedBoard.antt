@@ -1,0 +1,32 @@
+-- What `ask_board` promises: on any line, and of a device that follows the model.
+use Rattle.std.specs.Prelude.{◌≡◌, ℕ, Bool, true, false, List, Result, IfErr, IfOk}
+use Rattle.stm_wire.specs.Chip.{ChipData}
+use Rattle.stm_wire.specs.Dialogue.{GoesOn}
+use Rattle.stm_wire.specs.Parts.{AreFew}
+use Rattle.stm_wire.specs.Rig.{RigState}
+use Rattle.stm_session.specs.declared.asking_board.Board.{Board}
+use Rattle.stm_session.specs.declared.fault.Fault.{Fault}
+use Rattle.stm_session.specs.AskingBoard.{AnswersInOrder, AskingStops, AsksFor, most_of_board}
+use Rattle.stm_session.specs.Fault.{HasSessionCause}
+use Rattle.stm_session.specs.Fresh.{IsAsSaid}
+use Rattle.stm_session.specs.Moments.{IsSafe}
+use Rattle.stm_session.specs.ToldBoard.{AsksFinished, AsksUnfinished, NamesKind}
+use Rattle.stm_session.specs.Undoable.{Undoable, is_unfinished_at}
+use Rattle.stm_session.specs.Unwritten.{AppendsNothing}
+
+-- A device is asked which board it is: nothing is appended, few calls are made, and in this order;
+-- and of a device that follows the model, by whether its journal is finished, what that leaves.
+pub record AsksWhich (table : List ChipData) (is_fresh : Bool) (old new : RigState)
+    (asked : Result Board Fault) : Type 0 where
+  pub unwritten : GoesOn AppendsNothing old.calls new.calls
+  pub cause : HasSessionCause old new asked
+  pub few : GoesOn (AreFew most_of_board) old.calls new.calls
+  pub order : IfOk asked (λ board. AsksFor table is_fresh old (λ way torn.
+      AnswersInOrder table board way torn old new))
+  pub stops : IfErr asked (AskingStops table is_fresh old new)
+  pub finished : old.is_honest → is_unfinished_at old.journal ≡ false → IsSafe old.device
+      → AsksFinished table old new asked
+  pub unfinished : old.is_honest → is_unfinished_at old.journal ≡ true
+      → IsAsSaid is_fresh old.device
+      → (flashes : List (List ℕ)) → Undoable flashes old.device old.journal
+      → NamesKind table old.device.chip → AsksUnfinished table flashes old new asked
