@@ -40,6 +40,7 @@ pub mod Segments
 pub mod OneCommand
 pub mod Came
 pub mod RunOrder
+pub mod CommandList
 pub mod Kept
 pub mod AskingBoard
 pub mod ToldBoard

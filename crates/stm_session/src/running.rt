@@ -1,26 +1,20 @@
 // A run: everything is checked before the first command is begun, and then the commands
 // are done in their order.
-ghost use Rattle.std.specs.Prelude.{◌≡◌, ◌≢◌, ◌≤◌, ◌+◌, ◌*◌, false, true, ℕ, List, length, []};
-ghost use Rattle.std.specs.Prelude.{OnOk, IfOk, IfErr, Some, map};
-ghost use Rattle.std.specs.List.{list_all};
+ghost use Rattle.std.specs.Prelude.{◌≡◌, ◌≢◌, ◌+◌, ◌*◌, length, OnOk, IfOk, IfErr};
 ghost use Rattle.stm_wire.specs.Dialogue.{GoesOn};
-ghost use Rattle.stm_wire.specs.Parts.{IsPart};
 ghost use Rattle.stm_journal.specs.Calls.{AreFetches};
-ghost use Rattle.stm_journal.specs.States.{is_unfinished};
-ghost use Rattle.stm_session.specs.Answers.{outcome_data, outcomes_in};
+ghost use Rattle.stm_session.specs.Answers.{outcomes_in};
+ghost use Rattle.stm_session.specs.CommandList.{AreFit, DoesCommands};
 ghost use Rattle.stm_session.specs.Fault.{HasSessionCause};
-ghost use Rattle.stm_session.specs.Meaning.{changes_of, commands_in};
+ghost use Rattle.stm_session.specs.Meaning.{commands_in};
+ghost use Rattle.stm_session.specs.Order.{IsAfter};
 ghost use Rattle.stm_session.specs.Promises.{RunContract};
-ghost use Rattle.stm_session.specs.Refusals.{lies_in_flash};
-ghost use Rattle.stm_session.specs.Running.{AreKindsOf};
-ghost use Rattle.stm_session.specs.Runs.{Runs};
-ghost use Rattle.stm_session.specs.Order.{Follows, IsAfter};
 ghost use Rattle.stm_session.specs.Reaching.{IsConfirmedInPart, confirming};
+ghost use Rattle.stm_session.specs.Running.{AreKindsOf};
 ghost use Rattle.stm_session.specs.RunOrder.{AreBegun, AreDone, RunStops, RunsInOrder};
-ghost use Rattle.stm_session.specs.RunOrder.{RunsTelling, StopsTelling};
+ghost use Rattle.stm_session.specs.RunOrder.{RunsTelling};
 ghost use Rattle.stm_session.specs.Sending.{SendsAsRun, is_whole, most_of_command};
 ghost use Rattle.stm_session.specs.Sending.{most_of_confirming};
-ghost use Rattle.stm_session.specs.Steps.{IsSteady};
 
 use crate::command_check::check_commands;
 use crate::confirming::confirm;
@@ -42,30 +36,13 @@ fn run_commands<R: Rig>(
     chip: &Chip,
     commands: &[Command],
 ) -> Result<Vec<Outcome>, Fault>
-    requires in_flash { list_all (lies_in_flash chip.now) (commands_in commands.now) ≡ true }
-    requires room { length journal.old.state.stack + length (changes_of (commands_in commands.now))
-        ≤ 65535 }
-    requires finished { is_unfinished journal.old.state ≡ false }
-    ensures puts { let old = R.view rig.old in let new = R.view rig.new in
-        GoesOn (IsPart (Some chip.now) (is_whole result) (length commands.now * most_of_command))
-        old.calls new.calls }
-    ensures kinds { IfOk result (λ outcomes. AreKindsOf commands.now outcomes.items) }
-    ensures order { let old = R.view rig.old in let new = R.view rig.new in
+    requires { AreFit chip.now commands.now journal.old.state }
+    ensures { let old = R.view rig.old in let new = R.view rig.new in
         let cs = commands_in commands.now in
-        IfOk result (λ outcomes. let said = map outcome_data outcomes.items in
-        let Done = AreDone chip.now cs said journal.old.state journal.new.state in
-        Follows Done journal.old journal.new old new) }
-    ensures stops { let old = R.view rig.old in let new = R.view rig.new in
-        let cs = commands_in commands.now in
-        StopsTelling (λ fault. AreBegun fault chip.now cs journal.old.state)
-        journal.old.is_torn old new result }
-    ensures nothing { commands.now ≡ [] → IfErr result (λ _. ⊥) }
-    ensures cause { HasSessionCause (R.view rig.old) (R.view rig.new) result }
-    ensures named { IfErr result (λ fault. fault ≢ Fault.Unfinished) }
-    ensures honest { let old = R.view rig.old in let new = R.view rig.new in
-        (flashes : List (List ℕ)) → IsSteady flashes journal.old old → old.device.chip ≡ chip.now
-        → Runs (commands_in commands.now) flashes old new result
-        (λ outcomes. map outcome_data outcomes.items) }
+        DoesCommands (length commands.now * most_of_command)
+        (λ said last. AreDone chip.now cs said journal.old.state last)
+        (λ fault. AreBegun fault chip.now cs journal.old.state)
+        (λ _. ⊥) chip.now commands.now journal.old journal.new old new result }
 {
     step_laws();
     let mut outcomes = Vec::new(alloc);
@@ -85,30 +62,15 @@ fn run_confirmed<R: Rig>(
     chip: &Chip,
     commands: &[Command],
 ) -> Result<Vec<Outcome>, Fault>
-    requires in_flash { list_all (lies_in_flash chip.now) (commands_in commands.now) ≡ true }
-    requires room { length journal.old.state.stack + length (changes_of (commands_in commands.now))
-        ≤ 65535 }
-    requires finished { is_unfinished journal.old.state ≡ false }
-    ensures puts { let old = R.view rig.old in let new = R.view rig.new in
-        let most = most_of_confirming + length commands.now * most_of_command in
-        GoesOn (IsPart (Some chip.now) (is_whole result) most) old.calls new.calls }
-    ensures kinds { IfOk result (λ outcomes. AreKindsOf commands.now outcomes.items) }
-    ensures order { let old = R.view rig.old in let new = R.view rig.new in
+    requires { AreFit chip.now commands.now journal.old.state }
+    ensures { let old = R.view rig.old in let new = R.view rig.new in
         let cs = commands_in commands.now in
-        IfOk result (λ outcomes. let said = map outcome_data outcomes.items in
-        let Done = AreDone chip.now cs said journal.old.state journal.new.state in
-        Follows (IsAfter (confirming chip.now) Done) journal.old journal.new old new) }
-    ensures stops { let old = R.view rig.old in let new = R.view rig.new in
-        let cs = commands_in commands.now in
-        StopsTelling (λ fault. IsConfirmedInPart chip.now
-        (AreBegun fault chip.now cs journal.old.state)) journal.old.is_torn old new result }
-    ensures spared { commands.now ≡ [] → IfErr result (λ fault. fault ≢ Fault.Memory) }
-    ensures cause { HasSessionCause (R.view rig.old) (R.view rig.new) result }
-    ensures named { IfErr result (λ fault. fault ≢ Fault.Unfinished) }
-    ensures honest { let old = R.view rig.old in let new = R.view rig.new in
-        (flashes : List (List ℕ)) → IsSteady flashes journal.old old → old.device.chip ≡ chip.now
-        → Runs (commands_in commands.now) flashes old new result
-        (λ outcomes. map outcome_data outcomes.items) }
+        DoesCommands (most_of_confirming + length commands.now * most_of_command)
+        (λ said last. IsAfter (confirming chip.now)
+        (AreDone chip.now cs said journal.old.state last))
+        (λ fault. IsConfirmedInPart chip.now (AreBegun fault chip.now cs journal.old.state))
+        (λ fault. fault ≢ Fault.Memory)
+        chip.now commands.now journal.old journal.new old new result }
 {
     step_laws();
     confirm(rig, chip)?;

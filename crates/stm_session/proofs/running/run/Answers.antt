@@ -45,7 +45,7 @@ returns-in_err-outcomes-clause-promised g c =
     contract_ran c.args.table.now commands (V c.args.rig.now) mid c.in_ok-opened.opened c.in_ok-opened.ensures.coherent c.in_ok-opened.ensures.unsent c.in_ok-opened.ensures.honest
     new c.from_residual-in_err-outcomes.result outcomes_in c.in_ok-check_commands.ensures.refusal
     (λ flashes steady chip. runs_err commands flashes mid new _ c.from_residual-in_err-outcomes.result (λ outcomes. map outcome_data outcomes.items) outcomes_in c.from_residual-in_err-outcomes.ensures.1 (c.in_err-outcomes.ensures.honest flashes steady chip))
-    (λ none. at_fault (λ e. e ≢ faults.Memory) _ c.from_residual-in_err-outcomes.result c.from_residual-in_err-outcomes.ensures.1 (c.in_err-outcomes.ensures.spared (no_commands c.args.commands.now none)))
+    (λ none. at_fault (λ e. e ≢ faults.Memory) _ c.from_residual-in_err-outcomes.result c.from_residual-in_err-outcomes.ensures.1 (c.in_err-outcomes.ensures.none (no_commands c.args.commands.now none)))
 
 pub returns-clause-promised : goal.returns-clause-promised
 returns-clause-promised g c =

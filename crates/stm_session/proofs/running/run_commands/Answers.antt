@@ -1,4 +1,4 @@
-use Rattle.std.proofs.Common.{◌≡◌, ◌∙◌, ◌+◌, ◌*◌, ◌++◌, ◌∷◌, [], List, ℕ, Vec, Global, Bool, Ok, Some, true, is_ok, vec_len, if◌then◌else◌, length, map, take, drop, sym, ap, subst, arith, refl}
+use Rattle.std.proofs.Common.{rules, ◌≡◌, ◌∙◌, ◌+◌, ◌*◌, ◌++◌, ◌∷◌, [], List, ℕ, Vec, Global, Bool, Ok, Some, true, is_ok, vec_len, if◌then◌else◌, length, map, take, drop, sym, ap, subst, arith, refl}
 use Rattle.std.proofs.lemmas.List.{map-append, take_all}
 use Rattle.stm_wire.specs.Dialogue.{GoesOn}
 use Rattle.stm_wire.specs.Parts.{IsPart}
@@ -29,14 +29,6 @@ use Rattle.stm_session.proofs.CutShort.{halts_first, stop_after}
 use Rattle.stm_session.proofs.Reaching.{at_fault}
 use Rattle.stm_session.proofs.RunLoop.{commands_split}
 use Rattle.stm_session.proofs.running.run_commands.Goals as goal
-
-pub returns-in_err-reserve_exact-clause-honest : goal.returns-in_err-reserve_exact-clause-honest
-returns-in_err-reserve_exact-clause-honest g c flashes steady chip =
-    let a = g.R.Rig.view c.args.rig.now in
-    let l = c.args.journal.now in
-    let model = g.met.R.Rig.model c.args.rig.now steady.honest in
-    let first = run_nothing c.step_laws.ensures flashes l a model steady in
-    run_refused c.step_laws.ensures [] flashes l l a a [] model steady first (commands_in c.args.commands.now) _ c.from_residual.result c.from_residual.ensures.1
 
 pub loop-command-init : goal.loop-command-init
 loop-command-init g c =
@@ -71,41 +63,6 @@ pub run_command-requires-clause-room : goal.run_command-requires-clause-room
 run_command-requires-clause-room g c change =
     room_next c.args.commands.now c.loop-command.command-index c.command-item.result c.loop-command-test.true c.command-item.is (length c.loop-command.journal.state.stack) (length c.args.journal.now.state.stack)
     c.loop-command.invariant.depth c.requires.room change
-
-pub returns-in_err-outcome-clause-puts : goal.returns-in_err-outcome-clause-puts
-returns-in_err-outcome-clause-puts g c =
-    let V = g.R.Rig.view in
-    let a = (V c.args.rig.now).calls in
-    let d = (V c.run_command.new.rig).calls in
-    let i = c.loop-command.command-index in
-    let n = length c.args.commands.now in
-    let P : Bool → Type 0 = λ w. GoesOn (IsPart (Some c.args.chip.now) w (n * most_of_command)) a d in
-    same_fault P _ c.from_residual-in_err-outcome.result c.from_residual-in_err-outcome.ensures.1
-    (commands_within c.args.chip.now (i + 1) n _ a d (omega (arith, c.loop-command-test.true))
-    (commands_next c.args.chip.now i _ a (V c.loop-command.rig).calls d c.loop-command.invariant.parts c.in_err-outcome.ensures.puts))
-
-pub returns-in_err-outcome-clause-honest : goal.returns-in_err-outcome-clause-honest
-returns-in_err-outcome-clause-honest g c flashes steady chip =
-    let V = g.R.Rig.view in
-    let a = V c.args.rig.now in
-    let b = V c.loop-command.rig in
-    let d = V c.run_command.new.rig in
-    let laws = c.step_laws.ensures in
-    let l = c.args.journal.now in
-    let l2 = c.loop-command.journal in
-    let i = c.loop-command.command-index in
-    let cs = c.args.commands.now in
-    let next : Command = c.command-item.result in
-    let xs = commands_in (take i cs) in
-    let said = map outcome_data c.loop-command.outcomes.items in
-    let first = c.loop-command.invariant.honest flashes steady chip in
-    let model = g.met.R.Rig.model c.loop-command.rig first.steady.honest in
-    let still = (made_so_far laws xs flashes l l2 a b said model steady first).chip ∙ chip in
-    let does = c.in_err-outcome.ensures.honest _ first.steady still in
-    let R : List CommandData → Type 0 = λ ys. Runs {T = Vec Outcome Global} ys flashes a d c.from_residual-in_err-outcome.result (λ outcomes. map outcome_data outcomes.items) in
-    subst R (whole_list cs i next c.loop-command-test.true c.command-item.is)
-    (run_stopped laws xs flashes l l2 a b said model steady first (command_data next) (commands_in (drop (i + 1) cs)) c.run_command.new.journal d _ outcome_data c.from_residual-in_err-outcome.result _
-    c.loop-command.invariant.finished (g.met.R.Rig.model c.run_command.new.rig does.honest) does c.from_residual-in_err-outcome.ensures.1)
 
 pub loop-command-preserved : goal.loop-command-preserved
 loop-command-preserved g c =
@@ -163,72 +120,148 @@ loop-command-preserved g c =
           (subst O told (run_next laws xs flashes l l2 a b said model steady first (command_data next) l3 d one outcome_data does));
     }
 
-pub returns-clause-honest : goal.returns-clause-honest
-returns-clause-honest g c flashes steady chip =
-    let V = g.R.Rig.view in
-    let a = V c.args.rig.now in
-    let b = V c.loop-command.rig in
-    let l = c.args.journal.now in
-    let l2 = c.loop-command.journal in
-    let i = c.loop-command.command-index in
-    let cs = c.args.commands.now in
-    let said = map outcome_data c.loop-command.outcomes.items in
-    let first = c.loop-command.invariant.honest flashes steady chip in
-    let model = g.met.R.Rig.model c.loop-command.rig first.steady.honest in
-    let all : commands_in (take i cs) ≡ commands_in cs = ap commands_in (take_all i cs (omega (arith, c.loop-command-test.false))) in
-    let R : List CommandData → Type 0 = λ ys. Runs {T = Vec Outcome Global} ys flashes a b (Ok c.loop-command.outcomes) (λ outcomes. map outcome_data outcomes.items) in
-    subst R all (run_all c.step_laws.ensures (commands_in (take i cs)) flashes l l2 a b said model steady first c.loop-command.outcomes _ c.loop-command.invariant.finished refl)
+pub returns-in_err-reserve_exact : goal.returns-in_err-reserve_exact
+returns-in_err-reserve_exact g c =
+    record {
+      puts = search rules;
+      kinds = search rules;
+      order = search rules;
+      stops = (
+          let a = g.R.Rig.view c.args.rig.now in
+          let l = c.args.journal.now in
+          let P : Fault → Type 0 = λ e. StopsBy (AreBegun e c.args.chip.now (commands_in c.args.commands.now) l.state) (cause_of e) l.is_torn a a in
+          at_fault P faults.Memory c.from_residual.result c.from_residual.ensures.1 (halts_first (AreBegun faults.Memory c.args.chip.now (commands_in c.args.commands.now) l.state) of_memory l.is_torn a (inl refl) refl));
+      none = search rules;
+      cause = search rules;
+      named = search rules;
+      honest = (λ flashes steady chip.
+          let a = g.R.Rig.view c.args.rig.now in
+          let l = c.args.journal.now in
+          let model = g.met.R.Rig.model c.args.rig.now steady.honest in
+          let first = run_nothing c.step_laws.ensures flashes l a model steady in
+          run_refused c.step_laws.ensures [] flashes l l a a [] model steady first (commands_in c.args.commands.now) _ c.from_residual.result c.from_residual.ensures.1);
+    }
 
-pub returns-clause-order : goal.returns-clause-order
-returns-clause-order g c =
-    let V = g.R.Rig.view in
-    let l = c.args.journal.now in
-    let l2 = c.loop-command.journal in
-    let i = c.loop-command.command-index in
-    let cs = c.args.commands.now in
-    let all : commands_in (take i cs) ≡ commands_in cs = ap commands_in (take_all i cs (omega (arith, c.loop-command-test.false))) in
-    let said = map outcome_data c.loop-command.outcomes.items in
-    let P : List CommandData → Type 0 = λ ys. Follows (AreDone c.args.chip.now ys said l.state l2.state) l l2 (V c.args.rig.now) (V c.loop-command.rig) in
-    subst P all c.loop-command.invariant.order
+pub returns-in_err-outcome : goal.returns-in_err-outcome
+returns-in_err-outcome g c =
+    record {
+      puts = (
+          let V = g.R.Rig.view in
+          let a = (V c.args.rig.now).calls in
+          let d = (V c.run_command.new.rig).calls in
+          let i = c.loop-command.command-index in
+          let n = length c.args.commands.now in
+          let P : Bool → Type 0 = λ w. GoesOn (IsPart (Some c.args.chip.now) w (n * most_of_command)) a d in
+          same_fault P _ c.from_residual-in_err-outcome.result c.from_residual-in_err-outcome.ensures.1
+          (commands_within c.args.chip.now (i + 1) n _ a d (omega (arith, c.loop-command-test.true))
+          (commands_next c.args.chip.now i _ a (V c.loop-command.rig).calls d c.loop-command.invariant.parts c.in_err-outcome.ensures.puts)));
+      kinds = search rules;
+      order = search rules;
+      stops = (
+          let V = g.R.Rig.view in
+          let chip = c.args.chip.now in
+          let l = c.args.journal.now in
+          let l2 = c.loop-command.journal in
+          let i = c.loop-command.command-index in
+          let cs = c.args.commands.now in
+          let next = c.command-item.result in
+          let so_far = c.loop-command.invariant.order in
+          let a = V c.args.rig.now in
+          let d = V c.run_command.new.rig in
+          let e = c.in_err-outcome.field-0.0 in
+          let One = IsBegunTelling chip (command_data next) l2.state e in
+          let split = commands_split cs i next c.loop-command-test.true c.command-item.is in
+          let All : Fault → List Step → Type 0 = λ x. AreBegun x chip (commands_in cs) l.state in
+          let P : Fault → Type 0 = λ x. StopsBy (All x) (cause_of x) l.is_torn a d in
+          at_fault P e c.from_residual-in_err-outcome.result c.from_residual-in_err-outcome.ensures.1
+          (stop_after One (All e) (cause_of e) so_far.0 l l2 a (V c.loop-command.rig) d so_far.2 c.in_err-outcome.ensures.stops
+          (λ ys begun.
+          inr (record {
+            earlier = commands_in (take i cs);
+            command = command_data next;
+            later = commands_in (drop (i + 1) cs);
+            split = split;
+            outcomes = map outcome_data c.loop-command.outcomes.items;
+            mid = l2.state;
+            before = so_far.0;
+            are_done = so_far.1;
+            own = ys;
+            is_begun = begun.0;
+            tells = begun.1;
+            is = refl;
+          }))));
+      none = search rules;
+      cause = search rules;
+      named = search rules;
+      honest = (λ flashes steady chip.
+          let V = g.R.Rig.view in
+          let a = V c.args.rig.now in
+          let b = V c.loop-command.rig in
+          let d = V c.run_command.new.rig in
+          let laws = c.step_laws.ensures in
+          let l = c.args.journal.now in
+          let l2 = c.loop-command.journal in
+          let i = c.loop-command.command-index in
+          let cs = c.args.commands.now in
+          let next : Command = c.command-item.result in
+          let xs = commands_in (take i cs) in
+          let said = map outcome_data c.loop-command.outcomes.items in
+          let first = c.loop-command.invariant.honest flashes steady chip in
+          let model = g.met.R.Rig.model c.loop-command.rig first.steady.honest in
+          let still = (made_so_far laws xs flashes l l2 a b said model steady first).chip ∙ chip in
+          let does = c.in_err-outcome.ensures.honest _ first.steady still in
+          let R : List CommandData → Type 0 = λ ys. Runs {T = Vec Outcome Global} ys flashes a d c.from_residual-in_err-outcome.result (λ outcomes. map outcome_data outcomes.items) in
+          subst R (whole_list cs i next c.loop-command-test.true c.command-item.is)
+          (run_stopped laws xs flashes l l2 a b said model steady first (command_data next) (commands_in (drop (i + 1) cs)) c.run_command.new.journal d _ outcome_data c.from_residual-in_err-outcome.result _
+          c.loop-command.invariant.finished (g.met.R.Rig.model c.run_command.new.rig does.honest) does c.from_residual-in_err-outcome.ensures.1));
+    }
 
-pub returns-in_err-reserve_exact-clause-stops : goal.returns-in_err-reserve_exact-clause-stops
-returns-in_err-reserve_exact-clause-stops g c =
-    let a = g.R.Rig.view c.args.rig.now in
-    let l = c.args.journal.now in
-    let P : Fault → Type 0 = λ e. StopsBy (AreBegun e c.args.chip.now (commands_in c.args.commands.now) l.state) (cause_of e) l.is_torn a a in
-    at_fault P faults.Memory c.from_residual.result c.from_residual.ensures.1 (halts_first (AreBegun faults.Memory c.args.chip.now (commands_in c.args.commands.now) l.state) of_memory l.is_torn a (inl refl) refl)
-
-pub returns-in_err-outcome-clause-stops : goal.returns-in_err-outcome-clause-stops
-returns-in_err-outcome-clause-stops g c =
-    let V = g.R.Rig.view in
-    let chip = c.args.chip.now in
-    let l = c.args.journal.now in
-    let l2 = c.loop-command.journal in
-    let i = c.loop-command.command-index in
-    let cs = c.args.commands.now in
-    let next = c.command-item.result in
-    let so_far = c.loop-command.invariant.order in
-    let a = V c.args.rig.now in
-    let d = V c.run_command.new.rig in
-    let e = c.in_err-outcome.field-0.0 in
-    let One = IsBegunTelling chip (command_data next) l2.state e in
-    let split = commands_split cs i next c.loop-command-test.true c.command-item.is in
-    let All : Fault → List Step → Type 0 = λ x. AreBegun x chip (commands_in cs) l.state in
-    let P : Fault → Type 0 = λ x. StopsBy (All x) (cause_of x) l.is_torn a d in
-    at_fault P e c.from_residual-in_err-outcome.result c.from_residual-in_err-outcome.ensures.1
-    (stop_after One (All e) (cause_of e) so_far.0 l l2 a (V c.loop-command.rig) d so_far.2 c.in_err-outcome.ensures.stops
-    (λ ys begun.
-    inr (record {
-      earlier = commands_in (take i cs);
-      command = command_data next;
-      later = commands_in (drop (i + 1) cs);
-      split = split;
-      outcomes = map outcome_data c.loop-command.outcomes.items;
-      mid = l2.state;
-      before = so_far.0;
-      are_done = so_far.1;
-      own = ys;
-      is_begun = begun.0;
-      tells = begun.1;
-      is = refl;
-    })))
+pub returns : goal.returns
+returns g c =
+    record {
+      puts = search rules;
+      kinds = (
+          let i = c.loop-command.command-index in
+          let cs = c.args.commands.now in
+          let K : List Command → Type 0 = λ xs. AreKindsOf xs c.loop-command.outcomes.items in
+          subst K (take_all i cs (omega (arith, c.loop-command-test.false))) c.loop-command.invariant.kinds);
+      order = (
+          let V = g.R.Rig.view in
+          let l = c.args.journal.now in
+          let l2 = c.loop-command.journal in
+          let i = c.loop-command.command-index in
+          let cs = c.args.commands.now in
+          let all : commands_in (take i cs) ≡ commands_in cs = ap commands_in (take_all i cs (omega (arith, c.loop-command-test.false))) in
+          let said = map outcome_data c.loop-command.outcomes.items in
+          let P : List CommandData → Type 0 = λ ys. Follows (AreDone c.args.chip.now ys said l.state l2.state) l l2 (V c.args.rig.now) (V c.loop-command.rig) in
+          subst P all c.loop-command.invariant.order);
+      stops = search rules;
+      none = search rules;
+      cause = (
+          let so_far = c.loop-command.invariant in
+          record {
+            line_later = omega (arith, so_far.line);
+            journal_later = omega (arith, so_far.journal);
+            failed = tt;
+            line_done = so_far.line;
+            line_kept = tt;
+            journal_done = so_far.journal;
+            journal_kept = tt;
+            honest = so_far.stays;
+          });
+      named = search rules;
+      honest = (λ flashes steady chip.
+          let V = g.R.Rig.view in
+          let a = V c.args.rig.now in
+          let b = V c.loop-command.rig in
+          let l = c.args.journal.now in
+          let l2 = c.loop-command.journal in
+          let i = c.loop-command.command-index in
+          let cs = c.args.commands.now in
+          let said = map outcome_data c.loop-command.outcomes.items in
+          let first = c.loop-command.invariant.honest flashes steady chip in
+          let model = g.met.R.Rig.model c.loop-command.rig first.steady.honest in
+          let all : commands_in (take i cs) ≡ commands_in cs = ap commands_in (take_all i cs (omega (arith, c.loop-command-test.false))) in
+          let R : List CommandData → Type 0 = λ ys. Runs {T = Vec Outcome Global} ys flashes a b (Ok c.loop-command.outcomes) (λ outcomes. map outcome_data outcomes.items) in
+          subst R all (run_all c.step_laws.ensures (commands_in (take i cs)) flashes l l2 a b said model steady first c.loop-command.outcomes _ c.loop-command.invariant.finished refl));
+    }
