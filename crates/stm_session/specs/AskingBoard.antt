@@ -2,14 +2,16 @@
 -- follows the model.
 use Rattle.std.specs.Prelude.{◌≡◌, ◌⊎◌, ℕ, ◌+◌, ◌*◌, Bool, true, false, ◌==◌, ◌||◌, get_or}
 use Rattle.std.specs.Prelude.{if◌then◌else◌, List, [], ◌∷◌, ◌++◌, Option, Some, None}
-use Rattle.std.specs.Prelude.{option_map}
+use Rattle.std.specs.Prelude.{option_map, Result, IfErr, IfOk}
 use Rattle.std.specs.List.{list_all}
 use Rattle.stm_wire.specs.declared.places.BoardPlaces.{BoardPlaces}
 use Rattle.stm_wire.specs.declared.places.UniquePlace.{UniquePlace}
 use Rattle.stm_wire.specs.Call.{Call}
 use Rattle.stm_wire.specs.Chip.{ChipData}
+use Rattle.stm_wire.specs.Device.{IsSettled}
 use Rattle.stm_wire.specs.Dialogue.{GoesOn}
 use Rattle.stm_wire.specs.Frames.{get_id_turns, get_turns}
+use Rattle.stm_wire.specs.Parts.{AreFew}
 use Rattle.stm_wire.specs.Places.{no_places}
 use Rattle.stm_wire.specs.Rig.{RigState}
 use Rattle.stm_journal.specs.Calls.{AreFetches}
@@ -18,11 +20,13 @@ use Rattle.stm_journal.specs.States.{StateData, intent_of, is_unfinished}
 use Rattle.stm_chip.specs.Document.{IsChipWith}
 use Rattle.stm_session.specs.declared.asking_board.Board.{Board}
 use Rattle.stm_session.specs.declared.fault.Fault.{Fault}
-use Rattle.stm_session.specs.Fault.{Cause, IsHeard, cause_of}
+use Rattle.stm_session.specs.Asking.{Asks}
+use Rattle.stm_session.specs.Fault.{Cause, HasSessionCause, IsHeard, IsOfLine, cause_of}
 use Rattle.stm_session.specs.Fresh.{Settles, Way, byte_of, limit_of, undo_way}
-use Rattle.stm_session.specs.Order.{Step, AreCutShort, Begin, Sends, acts_of}
+use Rattle.stm_session.specs.Order.{Step, AreCutShort, Begin, IsInOrder, Sends, Stops, acts_of}
 use Rattle.stm_session.specs.Reaching.{IsAsked, SettlesFirst, SettlesThen}
 use Rattle.stm_session.specs.Refusal.{chip_with}
+use Rattle.stm_session.specs.Unwritten.{AppendsNothing}
 use Rattle.stm_wire.specs.Settling.{SettlesWithin}
 
 -- What came of a place, and what that tells:
@@ -89,6 +93,22 @@ pub record IsAnswered (table : List ChipData) (board : Board) (steps : List Step
 -- whatever came
 abbrev pub AsksBoard : List ChipData → List Step → Type 0
 AsksBoard table steps = (board : Board) × IsAnswered table board steps
+
+-- A settled device is asked: nothing is appended, and so many bytes are put and got at most; at Ok
+-- the steps are those that tell this, a fault is of the line and ends a beginning of such; and of a
+-- device that follows the model this is told.
+pub record AsksSettled {T : Type 0} (most : ℕ) (Asked : T → List Step → Type 0) (Told : T → Type 0)
+    (old new : RigState) (result : Result T Fault) : Type 0 where
+  pub unwritten : GoesOn AppendsNothing old.calls new.calls
+  pub cause : HasSessionCause old new result
+  pub few : GoesOn (AreFew most) old.calls new.calls
+  pub order : (torn : Bool) → IfOk result (λ told. (steps : List Step) × Asked told steps
+      × GoesOn (IsInOrder torn steps) old.calls new.calls)
+  pub stops : (torn : Bool)
+      → Stops (Begin (λ steps. (told : T) × Asked told steps)) torn old new result
+  pub sent : IfErr result IsOfLine
+  pub kept : old.is_honest → new.journal ≡ old.journal
+  pub honest : old.is_honest → IsSettled old.device → Asks old new result Told
 
 -- How the device is settled, by the journal: where that is finished, with 7F; else by its intent,
 -- as one of the chip that it names, or connected where it is said to be fresh.

@@ -10,7 +10,7 @@ ghost use Rattle.stm_wire.specs.Parts.{AreFew, IsPart};
 ghost use Rattle.stm_wire.specs.Refused.{IsTold};
 ghost use Rattle.stm_wire.specs.UniqueId.{is_unique_length};
 ghost use Rattle.stm_session.specs.Asking.{Asks};
-ghost use Rattle.stm_session.specs.AskingBoard.{AsksBoard, AsksSize, AsksUnique, IsAnswered};
+ghost use Rattle.stm_session.specs.AskingBoard.{AsksSettled, AsksSize, AsksUnique, IsAnswered};
 ghost use Rattle.stm_session.specs.AskingBoard.{came_in, most_of_asking, places_in};
 ghost use Rattle.stm_session.specs.AskingBoard.{size_in, size_told, unique_told};
 ghost use Rattle.stm_session.specs.Fault.{HasSessionCause, IsOfLine};
@@ -133,24 +133,10 @@ pub fn ask_place<R: Rig>(rig: &mut R, address: u32, buf: &mut [u8]) -> Result<bo
 /// Asks a settled device for its unique id, where its place is known.
 fn ask_unique<R: Rig>(rig: &mut R, place: Option<UniquePlace>) -> Result<UniqueId, Fault>
     requires { IfSome place (λ p. IsTrue (is_unique_length p.length)) }
-    ensures unwritten { let old = R.view rig.old in let new = R.view rig.new in
-        GoesOn AppendsNothing old.calls new.calls }
-    ensures cause { let old = R.view rig.old in let new = R.view rig.new in
-        HasSessionCause old new result }
-    ensures few { let old = R.view rig.old in let new = R.view rig.new in
-        GoesOn (AreFew 44) old.calls new.calls }
-    ensures order { let old = R.view rig.old in let new = R.view rig.new in
-        (torn : Bool) → IfOk result (λ unique. (steps : List Step)
-        × AsksUnique place unique steps × GoesOn (IsInOrder torn steps) old.calls new.calls) }
-    ensures stops { let old = R.view rig.old in let new = R.view rig.new in
-        (torn : Bool) → Stops (Begin (λ steps. (unique : List ℕ) × AsksUnique place unique steps))
-        torn old new result }
-    ensures sent { IfErr result IsOfLine }
-    ensures kept { let old = R.view rig.old in let new = R.view rig.new in
-        old.is_honest → new.journal ≡ old.journal }
-    ensures honest { let old = R.view rig.old in let new = R.view rig.new in
-        old.is_honest → IsSettled old.device → Asks old new result (λ unique.
-        place ≡ old.device.chip.places.unique → unique ≡ unique_of old.device.chip) }
+    ensures { let old = R.view rig.old in let new = R.view rig.new in
+        AsksSettled 44 (AsksUnique place)
+        (λ unique. place ≡ old.device.chip.places.unique → unique ≡ unique_of old.device.chip)
+        old new result }
 {
     sending_is_harmless();
     let Some(place) = place else {
@@ -164,24 +150,10 @@ fn ask_unique<R: Rig>(rig: &mut R, place: Option<UniquePlace>) -> Result<UniqueI
 
 /// Asks a settled device for the size of its flash, where its place is known.
 fn ask_size<R: Rig>(rig: &mut R, place: Option<u32>) -> Result<Option<u16>, Fault>
-    ensures unwritten { let old = R.view rig.old in let new = R.view rig.new in
-        GoesOn AppendsNothing old.calls new.calls }
-    ensures cause { let old = R.view rig.old in let new = R.view rig.new in
-        HasSessionCause old new result }
-    ensures few { let old = R.view rig.old in let new = R.view rig.new in
-        GoesOn (AreFew 14) old.calls new.calls }
-    ensures order { let old = R.view rig.old in let new = R.view rig.new in
-        (torn : Bool) → IfOk result (λ size. (steps : List Step)
-        × AsksSize place size steps × GoesOn (IsInOrder torn steps) old.calls new.calls) }
-    ensures stops { let old = R.view rig.old in let new = R.view rig.new in
-        (torn : Bool) → Stops (Begin (λ steps. (size : Option ℕ) × AsksSize place size steps))
-        torn old new result }
-    ensures sent { IfErr result IsOfLine }
-    ensures kept { let old = R.view rig.old in let new = R.view rig.new in
-        old.is_honest → new.journal ≡ old.journal }
-    ensures honest { let old = R.view rig.old in let new = R.view rig.new in
-        old.is_honest → IsSettled old.device → Asks old new result (λ size.
-        place ≡ old.device.chip.places.size → size ≡ size_of old.device.chip) }
+    ensures { let old = R.view rig.old in let new = R.view rig.new in
+        AsksSettled 14 (AsksSize place)
+        (λ size. place ≡ old.device.chip.places.size → size ≡ size_of old.device.chip)
+        old new result }
 {
     sending_is_harmless();
     let Some(address) = place else {
@@ -208,23 +180,9 @@ fn places_in(table: &Table, id: u16) -> BoardPlaces
 
 /// Asks a settled device who it is, and which board.
 pub fn ask_settled<R: Rig>(rig: &mut R, table: &Table) -> Result<Board, Fault>
-    ensures unwritten { let old = R.view rig.old in let new = R.view rig.new in
-        GoesOn AppendsNothing old.calls new.calls }
-    ensures cause { let old = R.view rig.old in let new = R.view rig.new in
-        HasSessionCause old new result }
-    ensures few { let old = R.view rig.old in let new = R.view rig.new in
-        GoesOn (AreFew most_of_asking) old.calls new.calls }
-    ensures order { let old = R.view rig.old in let new = R.view rig.new in
-        (torn : Bool) → IfOk result (λ board. (steps : List Step)
-        × IsAnswered table.now board steps × GoesOn (IsInOrder torn steps) old.calls new.calls) }
-    ensures stops { let old = R.view rig.old in let new = R.view rig.new in
-        (torn : Bool) → Stops (Begin (AsksBoard table.now)) torn old new result }
-    ensures sent { IfErr result IsOfLine }
-    ensures kept { let old = R.view rig.old in let new = R.view rig.new in
-        old.is_honest → new.journal ≡ old.journal }
-    ensures honest { let old = R.view rig.old in let new = R.view rig.new in
-        old.is_honest → IsSettled old.device
-        → Asks old new result (IsBoardOf table.now old.device.chip) }
+    ensures { let old = R.view rig.old in let new = R.view rig.new in
+        AsksSettled most_of_asking (IsAnswered table.now)
+        (IsBoardOf table.now old.device.chip) old new result }
 {
     let told = ask(rig)?;
     let places = places_in(table, told.id);
