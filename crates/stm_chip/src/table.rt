@@ -40,6 +40,13 @@ impl Table {
         first_with(&self.chips, id)
     }
 
+    /// The chips of the table, in its order.
+    pub fn chips(&self) -> &[Chip]
+        ensures { result.now ≡ self.now }
+    {
+        &self.chips
+    }
+
     /// The table with this chip in the place of the one of its id. Where there is none, the table
     /// stays as it is.
     pub fn with_chip(self, chip: Chip) -> Table

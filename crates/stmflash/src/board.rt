@@ -49,14 +49,7 @@ pub fn tells_board(chip: &Chip) -> bool {
 
 /// Whether a chip of the table does.
 pub fn has_telling_chip(table: &Table) -> bool {
-    for id in 0..=u16::MAX {
-        if let Some(chip) = table.find(id) {
-            if tells_board(chip) {
-                return true;
-            }
-        }
-    }
-    false
+    table.chips().iter().any(|chip| tells_board(chip))
 }
 
 /// Whether a device is asked, by the journal, which is read for that. A session that wants a finished
