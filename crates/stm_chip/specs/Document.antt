@@ -1,6 +1,6 @@
 -- What the text of a chip table says: its chips, or its first fault.
-use Rattle.std.specs.Prelude.{ℕ, ◌≡◌, ◌≢◌, ◌↔◌, ◌+◌, ◌⊎◌, List, [], ◌∷◌, ◌++◌, length, map, Vec, None}
-use Rattle.std.specs.Prelude.{Some, IsSome, codes, All, AllPairs, Contains, IsUtf8}
+use Rattle.std.specs.Prelude.{ℕ, ◌≡◌, ◌≢◌, ◌↔◌, ◌+◌, ◌⊎◌, List, [], ◌∷◌, ◌++◌, length, map, Vec}
+use Rattle.std.specs.Prelude.{None, Some, IsSome, codes, All, AllPairs, Contains, IsUtf8}
 use Rattle.std.specs.declared.alloc.Global.{Global}
 use Rattle.toml.specs.Data.{Data, Members, array, as_table, get_member}
 use Rattle.toml.specs.View.{items_of, view}
@@ -37,10 +37,12 @@ pub record IsChipWith (chips : List ChipData) (id : ℕ) (chip : ChipData) : Typ
 
 -- the one chip with this id is the same in both
 abbrev pub HaveSameChip : List ChipData → List ChipData → ℕ → Type 0
-HaveSameChip chips others id = (chip : ChipData) → (IsChipWith chips id chip) ↔ (IsChipWith others id chip)
+HaveSameChip chips others id =
+    (chip : ChipData) → (IsChipWith chips id chip) ↔ (IsChipWith others id chip)
 
 -- these chips with this one in the place of that of its id
-pub record HaveInPlace (chips : List ChipData) (chip : ChipData) (new : List ChipData) : Type 0 where
+pub record HaveInPlace (chips : List ChipData) (chip : ChipData)
+    (new : List ChipData) : Type 0 where
   pub here : ¬ IsNewId chips chip.id → IsChipWith new chip.id chip
   pub others : (id : ℕ) → id ≢ chip.id → HaveSameChip chips new id
   pub ids : (id : ℕ) → (IsNewId chips id) ↔ (IsNewId new id)
