@@ -9,6 +9,7 @@ import re
 import signal
 import subprocess
 import sys
+import tempfile
 import unittest
 import unittest.mock
 
@@ -20,6 +21,8 @@ FLASH = 0x08000000
 NOTHING = b"ERROR: nothing that was written or erased at this port can be taken back\n"
 # page 5 of a flash of 55 is to be erased, and was not yet
 STOPPED = "stmjournal 2 0412\nopen 1\npage 5 " + "55" * 1024 + "\nerase 5\n"
+# behind a header: that page can be given back
+KEPT = b"open 1\npage 5 " + b"55" * 1024 + b"\nend 1\n"
 
 
 def module(name):
@@ -68,6 +71,18 @@ class Words(LinePlace):
         board.stop()
         self.remove("ttyUSB0.flash.line")
         return self.board()
+
+    def telling(self, data, byte):
+        """A board that tells a unique id of this byte alone."""
+        self.store("ttyUSB0.flash.board", b"unique " + 12 * byte.encode() + b"\n")
+        return self.flash(data)
+
+    def unplugged(self, board):
+        """The flash of a board that is taken away."""
+        flash = board.store()
+        board.stop()
+        self.remove("ttyUSB0.flash.line")
+        return flash
 
     def folder_of_port(self):
         return os.path.join(".local", "state", "stmflash", "ports", module("journals").name_of(self.path("ttyUSB0")))
@@ -326,18 +341,6 @@ class TakingBack(Words):
         self.well("--undo")
         self.assertEqual(here.store(), COUNTING)
 
-    def telling(self, data, byte):
-        """A board that tells a unique id of this byte alone."""
-        self.store("ttyUSB0.flash.board", b"unique " + 12 * byte.encode() + b"\n")
-        return self.flash(data)
-
-    def unplugged(self, board):
-        """The flash of a board that is taken away."""
-        flash = board.store()
-        board.stop()
-        self.remove("ttyUSB0.flash.line")
-        return flash
-
     def test_a_killed_keep_is_ended(self):
         self.flash(COUNTING)
         self.store("image", b"new")
@@ -384,6 +387,203 @@ class TakingBack(Words):
             self.assertEqual([line for line in called if not line.startswith(" ")], [])
             self.assertEqual([line.split()[0] for line in called if "--fresh" in line], ["undo"] * claimed)
             board = self.reset(board)
+
+
+class Boards(Words):
+    """Boards that take one another's place at a port."""
+
+    def setUp(self):
+        super().setUp()
+        self.store("table", TABLE + b"unique = [0x1FFFF7E8, 12]\n")
+        self.store("image", b"new")
+
+    def put_aside(self, count, header, first=1):
+        """So many journals that were put aside, under one header: each keeps page 5, of 55."""
+        for number in range(first, first + count):
+            self.store(os.path.join(self.folder_of_port(), f"kept-{number:06d}"), header + KEPT)
+
+    def test_other_boards_dont_cost_the_only_way_back(self):
+        here = self.telling(COUNTING, "A1")
+        self.well("-w", "image", "-g", "0")
+        first = self.unplugged(here)
+        there = self.telling(ERASED, "B2")
+        self.put_aside(9, b"stmjournal 3 0412 " + 12 * b"B2" + b"\n", 2)
+        self.well("-w", "image", "-g", "0")
+        self.assertEqual(self.journals(), [f"kept-{number:06d}" for number in (1, *range(4, 12))])
+        self.unplugged(there)
+        here = self.telling(first, "A1")
+        self.well("--undo")
+        self.assertEqual(here.store(), COUNTING)
+
+    def test_an_undo_passes_over_the_journal_in_use_of_another_board(self):
+        here = self.telling(COUNTING, "A1")
+        self.well("-w", "image", "-g", "0")
+        first = self.unplugged(here)
+        there = self.telling(ERASED, "B2")
+        self.well("-w", "image")
+        second = self.unplugged(there)
+        here = self.telling(first, "A1")
+        said = self.well("--undo")
+        self.assertEqual(said.err, b"stm32flash: another board was at this port before: its journal is put aside\n")
+        self.assertEqual(self.unplugged(here), COUNTING)
+        there = self.telling(second, "B2")
+        self.well("--undo")
+        self.assertEqual(there.store(), ERASED)
+
+    def test_an_undo_passes_over_another_kind_of_chip(self):
+        self.store("table", self.held("table") + TABLE.replace(b"412", b"410"))
+        board = self.flash(COUNTING)
+        self.well("-w", "image", "-g", "0")
+        self.put_aside(1, b"stmjournal 2 0410\n", 2)
+        board = self.reset(board)
+        self.well("--undo")
+        self.assertEqual(board.store(), COUNTING)
+        self.assertEqual(self.journals(), ["journal", "kept-000002"])
+        self.assertEqual(self.words("-m", "8n1", "--undo").err, NOTHING)
+
+    def test_an_erased_chip_ends_its_own_ways_back_alone(self):
+        board = self.telling(COUNTING, "B2")
+        os.makedirs(self.path(self.folder_of_port()))
+        for number, header in enumerate((b"3 0412 " + 12 * b"A1", b"2 0410", b"2 0412", b"3 0412 " + 12 * b"B2"), 1):
+            self.put_aside(1, b"stmjournal " + header + b"\n", number)
+        said = self.well("-k")
+        self.assertEqual(said.err, b"")
+        self.assertEqual(self.journals(), ["ended-000003", "ended-000004", "kept-000001", "kept-000002"])
+        # the next number is none that has been there
+        self.reset(board)
+        self.well("-w", "image", "-g", "0")
+        self.assertIn("kept-000005", self.journals())
+
+    def test_an_erased_chip_that_doesnt_tell_its_board(self):
+        self.flash(COUNTING)
+        os.makedirs(self.path(self.folder_of_port()))
+        self.put_aside(1, b"stmjournal 3 0412 " + 12 * b"A1" + b"\n")
+        said = self.well("-k")
+        self.assertIn(b"ended-000001 may be another's, but isn't looked at any more\n", said.err)
+        self.assertEqual(self.journals(), ["ended-000001"])
+
+    def test_an_erase_of_the_chip_that_fails_tells_where_the_ways_back_are(self):
+        self.flash(COUNTING)
+        self.well("-w", "image")
+        self.remove("bin/stmflash")
+        self.store("bin/stmflash", f'#!/bin/sh\n[ "$1" != protect ] || exec {program()} false\nexec {program()} "$@"\n'.encode())
+        os.chmod(self.path("bin/stmflash"), 0o755)
+        said = self.words("-m", "8n1", "-k")
+        self.assertEqual(said.status, 1)
+        self.assertIn(b"ERROR: whether the chip is erased isn't known; what could be undone is kept as ", said.err)
+        self.assertEqual(self.journals(), ["ended-000001"])
+
+    def test_a_journal_that_cant_be_read_is_told_by_its_name(self):
+        board = self.flash(COUNTING)
+        self.well("-w", "image", "-g", "0")
+        bad = os.path.join(self.folder_of_port(), "kept-000002")
+        self.store(bad, b"nonsense\n")
+        said = self.words("--log")
+        self.assertEqual(said.status, 1)
+        self.assertIn(b"bad journal line 1: it can't be read\n", said.out)
+        self.assertIn(b"1 can be undone\n", said.out)
+        board = self.reset(board)
+        said = self.words("-m", "8n1", "--undo")
+        self.assertEqual(said.status, 1)
+        self.assertIn(b"kept-000002 is the newest and can't be read", said.err)
+        self.remove(bad)
+        self.well("--undo")
+        self.assertEqual(board.store(), COUNTING)
+        self.store(os.path.join(self.folder_of_port(), "journal"), b"nonsense\n")
+        said = self.words("-m", "8n1")
+        self.assertIn(b"ERROR: the journal of this port can't be read; it is " + self.path(self.folder_of_port()).encode(), said.err)
+
+
+class Dropping(unittest.TestCase):
+    """Which of the journals that were put aside are dropped."""
+
+    def setUp(self):
+        folder = tempfile.TemporaryDirectory(prefix="stmflash-")
+        self.addCleanup(folder.cleanup)
+        with unittest.mock.patch.dict(os.environ, XDG_STATE_HOME=folder.name):
+            self.journals = module("journals").Journals("/dev/ttyUSB0")
+        self.journals.make()
+
+    def keep(self, header, size=0):
+        """Puts one aside, as a call does; what it told."""
+        with open(self.journals.next_kept(), "wb") as file:
+            file.write(header + b"\n" + b"." * size)
+        told = io.StringIO()
+        with contextlib.redirect_stderr(told):
+            self.journals.drop_old()
+        return told.getvalue()
+
+    def numbers(self, word="kept"):
+        return [int(path[-6:]) for path in self.journals.numbered(word)]
+
+    def test_boards_that_are_swapped_keep_eight_each(self):
+        for _ in range(10):
+            for byte in (b"A1", b"B2"):
+                self.assertEqual(self.keep(b"stmjournal 3 0412 " + 12 * byte), "")
+        self.assertEqual(self.numbers(), list(range(5, 21)))
+
+    def test_one_board_often_costs_others_nothing(self):
+        others = [b"stmjournal 3 0412 " + 12 * b"A1", b"stmjournal 3 0410 " + 12 * b"B2", b"stmjournal 2 0412", b"stmjournal 1 0410",
+                  b"nonsense"]
+        for header in (*others, *20 * [b"stmjournal 3 0412 " + 12 * b"B2"]):
+            self.assertEqual(self.keep(header), "")
+        self.assertEqual(self.numbers(), [*range(1, 6), *range(18, 26)])
+
+    def test_journals_without_a_board_count_by_the_chip_and_bad_ones_together(self):
+        for header in (b"stmjournal 2 0412", b"stmjournal 1 0412", b"stmjournal 2 0410", b"", b"stmjournal 3 0412 A1"):
+            for _ in range(5):
+                self.keep(header)
+        self.assertEqual(self.numbers(), [*range(3, 16), *range(18, 26)])
+
+    def test_many_boards_keep_one_each_until_there_is_no_room(self):
+        def header(number):
+            return f"stmjournal 3 0412 {number:024X}".encode()
+        half, line = 1 << 19, f"stm32flash: no room for more than 1000 journals, or 5 MiB, of a port: {self.journals.folder}/kept-00000"
+        with unittest.mock.patch.object(module("journals"), "ROOM", (10 * half) + 4096):
+            for number, size in ((1, half), (2, half), (3, half), (4, half), (5, half), (1, 2 * half), (7, 2 * half)):
+                self.assertEqual(self.keep(header(number), size), "")
+            # the old one of the first board goes before the only one of another
+            self.assertEqual(self.keep(header(8), 2 * half), f"{line}1 was removed\n")
+            told = self.keep(header(9), half)
+            self.assertEqual(told, f"{line}2 was removed, the last that was put aside of the board {2:024X}\n")
+            self.assertEqual(self.numbers(), list(range(3, 10)))
+            # the very newest stays, whatever it has
+            self.keep(header(10), 12 * half)
+            self.assertEqual(self.numbers(), [10])
+        with unittest.mock.patch.object(module("journals"), "MOST", 3):
+            self.keep(header(11))
+            self.keep(header(12))
+            told = self.keep(header(11))
+            self.assertIn("kept-000011 was removed\n", told)
+            self.assertEqual(self.numbers(), [10, 12, 13])
+
+    def test_what_was_ended_goes_first(self):
+        own = module("owner").Owner("0412", "A1" * 12)
+        header = b"stmjournal 3 0412 " + 12 * b"B2"
+        with unittest.mock.patch.object(module("journals"), "ROOM", 3 << 20):
+            self.keep(header, 1 << 20)
+            self.keep(b"stmjournal 2 0412", 1 << 20)
+            self.assertEqual(list(self.journals.set_apart(own).values()), [module("owner").Owner("0412", None)])
+            told = self.keep(header, 1 << 20)
+            self.assertIn("ended-000002 was removed\n", told)
+        self.assertEqual((self.numbers(), self.numbers("ended")), ([1, 3], []))
+
+    def test_one_that_cant_be_removed_stays(self):
+        for _ in range(8):
+            self.keep(b"stmjournal 2 0412")
+        with unittest.mock.patch.object(module("journals").os, "remove", side_effect=PermissionError(13, "Permission denied")):
+            told = self.keep(b"stmjournal 2 0412")
+        self.assertEqual(told, f"stm32flash: {self.journals.folder}/kept-000001 is too old, and stays: Permission denied\n")
+
+    def test_a_folder_that_cant_be_read_isnt_taken_for_an_empty_one(self):
+        with unittest.mock.patch.object(module("journals").os, "listdir", side_effect=PermissionError(13, "Permission denied")):
+            self.assertRaisesRegex(module("fault").Fault, "Permission denied; journals are kept there", self.journals.kept)
+
+    def test_the_header_is_behind_what_is_void(self):
+        path = os.path.join(self.journals.folder, "kept-000001")
+        with open(path, "wb") as file:
+            file.write(b"stmjour!\nstmjournal 3 0412 " + 12 * b"A1" + b"\nopen 1\n")
+        self.assertEqual(module("owner").owner_of(path), module("owner").Owner("0412", "A1" * 12))
 
 
 class Parts(unittest.TestCase):
@@ -476,15 +676,6 @@ class Parts(unittest.TestCase):
                 unittest.mock.patch.object(journals, "is_pty", lambda _: False):
             names = [journals.name_of(port) for port in ("/dev/ttyUSB3", "/dev/serial/by-id/adapter", "/dev/ttyS0")]
         self.assertEqual(names, ["pci-usb-0:2", "pci-usb-0:2", "ttyS0"])
-
-    def test_old_journals_are_dropped(self):
-        journals = module("journals")
-        with unittest.mock.patch.object(journals.os, "listdir", lambda _: [f"kept-{i:06d}" for i in range(1, 12)] + ["other"]), \
-                unittest.mock.patch.object(journals.os, "remove") as removed:
-            held = journals.Journals("/dev/ttyUSB0")
-            held.drop_old()
-            self.assertEqual([call.args[0][-6:] for call in removed.call_args_list], ["000001", "000002", "000003"])
-            self.assertTrue(held.next_kept().endswith("kept-000012"))
 
     def test_the_manual_page_has_every_option(self):
         with open(os.path.join(TOP, "line", "stmflash-as-stm32flash.1"), encoding="ascii") as file:

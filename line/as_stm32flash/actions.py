@@ -171,14 +171,21 @@ class Actions:
             "k": ("readout-unprotect", "Read-UnProtecting", "read-unprotect")}[self.words.action]
         self.told.line(f"{doing} flash")
         self.board.put_aside()
-        if self.words.action == "k":
-            # the whole chip is erased: no page is what a journal knows
-            self.board.journals.set_apart()
+        ended = self.end_ways_back() if self.words.action == "k" else {}
         try:
             self.board.use("protect", kind)
         except Failed as fault:
-            raise Fault(f"Failed to {failed} flash\n{fault}") from None
+            kept = f"\nERROR: whether the chip is erased isn't known; what could be undone is kept as {', '.join(ended)}"
+            raise Fault(f"Failed to {failed} flash\n{fault}" + kept * bool(ended)) from None
         self.told.line("Done.")
+
+    def end_ways_back(self):
+        """The whole chip is erased: no page is what a journal of it knows. Answers where they are."""
+        ended = self.board.journals.set_apart(self.board.own)
+        for path, owner in ended.items():
+            if owner.board not in (None, self.board.own.board):
+                note(f"this chip doesn't tell which board it is: {path} may be another's, but isn't looked at any more")
+        return ended
 
     def start(self, address):
         """Starts a program. What was done stays, and its journal is put aside: as long as the program leaves the flash alone,

@@ -7,7 +7,8 @@ import signal
 import subprocess
 import time
 
-from .fault import Failed
+from .fault import Failed, Fault
+from .owner import Owner, owner_of
 from .patience import UNKNOWN
 
 # after how many seconds without an answer a board is given up; an undo has stmflash's own patience
@@ -25,6 +26,8 @@ class Board:
 
     def __init__(self, tools, journals, wait):
         self.tools, self.journals, self.wait = tools, journals, wait
+        # which board it is, once it was asked
+        self.own = Owner()
         # that a reset was claimed isn't believed: a sequence may move signals that no reset hangs on
         self.settings = {name: value for name, value in os.environ.items()
                          if name not in ("STMFLASH_FRESH", "STMFLASH_JOURNAL", "STMFLASH_TABLE", "STMFLASH_WAIT")}
@@ -100,23 +103,32 @@ class Board:
             else:
                 self.look("keep")
 
-    def others(self):
-        """The journals that were put aside and are of another board than the one that is there. The device isn't asked where none
-        of them names a board, nor believed where it doesn't answer."""
-        named = {path: self.board_of(path) for path in self.journals.kept()}
-        if not any(named.values()):
-            return []
+    def take_newest(self):
+        """Makes the newest that was put aside of the board that is there the one in use; whether there was one. The device isn't
+        asked where none was put aside, nor believed where it doesn't answer: then it is the newest of all."""
+        kept = {path: owner_of(path) for path in self.journals.kept()}
+        own = self.ask_owner() if kept else None
+        mine = [path for path, owner in kept.items() if own is None or own.takes(owner)]
+        if mine:
+            self.refuse_bad(mine[-1])
+            self.journals.take(mine[-1])
+        return bool(mine)
+
+    def refuse_bad(self, path):
+        """What is older can't be taken back before the newest."""
+        try:
+            self.run(["log", "--journal", path])
+        except Failed as fault:
+            raise Fault(f"{fault}\nERROR: {path} is the newest and can't be read; without it, older ones would be taken back") from None
+
+    def ask_owner(self):
+        """Which board is there; None where it doesn't answer."""
         try:
             # beside a journal that isn't there, since the one in use may be another board's too
-            own = self.information(journal=self.journals.none).get("board")
+            self.information(journal=self.journals.none)
         except Failed:
-            return []
-        return [path for path, board in named.items() if board not in (None, own)]
-
-    def board_of(self, path):
-        """Which board a journal names, or None."""
-        found = re.search("^board ([0-9A-F]+)$", self.run(["log", "--journal", path]), re.M)
-        return found[1] if found else None
+            return None
+        return self.own
 
     def kept(self, act):
         """Does a write that keeps its journal in the same session, as the newest that was put aside."""
@@ -128,7 +140,9 @@ class Board:
 
     def information(self, **more):
         """What the device says of itself."""
-        return dict(line.split(" ", 1) for line in self.use("info", **more).splitlines() if " " in line)
+        told = dict(line.split(" ", 1) for line in self.use("info", **more).splitlines() if " " in line)
+        self.own = Owner(told.get("id"), told.get("board"))
+        return told
 
     def take_back(self, fresh=False):
         """Takes back the newest write or erase. What was stopped may leave the board busy: it is waited for as stmflash does."""

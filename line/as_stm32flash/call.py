@@ -80,12 +80,17 @@ def show_log(board):
     """What can be taken back at a port, the newest journal first."""
     journals = board.journals
     paths = [path for path in (journals.live, *reversed(journals.kept())) if os.path.exists(path)]
+    status = 0
     for path in paths:
         print(f"journal {path}")
-        print(board.run(["log", "--journal", path]), end="")
+        try:
+            print(board.run(["log", "--journal", path]), end="")
+        except Failed as fault:
+            print(f"{fault}: it can't be read")
+            status = 1
     if not paths:
         print(f"nothing was written or erased yet; journals would stand in {journals.folder}")
-    return 0
+    return status
 
 
 # ---- inside
@@ -113,8 +118,11 @@ def inside(program):
 
 def take_back_first(board, asked):
     """What an earlier call has begun at this port and never ended is taken back before anything else."""
-    if not board.is_unfinished():
-        return
+    try:
+        if not board.is_unfinished():
+            return
+    except Failed as fault:
+        raise Fault(f"{fault}\nERROR: the journal of this port can't be read; it is {board.journals.live}") from None
     note("an earlier call was stopped in the midst of a write, an erase or an undo: that is taken back first")
     try:
         board.take_back(fresh=was_reset(asked))
@@ -134,8 +142,7 @@ def greet(board, told, table):
         information = board.information()
     except Failed as fault:
         if str(fault) in OTHERS:
-            board.put_aside()
-            note(f"{OTHERS[str(fault)]} was at this port before: its journal is put aside")
+            put_other_aside(board, fault)
             information = board.information()
         elif str(fault) == "no answer from the device":
             raise Fault("Failed to init device, timeout.") from None
@@ -154,14 +161,29 @@ def refuse_start(asked, chip):
         raise Fault(f"ERROR: -g 0x{asked.start_at:08x}: not in the flash of this chip, which ends at 0x{chip.end:08x}")
 
 
+def put_other_aside(board, fault):
+    board.put_aside()
+    note(f"{OTHERS[str(fault)]} was at this port before: its journal is put aside")
+
+
 def undo(board, asked):
-    """Takes back the newest write or erase at this port, also of a journal that was put aside."""
-    while not board.is_unfinished() and not board.undoable():
-        if not board.journals.take_newest(board.others()):
-            raise Fault("ERROR: nothing that was written or erased at this port can be taken back")
+    """Takes back the newest write or erase of the board at this port, also of a journal that was put aside."""
     try:
-        board.take_back(fresh=board.is_unfinished() and was_reset(asked))
+        undo_newest(board, asked)
     except Failed as fault:
-        raise Fault(f"{fault}\nERROR: not taken back; the journal is {board.journals.live}") from None
+        if str(fault) not in OTHERS or board.is_unfinished():
+            raise Fault(f"{fault}\nERROR: not taken back; the journal is {board.journals.live}") from None
+        put_other_aside(board, fault)
+        try:
+            undo_newest(board, asked)
+        except Failed as again:
+            raise Fault(f"{again}\nERROR: not taken back; the journal is {board.journals.live}") from None
     print("Taken back: the newest write or erase at this port.", flush=True)
     return 0
+
+
+def undo_newest(board, asked):
+    while not board.is_unfinished() and not board.undoable():
+        if not board.take_newest():
+            raise Fault("ERROR: nothing that was written or erased at this port can be taken back")
+    board.take_back(fresh=board.is_unfinished() and was_reset(asked))

@@ -5,10 +5,14 @@ import os
 import re
 
 from .fault import Fault
+from .owner import owner_of
 from .patience import is_pty
+from .told import note
 
-# how many are kept that were put aside, and from how many bytes on the one in use is put aside before a write
-KEPT, LARGE = 8, 8 << 20
+# how many of each board are kept that were put aside; and how many of all boards at a port, and how many bytes of them
+KEPT, MOST, ROOM = 8, 1000, 256 << 20
+# from how many bytes on the one in use is put aside before a write
+LARGE = 8 << 20
 BY_PATH = "/dev/serial/by-path"
 
 
@@ -29,15 +33,21 @@ class Journals:
 
     def kept(self):
         """The journals that were put aside, the newest last."""
+        return self.numbered("kept")
+
+    def numbered(self, word):
         try:
-            found = [name for name in os.listdir(self.folder) if re.fullmatch("kept-[0-9]{6}", name)]
-        except OSError:
+            found = [name for name in os.listdir(self.folder) if re.fullmatch(word + "-[0-9]{6}", name)]
+        except FileNotFoundError:
             return []
+        except OSError as error:
+            raise Fault(f"ERROR: {self.folder}: {error.strerror}; journals are kept there") from None
         return [os.path.join(self.folder, name) for name in sorted(found)]
 
     def next_kept(self):
-        before = self.kept()
-        return os.path.join(self.folder, f"kept-{int(before[-1][-6:]) + 1 if before else 1:06d}")
+        """A number that none has, also of those that were ended: they were kept under the same."""
+        last = max((int(path[-6:]) for path in (*self.kept(), *self.numbered("ended"))), default=0)
+        return os.path.join(self.folder, f"kept-{last + 1:06d}")
 
     def end_keeping(self):
         """One that was killed while it put the journal aside may have left it both names."""
@@ -46,30 +56,80 @@ class Journals:
             os.remove(self.live)
 
     def drop_old(self):
-        for path in self.kept()[:-KEPT]:
-            os.remove(path)
+        """Drops what is older than the newest ones of each board. Where those are more than there is room for, the oldest of all
+        go too, and are told: those that were ended, then those that aren't their board's newest, then these."""
+        ended, kept = self.by_owner("ended"), self.by_owner("kept")
+        for path in (path for held in (*ended.values(), *kept.values()) for path in held[KEPT:]):
+            remove(path)
+        newest = {held[0]: owner for owner, held in kept.items()}
+        rest = sorted(path for held in ended.values() for path in held[:KEPT])
+        rest += sorted(path for held in kept.values() for path in held[1:KEPT])
+        rest += sorted(newest)
+        sizes = [size_of(path) for path in rest]
+        count, used = len(rest), sum(sizes)
+        # the very newest stays, whatever it has
+        for path, size in zip(rest[:-1], sizes):
+            if count <= MOST and used <= ROOM:
+                break
+            count, used = count - 1, used - size
+            last = f", the last that was put aside {newest[path]}" if path in newest else ""
+            if remove(path):
+                note(f"no room for more than {MOST} journals, or {ROOM >> 20} MiB, of a port: {path} was removed{last}")
 
-    def take_newest(self, others=()):
-        """Makes the newest that was put aside, and is none of the others, the one in use; whether there was one."""
-        kept = [path for path in self.kept() if path not in others]
-        if kept:
-            os.replace(kept[-1], self.live)
-        return bool(kept)
+    def by_owner(self, word):
+        """The journals of this word, of each owner the newest first."""
+        found = {}
+        for path in reversed(self.numbered(word)):
+            found.setdefault(owner_of(path), []).append(path)
+        return found
 
-    def set_apart(self):
-        """Puts all of them where no undo looks: what they kept isn't what the flash held any more."""
+    def take(self, path):
+        """Makes one that was put aside the one in use."""
+        rename(path, self.live)
+
+    def set_apart(self, own):
+        """Puts those that may be of this board where no undo looks: what they kept isn't what the flash held any more. Answers
+        where they are now, and whose."""
+        ended = {}
         for path in self.kept():
-            os.replace(path, path.replace("kept-", "ended-"))
+            owner = owner_of(path)
+            if owner.may_be(own):
+                name = path.replace("kept-", "ended-")
+                rename(path, name)
+                ended[name] = owner
+        self.drop_old()
+        return {name: owner for name, owner in ended.items() if os.path.exists(name)}
 
     def size(self):
         """How many bytes the one in use has: each write and erase adds some before it changes anything."""
-        try:
-            return os.path.getsize(self.live)
-        except OSError:
-            return 0
+        return size_of(self.live)
 
     def is_large(self):
         return self.size() > LARGE
+
+
+def size_of(path):
+    try:
+        return os.path.getsize(path)
+    except OSError:
+        return 0
+
+
+def rename(path, to):
+    try:
+        os.replace(path, to)
+    except OSError as error:
+        raise Fault(f"ERROR: {path} to {to}: {error.strerror}") from None
+
+
+def remove(path):
+    """Whether one that is too old has gone; where it can't go, it stays and is told."""
+    try:
+        os.remove(path)
+    except OSError as error:
+        note(f"{path} is too old, and stays: {error.strerror}")
+        return False
+    return True
 
 
 def state_folder():

@@ -1,0 +1,44 @@
+"""Whose a journal is: the chip and the board that its header names."""
+
+import dataclasses
+import re
+
+# the header is the first line that isn't void, and what was torn off before it is short
+HEADER = re.compile(rb"^stmjournal (?:[12] ([0-9A-F]{4})|3 ([0-9A-F]{4}) ((?:[0-9A-F]{2}){8,32}))$", re.M)
+BEGINNING = 4096
+
+
+@dataclasses.dataclass(frozen=True)
+class Owner:
+    """The product id of a chip and the unique id of a board, as upper-case digits; None where they aren't known."""
+
+    chip: str | None = None
+    board: str | None = None
+
+    def may_be(self, other):
+        """Whether both may be one board, as far as they are known."""
+        pairs = ((self.chip, other.chip), (self.board, other.board))
+        return all(one is None or two is None or one == two for one, two in pairs)
+
+    def takes(self, other):
+        """Whether a journal of another owner may be taken back on this board, as stmflash has it: one that names no board is any
+        board's of its kind. One that can't be read is refused by the next that reads it."""
+        return other.chip in (None, self.chip) and other.board in (None, self.board)
+
+    def __str__(self):
+        if self.chip is None:
+            return "of nobody, since it can't be read"
+        return f"of the board {self.board}" if self.board else f"of a chip {self.chip} that doesn't tell its board"
+
+
+def owner_of(path):
+    """Whose the journal at this path is; nobody's where it can't be read."""
+    try:
+        with open(path, "rb") as file:
+            found = HEADER.search(file.read(BEGINNING))
+    except OSError:
+        found = None
+    if not found:
+        return Owner()
+    short, long, board = (part and part.decode() for part in found.groups())
+    return Owner(short or long, board)
