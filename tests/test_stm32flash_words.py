@@ -148,10 +148,21 @@ class Refusals(Words):
         said = self.words(PATH="/nowhere:/usr/bin", port="ttyUSB0")
         self.assertEqual((said.status, said.err), (1, b"ERROR: stmflash isn't there, neither beside stm32flash nor in PATH\n"))
 
+    def test_a_hint_of_stmflash_is_handed_on(self):
+        self.plain()
+        self.remove("bin/stmflash")
+        fault = "stmflash: no answer from the device\\nhint: the line echoes: are RX and TX joined?\\n"
+        self.store("bin/stmflash", f"#!/bin/sh\nprintf '{fault}' >&2\nexit 1\n".encode())
+        os.chmod(self.path("bin/stmflash"), 0o755)
+        said = self.words("-m", "8n1")
+        self.assertEqual((said.status, said.err), (1, b"Failed to init device, timeout.\n"
+                                                      b"stm32flash: the line echoes: are RX and TX joined?\n"))
+
     def test_a_silent_board(self):
         self.plain()
         said = self.words("-m", "8n1")
-        self.assertEqual((said.status, said.err), (1, b"Failed to init device, timeout.\n"))
+        # a hint may follow
+        self.assertEqual((said.status, said.err.splitlines()[0]), (1, b"Failed to init device, timeout."))
 
 
 class Doing(Words):

@@ -28,6 +28,8 @@ class Board:
         self.tools, self.journals, self.wait = tools, journals, wait
         # which board it is, once it was asked
         self.own = Owner()
+        # what stmflash made of the last session that failed, if it did
+        self.hint = ""
         # that a reset was claimed isn't believed: a sequence may move signals that no reset hangs on
         self.settings = {name: value for name, value in os.environ.items()
                          if name not in ("STMFLASH_FRESH", "STMFLASH_JOURNAL", "STMFLASH_TABLE", "STMFLASH_WAIT")}
@@ -44,7 +46,7 @@ class Board:
             begun = name != "undo" and (self.journals.size() != before or fault.printed)
             if str(fault) != NO_PROTOCOL or not is_short or begun:
                 raise
-            self.wait = UNKNOWN
+            self.wait, self.hint = UNKNOWN, ""
             return self.session(name, words, self.wait, **more)
 
     def session(self, name, words, wait, show=None, out=subprocess.PIPE, files=(), journal=None):
@@ -75,12 +77,13 @@ class Board:
                               stdout=out, stderr=subprocess.PIPE, preexec_fn=tie()) as started:
             try:
                 # what is printed to a pipe is a few lines, and has room there
-                told = list(follow(started.stderr, show))
+                told, hints = follow(started.stderr, show)
                 printed = started.stdout.read().decode(errors="replace") if started.stdout else ""
             except BaseException:
                 started.terminate()
                 raise
         if started.returncode:
+            self.hint = hints[-1] if hints else ""
             raise Failed(told[-1] if told else f"stmflash ended with status {started.returncode}", printed)
         return printed
 
@@ -150,13 +153,17 @@ class Board:
 
 
 def follow(pipe, show):
-    """The faults that come from a pipe, without the program's name; `show` is handed each other line as it comes."""
+    """The faults that come from a pipe, and the hints behind them, without the words before each; `show` is handed each other
+    line as it comes."""
+    found = {"stmflash: ": [], "hint: ": []}
     for line in pipe:
         text = line.decode(errors="replace").strip()
-        if text.startswith("stmflash: "):
-            yield text.removeprefix("stmflash: ")
+        word = next(filter(text.startswith, found), None)
+        if word:
+            found[word].append(text.removeprefix(word))
         elif show:
             show(text)
+    return found.values()
 
 
 def tie():

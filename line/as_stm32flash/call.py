@@ -98,17 +98,22 @@ def show_log(board):
 def inside(program):
     asked = words.read(json.loads(os.environ[WORDS]))
     below = tools.find(program)
-    told = Told(asked)
     board = Board(below, Journals(asked.port), wait(asked.port, asked.baud))
-    board.journals.end_keeping()
-    if asked.action == "undo":
-        return undo(board, asked)
+    try:
+        board.journals.end_keeping()
+        return undo(board, asked) if asked.action == "undo" else do(board, asked, chips.read_table(below.table))
+    except Fault as fault:
+        raise Fault(str(fault) + (f"\nstm32flash: {board.hint}" if board.hint else "")) from None
+
+
+def do(board, asked, table):
+    told = Told(asked)
     told.line(f"Interface serial_posix: {asked.baud} {asked.mode.upper()}")
     if asked.entry():
         told.lines(sequence.lines(asked.entry()))
     try:
         take_back_first(board, asked)
-        actions = Actions(asked, board, told, greet(board, told, chips.read_table(below.table)))
+        actions = Actions(asked, board, told, greet(board, told, table))
         refuse_start(asked, actions.chip)
         actions.do()
         return leaving.leave(actions)
