@@ -4,6 +4,7 @@ import os
 import pty
 import subprocess
 
+import telling
 from place import PATIENCE, Place, program, with_page
 
 TABLE = b'[[chip]]\nid = 0x410\nbase = 0x08000000\npages = [[128, 1024]]\nerase = "page"\n'
@@ -15,6 +16,8 @@ NOTE = (b"note: the image holds bytes that a device which loses power in the mid
         b"use -v, and reset before an undo\r\n")
 # and before a journal is begun
 NEW = b"note: journal journal is new\r\n"
+# and behind what began one at a board that told no unique id
+NAMELESS = b"note: this board told no unique id: use journal journal at no other\r\n"
 ERASES = (b"\x43\xbc", b"\x44\xbb")
 
 
@@ -74,7 +77,8 @@ class Progress(Place):
         came, shown = self.on_terminal(self.write)
         self.assertEqual(came, plain)
         self.assertTrue(shown.startswith(NEW))
-        shown = shown.removeprefix(NEW)
+        self.assertTrue(shown.endswith(NAMELESS))
+        shown = shown.removeprefix(NEW).removesuffix(NAMELESS)
         self.assertNotIn(b"\n", shown)
         self.assertTrue(shown.endswith(CLEAR))
         lines = shown.split(b"\x1b[K\r")
@@ -133,12 +137,23 @@ class Progress(Place):
             with self.subTest(words=words):
                 shown = self.shown_at(*words)
                 self.assertTrue(shown.startswith(NEW), shown)
-                self.assertEqual(shown.count(b"note:"), 1)
+                self.assertEqual(shown.removeprefix(NEW).removesuffix(NAMELESS).count(b"note:"), 0)
                 self.store("journal", b"")
                 self.assertNotIn(b"note:", self.on_terminal(lambda err: self.run_shown(err, *words))[1])
         self.store("image", b"\x7f\x43\xbc")
         self.assertTrue(self.shown_at("write", *place, "image").startswith(NEW + NOTE))
         self.assertNotIn(b"note:", self.on_terminal(lambda err: self.run_shown(err, "erase", "5"))[1])
+
+    def test_a_board_without_a_name_is_told_once(self):
+        """Where a write or an erase began the journal, and was done; not where the board told its unique id."""
+        self.assertTrue(self.shown_at("erase", "5").endswith(NAMELESS))
+        self.assertNotIn(b"unique", self.on_terminal(lambda err: self.run_shown(err, "erase", "6"))[1])
+        self.assertNotIn(b"unique", self.shown_at("erase", "500"))
+        self.assertNotIn(b"unique", self.shown_at("erase", "--quiet", "5"))
+        self.store("table", telling.TABLE)
+        self.assertTrue(self.shown_at("erase", "5").endswith(NAMELESS))
+        self.store("flash.board", b"unique 2B0035000A51363034393332\n")
+        self.assertNotIn(b"unique", self.shown_at("erase", "5"))
 
     def test_a_new_journal_is_told_nowhere_else(self):
         for words in (("write", "--quiet", "-f", "image"), ("erase", "--quiet", "5"), ("info",), ("info", "--raw"), ("read", "out"),

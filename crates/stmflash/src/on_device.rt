@@ -54,11 +54,16 @@ pub fn use_device<'a, R: Locks + Net + Clock + AllocGlobal, E: Write + IsTermina
         files.check_new(rt, to)?;
     }
     let output = Output::open(rt, files)?;
-    tell_notes(rt, options, &work, err);
-    if sequel.again > 0 {
-        return use_again(rt, options, &tables, work, sequel, err);
+    let is_begun = begins_journal(rt, options, &work);
+    tell_notes(options, is_begun, &work, err);
+    let steps = if sequel.again > 0 {
+        use_again(rt, options, &tables, work, sequel, err)?
+    } else {
+        use_once(rt, options, &tables, work, sequel, output, err)?
+    };
+    if is_begun && !steps.has_named_board() {
+        tell_nameless(options, err);
     }
-    let steps = use_once(rt, options, &tables, work, sequel, output, err)?;
     Ok(Steps {
         board: steps.board,
         answer: steps.answer.beside(rt.alloc(), options.table)?,
@@ -110,23 +115,36 @@ fn question_of<'a>(options: &Options<'a>, is_told: bool) -> Question<'a> {
     }
 }
 
-/// Tells on a terminal what is to be known before a device is opened: that the journal of a
-/// write or an erase isn't there yet, as one isn't whose name was mistyped; and of an
-/// image's bytes of an erase.
-fn tell_notes<R: Files, E: Write + IsTerminal>(
-    rt: &R,
-    options: &Options,
-    work: &Work,
-    err: &mut E,
-) {
-    if options.progress == Progress::Silent || !err.is_terminal() {
+/// Whether it begins a journal: a write or an erase does whose journal isn't there yet.
+fn begins_journal<R: Files>(rt: &R, options: &Options, work: &Work) -> bool {
+    work.is_change() && !is_there(rt, options.journal)
+}
+
+/// Whether notes are told: on a terminal, unless nothing is to be said.
+fn are_notes_told<E: IsTerminal>(options: &Options, err: &E) -> bool {
+    options.progress != Progress::Silent && err.is_terminal()
+}
+
+/// Tells on a terminal what is to be known before a device is opened: that a journal is begun, as
+/// one is whose name was mistyped; and of an image's bytes of an erase.
+fn tell_notes<E: Write + IsTerminal>(options: &Options, is_begun: bool, work: &Work, err: &mut E) {
+    if !are_notes_told(options, err) {
         return;
     }
-    if work.is_change() && !is_there(rt, options.journal) {
+    if is_begun {
         let _ = writeln!(err, "note: journal {} is new", Escaped(options.journal));
     }
     if work.writes_false_erases() {
         let _ = writeln!(err, "{FALSE_ERASES}");
+    }
+}
+
+/// Tells on a terminal that a journal was begun at a board that told no unique id, so that it names
+/// none, and is refused at no other board of its kind.
+fn tell_nameless<E: Write + IsTerminal>(options: &Options, err: &mut E) {
+    if are_notes_told(options, err) {
+        let name = Escaped(options.journal);
+        let _ = writeln!(err, "note: this board told no unique id: use journal {name} at no other");
     }
 }
 

@@ -41,6 +41,14 @@ impl<'a> Steps<'a> {
         }
     }
 
+    /// Whether the device was asked, and told a unique id.
+    pub fn has_named_board(&self) -> bool {
+        match &self.board {
+            Some(board) => !board.unique.is_none(),
+            None => false,
+        }
+    }
+
     /// Prints what was done, each step in its own line.
     pub fn print<O: Write>(&self, out: &mut O) -> io::Result<()> {
         self.answer.print(out)?;
