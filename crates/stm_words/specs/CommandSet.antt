@@ -150,9 +150,10 @@ abbrev pub protect_app : Environment → ValueParser → App
 protect_app e kinds = with_rule (on_device e (codes "protect")) (kind_rule kinds)
 
 abbrev pub sim_app : Environment → App
-sim_app e = with_rule (with_rule (with_rule (with_rule (with_rule (with_rule
+sim_app e = with_rule (with_rule (with_rule (with_rule (with_rule (with_rule (with_rule (with_rule
     (with_table e (codes "sim"))
     (needed_option_rule (codes "id"))) (needed_option_rule (codes "flash")))
+    (option_rule (codes "unique"))) (option_rule (codes "size")))
     (flag_rule (codes "no-lock")))
     (needed_option_rule (codes "socket")))
     (default_option_rule (codes "mode") (codes "600")))

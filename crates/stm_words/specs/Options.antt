@@ -1,5 +1,5 @@
 -- The options that every use of a device has, as words give them.
-use Rattle.std.specs.Prelude.{◌≡◌, ◌&&◌, Bool, IfSome, IsSome, IsTrue, List, ℕ, Some, codes, false, length}
+use Rattle.std.specs.Prelude.{◌≡◌, ◌&&◌, ◌%◌, ◌==◌, Bool, IfSome, IsSome, IsTrue, List, ℕ, Some, codes, false, length}
 use Rattle.std.specs.Prelude.{nat_le, option_and_then, option_map}
 use Rattle.std.specs.List.{list_all}
 use Rattle.clap.specs.Matches.{first_value}
@@ -20,6 +20,11 @@ NamesDevice given device = (word : List ℕ) × (first_value given (codes "devic
 abbrev pub are_board_digits : List ℕ → Bool
 are_board_digits text =
     nat_le 1 (length text) && nat_le (length text) 64 && list_all is_hex_digit text
+
+-- the digits of 8 to 32 bytes
+abbrev pub are_unique_digits : List ℕ → Bool
+are_unique_digits text =
+    nat_le 16 (length text) && (length text % 2 == 0) && are_board_digits text
 
 -- The board that is wanted is the word that was given under its id, by its digits; a device is
 -- asked then.

@@ -1,7 +1,7 @@
-// The digits that name a board.
+// The digits that name a board, or the unique id of one.
 ghost use Rattle.std.specs.Prelude.{◌≡◌, IfOk, IfSome, IsTrue, option_map};
 ghost use Rattle.clap.specs.Words.{first_value, found_of};
-ghost use Rattle.stm_words.specs.Options.{are_board_digits};
+ghost use Rattle.stm_words.specs.Options.{are_board_digits, are_unique_digits};
 ghost use Rattle.std.specs.Prelude.{codes};
 
 use crate::number::are_hex_digits;
@@ -14,6 +14,30 @@ fn are_board_digits(text: &[u8]) -> bool
     ensures { result ≡ are_board_digits text.now }
 {
     1 <= text.len() && text.len() <= 64 && are_hex_digits(text)
+}
+
+/// Whether a text is the unique id of a device, whole: the digits of 8 to 32 bytes.
+fn are_unique_digits(text: &[u8]) -> bool
+    ensures { result ≡ are_unique_digits text.now }
+{
+    16 <= text.len() && text.len() % 2 == 0 && are_board_digits(text)
+}
+
+/// The unique id that a simulator gets, where one is given.
+pub fn unique_digits<'a>(given: &ArgMatches<'a>) -> Result<Option<&'a str>, UsageFault<'a>>
+    ensures given { IfOk result (λ unique. first_value (found_of given.now) (codes "unique")
+        ≡ option_map (λ text. text.now) unique) }
+    ensures digits { IfOk result (λ unique.
+        IfSome unique (λ text. IsTrue (are_unique_digits text.now))) }
+{
+    let Some(text) = given.get_str("unique") else {
+        return Ok(None);
+    };
+    if are_unique_digits(text.as_bytes()) {
+        Ok(Some(text))
+    } else {
+        Err(UsageFault::BadUnique(text))
+    }
 }
 
 /// The board that is wanted, where one is.

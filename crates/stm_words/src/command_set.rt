@@ -210,6 +210,8 @@ fn sim<'a>(alloc: Global, environment: Environment<'a>) -> Result<Command<'a>, A
     with_table(alloc, environment, "sim", help::SIM)?
         .arg(needed_option(alloc, "id", "ID", help::ID))?
         .arg(needed_option(alloc, "flash", "FILE", help::FLASH))?
+        .arg(option(alloc, "unique", "HEX", help::UNIQUE))?
+        .arg(option(alloc, "size", "KIB", help::SIZE))?
         .arg(flag(alloc, "no-lock", help::NO_LOCK))?
         .arg(needed_option(alloc, "socket", "PATH", help::SOCKET))?
         .arg(default_option(alloc, "mode", "MODE", "600", help::MODE))?

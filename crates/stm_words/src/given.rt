@@ -67,6 +67,22 @@ pub fn number_within<'a>(
     }
 }
 
+/// The same, where a number was given.
+pub fn spare_number<'a>(
+    given: &ArgMatches<'a>,
+    id: &str,
+    limit: u32,
+) -> Result<Option<u32>, UsageFault<'a>>
+    ensures within { IfOk result (λ spare. IfSome spare (λ n. (1 ≤ n) × (n ≤ limit))) }
+    ensures number { IfOk result (λ spare.
+        option_and_then number_of (first_value (found_of given.now) id.now) ≡ spare) }
+{
+    if given.get_str(id).is_none() {
+        return Ok(None);
+    }
+    Ok(Some(number_within(given, id, limit)?))
+}
+
 /// The stop, where one is asked for.
 pub fn stop<'a>(given: &ArgMatches<'a>) -> Result<Option<u32>, UsageFault<'a>> {
     if given.get_str("stop").is_none() {

@@ -105,6 +105,11 @@ pub const ID: &str = "The chip's id: four hexadecimal digits";
 pub const FLASH: &str =
     "The file that holds the flash; where the device stands is kept in FILE.line";
 
+pub const UNIQUE: &str =
+    "The unique id that the device gets, in hexadecimal digits; it is kept in FILE.board";
+
+pub const SIZE: &str = "How many KiB of flash the device gets, 1 to 65534; kept in FILE.board too";
+
 pub const SOCKET: &str = "The socket that is made, and removed at the end";
 
 pub const MODE: &str = "Who may connect: the mode of the socket, 1 to 3 octal digits";

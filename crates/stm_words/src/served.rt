@@ -1,8 +1,9 @@
 // A simulator that is to be served on a socket.
 
+use crate::board_digits::unique_digits;
 use crate::device::parse_id;
 use crate::environment::Environment;
-use crate::given::{flag_or, number_within, word};
+use crate::given::{flag_or, number_within, spare_number, word};
 use crate::mode::parse_mode;
 use crate::table_names::TableNames;
 use crate::usage_fault::UsageFault;
@@ -17,6 +18,11 @@ pub struct Served<'a> {
     pub id: u16,
     /// The file that holds the flash.
     pub flash: &'a str,
+    /// The unique id that the simulator gets: the hexadecimal digits of 8 to 32 bytes. None: that
+    /// which it has.
+    pub unique: Option<&'a str>,
+    /// How many KiB of flash it gets: 1 to 65,534. None: what it has.
+    pub size: Option<u32>,
     /// The path of the socket.
     pub socket: &'a str,
     /// The mode of the socket: who may connect.
@@ -40,6 +46,8 @@ impl<'a> Served<'a> {
             return Err(UsageFault::BadNumber(id));
         };
         let flash = word(given, "flash")?;
+        let unique = unique_digits(given)?;
+        let size = spare_number(given, "size", 65_534)?;
         let socket = word(given, "socket")?;
         let mode = word(given, "mode")?;
         let Some(mode) = parse_mode(mode) else {
@@ -49,6 +57,8 @@ impl<'a> Served<'a> {
             table,
             id,
             flash,
+            unique,
+            size,
             socket,
             mode,
             clients: number_within(given, "clients", 1_000_000)?,

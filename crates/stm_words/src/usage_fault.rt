@@ -14,6 +14,18 @@ pub enum UsageFault<'a> {
     /// The word is no unique id of a board, nor the end of one.
     #[error("usage: bad board {0}")]
     BadBoard(&'a str),
+    /// The word is no unique id of a device.
+    #[error("usage: bad unique id {0}")]
+    BadUnique(&'a str),
+    /// The unique id of a simulator has another length, in bytes, than the chip's.
+    #[error("usage: unique id {0} is not {1} bytes")]
+    UniqueLength(&'a str, u8),
+    /// A simulator is to tell a unique id, and the table names no place for it of this chip's.
+    #[error("usage: chip {0:04X} has no unique in the table")]
+    NoUnique(u16),
+    /// A simulator is to tell its size, and the table names no place for it of this chip's.
+    #[error("usage: chip {0:04X} has no size_at in the table")]
+    NoSize(u16),
     /// A board is wanted, and the device isn't to be asked which it is.
     #[error("usage: give --board or --no-board, not both")]
     BoardUnasked,
