@@ -1,10 +1,11 @@
-"""The simulator as a board: a file beside its flash says its unique id, and how many KiB its flash has."""
+"""The simulator as a board: a file beside its flash says its unique id, and how many KiB its flash has. Words of `sim` write it."""
 
 import os
 import tomllib
 
 import telling
 from place import TOP, Place
+from served import WAIT, Served
 
 HEAD = "[[chip]]\n"
 NAME = "2B0035000A51363034393332"
@@ -88,6 +89,94 @@ class SimulatedBoard(Place):
                 self.assertNoBoard()
         self.store("flash.board", size + 248 * b"\n")
         self.assertTold(self.at("info"), INFO % (16, 16384) + "flash 16 KiB\n")
+
+
+class GivenBoard(Served):
+    """What `sim --unique --size` makes of a simulator, also for the one in the process afterwards."""
+
+    def setUp(self):
+        super().setUp()
+        self.store("table", telling.TABLE)
+
+    def words(self, *more):
+        return ("sim", "--table", "table", "--id", "0410", "--flash", "flash", "--socket", "board", *more)
+
+    def told(self, *more):
+        """What `info` tells of a simulator that is served with these words."""
+        self.simulator = self.start(*self.words(*more))
+        self.leave(self.reach("board", self.simulator))
+        self.assertServed()
+        self.simulator = self.start(*self.words("--clients", "2"))
+        self.leave(self.reach("board", self.simulator))
+        said = self.use("info", "--wait", WAIT, device="board")
+        self.assertServed()
+        return said
+
+    def test_a_part_of_another_size_with_a_name(self):
+        served = INFO.replace("codes 00 02", "codes 00 01 02")
+        board = f"unique {NAME}\nsize 64\n".encode()
+        told = served % (64, 65536) + f"board {NAME}\nflash 64 KiB\n"
+        self.assertTold(self.told("--unique", NAME.lower(), "--size", "64"), told)
+        self.assertFile("flash.board", board)
+        self.assertFile("flash", 65536 * b"\xff")
+        # as the simulator in the process has it
+        self.assertTold(self.use("info", device="sim:0410:flash"), told.replace("codes 00 01 02", "codes 00 02"))
+        # what isn't given stays
+        self.assertTold(self.told("--unique", OTHER), told.replace(NAME, OTHER))
+        self.assertFile("flash.board", board.replace(NAME.encode(), OTHER.encode()))
+        self.assertTold(self.told(), told.replace(NAME, OTHER))
+
+    def test_a_size_alone(self):
+        self.store("flash.board", f"unique {NAME}\n".encode())
+        self.told("--size", "16")
+        self.assertFile("flash.board", f"unique {NAME}\nsize 16\n".encode())
+        self.assertFile("flash", 16384 * b"\xff")
+
+    def refused(self, text, *more, status=2):
+        board = self.held("flash.board")
+        self.assertFault(self.call(*self.words(*more)), text, status)
+        self.assertFile("flash.board", board)
+        self.assertFalse(self.is_there("board"))
+
+    def test_what_is_refused(self):
+        for digits in ("", "2B", "0x" + NAME, NAME[1:], 33 * "12", NAME[:-1] + "G"):
+            self.refused(f"usage: bad unique id {digits}", "--unique", digits)
+        self.refused(f"usage: unique id {NAME[2:]} is not 12 bytes", "--unique", NAME[2:])
+        self.refused(f"usage: unique id {NAME}00 is not 12 bytes", "--unique", NAME + "00")
+        for size in ("0", "65535", "x", "-1"):
+            self.refused(f"usage: bad number {size}", f"--size={size}")
+        head, _, _ = telling.TABLE.partition(b"unique")
+        self.store("table", head)
+        self.refused("usage: chip 0410 has no unique in the table", "--unique", NAME)
+        self.refused("usage: chip 0410 has no size_at in the table", "--size", "64")
+        self.store("table", telling.TABLE)
+        self.assertFile("flash", None)
+        # a flash of another length, and a file of another form
+        self.store("flash", COUNTING)
+        self.refused("bad simulator file flash", "--size", "16", status=1)
+        self.store("flash.board", b"board 1\n")
+        self.refused("bad simulator file flash.board", "--size", "64", status=1)
+        self.assertFile("flash", COUNTING)
+
+    def test_names_that_are_another_file(self):
+        os.symlink("table", self.path("flash.board"))
+        self.refused("cannot write flash.board", "--size", "64", status=1)
+        self.remove("flash.board")
+        os.symlink("nowhere/board", self.path("flash.board"))
+        self.refused("cannot write flash.board", "--size", "64", status=1)
+        self.remove("flash.board")
+        os.mkdir(self.path("flash.board"))
+        self.refused_folder()
+
+    def refused_folder(self):
+        said = self.call(*self.words("--size", "64"))
+        self.assertEqual((said.status, said.err), (1, b"stmflash: cannot read flash.board\n"))
+        self.assertFile("flash", None)
+
+    def test_what_a_killed_program_left_is_removed(self):
+        self.store("flash.board.stmflash-0.new", b"unique")
+        self.told("--size", "64")
+        self.assertFile("flash.board", b"size 64\n")
 
 
 # how many pages each part of ten families has, by the KiB with which it is sold

@@ -53,6 +53,8 @@ complete -c stmflash -n "__stmflash_in read write verify keep" -F
 complete -c stmflash -n "__stmflash_in protect" -a 'write-unprotect readout-protect readout-unprotect'
 complete -c stmflash -n "__stmflash_in sim" -l id -x -d "The chip's id"
 complete -c stmflash -n "__stmflash_in sim" -l flash -r -F -d 'The file that holds the flash'
+complete -c stmflash -n "__stmflash_in sim" -l unique -x -d 'The unique id that it gets'
+complete -c stmflash -n "__stmflash_in sim" -l size -x -d 'How many KiB of flash it gets'
 complete -c stmflash -n "__stmflash_in sim" -l socket -r -F -d 'The socket that is made'
 complete -c stmflash -n "__stmflash_in sim" -l clients -x -d 'How many clients are served'
 complete -c stmflash -n "__stmflash_in sim" -l mode -x -a '600 660 666' -d "The socket's permissions"

@@ -47,6 +47,9 @@ pub enum Failure<'a> {
     /// A file can't be written.
     #[error("cannot write {0}")]
     CannotWrite(&'a str),
+    /// The file that says which board a simulator is can't be written.
+    #[error("cannot write {0}.board")]
+    CannotWriteBoard(&'a str),
     /// The file of a simulator's line can't be written.
     #[error("cannot write {0}.line")]
     CannotWriteLine(&'a str),

@@ -10,6 +10,7 @@ use crate::chip_tables::ChipTables;
 use crate::failure::Failure;
 use crate::locks::Locks;
 use crate::replies::tell_all;
+use crate::simulated_board::{SimulatedBoard, given_board};
 use crate::simulator_file::SimulatorFiles;
 use crate::simulator_names::SimulatorNames;
 use crate::standing::line_of;
@@ -92,26 +93,34 @@ fn serve_chip<'a, R: Locks + Net + AllocGlobal>(
 ) -> Result<Answer, Failure<'a>> {
     check(rt, served)?;
     let mut files = SimulatorFiles::open(rt, served.flash, served.without_lock)?;
-    let mut sim = load(rt, chip, &mut files)?;
-    serve_socket(rt, &mut sim, &mut files, served)?;
+    let board = given_board(rt, chip, served)?;
+    let mut sim = load(rt, chip, &board, &mut files)?;
+    serve_socket(rt, &mut sim, &board, &mut files, served)?;
     Ok(Answer::Nothing)
 }
 
-/// The simulator that the files hold.
+/// The simulator that the files hold, as this board, where words give one.
 fn load<'a, R: Locks + AllocGlobal>(
     rt: &R,
     chip: &Chip,
+    board: &Option<SimulatedBoard>,
     files: &mut SimulatorFiles<'_, 'a, R>,
 ) -> Result<Simulator, Failure<'a>> {
-    let loaded = files.load(chip.clone()?)?;
+    let chip = chip.clone()?;
+    let loaded = match board {
+        Some(board) => files.load_as(board.chip_of(chip))?,
+        None => files.load(chip)?,
+    };
     let memory = files.start(loaded, Vec::new(rt.alloc()))?;
     Ok(memory.into_simulator())
 }
 
-/// Makes the socket, serves the clients, and removes the socket, whatever came of it.
+/// Makes the socket, serves the clients, and removes the socket, whatever came of it. The board that
+/// words give is in its file before.
 fn serve_socket<'a, R: Locks + Net + AllocGlobal>(
     rt: &R,
     sim: &mut Simulator,
+    board: &Option<SimulatedBoard>,
     files: &mut SimulatorFiles<'_, 'a, R>,
     served: &Served<'a>,
 ) -> Result<(), Failure<'a>> {
@@ -119,12 +128,26 @@ fn serve_socket<'a, R: Locks + Net + AllocGlobal>(
         Ok(socket) => socket,
         Err(e) => return Err(Failure::of_file(&e, Failure::CannotConnect(served.socket))),
     };
-    let done = match files.make(sim.flash()) {
+    let done = match make_files(rt, sim, board, files, served) {
         Ok(()) => serve_clients(rt, sim, socket.listener(), files, served),
         Err(failure) => Err(failure),
     };
     socket.remove(rt);
     done
+}
+
+/// Writes the file of the board that words give, and makes that of the flash where it isn't there.
+fn make_files<'a, R: Locks + AllocGlobal>(
+    rt: &R,
+    sim: &Simulator,
+    board: &Option<SimulatedBoard>,
+    files: &mut SimulatorFiles<'_, 'a, R>,
+    served: &Served<'a>,
+) -> Result<(), Failure<'a>> {
+    if let Some(board) = board {
+        board.store(rt, served.flash)?;
+    }
+    files.make(sim.flash())
 }
 
 /// Refuses a socket that is one of the simulator's files, and files of which one
@@ -136,6 +159,10 @@ fn check<'a, R: Files + AllocGlobal>(rt: &R, served: &Served<'a>) -> Result<(), 
     }
     if is_table(rt, names.line(), served.table) {
         return Err(Failure::CannotWriteLine(served.flash));
+    }
+    let sets_board = served.unique.is_some() || served.size.is_some();
+    if sets_board && is_table(rt, names.board(), served.table) {
+        return Err(Failure::CannotWriteBoard(served.flash));
     }
     names.check(rt)?;
     if names.have(rt, served.socket) {

@@ -1,25 +1,83 @@
-// Which board a simulator is: a file beside that of its flash says so, where it is there.
+// Which board a simulator is: a file beside that of its flash says so, where it is there. Words of `sim`
+// write it.
 ghost use Rattle.std.specs.Prelude.{◌≡◌};
 ghost use Rattle.stm_wire.specs.Chip.{at_places};
 ghost use Rattle.stm_wire.specs.Places.{no_places};
 
 use crate::failure::Failure;
 use crate::files::{open_if_there, read_up_to};
+use crate::replacement::{ALONE, Replacement, remove_leftovers};
 use crate::simulator_names::board_file;
 use hex::FromHexError;
 use std::alloc::{AllocError, Global};
 use std::fs::Files;
 use std::io;
 use stm_wire::{BoardPlaces, Chip, UniqueId};
+use stm_words::{Served, UsageFault};
 
 /// How many bytes the file has at most: more than its two lines have.
 const MOST: u64 = 256;
 
 /// What the file says: the unique id of the board, and how many KiB its flash has.
 #[derive(Clone, Copy)]
-struct SimulatedBoard {
+pub struct SimulatedBoard {
     unique: UniqueId,
     size: Option<u32>,
+}
+
+impl SimulatedBoard {
+    /// One of which nothing is said.
+    fn new() -> SimulatedBoard {
+        SimulatedBoard {
+            unique: UniqueId::none(),
+            size: None,
+        }
+    }
+
+    /// The chip of this board, with the pages of its size.
+    pub fn chip_of(&self, chip: Chip) -> Chip {
+        let cut = match self.size {
+            Some(kib) => chip.cut(kib),
+            None => chip,
+        };
+        cut.of_board(self.unique)
+    }
+
+    /// The text of its file.
+    fn text(&self, alloc: Global) -> Result<String, AllocError> {
+        let mut text = String::new(alloc);
+        if !self.unique.is_none() {
+            let digits = hex::encode_upper(alloc, self.unique.as_bytes())?;
+            text.push_str("unique ")?;
+            text.push_str(digits.as_str())?;
+            text.push_str("\n")?;
+        }
+        if let Some(kib) = self.size {
+            let line = format!(in alloc; "size {kib}\n")?;
+            text.push_str(line.as_str())?;
+        }
+        Ok(text)
+    }
+
+    /// Writes the file beside the flash of this name, on the disk; of what a program left there that
+    /// was killed nothing stays.
+    pub fn store<'a, R: Files + AllocGlobal>(
+        &self,
+        rt: &R,
+        file: &'a str,
+    ) -> Result<(), Failure<'a>> {
+        let name = board_file(rt.alloc(), file)?;
+        let text = self.text(rt.alloc())?;
+        remove_leftovers(rt, name.as_str());
+        let beside = match Replacement::prepare(rt, name.as_str(), text.as_bytes(), ALONE) {
+            Ok(beside) => beside,
+            Err(e) => return Err(Failure::of_file(&e, Failure::CannotWriteBoard(file))),
+        };
+        match beside.place(rt) {
+            Ok(_) => Ok(()),
+            Err(e) => Err(Failure::of_file(&e, Failure::CannotWriteBoard(file))),
+        }
+    }
 }
 
 /// The unique id that these digits write, where they are 8 to 32 bytes.
@@ -81,10 +139,7 @@ fn board_of(alloc: Global, text: &[u8]) -> Result<Option<SimulatedBoard>, AllocE
     if text.len() as u64 > MOST {
         return Ok(None);
     }
-    let mut board = SimulatedBoard {
-        unique: UniqueId::none(),
-        size: None,
-    };
+    let mut board = SimulatedBoard::new();
     for line in text.split(|byte| *byte == b'\n') {
         match with_line(alloc, board, line)? {
             Some(next) => board = next,
@@ -112,6 +167,25 @@ fn without_board(chip: Chip) -> Chip
     chip
 }
 
+/// What the file beside the flash of this name says; None where it isn't there.
+fn simulated_board<'a, R: Files + AllocGlobal>(
+    rt: &R,
+    file: &'a str,
+) -> Result<Option<SimulatedBoard>, Failure<'a>> {
+    let name = board_file(rt.alloc(), file)?;
+    let text = match read_board(rt, name.as_str()) {
+        Ok(text) => text,
+        Err(e) => return Err(Failure::of_file(&e, Failure::CannotReadBoard(file))),
+    };
+    let Some(text) = text else {
+        return Ok(None);
+    };
+    match board_of(rt.alloc(), text.as_slice())? {
+        Some(board) => Ok(Some(board)),
+        None => Err(Failure::BadBoardFile(file)),
+    }
+}
+
 /// The chip of the simulator whose flash has this name: that of the board which the file beside it
 /// says, with the pages of its size; without that file, one that tells no board.
 pub fn simulated_chip<'a, R: Files + AllocGlobal>(
@@ -119,22 +193,51 @@ pub fn simulated_chip<'a, R: Files + AllocGlobal>(
     file: &'a str,
     chip: Chip,
 ) -> Result<Chip, Failure<'a>> {
-    let name = board_file(rt.alloc(), file)?;
-    let text = match read_board(rt, name.as_str()) {
-        Ok(text) => text,
-        Err(e) => return Err(Failure::of_file(&e, Failure::CannotReadBoard(file))),
-    };
-    let Some(text) = text else {
-        return Ok(without_board(chip));
-    };
-    match board_of(rt.alloc(), text.as_slice())? {
-        Some(board) => {
-            let cut = match board.size {
-                Some(kib) => chip.cut(kib),
-                None => chip,
-            };
-            Ok(cut.of_board(board.unique))
-        }
-        None => Err(Failure::BadBoardFile(file)),
+    match simulated_board(rt, file)? {
+        Some(board) => Ok(board.chip_of(chip)),
+        None => Ok(without_board(chip)),
     }
+}
+
+/// The unique id that words give to a simulator of this chip, where they give one: as many bytes as
+/// the chip tells.
+fn given_unique<'a>(
+    alloc: Global,
+    chip: &Chip,
+    served: &Served<'a>,
+) -> Result<Option<UniqueId>, Failure<'a>> {
+    let Some(digits) = served.unique else {
+        return Ok(None);
+    };
+    let Some(place) = chip.places().unique else {
+        return Err(Failure::Usage(UsageFault::NoUnique(served.id)));
+    };
+    match unique_of(alloc, digits.as_bytes())? {
+        Some(unique) if unique.as_bytes().len() == usize::from(place.length) => Ok(Some(unique)),
+        _ => Err(Failure::Usage(UsageFault::UniqueLength(digits, place.length))),
+    }
+}
+
+/// The board that words make of a simulator of this chip: what they don't give stays as its file
+/// says. None where they give nothing.
+pub fn given_board<'a, R: Files + AllocGlobal>(
+    rt: &R,
+    chip: &Chip,
+    served: &Served<'a>,
+) -> Result<Option<SimulatedBoard>, Failure<'a>> {
+    let unique = given_unique(rt.alloc(), chip, served)?;
+    if served.size.is_some() && chip.places().size.is_none() {
+        return Err(Failure::Usage(UsageFault::NoSize(served.id)));
+    }
+    if unique.is_none() && served.size.is_none() {
+        return Ok(None);
+    }
+    let there = match simulated_board(rt, served.flash)? {
+        Some(board) => board,
+        None => SimulatedBoard::new(),
+    };
+    Ok(Some(SimulatedBoard {
+        unique: unique.unwrap_or(there.unique),
+        size: served.size.or(there.size),
+    }))
 }

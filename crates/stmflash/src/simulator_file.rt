@@ -143,10 +143,15 @@ impl<'r, 'a, R: Locks + AllocGlobal> SimulatorFiles<'r, 'a, R> {
         }
     }
 
-    /// The simulator that the two files hold. A flash that isn't there is erased, and without the
-    /// other file the device is fresh.
+    /// The simulator that the two files hold, as the board that the file beside them says.
     pub fn load(&mut self, chip: Chip) -> Result<StoredSimulator, Failure<'a>> {
         let chip = simulated_chip(self.rt, self.file, chip)?;
+        self.load_as(chip)
+    }
+
+    /// The simulator of this chip that the two files hold. A flash that isn't there is erased, and
+    /// without the other file the device is fresh.
+    pub fn load_as(&mut self, chip: Chip) -> Result<StoredSimulator, Failure<'a>> {
         let flash = self.load_flash(&chip)?;
         match self.load_standing()? {
             Some(standing) if flash.len() == chip.flash_size() as usize => Ok(StoredSimulator {

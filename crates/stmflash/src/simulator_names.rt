@@ -16,7 +16,7 @@ pub fn board_file(alloc: Global, file: &str) -> Result<String, AllocError> {
 }
 
 /// The names of a simulator's files: of its flash and its line, which are written, and of its
-/// board, which is only read.
+/// board, which only words of `sim` write.
 #[derive(Drop)]
 pub struct SimulatorNames<'a> {
     flash: &'a str,
@@ -35,6 +35,11 @@ impl<'a> SimulatorNames<'a> {
     /// The name of the file that tells where it stands.
     pub fn line(&self) -> &str {
         self.line.as_str()
+    }
+
+    /// The name of the file that says which board it is.
+    pub fn board(&self) -> &str {
+        self.board.as_str()
     }
 
     /// Whether a name is that of one of the files.
