@@ -144,10 +144,10 @@ keep_app e =
     (new_rule (codes "TO"))
 
 abbrev pub go_app : Environment → App
-go_app e = with_rule (on_device e (codes "go")) (needed_rule (codes "ADDRESS"))
+go_app e = with_rule (on_board e (codes "go")) (needed_rule (codes "ADDRESS"))
 
 abbrev pub protect_app : Environment → ValueParser → App
-protect_app e kinds = with_rule (on_device e (codes "protect")) (kind_rule kinds)
+protect_app e kinds = with_rule (on_board e (codes "protect")) (kind_rule kinds)
 
 abbrev pub sim_app : Environment → App
 sim_app e = with_rule (with_rule (with_rule (with_rule (with_rule (with_rule (with_rule (with_rule

@@ -194,14 +194,14 @@ fn keep<'a>(alloc: Global, environment: Environment<'a>) -> Result<Command<'a>, 
 fn go<'a>(alloc: Global, environment: Environment<'a>) -> Result<Command<'a>, AllocError>
     ensures { IfOk result (Makes (go_app environment.entry)) }
 {
-    on_device(alloc, environment, "go", help::GO)?.arg(needed(alloc, "ADDRESS", help::ADDRESS))
+    on_board(alloc, environment, "go", help::GO)?.arg(needed(alloc, "ADDRESS", help::ADDRESS))
 }
 
 fn protect<'a>(alloc: Global, environment: Environment<'a>) -> Result<Command<'a>, AllocError>
     ensures { IfOk result
         (λ c. (p : _) × Makes (protect_app environment.entry p) c × TakesKinds p) }
 {
-    on_device(alloc, environment, "protect", help::PROTECT)?.arg(kind(alloc))
+    on_board(alloc, environment, "protect", help::PROTECT)?.arg(kind(alloc))
 }
 
 fn sim<'a>(alloc: Global, environment: Environment<'a>) -> Result<Command<'a>, AllocError>
