@@ -51,7 +51,8 @@ class Board(Place):
             listener.listen()
             listener.settimeout(PATIENCE)
             name, *more = words
-            given = (name, "--table", "table", "--device", "board", "--journal", "journal", "--wait", WAIT, *more)
+            table = () if "--table" in more else ("--table", "table")
+            given = (name, *table, "--device", "board", "--journal", "journal", "--wait", WAIT, *more)
             ran = subprocess.Popen(["stmflash", *given], executable=program(), cwd=self.folder, env=variables or {},
                                    stdin=subprocess.DEVNULL, stdout=subprocess.PIPE, stderr=subprocess.PIPE)
             self.stands = []
@@ -107,11 +108,117 @@ class Board(Place):
         self.assertFault(self.at(HERE, "erase", "128"), "address outside the flash")
         self.assertEqual(self.asked(), BEFORE)
 
-    def test_go_and_protect_ask_nothing(self):
-        for words in (("go", "0x08000000"), ("protect", "write-unprotect")):
+    def leaving(self, *more):
+        """Go, and each protection, with these options."""
+        for kind in ("write-unprotect", "readout-protect", "readout-unprotect"):
+            yield ("protect", *more, kind)
+        yield ("go", *more, "0x08000000")
+
+    def assertLeft(self, said):
+        """The board did what can't be taken back, and was reset by hand then."""
+        self.assertSilent(said)
+        self.assertNotEqual(self.stands[-1].sent.lstrip(b"\x7f")[-2:], ASKED[-2:])
+        self.store("flash.line", b"fresh\n")
+        self.store("flash", COUNTING)
+
+    def test_go_and_protect_ask_nothing_where_no_board_is_named_or_wanted(self):
+        for journal in (None, b"", b"stmjournal 2 0410\n"):
+            for words in self.leaving():
+                with self.subTest(words=words, journal=journal):
+                    if journal is not None:
+                        self.store("journal", journal)
+                    for unique in (HERE, None):
+                        self.assertLeft(self.at(unique, *words))
+                        self.assertEqual(self.asked(), [])
+                        self.assertFile("journal", journal)
+
+    def test_go_and_protect_refuse_another_board(self):
+        self.store("journal", HEAD)
+        for words in self.leaving():
+            for unique in (THERE, None, 12 * b"\xff"):
+                with self.subTest(words=words, unique=unique):
+                    self.assertFault(self.at(unique, *words, flash="there"), ANOTHER)
+                    self.assertAskedAlone()
+                    self.assertFile("there", COUNTING)
+                    self.assertFile("there.line", b"idle\n")
+                    self.assertFile("journal", HEAD)
             with self.subTest(words=words):
-                self.at(HERE, *words)
+                self.assertLeft(self.at(HERE, *words))
+                self.assertEqual(self.asked(), BEFORE)
+                self.assertFile("journal", HEAD)
+
+    def test_go_and_protect_behind_an_undo(self):
+        """The journal has a header and nothing else then."""
+        self.assertEqual(self.at(HERE, "write", "image").status, 0)
+        journal = self.held("journal")
+        for words in self.leaving():
+            for unique in (HERE, THERE):
+                self.assertFault(self.at(unique, *words), "journal is open, refused")
+                self.assertEqual((self.asked(), self.stands[0].sent), ([], b""))
+                self.assertFile("journal", journal)
+        self.assertTold(self.at(HERE, "undo"), "undone 1\n")
+        journal = self.held("journal")
+        self.assertFault(self.at(THERE, "go", "0x08000000", flash="there"), ANOTHER)
+        self.assertFile("there", COUNTING)
+        self.assertFile("journal", journal)
+        self.assertLeft(self.at(HERE, "go", "0x08000000"))
+        self.assertFile("journal", journal)
+
+    def test_go_and_protect_want_a_board(self):
+        for journal in (None, b"stmjournal 2 0410\n", HEAD):
+            if journal is not None:
+                self.store("journal", journal)
+            for words in self.leaving("--board", NAME[-4:]):
+                with self.subTest(words=words, journal=journal):
+                    self.assertFault(self.at(THERE, *words, flash="there"), "device is another board")
+                    self.assertAskedAlone()
+                    self.assertFault(self.at(None, *words, flash="there"), "device tells no board")
+                    self.assertAskedAlone()
+                    self.assertFile("there", COUNTING)
+                    self.assertLeft(self.at(HERE, *words))
+                    self.assertEqual(self.asked(), BEFORE)
+                    self.assertFile("journal", journal)
+        # the one that is wanted came, and the journal is of another one
+        self.assertFault(self.at(THERE, "go", "--board", OTHER, "0x08000000", flash="there"), ANOTHER)
+        self.assertFault(self.at(THERE, "go", "0x08000000", flash="there", variables={"STMFLASH_BOARD": NAME}), "device is another board")
+
+    def test_go_and_protect_without_a_question(self):
+        """`--no-board` asks nothing, whatever the journal names."""
+        self.store("journal", HEAD)
+        for words in self.leaving("--no-board"):
+            with self.subTest(words=words):
+                self.assertLeft(self.at(THERE, *words))
                 self.assertEqual(self.asked(), [])
+        self.assertLeft(self.at(THERE, "go", "0x08000000", variables={"STMFLASH_NO_BOARD": "1"}))
+        self.assertEqual(self.asked(), [])
+
+    def test_go_and_protect_at_a_chip_that_cannot_tell(self):
+        """No chip of the table has a place, or the table hasn't the device's chip."""
+        head, _, _ = telling.TABLE.partition(b"unique")
+        for table in (head, head.replace(b"0x410", b"0x412"), telling.TABLE.replace(b"0x410", b"0x412")):
+            self.store("telling", table)
+            for words in self.leaving("--table", "telling"):
+                with self.subTest(words=words, table=table):
+                    self.store("journal", HEAD)
+                    self.assertFault(self.at(HERE, *words, flash="there"), ANOTHER)
+                    self.assertEqual((self.asked(), self.stands[0].sent.lstrip(b"\x7f")), ([], ASKED))
+                    self.assertFile("there", COUNTING)
+                    self.assertFile("journal", HEAD)
+                    self.store("journal", b"stmjournal 2 0410\n")
+                    self.assertLeft(self.at(HERE, *words))
+                    self.assertEqual(self.asked(), [])
+            self.assertFault(self.at(HERE, "go", "--table", "telling", "--board", NAME, "0x08000000", flash="there"),
+                             "device tells no board")
+            self.assertFile("there", COUNTING)
+        self.store("journal", HEAD)
+        self.assertFault(self.use("go", "0x08000000", device="sim:0410:there"), ANOTHER)
+        self.assertFile("there", COUNTING)
+        self.store("there.board", f"unique {OTHER}\n".encode())
+        self.assertFault(self.use("protect", "readout-unprotect", device="sim:0410:there"), ANOTHER)
+        self.assertFile("there", COUNTING)
+        self.store("there.board", f"unique {NAME}\n".encode())
+        self.assertSilent(self.use("protect", "readout-unprotect", device="sim:0410:there"))
+        self.assertFile("there", SIZE * b"\xff")
 
     def test_another_board_is_refused(self):
         self.assertEqual(self.at(HERE, "write", "image").status, 0)
@@ -203,8 +310,8 @@ class Board(Place):
         for variables in ({"STMFLASH_BOARD": "12", "STMFLASH_NO_BOARD": "1"}, {"STMFLASH_BOARD": "x"}):
             said = self.call(*words, variables=variables)
             self.assertFault(said, both if len(variables) == 2 else "usage: bad board x", 2)
-        self.assertUsage(self.use("go", "--board", "12", "0x08000000", device="board"))
-        self.assertUsage(self.use("protect", "--no-board", "write-unprotect", device="board"))
+        self.assertFault(self.use("go", "--board", "x", "0x08000000", device="board"), "usage: bad board x", 2)
+        self.assertFault(self.use("protect", "--board", "1", "--no-board", "write-unprotect", device="board"), both, 2)
 
     def test_no_board_is_asked(self):
         said = self.at(HERE, "erase", "1", "--no-board", kib=size(1))

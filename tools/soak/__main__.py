@@ -223,9 +223,15 @@ class Story:
     def look_elsewhere(self, use, status, flash, text, journal):
         """A journal that names a board changes no other one, and isn't changed there. One that names none is of any: then who takes
         it to another board breaks a premise."""
-        if self.before is None or use.name in ("go", "protect"):
-            return
         now = self.flash(use.file), self.world.files.get("J", b"")
+        if use.name in ("go", "protect"):
+            if not use.no_board and journal.is_of_other(self.told_by(use.file)):
+                self.counts["at another board"] += 1
+                if status == 0 or self.before is not None and now != (flash, text):
+                    raise Difference("%s was sent to another board than that of the journal, %s" % (use.name, use.file))
+            return
+        if self.before is None:
+            return
         told = b"" if use.no_board else self.told_by(use.file)
         self.counts["of a board"] += journal.unique is not None
         if journal.is_of_other(told):

@@ -55,22 +55,28 @@ class World:
 
     def ask(self, rig, use):
         """Which board the device is, or None where it isn't asked."""
-        if use.name in ("go", "protect"):
-            return None
-        if use.no_board or not session.find(self.table, int(use.number, 16)).has_places():
+        leaves = use.name in ("go", "protect")
+        is_told = session.find(self.table, int(use.number, 16)).has_places()
+        if use.no_board or not is_told and not (leaves and use.board is None):
             if use.board is not None:
                 raise Fault(NO_BOARD)
             return None
         journal = session.load(rig)
+        if leaves and journal.depth() > 0:
+            raise Fault(session.IN_SESSION)
         if use.name != "undo" and journal.is_unfinished():
             raise Fault(session.UNFINISHED)
         if use.name == "undo" and journal.depth() == 0:
+            return None
+        if leaves and journal.unique is None and use.board is None:
             return None
         board = session.ask_board(rig, self.table, use.is_fresh)
         if use.board is not None and not board.unique:
             raise Fault(NO_BOARD)
         if use.board is not None and not board.unique.hex().endswith(use.board.lower()):
             raise Fault(OTHER_BOARD)
+        if leaves and journal.is_of_other(board.unique):
+            raise Fault(session.OTHER_BOARD)
         return board
 
     def store(self, rig, name):

@@ -203,10 +203,9 @@ def draw_use(chance, chip, flash, unfinished, is_gone, allowed, name):
     """A use of the simulator of this name, and the image's file where it has one."""
     use, image = draw_task(chance, chip, flash, unfinished, is_gone, allowed, name)
     use.file = name
-    if use.name not in ("go", "protect"):
-        if chance.random() < 0.12:
-            use.board = draw_wanted(chance, chip)
-        use.no_board = chance.random() < (0.02 if use.board is not None else 0.05)
+    if chance.random() < 0.12:
+        use.board = draw_wanted(chance, chip)
+    use.no_board = chance.random() < (0.02 if use.board is not None else 0.05)
     return use, image
 
 

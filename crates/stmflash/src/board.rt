@@ -1,8 +1,9 @@
 // Which board a device is, asked before its session.
 ghost use Rattle.std.specs.Prelude.{◌≡◌, ◌↔◌, IfOk, IsTrue, MatchOption};
 ghost use Rattle.stm_chip.specs.Document.{IsChipWith, IsNewId};
-ghost use Rattle.stmflash.specs.Board.{Allows, AsksAndAllows, AsksFirst, AsksWhereDue, EndsIn};
-ghost use Rattle.stmflash.specs.Board.{IsDue, IsOfBoard, is_said_fresh};
+ghost use Rattle.stmflash.specs.Board.{Allows, AsksAndAllows, AsksFirst, AsksNamed, AsksWhereDue};
+ghost use Rattle.stmflash.specs.Board.{EndsIn, IsDue, IsOfBoard, as_named, due_beside, due_by};
+ghost use Rattle.stmflash.specs.Board.{is_said_fresh};
 
 use crate::failure::Failure;
 use std::alloc::{AllocError, Global};
@@ -19,6 +20,9 @@ pub enum Asking {
     /// Before an undo, where the journal has what it takes back. The device may be said to be fresh
     /// from reset.
     OfBegun { is_fresh: bool },
+    /// Before Go or a protection, which want a journal without segments, where the journal names a
+    /// board or one is wanted.
+    OfClosed,
 }
 
 impl Asking {
@@ -27,10 +31,22 @@ impl Asking {
         ensures { result ≡ is_said_fresh self }
     {
         match self {
-            Asking::OfFinished => false,
+            Asking::OfFinished | Asking::OfClosed => false,
             Asking::OfBegun { is_fresh } => is_fresh,
         }
     }
+}
+
+/// Whether a device is asked, and which it has to be.
+#[derive(Clone, Copy, Debug)]
+pub enum Due {
+    /// It isn't asked.
+    Not,
+    /// It is asked. Whether the journal is of it is seen by its session, where that is to be.
+    Asked,
+    /// It is asked, and has to be the board with this unique id, which the journal names: its session
+    /// doesn't look.
+    OfNamed(UniqueId),
 }
 
 /// Whether a device is asked which board it is, and which is wanted.
@@ -52,17 +68,38 @@ pub fn has_telling_chip(table: &Table) -> bool {
     table.chips().iter().any(|chip| tells_board(chip))
 }
 
-/// Whether a device is asked, by the journal, which is read for that. A session that wants a finished
-/// one is refused here, as it would be.
-fn is_due<L: Rig>(alloc: Global, rig: &mut L, asking: Asking) -> Result<bool, Fault>
-    ensures { IsDue asking (L.view rig.old) (L.view rig.new) result }
+/// Whether a device is asked before Go or a protection, by the board that the journal names.
+fn due_by(named: Option<UniqueId>, is_wanted: bool) -> Due
+    ensures { result ≡ due_by named is_wanted }
 {
-    let journal = Journal::load(alloc, rig)?;
+    match named {
+        Some(unique) => Due::OfNamed(unique),
+        None if is_wanted => Due::Asked,
+        None => Due::Not,
+    }
+}
+
+/// Whether a device is asked beside this journal. A session that wants a finished one, or one without
+/// segments, is refused here, as it would be.
+fn due_beside(journal: &Journal, asking: Asking, is_wanted: bool) -> Result<Due, Fault>
+    ensures { result ≡ due_beside asking is_wanted journal.now.state }
+{
     match asking {
         Asking::OfFinished if journal.is_unfinished() => Err(Fault::Unfinished),
-        Asking::OfFinished => Ok(true),
-        Asking::OfBegun { .. } => Ok(journal.depth() > 0),
+        Asking::OfFinished => Ok(Due::Asked),
+        Asking::OfBegun { .. } if journal.is_open() => Ok(Due::Asked),
+        Asking::OfBegun { .. } => Ok(Due::Not),
+        Asking::OfClosed if journal.is_open() => Err(Fault::InSession),
+        Asking::OfClosed => Ok(due_by(journal.unique(), is_wanted)),
     }
+}
+
+/// Whether a device is asked, by the journal, which is read for that.
+fn is_due<L: Rig>(alloc: Global, rig: &mut L, asking: Asking, is_wanted: bool) -> Result<Due, Fault>
+    ensures { IsDue asking is_wanted (L.view rig.old) (L.view rig.new) result }
+{
+    let journal = Journal::load(alloc, rig)?;
+    due_beside(&journal, asking, is_wanted)
 }
 
 /// Whether a unique id ends in these hexadecimal digits, of either case.
@@ -113,6 +150,31 @@ fn ask_and_allow<'a, L: Rig>(
     allow(alloc, board, wanted)
 }
 
+/// The board that came, where it is the one with this unique id.
+fn as_named<'a>(came: Option<Board>, unique: UniqueId) -> Result<Option<Board>, Failure<'a>>
+    ensures { result ≡ as_named unique came }
+{
+    match came {
+        Some(board) if board.unique.is(&unique) => Ok(Some(board)),
+        _ => Err(Failure::Session(Fault::OtherBoard)),
+    }
+}
+
+/// Asks a device which board it is, and refuses any but the one with this unique id.
+fn ask_named<'a, L: Rig>(
+    alloc: Global,
+    rig: &mut L,
+    table: &Table,
+    is_fresh: bool,
+    wanted: Option<&'a str>,
+    unique: UniqueId,
+) -> Result<Option<Board>, Failure<'a>>
+    ensures { AsksNamed L.view table.now is_fresh wanted.entry unique rig.old rig.new result }
+{
+    let came = ask_and_allow(alloc, rig, table, is_fresh, wanted)?;
+    as_named(came, unique)
+}
+
 /// The same where the journal lets its session begin.
 fn ask_where_due<'a, L: Rig>(
     alloc: Global,
@@ -124,10 +186,10 @@ fn ask_where_due<'a, L: Rig>(
     ensures { AsksWhereDue L.view table.now asking wanted.entry rig.old rig.new result }
 {
     let is_fresh = asking.is_said_fresh();
-    if is_due(alloc, rig, asking)? {
-        ask_and_allow(alloc, rig, table, is_fresh, wanted)
-    } else {
-        Ok(None)
+    match is_due(alloc, rig, asking, wanted.is_some())? {
+        Due::Not => Ok(None),
+        Due::Asked => ask_and_allow(alloc, rig, table, is_fresh, wanted),
+        Due::OfNamed(unique) => ask_named(alloc, rig, table, is_fresh, wanted, unique),
     }
 }
 

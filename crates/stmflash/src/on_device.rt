@@ -93,13 +93,13 @@ pub fn use_once<'a, R: Locks + Net + Clock + AllocGlobal, E: Write + IsTerminal>
                 return Err(Failure::Session(Fault::UnknownChip(id)));
             };
             let chip = chip.clone()?;
-            let question = question_of(options, tells_board(&chip));
+            let question = question_of(options, &work, tells_board(&chip));
             on_simulator(
                 rt, options, work, question, sequel, table, own, file, chip, output, screen,
             )
         }
         Device::Socket(path) => {
-            let question = question_of(options, has_telling_chip(table));
+            let question = question_of(options, &work, has_telling_chip(table));
             on_socket(
                 rt, options, work, question, sequel, table, own, path, output, screen,
             )
@@ -107,10 +107,13 @@ pub fn use_once<'a, R: Locks + Net + Clock + AllocGlobal, E: Write + IsTerminal>
     }
 }
 
-/// What a device is asked before its session, where its chip may tell its board.
-fn question_of<'a>(options: &Options<'a>, is_told: bool) -> Question<'a> {
+/// What a device is asked before its session, where its chip may tell its board. Before Go and a
+/// protection the journal is looked at in any case: where it names a board, a device that can't tell
+/// which it is counts as another.
+fn question_of<'a>(options: &Options<'a>, work: &Work, is_told: bool) -> Question<'a> {
+    let is_looked_at = work.leaves() && options.board.is_none();
     Question {
-        is_asked: is_told && !options.without_board,
+        is_asked: (is_told || is_looked_at) && !options.without_board,
         wanted: options.board,
     }
 }

@@ -87,16 +87,23 @@ impl Work {
         }
     }
 
-    /// Beside which journals its device is asked first which board it is. Go and a protection take no
-    /// table, and ask none.
-    fn asking(&self) -> Option<Asking>
+    /// Whether it is Go or a protection, behind which nothing can be taken back.
+    pub fn leaves(&self) -> bool {
+        matches!(
+            self,
+            Work::Act(Action::Go(_)) | Work::Act(Action::Protect(_))
+        )
+    }
+
+    /// Beside which journals its device is asked first which board it is.
+    fn asking(&self) -> Asking
         ensures { result ≡ asking_of self.now }
     {
         match self {
-            Work::Act(Action::Go(_)) | Work::Act(Action::Protect(_)) => None,
-            Work::Act(Action::Undo(_)) => Some(Asking::OfBegun { is_fresh: false }),
-            Work::Act(Action::UndoFresh(_)) => Some(Asking::OfBegun { is_fresh: true }),
-            _ => Some(Asking::OfFinished),
+            Work::Act(Action::Go(_)) | Work::Act(Action::Protect(_)) => Asking::OfClosed,
+            Work::Act(Action::Undo(_)) => Asking::OfBegun { is_fresh: false },
+            Work::Act(Action::UndoFresh(_)) => Asking::OfBegun { is_fresh: true },
+            _ => Asking::OfFinished,
         }
     }
 
@@ -104,7 +111,7 @@ impl Work {
     pub fn asking_if(&self, is_asked: bool) -> Option<Asking>
         ensures { result ≡ asking_if is_asked self.now }
     {
-        if is_asked { self.asking() } else { None }
+        if is_asked { Some(self.asking()) } else { None }
     }
 
     /// The same for a device that was asked, and is connected by that: it isn't fresh from reset any
