@@ -50,6 +50,7 @@ complete -c stmflash -n "__stmflash_in write" -l go -x -d 'Then runs what stands
 complete -c stmflash -n "__stmflash_in write" -l again -x -d 'How often a failed write is done again'
 complete -c stmflash -n "__stmflash_in erase" -l all -d 'Every page'
 complete -c stmflash -n "__stmflash_in read write verify keep" -F
+complete -c stmflash -n "__stmflash_in protect" -l yes -d 'Does not ask before it erases the chip'
 complete -c stmflash -n "__stmflash_in protect" -a 'write-unprotect readout-protect readout-unprotect'
 complete -c stmflash -n "__stmflash_in sim" -l id -x -d "The chip's id"
 complete -c stmflash -n "__stmflash_in sim" -l flash -r -F -d 'The file that holds the flash'

@@ -147,7 +147,8 @@ abbrev pub go_app : Environment → App
 go_app e = with_rule (on_board e (codes "go")) (needed_rule (codes "ADDRESS"))
 
 abbrev pub protect_app : Environment → ValueParser → App
-protect_app e kinds = with_rule (on_board e (codes "protect")) (kind_rule kinds)
+protect_app e kinds =
+    with_rule (with_rule (on_board e (codes "protect")) (flag_rule (codes "yes"))) (kind_rule kinds)
 
 abbrev pub sim_app : Environment → App
 sim_app e = with_rule (with_rule (with_rule (with_rule (with_rule (with_rule (with_rule (with_rule

@@ -57,7 +57,7 @@ IsErase given (Write image verifies) = ⊥
 IsErase given (Verify image) = ⊥
 IsErase given (Undo count) = ⊥
 IsErase given (Go address) = ⊥
-IsErase given (Protect kind) = ⊥
+IsErase given (Protect kind is_sure) = ⊥
 
 -- the file that `read` names, of raw bytes or of HEX; blank stretches are left out where that is
 -- given
@@ -72,7 +72,7 @@ IsRead given (Write image verifies) = ⊥
 IsRead given (Verify image) = ⊥
 IsRead given (Undo count) = ⊥
 IsRead given (Go address) = ⊥
-IsRead given (Protect kind) = ⊥
+IsRead given (Protect kind is_sure) = ⊥
 
 -- the part begins at a word, and has whole words where it has a length
 abbrev pub IsWholeWords : Range → Type 0
@@ -102,5 +102,6 @@ IsTask name given (Undo count) =
 IsTask name given (Go address) =
     (name ≡ codes "go")
     × (option_and_then number_of (first_value given (codes "ADDRESS")) ≡ Some address)
-IsTask name given (Protect kind) =
+IsTask name given (Protect kind is_sure) =
     (name ≡ codes "protect") × (first_value given (codes "KIND") ≡ Some kind.now)
+    × IsFlag given (codes "yes") is_sure

@@ -201,7 +201,9 @@ fn protect<'a>(alloc: Global, environment: Environment<'a>) -> Result<Command<'a
     ensures { IfOk result
         (λ c. (p : _) × Makes (protect_app environment.entry p) c × TakesKinds p) }
 {
-    on_board(alloc, environment, "protect", help::PROTECT)?.arg(kind(alloc))
+    on_board(alloc, environment, "protect", help::PROTECT)?
+        .arg(flag(alloc, "yes", help::YES))?
+        .arg(kind(alloc))
 }
 
 fn sim<'a>(alloc: Global, environment: Environment<'a>) -> Result<Command<'a>, AllocError>

@@ -98,6 +98,8 @@ pub const COUNT: &str = "How many writes and erases, the newest first; 0: all";
 
 pub const ADDRESS: &str = "Where to go on: 0x and hexadecimal digits, or a decimal number";
 
+pub const YES: &str = "Doesn't ask on a terminal before readout-unprotect erases the chip";
+
 pub const KIND: &str = "Which protection, and how it is changed";
 
 pub const ID: &str = "The chip's id: four hexadecimal digits";

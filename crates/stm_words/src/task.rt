@@ -47,8 +47,11 @@ pub enum Task<'a> {
     Undo(u32),
     /// Lets the device run what stands at this address.
     Go(u32),
-    /// Changes the protection of this name.
-    Protect(&'a str),
+    /// Changes the protection of this name; where that is sure, nobody is asked before.
+    Protect {
+        kind: &'a str,
+        is_sure: bool,
+    },
 }
 
 impl<'a> Task<'a> {
@@ -71,7 +74,10 @@ impl<'a> Task<'a> {
             "erase" => Task::parse_erase(alloc, given),
             "undo" => Ok(Task::Undo(number(given, "COUNT")?)),
             "go" => Ok(Task::Go(number(given, "ADDRESS")?)),
-            "protect" => Ok(Task::Protect(word(given, "KIND")?)),
+            "protect" => Ok(Task::Protect {
+                kind: word(given, "KIND")?,
+                is_sure: flag(given, "yes"),
+            }),
             _ => Err(Unread::Usage(UsageFault::UnknownWords)),
         }
     }

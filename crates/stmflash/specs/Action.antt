@@ -62,7 +62,7 @@ IsFor (task.Erase true pages) does = does ≡ action.EraseAll
 IsFor (task.Erase false pages) does = does ≡ action.Erase pages
 IsFor (task.Undo count) does = does ≡ action.Undo count
 IsFor (task.Go address) does = does ≡ action.Go address
-IsFor (task.Protect word) does = (kind : Protection) × (does ≡ action.Protect kind)
+IsFor (task.Protect word is_sure) does = (kind : Protection) × (does ≡ action.Protect kind)
     × (protection_of word.now ≡ Some kind)
 
 -- and the one on a device that is said to be fresh from reset: an undo of its own

@@ -2,6 +2,7 @@ pub mod Action
 pub mod Answer
 pub mod Board
 pub mod Conduct
+pub mod Confirmation
 pub mod Content
 pub mod Crc
 pub mod Escaped

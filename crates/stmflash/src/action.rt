@@ -68,7 +68,7 @@ impl Action {
             }),
             Task::Undo(count) => Ok(Action::Undo(count)),
             Task::Go(address) => Ok(Action::Go(address)),
-            Task::Protect(word) => match protection(word) {
+            Task::Protect { kind, .. } => match protection(kind) {
                 Some(kind) => Ok(Action::Protect(kind)),
                 None => Err(Failure::Usage(UsageFault::UnknownWords)),
             },

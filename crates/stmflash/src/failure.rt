@@ -92,6 +92,9 @@ pub enum Failure<'a> {
     /// The words can't be done.
     #[error("{0}")]
     Usage(UsageFault<'a>),
+    /// It was asked whether to go on, and the answer wasn't yes.
+    #[error("not confirmed, nothing was sent")]
+    Unconfirmed,
     /// A simulator was stopped, as it was asked for.
     #[error("stopped")]
     Stopped,

@@ -10,6 +10,7 @@ mod board_name;
 mod bound_socket;
 mod changing;
 mod chip_tables;
+mod confirmation;
 mod content;
 mod crc;
 mod escaped;
@@ -87,6 +88,7 @@ fn run(rt: &HostRuntime) -> io::Result<u8> {
         rt,
         variables.environment(tables.as_slice()),
         words.as_slice(),
+        &mut rt.stdin(),
         &mut rt.stdout(),
         &mut rt.stderr(),
     ))

@@ -5,6 +5,7 @@ use crate::again::use_again;
 use crate::answer::Answer;
 use crate::board::{Question, has_telling_chip, tells_board};
 use crate::chip_tables::ChipTables;
+use crate::confirmation::{confirm, erases_for_good};
 use crate::escaped::Escaped;
 use crate::failure::Failure;
 use crate::files::is_there;
@@ -24,7 +25,7 @@ use crate::unusable::Unusable;
 use crate::work::Work;
 use std::fs;
 use std::fs::Files;
-use std::io::{IsTerminal, Write};
+use std::io::{IsTerminal, Read, Write};
 use std::net::Net;
 use std::os::unix::fs::FileTypeExt;
 use std::time::Clock;
@@ -38,14 +39,22 @@ const FALSE_ERASES: &str =
     "note: the image holds bytes that a device which loses power in the midst would take for an erase; \
     use -v, and reset before an undo";
 
-/// Does a task on a device, and what follows it.
-pub fn use_device<'a, R: Locks + Net + Clock + AllocGlobal, E: Write + IsTerminal>(
+/// Does a task on a device, and what follows it. Where it takes the readout protection off, it is
+/// asked before a file of the session is opened.
+pub fn use_device<
+    'a,
+    R: Locks + Net + Clock + AllocGlobal,
+    I: Read + IsTerminal,
+    E: Write + IsTerminal,
+>(
     rt: &R,
     options: &Options<'a>,
     task: Task<'a>,
     sequel: &Sequel<'a>,
+    input: &mut I,
     err: &mut E,
 ) -> Result<Steps<'a>, Failure<'a>> {
+    let is_for_good = erases_for_good(&task);
     let tables = ChipTables::read(rt, options.table)?;
     let files = NamedFiles::of(options, &task);
     let work = Work::of(rt, task)?.on_fresh(options.is_fresh);
@@ -54,6 +63,9 @@ pub fn use_device<'a, R: Locks + Net + Clock + AllocGlobal, E: Write + IsTermina
         files.check_new(rt, to)?;
     }
     let output = Output::open(rt, files)?;
+    if is_for_good {
+        confirm(input, err)?;
+    }
     let is_begun = begins_journal(rt, options, &work);
     tell_notes(options, is_begun, &work, err);
     let steps = if sequel.again > 0 {

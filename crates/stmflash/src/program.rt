@@ -9,7 +9,7 @@ use crate::on_device::use_device;
 use crate::serving::serve;
 use crate::steps::Steps;
 use std::io;
-use std::io::{IsTerminal, Write};
+use std::io::{IsTerminal, Read, Write};
 use std::net::Net;
 use std::time::Clock;
 use stm_words::{Environment, Request, Unread, read_request};
@@ -18,16 +18,26 @@ use stm_words::{Environment, Request, Unread, read_request};
 /// of words. It answers the exit status: 0 where all was done or help was asked for, 1 after a
 /// fault, 2 where the words can't be done, 3 where a simulator was stopped. A fault is one line on
 /// `err`, whatever the names in it; of words that `clap` refuses its text stands there. While a
-/// line or a journal is open nothing is printed but what goes on, where that is shown.
-pub fn program<'a, R: Locks + Net + Clock + AllocGlobal, O: Write, E: Write + IsTerminal>(
+/// line or a journal is open nothing is printed but what goes on, where that is shown. `input` is
+/// read only where it is asked whether to go on.
+pub fn program<
+    'a,
+    R: Locks + Net + Clock + AllocGlobal,
+    I: Read + IsTerminal,
+    O: Write,
+    E: Write + IsTerminal,
+>(
     rt: &R,
     environment: Environment<'a>,
     words: &'a [&'a str],
+    input: &mut I,
     out: &mut O,
     err: &mut E,
 ) -> u8 {
     let done = match read_request(rt.alloc(), environment, words) {
-        Ok(Request::Use(options, task, sequel)) => use_device(rt, &options, task, &sequel, err),
+        Ok(Request::Use(options, task, sequel)) => {
+            use_device(rt, &options, task, &sequel, input, err)
+        }
         Ok(Request::Log(journal)) => alone(log(rt, journal)),
         Ok(Request::Keep(kept)) => alone(keep(rt, &kept)),
         Ok(Request::Serve(served)) => alone(serve(rt, &served)),

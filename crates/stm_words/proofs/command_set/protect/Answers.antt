@@ -1,17 +1,22 @@
 use Rattle.std.proofs.Common.{codes}
 use Rattle.std.proofs.lemmas.Result.{IfOk-weaker}
-use Rattle.stm_words.specs.CommandSet.{kind_rule, on_board}
+use Rattle.clap.specs.Words.{App, with_rule}
+use Rattle.stm_words.specs.CommandSet.{Makes, flag_rule, kind_rule, on_board}
 use Rattle.stm_words.proofs.Subcommands.{adds}
 use Rattle.stm_words.proofs.command_set.protect.Goals as goal
 
 pub returns : goal.returns
 returns c =
     let rule = c.kind.ensures.rule in
-    IfOk-weaker c.arg.result _ _
+    let a0 : App = on_board c.args.environment (codes "protect") in
+    let m0 : Makes a0 c.in_ok-on_board.field-0 = c.in_ok-on_board.ensures in
+    let a1 : App = with_rule a0 (flag_rule (codes "yes")) in
+    let m1 : Makes a1 c.in_ok-arg.field-0 =
+    adds a0 (flag_rule (codes "yes")) c.in_ok-on_board.field-0 c.flag.result c.in_ok-arg.field-0 m0 c.flag.ensures.rule c.flag.ensures.local c.in_ok-arg.ensures in
+    IfOk-weaker c.arg-2.result _ _
     (λ r h. (
       rule.0,
-      adds (on_board c.args.environment (codes "protect")) (kind_rule rule.0) c.in_ok-on_board.field-0 c.kind.result r c.in_ok-on_board.ensures rule.1
-          c.kind.ensures.local h,
+       adds a1 (kind_rule rule.0) c.in_ok-arg.field-0 c.kind.result r m1 rule.1 c.kind.ensures.local h,
       rule.2,
     ))
-    c.arg.ensures
+    c.arg-2.ensures

@@ -1,0 +1,126 @@
+"""The question on a terminal before `protect readout-unprotect`: what goes on, what ends, and where nobody is asked."""
+
+import os
+import pty
+import select
+import subprocess
+import time
+
+from place import COUNTING, ERASED, PATIENCE, Place, program
+
+KIND = "readout-unprotect"
+ASKED = b"this erases the whole flash, and no journal keeps it: it can't be undone\r\ngo on? [y/N] "
+REFUSED = b"stmflash: not confirmed, nothing was sent\r\n"
+END = b"\x04"
+
+
+class Confirmation(Place):
+    def setUp(self):
+        super().setUp()
+        self.store("flash", COUNTING)
+
+    def on_terminal(self, typed, *words, kind=KIND, input=True, err=True, device="sim:0412:flash"):
+        """What a protection answers whose standard input and error are a terminal, where that is said, and what that showed.
+        What is typed is typed once the question stands there, or else at once."""
+        here, there = pty.openpty()
+        call = ["stmflash", "protect", "--table", "table", "--device", device, "--journal", "journal", *words, kind]
+        process = subprocess.Popen(call, executable=program(), cwd=self.folder, env={},
+                                   stdin=there if input else subprocess.DEVNULL, stdout=subprocess.PIPE,
+                                   stderr=there if err else subprocess.PIPE)
+        os.close(there)
+        shown = b""
+        if typed is not None:
+            shown = self.shown_until(here, b"[y/N] ")
+            os.write(here, typed)
+        out, said = process.communicate(timeout=PATIENCE)
+        shown += self.shown_until(here, None)
+        os.close(here)
+        self.assertEqual(out, b"")
+        return process.returncode, shown, said
+
+    def shown_until(self, here, text):
+        """What a terminal shows until it shows this, or has no more."""
+        shown, ends = b"", time.monotonic() + PATIENCE
+        while text is None or text not in shown:
+            ready, _, _ = select.select([here], [], [], 0.5 if text is None else 1)
+            if not ready:
+                if text is None:
+                    break
+                self.assertLess(time.monotonic(), ends)
+                continue
+            try:
+                piece = os.read(here, 4096)
+            except OSError:
+                break
+            if not piece:
+                break
+            shown += piece
+        return shown
+
+    def assertUntouched(self):
+        """The flash is as it was, and no line was opened to it, and no journal."""
+        self.assertHolds(COUNTING, None)
+        self.assertFile("journal", None)
+
+    def test_yes_goes_on(self):
+        for typed in (b"y\n", b"yes\n"):
+            with self.subTest(typed=typed):
+                self.store("flash", COUNTING)
+                status, shown, _ = self.on_terminal(typed, "--quiet")
+                self.assertEqual((status, shown), (0, ASKED + typed.replace(b"\n", b"\r\n")))
+                self.assertFile("flash", ERASED)
+
+    def test_anything_else_ends(self):
+        for typed in (b"\n", b"n\n", b"no\n", b"Y\n", b"yess\n", b" y\n", b"ye\n", b"yes please\n", b"y" * 300 + b"\n"):
+            with self.subTest(typed=typed):
+                status, shown, _ = self.on_terminal(typed)
+                self.assertEqual(status, 1)
+                self.assertEqual(shown, ASKED + typed.replace(b"\n", b"\r\n") + REFUSED)
+                self.assertUntouched()
+
+    def test_an_end_of_input_ends(self):
+        """Also behind a word that would go on, whose line isn't ended."""
+        for typed in (END, b"y" + END + END):
+            with self.subTest(typed=typed):
+                status, shown, _ = self.on_terminal(typed)
+                self.assertEqual(status, 1)
+                self.assertTrue(shown.startswith(ASKED))
+                self.assertTrue(shown.endswith(b"\r\n" + REFUSED))
+                self.assertUntouched()
+
+    def test_no_line_is_opened_before(self):
+        """A socket where nobody listens isn't connected to, and a journal of another program isn't waited for."""
+        status, shown, _ = self.on_terminal(b"n\n", device="nobody")
+        self.assertEqual((status, shown), (1, ASKED + b"n\r\n" + REFUSED))
+        status, shown, _ = self.on_terminal(b"y\n", device="nobody")
+        self.assertEqual((status, shown), (1, ASKED + b"y\r\nstmflash: cannot connect nobody\r\n"))
+
+    def test_it_is_asked_under_quiet_too(self):
+        status, shown, _ = self.on_terminal(b"n\n", "--quiet")
+        self.assertEqual((status, shown), (1, ASKED + b"n\r\n" + REFUSED))
+        self.assertUntouched()
+
+    def test_nobody_is_asked_elsewhere(self):
+        """Where standard input or standard error is no terminal."""
+        for input, err in ((False, True), (True, False)):
+            with self.subTest(input=input):
+                self.store("flash", COUNTING)
+                status, shown, said = self.on_terminal(None, "--quiet", input=input, err=err)
+                self.assertEqual((status, shown, said), (0, b"", None if err else b""))
+                self.assertFile("flash", ERASED)
+        self.store("flash", COUNTING)
+        self.assertSilent(self.use("protect", KIND))
+        self.assertFile("flash", ERASED)
+
+    def test_nobody_is_asked_where_it_is_said(self):
+        status, shown, _ = self.on_terminal(None, "--yes", "--quiet")
+        self.assertEqual((status, shown), (0, b""))
+        self.assertFile("flash", ERASED)
+
+    def test_no_other_protection_asks(self):
+        for kind in ("write-unprotect", "readout-protect"):
+            with self.subTest(kind=kind):
+                status, shown, _ = self.on_terminal(None, "--quiet", kind=kind)
+                self.assertEqual((status, shown), (0, b""))
+                self.assertFile("flash", COUNTING)
+                self.remove("flash.line")
