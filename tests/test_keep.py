@@ -1,17 +1,21 @@
 """How the way back is given up: `keep`, after which `go` and `protect` are free again."""
 
 import errno
+import fcntl
 import os
+import resource
 import signal
 
 import syncs
-from place import Place, ZEROS
+from place import Place, ZEROS, with_page
 
 IMAGE = b"\x00" * 1024
 WRITTEN = "segment 1: 1 pages written\n"
 OPEN = "journal is open, refused"
 UNFINISHED = "unfinished command, undo first"
 BAD = b"stmjournal 1 0412\nopen 2\n"
+# the call of the system that renames a file
+RENAME = syncs.RENAME
 
 
 class Keep(Place):
@@ -179,3 +183,199 @@ class Keep(Place):
         self.assertUsage(self.keep("one", "two"))
         os.mkdir(self.path("journal"))
         self.assertFault(self.keep(), "cannot read journal")
+
+
+class KeepLast(Place):
+    """`keep --last`: all but the newest writes and erases are given up."""
+
+    def setUp(self):
+        super().setUp()
+        self.flashes = [ZEROS]
+        self.store("flash", ZEROS)
+
+    def keep(self, *words, **how):
+        return self.call("keep", "--journal", "journal", *words, **how)
+
+    def write(self, byte, pages=1):
+        """Writes pages of this byte, and keeps what the flash was before."""
+        said = self.use_image("write", bytes([byte]) * (1024 * pages), "--quiet")
+        self.assertEqual((said.status, said.err), (0, b""))
+        self.flashes.append(self.held("flash"))
+
+    def write_thrice(self):
+        for byte, pages in ((1, 1), (2, 3), (3, 2)):
+            self.write(byte, pages)
+
+    def log(self):
+        return self.call("log", "--journal", "journal").out.decode().splitlines()
+
+    def test_the_newest_can_still_be_undone(self):
+        for last in (1, 2):
+            with self.subTest(last=last):
+                self.remove(*(name for name in ("flash.line", "journal") if self.is_there(name)))
+                self.flashes = [ZEROS]
+                self.store("flash", ZEROS)
+                self.write_thrice()
+                lines = self.log()
+                self.assertTold(self.keep("--last", str(last)), f"kept {3 - last}\n{last} can be undone\n")
+                renumbered = [line.replace(f"segment {k + 4 - last}:", f"segment {k + 1}:")
+                              for k, line in enumerate(lines[-1 - last:-1])]
+                self.assertEqual(self.log(), [lines[0], *renumbered, f"{last} can be undone"])
+                self.assertFile("flash", self.flashes[3])
+                for k in range(last):
+                    self.assertTold(self.use("undo", "1"), "undone 1\n")
+                    self.assertFile("flash", self.flashes[2 - k])
+                self.assertTold(self.use("undo"), "undone 0\n")
+                self.assertFile("flash", self.flashes[3 - last])
+
+    def test_the_text(self):
+        """The header, and of each segment that stays its number, its pages as they stood, and its end. What counts as nothing,
+        was taken off or intended is gone."""
+        head = b"stmjournal 1 0412\n"
+        two = with_page(b"page 4 ", b"A", with_page(b"\npage 6 ", b"0", b"\n"))
+        text = with_page(head + b"open 1\npage 3 ", b"F", b"\nerase 3\nprogram 3\nend 1\nopen 2\n")
+        text += two + b"erase 4\nfoo!\nprogram 6\nend 2\n" + b"open 3\npage 9 FF\nerase 9\nundone 3\nopen 3\nend 3\nope"
+        cut = head + b"open 1\n" + two + b"end 1\nopen 2\nend 2\n"
+        self.store("journal", text)
+        self.assertTold(self.keep("--last", "2"), "kept 1\n2 can be undone\n")
+        self.assertFile("journal", cut)
+        self.assertTold(self.keep("--last", "2"), "kept 0\n2 can be undone\n")
+        self.assertFile("journal", cut)
+        self.assertTold(self.keep("--last", "1"), "kept 1\n1 can be undone\n")
+        self.assertFile("journal", head + b"open 1\nend 1\n")
+        self.assertTold(self.keep("--last", "65535"), "kept 0\n1 can be undone\n")
+
+    def test_a_board_stays_named(self):
+        for head in (b"stmjournal 3 0412 00FF102030405060\n", b"stmjournal 2 0412\n", b"stmjournal 1 0412\n"):
+            with self.subTest(head=head):
+                self.store("journal", b"gone!\n" + head + b"open 1\nend 1\nopen 2\nend 2\n")
+                self.assertTold(self.keep("--last", "1"), "kept 1\n1 can be undone\n")
+                self.assertFile("journal", head + b"open 1\nend 1\n")
+
+    def test_a_journal_of_nothing(self):
+        """Of no line, of a header alone, and of what was taken off."""
+        for text, cut in ((b"", b""), (b"!\n", b""), (b"stmjournal 2 0412\n", b"stmjournal 2 0412\n"),
+                          (b"stmjournal 2 0412\nopen 1\npage 5 FF\nundone 1\n", b"stmjournal 2 0412\n")):
+            with self.subTest(text=text):
+                self.store("journal", text)
+                self.assertTold(self.keep("--last", "1"), "kept 0\n0 can be undone\n")
+                self.assertFile("journal", cut)
+
+    def test_pages_of_any_size(self):
+        """Digits that come in several pieces."""
+        for size in (1, 2047, 2048, 2049, 4096, 131072):
+            with self.subTest(size=size):
+                page = b"page 5 " + os.urandom(size).hex().upper().encode() + b"\n"
+                self.store("journal", b"stmjournal 2 0412\nopen 1\nend 1\nopen 2\n" + page + b"end 2\n")
+                self.assertTold(self.keep("--last", "1"), "kept 1\n1 can be undone\n")
+                self.assertFile("journal", b"stmjournal 2 0412\nopen 1\n" + page + b"end 1\n")
+
+    def test_refuses_what_keep_refuses(self):
+        """A stopped command, a bad journal, one that isn't there."""
+        self.assertFault(self.keep("--last", "1"), "cannot read journal")
+        self.assertFault(self.use("erase", "--stop", "3190", "5"), "stopped", 3)
+        journal = self.held("journal")
+        self.assertFault(self.keep("--last", "1"), UNFINISHED)
+        self.assertFile("journal", journal)
+        self.store("journal", BAD)
+        self.assertFault(self.keep("--last", "1"), "bad journal line 2")
+        self.assertFile("journal", BAD)
+
+    def test_words_that_it_refuses(self):
+        self.write(1)
+        journal = self.held("journal")
+        for words, text in ((("--last", "0"), "bad number 0"), (("--last", "65536"), "bad number 65536"),
+                            (("--last", "x"), "bad number x"), (("--last", "1", "elsewhere"), "give TO or --last, not both")):
+            with self.subTest(words=words):
+                self.assertFault(self.keep(*words), "usage: " + text, 2)
+                self.assertFile("journal", journal)
+                self.assertFile("elsewhere", None)
+
+    def test_mode_and_link_stay(self):
+        self.write_thrice()
+        os.rename(self.path("journal"), self.path("real"))
+        os.symlink("real", self.path("journal"))
+        os.chmod(self.path("real"), 0o640)
+        self.assertTold(self.keep("--last", "1"), "kept 2\n1 can be undone\n")
+        self.assertEqual(os.readlink(self.path("journal")), "real")
+        self.assertEqual(os.stat(self.path("real")).st_mode & 0o777, 0o640)
+        self.assertTold(self.use("undo"), "undone 1\n")
+        self.assertFile("flash", self.flashes[2])
+
+    def test_another_program_has_it(self):
+        self.write_thrice()
+        journal = self.held("journal")
+        with open(self.path("journal"), "rb") as file:
+            fcntl.flock(file, fcntl.LOCK_EX)
+            self.assertFault(self.keep("--last", "1"), "journal is in use")
+        self.assertFile("journal", journal)
+
+    def held_at(self, fails=None, **how):
+        """Cuts the journal, with one of the system's calls held, and answers what was said, and what was synced."""
+        return syncs.call(self.folder, ("keep", "--last", "1", "--journal", "journal"), fails, **how)
+
+    def test_the_new_text_is_on_the_disk_before_it_takes_the_place(self):
+        """And the folder is behind it; where the first sync fails, the old journal stands."""
+        self.write_thrice()
+        journal = self.held("journal")
+        said, _ = self.held_at(0)
+        self.assertFault(said, "cannot write journal")
+        self.assertFile("journal", journal)
+        said, synced = self.held_at()
+        self.assertTold(said, "kept 2\n1 can be undone\n")
+        self.assertEqual(synced, ["journal.stmflash-0.new", "."])
+
+    def test_the_old_journal_stands_where_it_cannot_be_renamed(self):
+        self.write_thrice()
+        journal = self.held("journal")
+        said, _ = self.held_at(0, held=RENAME)
+        self.assertFault(said, "cannot write journal")
+        self.assertFile("journal", journal)
+        self.assertTold(self.use("undo", "1"), "undone 1\n")
+        self.assertFile("flash", self.flashes[2])
+
+    def test_a_kill_leaves_the_old_or_the_new(self):
+        """Before the renaming, with the text beside it, which the next call removes; in it; and behind it."""
+        self.write_thrice()
+        old = self.held("journal")
+        self.assertTold(self.keep("--last", "1"), "kept 2\n1 can be undone\n")
+        new = self.held("journal")
+        for held, number, left in ((syncs.FSYNC, 0, (old,)), (RENAME, 0, (old, new)), (syncs.FSYNC, 1, (new,))):
+            with self.subTest(held=held, number=number):
+                self.store("journal", old)
+                said, _ = self.held_at(held=held, at=lambda turn, process: turn == number and os.kill(process, signal.SIGKILL))
+                self.assertEqual(said.status, -signal.SIGKILL)
+                journal = self.held("journal")
+                self.assertIn(journal, left)
+                self.assertEqual(self.is_there("journal.stmflash-0.new"), journal == old)
+                self.assertTold(self.keep("--last", "1"), f"kept {2 if journal == old else 0}\n1 can be undone\n")
+                self.assertFile("journal", new)
+                self.assertFalse(self.is_there("journal.stmflash-0.new"))
+        self.assertTold(self.use("undo"), "undone 1\n")
+        self.assertFile("flash", self.flashes[2])
+
+    def test_a_journal_that_changed_meanwhile_stands(self):
+        """One that was added to by a program that asks for no lock."""
+        self.write_thrice()
+        journal = self.held("journal")
+
+        def add(turn, process):
+            if turn == 0:
+                with open(self.path("journal"), "ab") as file:
+                    file.write(b"!\n")
+
+        said, _ = self.held_at(at=add)
+        self.assertFault(said, "journal failed: it was moved, replaced, cut or added to")
+        self.assertFile("journal", journal + b"!\n")
+
+    def test_a_full_disk_leaves_the_old(self):
+        """A file may have so many bytes, and no more."""
+        self.write_thrice()
+        journal = self.held("journal")
+
+        def narrow():
+            signal.signal(signal.SIGXFSZ, signal.SIG_IGN)
+            resource.setrlimit(resource.RLIMIT_FSIZE, (3000, 3000))
+
+        self.assertFault(self.keep("--last", "1", before=narrow), "cannot write journal")
+        self.assertFile("journal", journal)

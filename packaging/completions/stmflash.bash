@@ -22,7 +22,7 @@ _stmflash() {
             _stmflash_files "$word"
             [[ sim: == "$word"* ]] && COMPREPLY+=(sim:)
             return ;;
-        --wait | --stop | --give-up | --board | --id | --unique | --size | --clients | --mode | -S | --go | --again) return ;;
+        --wait | --stop | --give-up | --board | --id | --unique | --size | --clients | --mode | -S | --go | --again | --last) return ;;
     esac
     if [[ $word != -* ]]; then
         case $subcommand in
@@ -45,7 +45,7 @@ _stmflash() {
         go) _stmflash_words "$word" "$device -h" ;;
         protect) _stmflash_words "$word" "$device --yes -h" ;;
         log) _stmflash_words "$word" "--journal --help -h" ;;
-        keep) _stmflash_words "$word" "--journal --no-lock --help -h" ;;
+        keep) _stmflash_words "$word" "--journal --no-lock --last --help -h" ;;
         sim) _stmflash_words "$word" "--table --id --flash --unique --size --no-lock --socket --clients --mode --help -h" ;;
     esac
 }

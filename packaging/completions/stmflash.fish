@@ -51,6 +51,7 @@ complete -c stmflash -n "__stmflash_in write" -l again -x -d 'How often a failed
 complete -c stmflash -n "__stmflash_in erase" -l all -d 'Every page'
 complete -c stmflash -n "__stmflash_in read write verify keep" -F
 complete -c stmflash -n "__stmflash_in protect" -l yes -d 'Does not ask before it erases the chip'
+complete -c stmflash -n "__stmflash_in keep" -l last -x -d 'How many of the newest can still be undone'
 complete -c stmflash -n "__stmflash_in protect" -a 'write-unprotect readout-protect readout-unprotect'
 complete -c stmflash -n "__stmflash_in sim" -l id -x -d "The chip's id"
 complete -c stmflash -n "__stmflash_in sim" -l flash -r -F -d 'The file that holds the flash'

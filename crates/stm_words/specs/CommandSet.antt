@@ -140,8 +140,8 @@ log_app e = on_journal e (codes "log")
 
 abbrev pub keep_app : Environment → App
 keep_app e =
-    with_rule (with_rule (on_journal e (codes "keep")) (flag_rule (codes "no-lock")))
-    (new_rule (codes "TO"))
+    with_rule (with_rule (with_rule (on_journal e (codes "keep")) (flag_rule (codes "no-lock")))
+    (option_rule (codes "last"))) (new_rule (codes "TO"))
 
 abbrev pub go_app : Environment → App
 go_app e = with_rule (on_board e (codes "go")) (needed_rule (codes "ADDRESS"))

@@ -1,6 +1,6 @@
 -- What the words ask for.
-use Rattle.std.specs.Prelude.{◌≡◌, ◌||◌, ◌%◌, ℕ, Bool, IfSome, List, [], None, Some, codes, false}
-use Rattle.std.specs.Prelude.{map, option_and_then, option_map, true, unwrap_or}
+use Rattle.std.specs.Prelude.{◌≡◌, ◌||◌, ◌%◌, ◌≤◌, ℕ, Bool, IfSome, IsSome, List, [], Option, None, Some}
+use Rattle.std.specs.Prelude.{codes, false, map, option_and_then, option_map, true, unwrap_or}
 use Rattle.clap.specs.Matches.{first_value, matched_of, one_text, raw_values}
 use Rattle.clap.specs.declared.parser.matches.Found.{Found}
 use Rattle.stm_words.specs.declared.device.Device.{Device}
@@ -78,10 +78,18 @@ IsRead given (Protect kind is_sure) = ⊥
 abbrev pub IsWholeWords : Range → Type 0
 IsWholeWords range = (range.start % 4 ≡ 0) × (unwrap_or range.length 0 % 4 ≡ 0)
 
--- the journal that `keep` names, and where it goes
+-- how many of the newest `--last` names, or none where it isn't given
+abbrev pub NamesNewest : Found → Option ℕ → Type 0
+NamesNewest given None = first_value given (codes "last") ≡ None
+NamesNewest given (Some count) =
+    (option_and_then number_of (first_value given (codes "last")) ≡ Some count)
+    × (1 ≤ count) × (count ≤ 65535)
+
+-- the journal that `keep` names, and where it goes, or how many of the newest aren't given up
 abbrev pub IsKept : Environment → Found → Kept → Type 0
 IsKept e given kept = (first_value given (codes "journal") ≡ Some kept.journal.now)
     × (first_value given (codes "TO") ≡ option_map (λ s. s.now) kept.to)
+    × NamesNewest given kept.last × (IsSome kept.last → kept.to ≡ None)
     × IsFlagOr e.without_lock given (codes "no-lock") kept.without_lock
 
 -- the subcommand of this name, with these words, asks for this

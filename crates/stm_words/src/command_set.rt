@@ -188,6 +188,7 @@ fn keep<'a>(alloc: Global, environment: Environment<'a>) -> Result<Command<'a>, 
 {
     on_journal(alloc, environment, "keep", help::KEEP)?
         .arg(flag(alloc, "no-lock", help::NO_LOCK))?
+        .arg(option(alloc, "last", "N", help::LAST))?
         .arg(spare(alloc, "TO", help::TO))
 }
 

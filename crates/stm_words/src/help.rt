@@ -53,6 +53,9 @@ pub const RAW: &str = "Tells id, version and codes alone, also of a chip that th
 
 pub const TO: &str = "A name for the journal, which isn't there yet";
 
+pub const LAST: &str =
+    "Gives up all but the newest N writes and erases, which can still be undone, 1 to 65535";
+
 pub const BOARD: &str =
     "Refuses any board but the one whose unique id this is, or ends in these hexadecimal digits";
 

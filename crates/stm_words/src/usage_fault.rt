@@ -38,6 +38,9 @@ pub enum UsageFault<'a> {
     /// A Go is asked for behind a write whose journal isn't kept.
     #[error("usage: --go needs --keep or --keep-to")]
     GoNeedsKeep,
+    /// A journal is to be cut, and to go to another name.
+    #[error("usage: give TO or --last, not both")]
+    LastTakesNoName,
     /// A part that isn't whole words is to be summed up.
     #[error("usage: {0} is not whole words of 4 bytes")]
     NotWholeWords(&'a str),

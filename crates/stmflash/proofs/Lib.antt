@@ -11,3 +11,4 @@ pub mod Standings
 pub mod NoWord
 pub mod NextRun
 pub mod Told
+pub mod Cuts

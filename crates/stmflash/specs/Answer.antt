@@ -20,6 +20,7 @@ outcomes_told (answer.Erased segment pages) = was_erased segment pages ∷ []
 outcomes_told (answer.Undone count) = []
 outcomes_told (answer.Logged text) = []
 outcomes_told (answer.Kept count) = []
+outcomes_told (answer.KeptBut count left) = []
 
 -- it tells bytes, so many
 abbrev pub IsRead : ℕ → Answer → Type 0

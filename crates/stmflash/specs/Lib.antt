@@ -5,6 +5,7 @@ pub mod Conduct
 pub mod Confirmation
 pub mod Content
 pub mod Crc
+pub mod Cutting
 pub mod Escaped
 pub mod FalseErase
 pub mod JournalFile

@@ -51,6 +51,11 @@ pub enum Answer {
     Logged(Vec<u8>),
     /// How many segments stay.
     Kept(u32),
+    /// The same, and how many can still be taken back.
+    KeptBut {
+        count: u32,
+        left: u32,
+    },
 }
 
 impl Answer {
@@ -98,6 +103,7 @@ impl Answer {
             Answer::Erased { segment, pages } => print_erased(*segment, *pages, out),
             Answer::Undone(count) => print_undone(*count, out),
             Answer::Kept(count) => print_kept(*count, out),
+            Answer::KeptBut { count, left } => print_kept_but(*count, *left, out),
             Answer::Logged(bytes) | Answer::Bytes(bytes) => out.write_all(bytes.as_slice()),
             Answer::Nothing => Ok(()),
         }
@@ -167,6 +173,12 @@ fn print_undone<O: Write>(count: u32, out: &mut O) -> io::Result<()> {
 /// Prints the line of what stays.
 pub fn print_kept<O: Write>(count: u32, out: &mut O) -> io::Result<()> {
     writeln!(out, "kept {count}")
+}
+
+/// Prints the same, and how many can still be taken back.
+fn print_kept_but<O: Write>(count: u32, left: u32, out: &mut O) -> io::Result<()> {
+    print_kept(count, out)?;
+    writeln!(out, "{left} can be undone")
 }
 
 /// Prints what the device is, a line each.

@@ -250,6 +250,14 @@ impl<'a, R: Locks> JournalFile<'a, R> {
         }
     }
 
+    /// Refuses a file that isn't the one any more that was opened and read.
+    pub fn check_unchanged(&self) -> io::Result<()> {
+        match &self.reading {
+            Some(held) => self.check_place(held.file()),
+            None => Err(io::Error::other(CHANGED)),
+        }
+    }
+
     /// Keeps why a call failed, and hands its kind on.
     fn failed_by(&mut self, e: io::Error) -> io::Error
         ensures { self.new ≡ self.old }

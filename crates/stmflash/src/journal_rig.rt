@@ -41,6 +41,11 @@ impl<S: Source + Drop> JournalRig<S> {
             journal_failures: 0,
         }
     }
+
+    /// What the journal is read from.
+    pub fn into_source(self) -> S {
+        self.source
+    }
 }
 
 impl<S: Source + Drop> Rig for JournalRig<S> {

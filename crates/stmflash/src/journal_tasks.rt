@@ -1,6 +1,7 @@
 // What is done with a journal alone: it is looked at, or its way back is given up.
 
 use crate::answer::Answer;
+use crate::cut_journal::keep_newest;
 use crate::failure::Failure;
 use crate::files::sync_folder;
 use crate::journal_file::JournalFile;
@@ -20,7 +21,7 @@ use stm_session::Fault;
 use stm_words::Kept;
 
 /// Reads a journal, and hands back what it was read from.
-fn load<'a, S: Source + Drop>(
+pub fn load<'a, S: Source + Drop>(
     alloc: Global,
     name: &'a str,
     source: S,
@@ -56,7 +57,8 @@ fn tell<'a>(alloc: Global, journal: &Journal) -> Result<Answer, Failure<'a>> {
 }
 
 /// Lets the writes and erases of a journal stay: the journal, which has to be there, is removed, or
-/// renamed to a name that isn't. This program has it for itself until then.
+/// renamed to a name that isn't; or it's cut to its newest ones. This program has it for itself
+/// until then.
 pub fn keep<'a, R: Locks + AllocGlobal>(rt: &R, kept: &Kept<'a>) -> Result<Answer, Failure<'a>> {
     let file = match JournalFile::open(rt, kept.journal, kept.without_lock) {
         Ok(file) => file,
@@ -65,8 +67,11 @@ pub fn keep<'a, R: Locks + AllocGlobal>(rt: &R, kept: &Kept<'a>) -> Result<Answe
     if !file.is_there() {
         return Err(Failure::CannotRead(kept.journal));
     }
-    let (journal, _held) = load(rt.alloc(), kept.journal, file)?;
-    keep_loaded(rt, &journal, kept)
+    let (journal, held) = load(rt.alloc(), kept.journal, file)?;
+    match kept.last {
+        Some(last) => keep_newest(rt, kept.journal, journal, held.into_source(), last),
+        None => keep_loaded(rt, &journal, kept),
+    }
 }
 
 /// The same, of a journal that was read.

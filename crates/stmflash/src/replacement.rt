@@ -32,25 +32,51 @@ impl<R: Files + AllocGlobal> Replacement<R> {
     /// there, its mode is kept, and its owner and group as far as the system lets them; else
     /// these may use it.
     pub fn prepare(rt: &R, name: &str, bytes: &[u8], mode: u32) -> io::Result<Replacement<R>> {
-        let target = resolve(rt, name)?;
-        let (beside, mut file) = create_beside(rt, target.as_path().as_str(), mode)?;
-        match fill(
-            rt,
-            target.as_path().as_str(),
-            beside.as_str(),
-            &mut file,
-            bytes,
-        ) {
-            Ok(()) => Ok(Replacement {
-                target,
-                beside,
-                file,
-            }),
+        let mut beside = Replacement::begin(rt, name, mode)?;
+        match beside.fill(rt, bytes) {
+            Ok(()) => Ok(beside),
             Err(e) => {
-                let _ = fs::remove_file(rt, beside.as_str());
+                beside.discard(rt);
                 Err(e)
             }
         }
+    }
+
+    /// Makes an empty file beside the file of this name, for bytes that come one after another. It
+    /// has to be ended before it takes the place.
+    pub fn begin(rt: &R, name: &str, mode: u32) -> io::Result<Replacement<R>> {
+        let target = resolve(rt, name)?;
+        let (beside, file) = create_beside(rt, target.as_path().as_str(), mode)?;
+        Ok(Replacement {
+            target,
+            beside,
+            file,
+        })
+    }
+
+    /// Writes the bytes, and answers once they are on the disk.
+    fn fill(&mut self, rt: &R, bytes: &[u8]) -> io::Result<()> {
+        self.write(bytes)?;
+        self.end(rt)
+    }
+
+    /// Writes bytes more.
+    pub fn write(&mut self, bytes: &[u8]) -> io::Result<()> {
+        self.file.write_all(bytes)
+    }
+
+    /// Gives the file the rights of the one whose place it takes, and answers once all that was
+    /// written is on the disk.
+    pub fn end(&mut self, rt: &R) -> io::Result<()> {
+        if let Ok(told) = fs::metadata(rt, self.target.as_path()) {
+            keep_rights(rt, &told, self.beside.as_str(), &mut self.file)?;
+        }
+        self.file.sync_all()
+    }
+
+    /// The path of the file beside.
+    pub fn path(&self) -> &str {
+        self.beside.as_str()
     }
 
     /// The file that holds the bytes.
@@ -163,21 +189,6 @@ fn create_beside<R: Files + AllocGlobal>(
         }
     }
     Err(io::Error::from(ErrorKind::AlreadyExists))
-}
-
-/// Writes the bytes, and answers once they are on the disk.
-fn fill<R: Files>(
-    rt: &R,
-    target: &str,
-    beside: &str,
-    file: &mut R::File,
-    bytes: &[u8],
-) -> io::Result<()> {
-    file.write_all(bytes)?;
-    if let Ok(told) = fs::metadata(rt, target) {
-        keep_rights(rt, &told, beside, file)?;
-    }
-    file.sync_all()
 }
 
 /// Gives a file the owner, the group and the mode that another has; the first two as far

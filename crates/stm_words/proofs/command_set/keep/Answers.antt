@@ -1,7 +1,7 @@
 use Rattle.std.proofs.Common.{codes}
 use Rattle.std.proofs.lemmas.Result.{IfOk-weaker}
 use Rattle.clap.specs.Words.{App, new_rule, with_rule}
-use Rattle.stm_words.specs.CommandSet.{Makes, flag_rule, on_journal}
+use Rattle.stm_words.specs.CommandSet.{Makes, flag_rule, on_journal, option_rule}
 use Rattle.stm_words.proofs.Subcommands.{adds}
 use Rattle.stm_words.proofs.command_set.keep.Goals as goal
 
@@ -12,5 +12,8 @@ returns c =
     let a1 : App = with_rule a0 (flag_rule (codes "no-lock")) in
     let m1 : Makes a1 c.in_ok-arg.field-0 =
     adds a0 (flag_rule (codes "no-lock")) c.in_ok-on_journal.field-0 c.flag.result c.in_ok-arg.field-0 m0 c.flag.ensures.rule c.flag.ensures.local c.in_ok-arg.ensures in
-    IfOk-weaker c.arg-2.result _ _
-    (λ r h. adds a1 (new_rule (codes "TO")) c.in_ok-arg.field-0 c.spare.result r m1 c.spare.ensures.rule c.spare.ensures.local h) c.arg-2.ensures
+    let a2 : App = with_rule a1 (option_rule (codes "last")) in
+    let m2 : Makes a2 c.in_ok-arg-2.field-0 =
+    adds a1 (option_rule (codes "last")) c.in_ok-arg.field-0 c.option.result c.in_ok-arg-2.field-0 m1 c.option.ensures.rule c.option.ensures.local c.in_ok-arg-2.ensures in
+    IfOk-weaker c.arg-3.result _ _
+    (λ r h. adds a2 (new_rule (codes "TO")) c.in_ok-arg-2.field-0 c.spare.result r m2 c.spare.ensures.rule c.spare.ensures.local h) c.arg-3.ensures

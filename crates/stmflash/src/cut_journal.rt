@@ -1,0 +1,110 @@
+// A journal that is cut to its newest segments: the others are given up.
+ghost use Rattle.std.specs.Prelude.{◌≡◌, ◌-◌};
+
+use crate::answer::Answer;
+use crate::cut_text::CutText;
+use crate::failure::Failure;
+use crate::journal_file::JournalFile;
+use crate::journal_tasks::load;
+use crate::keeping::count_kept;
+use crate::likeness::{has_same_pages, is_cut};
+use crate::locks::Locks;
+use crate::replacement::{ALONE, Replacement, remove_leftovers};
+use crate::shown::Shown;
+use std::fs::Files;
+use stm_journal::Journal;
+use stm_session::Fault;
+
+/// Gives up all but so many segments of a journal, the newest, which can still be taken back. None of
+/// them may be unfinished. The text of what is left is written beside the journal, read again, and
+/// takes its place in one step; what was taken back, and lines that count as nothing, are gone then.
+pub fn keep_newest<'a, R: Locks + AllocGlobal>(
+    rt: &R,
+    name: &'a str,
+    journal: Journal,
+    mut file: JournalFile<'_, R>,
+    last: u32,
+) -> Result<Answer, Failure<'a>> {
+    let depth = count_kept(&journal)?;
+    let count = given_up(depth, last);
+    remove_leftovers(rt, name);
+    let beside = cut_beside(rt, name, &journal, &mut file, count)?;
+    if let Err(e) = file.check_unchanged() {
+        beside.discard(rt);
+        return Err(Failure::of_reason(Some(e)));
+    }
+    match beside.place(rt) {
+        Ok(_) => Ok(Answer::KeptBut {
+            count,
+            left: depth - count,
+        }),
+        Err(e) => Err(Failure::of_file(&e, Failure::CannotWrite(name))),
+    }
+}
+
+/// How many of so many segments are given up, where so many of the newest are to be left.
+fn given_up(depth: u32, last: u32) -> u32
+    ensures { result ≡ depth - last }
+{
+    depth.saturating_sub(last)
+}
+
+/// Writes the text of a journal without so many of its oldest segments beside it, where it's on the
+/// disk then.
+fn cut_beside<'a, R: Locks + AllocGlobal>(
+    rt: &R,
+    name: &'a str,
+    journal: &Journal,
+    file: &mut JournalFile<'_, R>,
+    given_up: u32,
+) -> Result<Replacement<R>, Failure<'a>> {
+    let beside = match Replacement::begin(rt, name, ALONE) {
+        Ok(beside) => beside,
+        Err(e) => return Err(Failure::of_file(&e, Failure::CannotWrite(name))),
+    };
+    let mut text = CutText::new(rt.alloc(), beside);
+    let written = text.write(rt, name, journal, file, given_up);
+    let beside = text.into_file();
+    let is_right = match written {
+        Ok(()) => reads_back(rt, name, journal, file, given_up, &beside),
+        Err(failure) => Err(failure),
+    };
+    match is_right {
+        Ok(true) => Ok(beside),
+        Ok(false) => {
+            beside.discard(rt);
+            Err(Failure::CannotWrite(name))
+        }
+        Err(failure) => {
+            beside.discard(rt);
+            Err(failure)
+        }
+    }
+}
+
+/// Whether the text beside a journal, as it's read from the disk, is that of the journal without so
+/// many of its oldest segments.
+fn reads_back<'a, R: Locks + AllocGlobal>(
+    rt: &R,
+    name: &'a str,
+    journal: &Journal,
+    file: &mut JournalFile<'_, R>,
+    given_up: u32,
+    beside: &Replacement<R>,
+) -> Result<bool, Failure<'a>> {
+    let shown = match Shown::open(rt, beside.path()) {
+        Ok(shown) => shown,
+        Err(e) => return Err(Failure::of_file(&e, Failure::CannotRead(name))),
+    };
+    let (new, rig) = match load(rt.alloc(), name, shown) {
+        Ok(loaded) => loaded,
+        Err(Failure::Session(Fault::Memory)) => return Err(Failure::Memory),
+        // the text isn't even a journal
+        Err(_) => return Ok(false),
+    };
+    let mut shown = rig.into_source();
+    if !is_cut(journal, &new, given_up) {
+        return Ok(false);
+    }
+    has_same_pages(journal, file, &new, &mut shown, given_up, name)
+}
