@@ -74,12 +74,14 @@ abbrev pub with_table : Environment → Text → App
 with_table e name =
     with_rule (new_app name) (standing_option_rule (codes "table") (text_of e.table))
 
--- a subcommand with the options that name the table, the device and the journal
+-- a subcommand with the options that name the table, the device, and the journal or the folder
+-- that has it
 abbrev pub with_places : Environment → Text → App
 with_places e name =
-    with_rule (with_rule (with_rule (with_table e name)
+    with_rule (with_rule (with_rule (with_rule (with_table e name)
     (standing_option_rule (codes "device") (text_of e.device)))
-    (standing_option_rule (codes "journal") (text_of e.journal))) (flag_rule (codes "no-lock"))
+    (spare_option_rule (codes "journal") (text_of e.journal)))
+    (spare_option_rule (codes "journals") (text_of e.journals))) (flag_rule (codes "no-lock"))
 
 -- the same, with the options of how long a device may take to answer
 abbrev pub with_waits : Environment → Text → App

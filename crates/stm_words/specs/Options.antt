@@ -1,6 +1,6 @@
 -- The options that every use of a device has, as words give them.
-use Rattle.std.specs.Prelude.{◌≡◌, ◌&&◌, ◌%◌, ◌==◌, Bool, IfSome, IsSome, IsTrue, List, ℕ, Some, codes, false, length}
-use Rattle.std.specs.Prelude.{nat_le, option_and_then, option_map}
+use Rattle.std.specs.Prelude.{◌≡◌, ◌&&◌, ◌%◌, ◌==◌, Bool, IfSome, IsSome, IsTrue, List, ℕ, Some}
+use Rattle.std.specs.Prelude.{codes, false, length, nat_le, option_and_then, option_map, true}
 use Rattle.std.specs.List.{list_all}
 use Rattle.clap.specs.Matches.{first_value}
 use Rattle.clap.specs.declared.parser.matches.Found.{Found}
@@ -16,6 +16,11 @@ abbrev pub NamesDevice : Found → Device → Type 0
 NamesDevice given device = (word : List ℕ) × (first_value given (codes "device") ≡ Some word)
     × IsDevice word device
 
+-- the journal is the file of this name, or in the folder of this name
+abbrev pub NamesJournal : Found → List ℕ → Bool → Type 0
+NamesJournal given name false = first_value given (codes "journal") ≡ Some name
+NamesJournal given name true = first_value given (codes "journals") ≡ Some name
+
 -- 1 to 64 hexadecimal digits, of either case
 abbrev pub are_board_digits : List ℕ → Bool
 are_board_digits text =
@@ -27,18 +32,19 @@ are_unique_digits text =
     nat_le 16 (length text) && (length text % 2 == 0) && are_board_digits text
 
 -- The board that is wanted is the word that was given under its id, by its digits; a device is
--- asked then.
+-- asked then, and also where a folder has its journal.
 pub record IsBoardOf (e : Environment) (given : Found) (o : Options) : Type 0 where
   pub word : first_value given (codes "board") ≡ option_map (λ text. text.now) o.board
   pub digits : IfSome o.board (λ text. IsTrue (are_board_digits text.now))
   pub without : IsFlagOr e.without_board given (codes "no-board") o.without_board
   pub asked : IsSome o.board → o.without_board ≡ false
+  pub told : o.in_folder ≡ true → o.without_board ≡ false
 
 -- The options that words give, or the environment.
 abbrev pub AreOptions : Environment → Found → Options → Type 0
 AreOptions e given o = AreTables e given o.table
     × NamesDevice given o.device
-    × (first_value given (codes "journal") ≡ Some o.journal.now)
+    × NamesJournal given o.journal.now o.in_folder
     × (option_and_then number_of (first_value given (codes "wait")) ≡ Some o.wait)
     × (option_and_then number_of (first_value given (codes "give-up")) ≡ Some o.give_up)
     × IsBoardOf e given o

@@ -36,7 +36,8 @@ fn with_table<'a>(
     ))
 }
 
-/// A subcommand with the options that name the table, the device and the journal.
+/// A subcommand with the options that name the table, the device, and the journal or the folder that
+/// has it, one of which has to be given.
 fn with_places<'a>(
     alloc: Global,
     environment: Environment<'a>,
@@ -47,7 +48,14 @@ fn with_places<'a>(
 {
     with_table(alloc, environment, name, about)?
         .arg(standing_option(alloc, "device", "DEV", environment.device, help::DEVICE))?
-        .arg(standing_option(alloc, "journal", "FILE", environment.journal, help::JOURNAL))?
+        .arg(spare_option(alloc, "journal", "FILE", environment.journal, help::JOURNAL))?
+        .arg(spare_option(
+            alloc,
+            "journals",
+            "FOLDER",
+            environment.journals,
+            help::JOURNALS,
+        ))?
         .arg(flag(alloc, "no-lock", help::NO_LOCK))
 }
 

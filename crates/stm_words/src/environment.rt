@@ -13,6 +13,8 @@ pub struct Environment<'a> {
     pub device: Option<&'a str>,
     /// The file of the journal.
     pub journal: Option<&'a str>,
+    /// The folder of the journals, each of which has the name of its board.
+    pub journals: Option<&'a str>,
     /// The unique id of the board that is wanted, or its last digits.
     pub board: Option<&'a str>,
     /// Whether a device isn't asked which board it is.

@@ -35,6 +35,9 @@ pub const DEVICE: &str = "The device: sim:ID:FILE, or the path of a Unix socket"
 
 pub const JOURNAL: &str = "The journal of what was done; a missing file is an empty journal";
 
+pub const JOURNALS: &str =
+    "In place of --journal: a folder, in which each board has UNIQUE.journal, by its unique id";
+
 pub const WAIT: &str = "How long a reply may take, in milliseconds, 1 to 60000";
 
 pub const GIVE_UP: &str = "After how many seconds without an answer the line is given up; 0: never";

@@ -9,6 +9,7 @@ mod environment;
 mod given;
 mod help;
 mod image_file;
+mod journal_place;
 mod kept;
 mod mode;
 mod number;

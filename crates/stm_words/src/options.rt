@@ -7,6 +7,7 @@ use crate::board_digits::board_digits;
 use crate::device::Device;
 use crate::environment::Environment;
 use crate::given::{flag, flag_or, number, number_within, stop, word};
+use crate::journal_place::JournalPlace;
 use crate::progress::Progress;
 use crate::table_names::TableNames;
 use crate::usage_fault::UsageFault;
@@ -18,8 +19,10 @@ pub struct Options<'a> {
     /// The files of the chip tables.
     pub table: TableNames<'a>,
     pub device: Device<'a>,
-    /// The file of the journal.
+    /// The file of the journal, or the folder that has it.
     pub journal: &'a str,
+    /// Whether it is a folder, in which the journal has the name of the device's board.
+    pub in_folder: bool,
     /// How long a reply may take, in milliseconds: 1 to 60,000.
     pub wait: u32,
     /// After how many seconds without an answer the line is given up; 0: never.
@@ -53,7 +56,7 @@ impl<'a> Options<'a> {
         let Some(device) = Device::parse(device) else {
             return Err(UsageFault::BadDevice(device));
         };
-        let journal = word(given, "journal")?;
+        let place = JournalPlace::parse(given)?;
         let wait = number_within(given, "wait", 60_000)?;
         let give_up = number(given, "give-up")?;
         let board = board_digits(given)?;
@@ -61,10 +64,14 @@ impl<'a> Options<'a> {
         if board.is_some() && without_board {
             return Err(UsageFault::BoardUnasked);
         }
+        if place.is_folder && without_board {
+            return Err(UsageFault::FolderUnasked);
+        }
         Ok(Options {
             table,
             device,
-            journal,
+            journal: place.name,
+            in_folder: place.is_folder,
             wait,
             give_up,
             board,

@@ -22,7 +22,7 @@ pub struct TableNames<'a> {
 }
 
 /// Whether the value of this name is a word that was given.
-fn is_word(given: &ArgMatches, id: &str) -> bool
+pub fn is_word(given: &ArgMatches, id: &str) -> bool
     ensures { IsTrue result ↔ IsWord (found_of given.now) id.now }
 {
     matches!(given.value_source(id), Some(ValueSource::CommandLine))

@@ -29,6 +29,15 @@ pub enum UsageFault<'a> {
     /// A board is wanted, and the device isn't to be asked which it is.
     #[error("usage: give --board or --no-board, not both")]
     BoardUnasked,
+    /// Neither a journal nor a folder of journals is named.
+    #[error("usage: give --journal or --journals")]
+    NoJournal,
+    /// Both are.
+    #[error("usage: give --journal or --journals, not both")]
+    TwoJournals,
+    /// A folder of journals is named, and the device isn't to be asked which board it is.
+    #[error("usage: give --journals or --no-board, not both")]
+    FolderUnasked,
     /// A place is named for an image that isn't raw.
     #[error("usage: -S needs a raw image")]
     RangeNeedsRaw,

@@ -16,6 +16,7 @@ pub struct Variables {
     users_table: Option<String>,
     device: Option<String>,
     journal: Option<String>,
+    journals: Option<String>,
     board: Option<String>,
     without_board: bool,
     is_fresh: bool,
@@ -29,6 +30,7 @@ impl Variables {
         let users_table = users_table(rt)?;
         let device = variable(rt, "STMFLASH_DEVICE")?;
         let journal = variable(rt, "STMFLASH_JOURNAL")?;
+        let journals = variable(rt, "STMFLASH_JOURNALS")?;
         let board = variable(rt, "STMFLASH_BOARD")?;
         let without_board = is_one(rt, "STMFLASH_NO_BOARD")?;
         let is_fresh = is_one(rt, "STMFLASH_FRESH")?;
@@ -38,6 +40,7 @@ impl Variables {
             users_table,
             device,
             journal,
+            journals,
             board,
             without_board,
             is_fresh,
@@ -62,6 +65,7 @@ impl Variables {
             over,
             device: text_of(&self.device),
             journal: text_of(&self.journal),
+            journals: text_of(&self.journals),
             board: text_of(&self.board),
             without_board: self.without_board,
             is_fresh: self.is_fresh,
