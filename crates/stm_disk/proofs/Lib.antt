@@ -1,0 +1,5 @@
+pub mod Crashes
+pub mod Times
+pub mod Adding
+pub mod Stopping
+pub mod Remembering
