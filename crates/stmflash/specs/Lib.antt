@@ -6,13 +6,13 @@ pub mod Confirmation
 pub mod Content
 pub mod Crc
 pub mod Cutting
+pub mod DiskFile
 pub mod Escaped
 pub mod FalseErase
 pub mod JournalFile
 pub mod Locks
 pub mod Logging
 pub mod Outgoing
-pub mod Sectors
 pub mod Serving
 pub mod ShortWaits
 pub mod SimulatorFile

@@ -6,6 +6,7 @@ ghost use Rattle.stmflash.specs.JournalFile.{JournalBytes, IsNew, ahead_of, is_f
 ghost use Rattle.stmflash.specs.JournalFile.{lock_of};
 ghost use Rattle.stmflash.specs.Locks.{IsHeld, IsHeldIfThere};
 
+use crate::disk_file::DiskFile;
 use crate::failure::Failure;
 use crate::files::{open_to_hold, sync_folder};
 use crate::held::Held;
@@ -14,13 +15,13 @@ use crate::journal_tasks::give_up_journal;
 use crate::locks::Locks;
 use crate::names::{is_named, is_one, resolve};
 use crate::replacement::ALONE;
-use crate::sectors::add_lines;
 use crate::unusable::Unusable;
 use std::fs::{OpenFile, OpenOptions};
 use std::io::ErrorKind;
 use std::marker::Model;
 use std::os::unix::fs::OpenOptionsExt;
 use std::{fs, io, mem};
+use stm_disk::add_lines;
 
 /// What is said where the file isn't the one any more that was read and added to.
 const CHANGED: &str = "it was moved, replaced, cut or added to";
@@ -116,15 +117,16 @@ impl<'a, R: Locks + AllocGlobal> JournalFile<'a, R> {
         ensures held { OnOk result (IsHeld self.old.without_lock self.new.lock) }
         ensures err { OnErr result (self.new.has_failed ≡ true) }
     {
-        let mut file = match mem::replace(&mut self.writing, Writing::Failed) {
+        let file = match mem::replace(&mut self.writing, Writing::Failed) {
             Writing::Unopened => self.begin()?,
             Writing::Open(file) => file,
             Writing::Failed => return Err(io::Error::from(ErrorKind::Other)),
         };
         self.check_place(&file)?;
-        add_lines(&mut file, self.end, bytes)?;
+        let mut on_disk = DiskFile { file };
+        add_lines(&mut on_disk, self.end, bytes)?;
         self.end = self.end.saturating_add(bytes.len() as u64);
-        self.writing = Writing::Open(file);
+        self.writing = Writing::Open(on_disk.file);
         Ok(())
     }
 
