@@ -122,20 +122,22 @@ class Board(Place):
         self.store("flash", COUNTING)
 
     def test_go_and_protect_ask_nothing_where_no_board_is_named_or_wanted(self):
-        for journal in (None, b"", b"stmjournal 2 0410\n"):
-            for words in self.leaving():
-                with self.subTest(words=words, journal=journal):
-                    if journal is not None:
-                        self.store("journal", journal)
-                    for unique in (HERE, None):
-                        self.assertLeft(self.at(unique, *words))
-                        self.assertEqual(self.asked(), [])
-                        self.assertFile("journal", journal)
+        for words in self.leaving():
+            with self.subTest(words=words):
+                self.assertLeft(self.at(HERE, *words))
+                self.assertEqual(self.asked(), [])
+                self.assertFile("journal", None)
+        self.store("journal", b"stmjournal 2 0410\n")
+        for words in self.leaving():
+            with self.subTest(words=words, version=2):
+                self.assertLeft(self.at(None, *words))
+                self.assertEqual(self.asked(), [])
+                self.assertFile("journal", b"stmjournal 2 0410\n")
 
     def test_go_and_protect_refuse_another_board(self):
         self.store("journal", HEAD)
         for words in self.leaving():
-            for unique in (THERE, None, 12 * b"\xff"):
+            for unique in (THERE, None, 12 * b"\xff") if words[0] == "go" else (THERE,):
                 with self.subTest(words=words, unique=unique):
                     self.assertFault(self.at(unique, *words, flash="there"), ANOTHER)
                     self.assertAskedAlone()
@@ -165,22 +167,22 @@ class Board(Place):
         self.assertFile("journal", journal)
 
     def test_go_and_protect_want_a_board(self):
-        for journal in (None, b"stmjournal 2 0410\n", HEAD):
+        for journal, words in zip((None, b"stmjournal 2 0410\n", HEAD, HEAD), self.leaving("--board", NAME[-4:])):
             if journal is not None:
                 self.store("journal", journal)
-            for words in self.leaving("--board", NAME[-4:]):
-                with self.subTest(words=words, journal=journal):
-                    self.assertFault(self.at(THERE, *words, flash="there"), "device is another board")
-                    self.assertAskedAlone()
-                    self.assertFault(self.at(None, *words, flash="there"), "device tells no board")
-                    self.assertAskedAlone()
-                    self.assertFile("there", COUNTING)
-                    self.assertLeft(self.at(HERE, *words))
-                    self.assertEqual(self.asked(), BEFORE)
-                    self.assertFile("journal", journal)
+            with self.subTest(words=words, journal=journal):
+                self.assertFault(self.at(THERE, *words, flash="there"), "device is another board")
+                self.assertAskedAlone()
+                self.assertFault(self.at(None, *words, flash="there"), "device tells no board")
+                self.assertAskedAlone()
+                self.assertFile("there", COUNTING)
+                self.assertLeft(self.at(HERE, *words))
+                self.assertEqual(self.asked(), BEFORE)
+                self.assertFile("journal", journal)
         # the one that is wanted came, and the journal is of another one
         self.assertFault(self.at(THERE, "go", "--board", OTHER, "0x08000000", flash="there"), ANOTHER)
-        self.assertFault(self.at(THERE, "go", "0x08000000", flash="there", variables={"STMFLASH_BOARD": NAME}), "device is another board")
+        said = self.at(THERE, "go", "0x08000000", flash="there", variables={"STMFLASH_BOARD": NAME})
+        self.assertFault(said, "device is another board")
 
     def test_go_and_protect_without_a_question(self):
         """`--no-board` asks nothing, whatever the journal names."""
@@ -195,9 +197,10 @@ class Board(Place):
     def test_go_and_protect_at_a_chip_that_cannot_tell(self):
         """No chip of the table has a place, or the table hasn't the device's chip."""
         head, _, _ = telling.TABLE.partition(b"unique")
-        for table in (head, head.replace(b"0x410", b"0x412"), telling.TABLE.replace(b"0x410", b"0x412")):
+        tables = head, head.replace(b"0x410", b"0x412"), telling.TABLE.replace(b"0x410", b"0x412")
+        for table, kind in zip(tables, ("write-unprotect", "readout-protect", "readout-unprotect")):
             self.store("telling", table)
-            for words in self.leaving("--table", "telling"):
+            for words in (("go", "--table", "telling", "0x08000000"), ("protect", "--table", "telling", kind)):
                 with self.subTest(words=words, table=table):
                     self.store("journal", HEAD)
                     self.assertFault(self.at(HERE, *words, flash="there"), ANOTHER)

@@ -1,4 +1,4 @@
-"""The simulator as a board: a file beside its flash says its unique id, and how many KiB its flash has. Words of `sim` write it."""
+"""The simulator as a board: a file beside its flash says its unique id and how many KiB its flash has. `sim` writes it."""
 
 import os
 import tomllib

@@ -42,8 +42,8 @@ _stmflash() {
         verify) _stmflash_words "$word" "$asked -f -S -h" ;;
         erase) _stmflash_words "$word" "$asked --all -h" ;;
         undo) _stmflash_words "$word" "$asked -h" ;;
-        go) _stmflash_words "$word" "$device -h" ;;
-        protect) _stmflash_words "$word" "$device --yes -h" ;;
+        go) _stmflash_words "$word" "$asked -h" ;;
+        protect) _stmflash_words "$word" "$asked --yes -h" ;;
         log) _stmflash_words "$word" "--journal --help -h" ;;
         keep) _stmflash_words "$word" "--journal --no-lock --last --help -h" ;;
         sim) _stmflash_words "$word" "--table --id --flash --unique --size --no-lock --socket --clients --mode --help -h" ;;

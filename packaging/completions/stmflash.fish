@@ -1,8 +1,7 @@
 # Completion of stmflash for fish.
 
 set -l all info read crc write verify erase undo go protect log keep sim help
-set -l asked info read crc write verify erase undo
-set -l device $asked go protect
+set -l device info read crc write verify erase undo go protect
 
 function __stmflash_in --description 'Whether one of these subcommands was given'
     __fish_seen_subcommand_from $argv
@@ -36,8 +35,8 @@ complete -c stmflash -n "__stmflash_in $device" -l give-up -x -d 'Seconds of sil
 complete -c stmflash -n "__stmflash_in $device" -l progress -d 'A line for each page, also where it is no terminal'
 complete -c stmflash -n "__stmflash_in $device" -l quiet -d 'No progress'
 complete -c stmflash -n "__stmflash_in $device" -l fresh -d 'The device was just reset'
-complete -c stmflash -n "__stmflash_in $asked" -l board -x -d 'The unique id that is wanted, or its last digits'
-complete -c stmflash -n "__stmflash_in $asked" -l no-board -d 'Does not ask which board it is'
+complete -c stmflash -n "__stmflash_in $device" -l board -x -d 'The unique id that is wanted, or its last digits'
+complete -c stmflash -n "__stmflash_in $device" -l no-board -d 'Does not ask which board it is'
 complete -c stmflash -n "__stmflash_in info" -l raw -d 'What a device of any chip tells'
 complete -c stmflash -n "__stmflash_in read crc write verify" -s S -x -d 'address[:length]'
 complete -c stmflash -n "__stmflash_in write verify" -s f -d 'Takes the file as raw bytes'
