@@ -95,6 +95,12 @@ class Confirmation(Place):
         status, shown, _ = self.on_terminal(b"y\n", device="nobody")
         self.assertEqual((status, shown), (1, ASKED + b"y\r\nstmflash: cannot connect nobody\r\n"))
 
+    def test_faults_of_the_words_come_first(self):
+        self.remove("table")
+        status, shown, _ = self.on_terminal(None)
+        self.assertEqual((status, shown), (1, b"stmflash: cannot read table\r\n"))
+        self.assertUntouched()
+
     def test_it_is_asked_under_quiet_too(self):
         status, shown, _ = self.on_terminal(b"n\n", "--quiet")
         self.assertEqual((status, shown), (1, ASKED + b"n\r\n" + REFUSED))

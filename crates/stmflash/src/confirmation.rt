@@ -1,5 +1,5 @@
 // The question before what erases the whole flash for good.
-ghost use Rattle.std.specs.Prelude.{◌≡◌, OnOk, IsTrue};
+ghost use Rattle.std.specs.Prelude.{◌≡◌, length};
 ghost use Rattle.stmflash.specs.Confirmation.{erases_for_good, is_yes};
 
 use crate::failure::Failure;
@@ -30,10 +30,11 @@ fn is_yes(answer: &[u8]) -> bool
     answer == b"y".as_slice() || answer == b"yes".as_slice()
 }
 
-/// The beginning of the line that is typed, as long as it takes to see whether it goes on. An input
-/// that ends or fails before the line does is no answer.
-fn read_answer<I: Read>(input: &mut I) -> Option<([u8; ANSWER], usize)> {
-    let mut answer = [0u8; ANSWER];
+/// Reads the line that is typed, up to the LF that ends it, and answers how many bytes of it are in
+/// the buffer: as many as fit. An input that ends or fails before the line does is no answer.
+fn read_answer<I: Read>(input: &mut I, answer: &mut [u8]) -> Option<usize>
+    ensures { length answer.new ≡ length answer.old }
+{
     let mut count = 0usize;
     for _ in 0..u64::MAX {
         let mut byte = [0u8];
@@ -42,9 +43,9 @@ fn read_answer<I: Read>(input: &mut I) -> Option<([u8; ANSWER], usize)> {
             _ => return None,
         }
         if byte[0] == b'\n' {
-            return Some((answer, count));
+            return Some(count);
         }
-        if count < ANSWER {
+        if count < answer.len() {
             answer[count] = byte[0];
             count += 1;
         }
@@ -58,8 +59,9 @@ fn ask<I: Read, E: Write>(input: &mut I, err: &mut E) -> bool {
     if asked.is_err() {
         return false;
     }
-    match read_answer(input) {
-        Some((answer, count)) => is_yes(&answer[..count.min(ANSWER)]),
+    let mut answer = [0u8; ANSWER];
+    match read_answer(input, &mut answer[..]) {
+        Some(count) => is_yes(&answer[..count.min(ANSWER)]),
         None => {
             // the line of the question isn't ended by what was typed
             let _ = writeln!(err);
