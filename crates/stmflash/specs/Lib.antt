@@ -9,6 +9,7 @@ pub mod Cutting
 pub mod DiskFile
 pub mod Escaped
 pub mod FalseErase
+pub mod JournalChoice
 pub mod JournalFile
 pub mod Locks
 pub mod Logging

@@ -6,6 +6,7 @@ use crate::chip_tables::ChipTables;
 use crate::escaped::Escaped;
 use crate::failure::Failure;
 use crate::files::is_there;
+use crate::first_question::Line;
 use crate::journal_tasks::look;
 use crate::locks::Locks;
 use crate::on_device::use_once;
@@ -52,20 +53,39 @@ impl Standing {
 
 /// Does a write, and what follows it. Where its line or its protocol fails, what it began is taken
 /// back and it is done again, so many times at the most, each told in a line. Where it fails for
-/// good, another line tells what stands.
-pub fn use_again<'a, R: Locks + Net + Clock + AllocGlobal, E: Write + IsTerminal>(
-    rt: &R,
+/// good, another line tells what stands. A line that there is to the device is used first.
+pub fn use_again<'a, 'r, R: Locks + Net + Clock + AllocGlobal, E: Write + IsTerminal>(
+    rt: &'r R,
     options: &Options<'a>,
     tables: &ChipTables<'a>,
     work: Work,
     sequel: &Sequel<'a>,
+    line: Option<Line<'r, R>>,
     err: &mut E,
 ) -> Result<Steps<'a>, Failure<'a>> {
     let before = Standing::of(rt, options.journal)?;
     let Some(first) = work.copy(rt.alloc())? else {
-        return use_once(rt, options, tables, work, sequel, Output::Printed, err);
+        return use_once(
+            rt,
+            options,
+            tables,
+            work,
+            sequel,
+            Output::Printed,
+            line,
+            err,
+        );
     };
-    let mut done = use_once(rt, options, tables, first, sequel, Output::Printed, err);
+    let mut done = use_once(
+        rt,
+        options,
+        tables,
+        first,
+        sequel,
+        Output::Printed,
+        line,
+        err,
+    );
     for turn in 0..sequel.again {
         let failure = match done {
             Err(failure) if failure.is_broken_off() => failure,
@@ -92,7 +112,16 @@ fn use_copy<'a, R: Locks + Net + Clock + AllocGlobal, E: Write + IsTerminal>(
     err: &mut E,
 ) -> Result<Steps<'a>, Failure<'a>> {
     match work.copy(rt.alloc())? {
-        Some(next) => use_once(rt, options, tables, next, sequel, Output::Printed, err),
+        Some(next) => use_once(
+            rt,
+            options,
+            tables,
+            next,
+            sequel,
+            Output::Printed,
+            None,
+            err,
+        ),
         None => Err(failure),
     }
 }
@@ -117,6 +146,7 @@ fn take_back<'a, R: Locks + Net + Clock + AllocGlobal, E: Write + IsTerminal>(
         undo,
         &Sequel::none(),
         Output::Printed,
+        None,
         err,
     )?;
     match steps.answer {

@@ -137,7 +137,7 @@ fn allow<'a>(
 }
 
 /// Asks a device which board it is, and refuses one that isn't wanted.
-fn ask_and_allow<'a, L: Rig>(
+pub fn ask_and_allow<'a, L: Rig>(
     alloc: Global,
     rig: &mut L,
     table: &Table,

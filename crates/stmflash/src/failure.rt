@@ -89,6 +89,18 @@ pub enum Failure<'a> {
     /// A device was silent for too long, or didn't take what was sent.
     #[error("no answer from the device")]
     NoAnswer,
+    /// The journal of a folder is bad.
+    #[error("{1}, in {0}")]
+    InJournal(&'a str, Fault),
+    /// The first line of a folder's journal doesn't name the board whose name the file has.
+    #[error("{0} doesn't name its board")]
+    Misnamed(&'a str),
+    /// Journals of a folder are unfinished, and the device may be a board of theirs.
+    #[error("unfinished: {0}; say --board and the digits of its board, or reset the board and say --fresh")]
+    BegunJournals(&'a str),
+    /// The device tells no unique id, by which a folder's journal could be known.
+    #[error("the board tells no unique id: --journal names its journal")]
+    NoUnique,
     /// The words can't be done.
     #[error("{0}")]
     Usage(UsageFault<'a>),

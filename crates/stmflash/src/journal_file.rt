@@ -97,6 +97,20 @@ impl<'a, R: Locks + AllocGlobal> JournalFile<'a, R> {
         })
     }
 
+    /// An empty journal in no file, which takes no line.
+    pub fn none(rt: &'a R) -> JournalFile<'a, R> {
+        JournalFile {
+            rt,
+            name: "",
+            without_lock: false,
+            writing: Writing::Failed,
+            reading: None,
+            end: 0,
+            refusal: None,
+            reason: None,
+        }
+    }
+
     /// Adds the bytes at the end of the file, and answers once they are on the disk. Where it
     /// fails, a beginning of them may have been added, and stays.
     pub fn append(&mut self, bytes: &[u8]) -> io::Result<()>

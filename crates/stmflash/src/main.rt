@@ -21,11 +21,14 @@ mod failure;
 mod false_erase;
 mod fetching;
 mod files;
+mod first_question;
 mod foreign;
 mod held;
 mod histories;
 mod incoming;
+mod journal_choice;
 mod journal_file;
+mod journal_folder;
 mod journal_rig;
 mod journal_tasks;
 mod keeper;
@@ -69,6 +72,7 @@ mod unusable;
 mod variables;
 mod work;
 
+use first_question::Place;
 use program::{fail, program};
 use std::io::ErrorKind;
 use std::process::ExitCode;
@@ -87,10 +91,12 @@ fn run(rt: &HostRuntime) -> io::Result<u8> {
         words.push(word.as_str())?;
     }
     let tables = variables.tables(rt)?;
+    let mut place = Place::new(rt.alloc());
     Ok(program(
         rt,
         variables.environment(tables.as_slice()),
         words.as_slice(),
+        &mut place,
         &mut rt.stdin(),
         &mut rt.stdout(),
         &mut rt.stderr(),

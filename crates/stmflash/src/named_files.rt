@@ -41,6 +41,11 @@ impl<'a> NamedFiles<'a> {
         }
     }
 
+    /// The same beside another journal.
+    pub fn beside(self, journal: &'a str) -> NamedFiles<'a> {
+        NamedFiles { journal, ..self }
+    }
+
     /// The file that the flash's bytes are for, where they aren't printed.
     pub fn out(&self) -> Option<&'a str> {
         self.out

@@ -9,6 +9,7 @@ use crate::confirmation::{confirm, erases_for_good};
 use crate::escaped::Escaped;
 use crate::failure::Failure;
 use crate::files::is_there;
+use crate::first_question::{Found, Line, Place, find_journal};
 use crate::journal_file::JournalFile;
 use crate::locks::Locks;
 use crate::named_files::NamedFiles;
@@ -40,10 +41,11 @@ const FALSE_ERASES: &str =
     use -v, and reset before an undo";
 
 /// Does a task on a device, and what follows it. Where it takes the readout protection off, it is
-/// asked before a file of the session is opened.
+/// asked before a file of the session is opened. Where a folder has its journal, the device is asked
+/// first which board it is; `place` keeps what came of that.
 pub fn use_device<
     'a,
-    R: Locks + Net + Clock + AllocGlobal,
+    R: Locks + Net + Clock + AllocGlobal + Clone + Drop,
     I: Read + IsTerminal,
     E: Write + IsTerminal,
 >(
@@ -51,27 +53,54 @@ pub fn use_device<
     options: &Options<'a>,
     task: Task<'a>,
     sequel: &Sequel<'a>,
+    place: &'a mut Place,
     input: &mut I,
     err: &mut E,
 ) -> Result<Steps<'a>, Failure<'a>> {
     let is_for_good = erases_for_good(&task);
     let tables = ChipTables::read(rt, options.table)?;
     let files = NamedFiles::of(options, &task);
-    let work = Work::of(rt, task)?.on_fresh(options.is_fresh);
+    let work = Work::of(rt, task)?;
     files.check(rt)?;
+    if is_for_good {
+        confirm(input, err)?;
+    }
+    if !options.in_folder {
+        return use_beside(rt, options, &tables, files, work, sequel, None, err);
+    }
+    let names_board = work.asking_if(true).is_some();
+    let found = match find_journal(rt, options, tables.chips(), names_board, place) {
+        Ok(found) => found,
+        Err(failure) => return Err(failure),
+    };
+    let Found { options, line } = found;
+    let files = files.beside(options.journal);
+    files.check(rt)?;
+    use_beside(rt, &options, &tables, files, work, sequel, line, err)
+}
+
+/// The same beside a journal that is known, on a device to which there may be a line.
+fn use_beside<'a, 'r, R: Locks + Net + Clock + AllocGlobal, E: Write + IsTerminal>(
+    rt: &'r R,
+    options: &Options<'a>,
+    tables: &ChipTables<'a>,
+    files: NamedFiles<'a>,
+    work: Work,
+    sequel: &Sequel<'a>,
+    line: Option<Line<'r, R>>,
+    err: &mut E,
+) -> Result<Steps<'a>, Failure<'a>> {
+    let work = work.on_fresh(options.is_fresh);
     if let Some(to) = sequel.to {
         files.check_new(rt, to)?;
     }
     let output = Output::open(rt, files)?;
-    if is_for_good {
-        confirm(input, err)?;
-    }
     let is_begun = begins_journal(rt, options, &work);
     tell_notes(options, is_begun, &work, err);
     let steps = if sequel.again > 0 {
-        use_again(rt, options, &tables, work, sequel, err)?
+        use_again(rt, options, tables, work, sequel, line, err)?
     } else {
-        use_once(rt, options, &tables, work, sequel, output, err)?
+        use_once(rt, options, tables, work, sequel, output, line, err)?
     };
     if is_begun && !steps.has_named_board() {
         tell_nameless(options, err);
@@ -85,13 +114,14 @@ pub fn use_device<
 }
 
 /// Does it once: the files are opened, and closed.
-pub fn use_once<'a, R: Locks + Net + Clock + AllocGlobal, E: Write + IsTerminal>(
-    rt: &R,
+pub fn use_once<'a, 'r, R: Locks + Net + Clock + AllocGlobal, E: Write + IsTerminal>(
+    rt: &'r R,
     options: &Options<'a>,
     tables: &ChipTables<'a>,
     work: Work,
     sequel: &Sequel<'a>,
     output: Output<'a, R>,
+    line: Option<Line<'r, R>>,
     err: &mut E,
 ) -> Result<Steps<'a>, Failure<'a>> {
     let style = Style::of(rt, options, err);
@@ -113,7 +143,7 @@ pub fn use_once<'a, R: Locks + Net + Clock + AllocGlobal, E: Write + IsTerminal>
         Device::Socket(path) => {
             let question = question_of(options, &work, has_telling_chip(table));
             on_socket(
-                rt, options, work, question, sequel, table, own, path, output, screen,
+                rt, options, work, question, sequel, table, own, path, line, output, screen,
             )
         }
     }
@@ -326,9 +356,22 @@ fn unconnected<'a, R: Files>(rt: &R, path: &'a str) -> Failure<'a> {
     }
 }
 
-/// Does it on what listens at a socket.
-fn on_socket<'a, R: Locks + Net + Clock + AllocGlobal, W: Write + Drop>(
-    rt: &R,
+/// A line to what listens at a socket.
+pub fn connect_line<'a, 'r, R: Files + Net + Clock>(
+    rt: &'r R,
+    options: &Options<'a>,
+    path: &'a str,
+) -> Result<Line<'r, R>, Failure<'a>> {
+    let (wait, give_up) = (u64::from(options.wait), u64::from(options.give_up));
+    match SocketLine::connect(rt, rt, path, wait, give_up) {
+        Ok(line) => Ok(line),
+        Err(e) => Err(Failure::of_file(&e, unconnected(rt, path))),
+    }
+}
+
+/// Does it on what listens at a socket, by the line that there is, or a new one.
+fn on_socket<'a, 'r, R: Locks + Net + Clock + AllocGlobal, W: Write + Drop>(
+    rt: &'r R,
     options: &Options<'a>,
     work: Work,
     question: Question<'a>,
@@ -336,20 +379,15 @@ fn on_socket<'a, R: Locks + Net + Clock + AllocGlobal, W: Write + Drop>(
     table: &Table,
     own: Table,
     path: &'a str,
+    line: Option<Line<'r, R>>,
     output: Output<'a, R>,
     screen: Screen<'_, W, R>,
 ) -> Result<Steps<'a>, Failure<'a>> {
     let opened = JournalFile::open(rt, options.journal, options.without_lock);
     let journal = serving_journal(opened, options.journal, &work)?;
-    let line = match SocketLine::connect(
-        rt,
-        rt,
-        path,
-        u64::from(options.wait),
-        u64::from(options.give_up),
-    ) {
-        Ok(line) => line,
-        Err(e) => return Err(Failure::of_file(&e, unconnected(rt, path))),
+    let line = match line {
+        Some(line) => line,
+        None => connect_line(rt, options, path)?,
     };
     let rig = SocketRig::new(line, journal);
     let mut rig = ProgressRig::new(rig, Course::new(rt.alloc(), table, work.goal()), screen);

@@ -3,6 +3,7 @@
 use crate::answer::Answer;
 use crate::escaped::Escaped;
 use crate::failure::Failure;
+use crate::first_question::Place;
 use crate::journal_tasks::{keep, log};
 use crate::locks::Locks;
 use crate::on_device::use_device;
@@ -18,11 +19,12 @@ use stm_words::{Environment, Request, Unread, read_request};
 /// of words. It answers the exit status: 0 where all was done or help was asked for, 1 after a
 /// fault, 2 where the words can't be done, 3 where a simulator was stopped. A fault is one line on
 /// `err`, whatever the names in it; of words that `clap` refuses its text stands there. While a
-/// line or a journal is open nothing is printed but what goes on, where that is shown. `input` is
-/// read only where it is asked whether to go on.
+/// line or a journal is open nothing is printed but what goes on, where that is shown. `place` keeps
+/// the name of a journal that the words leave to the device's board. `input` is read only where it
+/// is asked whether to go on.
 pub fn program<
     'a,
-    R: Locks + Net + Clock + AllocGlobal,
+    R: Locks + Net + Clock + AllocGlobal + Clone + Drop,
     I: Read + IsTerminal,
     O: Write,
     E: Write + IsTerminal,
@@ -30,13 +32,14 @@ pub fn program<
     rt: &R,
     environment: Environment<'a>,
     words: &'a [&'a str],
+    place: &'a mut Place,
     input: &mut I,
     out: &mut O,
     err: &mut E,
 ) -> u8 {
     let done = match read_request(rt.alloc(), environment, words) {
         Ok(Request::Use(options, task, sequel)) => {
-            use_device(rt, &options, task, &sequel, input, err)
+            use_device(rt, &options, task, &sequel, place, input, err)
         }
         Ok(Request::Log(journal)) => alone(log(rt, journal)),
         Ok(Request::Keep(kept)) => alone(keep(rt, &kept)),

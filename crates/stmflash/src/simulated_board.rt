@@ -81,7 +81,7 @@ impl SimulatedBoard {
 }
 
 /// The unique id that these digits write, where they are 8 to 32 bytes.
-fn unique_of(alloc: Global, digits: &[u8]) -> Result<Option<UniqueId>, AllocError> {
+pub fn unique_of(alloc: Global, digits: &[u8]) -> Result<Option<UniqueId>, AllocError> {
     match hex::decode(alloc, digits) {
         Ok(bytes) => Ok(UniqueId::of(bytes.as_slice())),
         Err(FromHexError::OutOfMemory) => Err(AllocError),

@@ -70,6 +70,11 @@ impl<'a, S: Timed + Drop, R: Locks + Clock + AllocGlobal> SocketRig<'a, S, R> {
         self.file
     }
 
+    /// The line, which stays open; the journal is closed.
+    pub fn into_line(self) -> SocketLine<'a, S, R> {
+        self.line
+    }
+
     /// Counts a failure of the line, where the answer is one.
     fn count_line<T: Drop>(&mut self, answer: Result<T, RigFault>) -> Result<T, RigFault>
         ensures answer { result ≡ answer }
