@@ -7,7 +7,7 @@ _stmflash_ports() { mapfile -t COMPREPLY < <(compgen -G "$1*" | grep -E '^/dev/(
 _stmflash() {
     local word=${COMP_WORDS[COMP_CWORD]} before=${COMP_WORDS[COMP_CWORD-1]} subcommand="" i
     local subcommands="info read crc write verify erase undo go protect log keep sim help"
-    local device="--table --device --journal --no-lock --wait --stop --give-up --progress --quiet --fresh --help"
+    local device="--table --device --journal --journals --no-lock --wait --stop --give-up --progress --quiet --fresh --help"
     local asked="$device --board --no-board"
     COMPREPLY=()
     for ((i = 1; i < COMP_CWORD; i++)); do
@@ -17,7 +17,7 @@ _stmflash() {
         fi
     done
     case $before in
-        --table | --journal | --flash | --socket | --keep-to) _stmflash_files "$word"; return ;;
+        --table | --journal | --journals | --flash | --socket | --keep-to) _stmflash_files "$word"; return ;;
         --device)
             _stmflash_files "$word"
             [[ sim: == "$word"* ]] && COMPREPLY+=(sim:)
