@@ -20,6 +20,11 @@ ERASED = b"\xff" * SIZE
 ZEROS = b"\x00" * SIZE
 # a flash whose byte i is i modulo 251
 COUNTING = bytes(i % 251 for i in range(SIZE))
+# what is told behind a fault of what came
+SILENT = "nothing came: is the board in its bootloader, with power?"
+ECHO = "the line echoes: are RX and TX joined?"
+NOISE = "bytes came that are no answer: is the board in its bootloader, is the speed right?"
+UNREAD = "address {:08X}: the device refused to read it: is the flash readout-protected, or smaller?"
 
 
 def program():
@@ -102,9 +107,10 @@ class Place(unittest.TestCase):
         self.store("image", image)
         return self.use(name, *words, "image", device=device)
 
-    def assertFault(self, said, text, status=1):
-        """This one line was all that was said, with this status."""
-        self.assertEqual(said, Said(status, b"", b"stmflash: " + text.encode() + b"\n"))
+    def assertFault(self, said, text, status=1, hint=None):
+        """This one line was all that was said, or another behind it, with this status."""
+        told = f"stmflash: {text}\n" + (f"hint: {hint}\n" if hint else "")
+        self.assertEqual(said, Said(status, b"", told.encode()))
 
     def assertUsage(self, said):
         """`clap` refused the words."""

@@ -13,7 +13,7 @@ import threading
 import time
 
 import telling
-from place import PATIENCE, Place, Said, program
+from place import NOISE, PATIENCE, UNREAD, Place, Said, program
 from served import WAIT
 from telling import ACK, NACK, READ, SIZE_AT, UNIQUE_AT, Stand
 from test_board import ANOTHER, CHANGED, COUNTING, HEAD, HERE, THERE, size
@@ -253,7 +253,7 @@ class BoardMoved(Place):
         # to the command, to the address, to the count, of either place, and of the unique id once more
         for number in range(9):
             with self.subTest(number=number):
-                self.assertFault(self.at("undo", kind=garbling(number, b"\x78")), PROTOCOL)
+                self.assertFault(self.at("undo", kind=garbling(number, b"\x78")), PROTOCOL, hint=NOISE)
                 self.assertFile("flash", flash)
                 self.assertFile("journal", journal)
         self.assertTold(self.at("undo"), "undone 1\n")
@@ -311,7 +311,7 @@ class BoardMoved(Place):
         """A part of 64 KiB that tells 128: a page that isn't there can't be read, and is touched by nothing."""
         self.store("flash.board", b"size 64\n")
         self.store("flash", COUNTING[:65536])
-        self.assertFault(self.at("erase", "5", "64"), PROTOCOL)
+        self.assertFault(self.at("erase", "5", "64"), PROTOCOL, hint=UNREAD.format(0x08010000))
         self.assertFile("flash", with_page(COUNTING[:65536], 5, 1024 * b"\xff"))
         self.assertTold(self.at("undo", kib=64), "undone 1\n")
         self.assertFile("flash", COUNTING[:65536])

@@ -2,7 +2,7 @@
 
 import os
 
-from place import COUNTING, ERASED, TABLE, ZEROS, Place
+from place import COUNTING, ERASED, SILENT, TABLE, ZEROS, Place
 
 INFO = ("id 0412\nbase 08000000\npages 32\nsize 32768\nerase 43\nerased FF\nversion 22\n"
         "codes 00 02 11 21 31 43 73 82 92\n")
@@ -129,7 +129,7 @@ class Device(Place):
     def test_leaves_the_bootloader(self):
         self.assertSilent(self.use("go", "0x08000000"))
         self.assertHolds(ERASED, b"gone\n")
-        self.assertFault(self.use("read", "OUT"), "device does not follow the protocol")
+        self.assertFault(self.use("read", "OUT"), "device does not follow the protocol", hint=SILENT)
         self.assertHolds(ERASED, b"gone\n")
         self.assertFile("OUT", None)
 

@@ -10,7 +10,7 @@ import threading
 import time
 
 from boards import WAIT, LinePlace, end_with, kill
-from place import COUNTING, ERASED, PATIENCE, SIZE
+from place import COUNTING, ERASED, PATIENCE, SILENT, SIZE
 
 KILLS = int(os.environ.get("STMFLASH_LINE_KILLS", "6"))
 ENDING = (signal.SIGTERM, signal.SIGINT, signal.SIGHUP)
@@ -40,7 +40,7 @@ class Sessions(LinePlace):
     def test_a_silent_board_is_given_up(self):
         self.plain()
         said = self.line("ttyUSB0", "--", *self.stmflash("info", "--give-up", "2"))
-        self.assertFault(said, "no answer from the device")
+        self.assertFault(said, "no answer from the device", hint=SILENT)
 
     def test_eight_at_once(self):
         boards = [self.board(f"ttyUSB{number}") for number in range(8)]

@@ -10,6 +10,7 @@ pub mod DiskFile
 pub mod Escaped
 pub mod FalseErase
 pub mod JournalChoice
+pub mod Hinting
 pub mod JournalFile
 pub mod Locks
 pub mod Logging
@@ -28,5 +29,6 @@ pub mod SocketLine
 pub mod SocketRig
 pub mod Standing
 pub mod Steps
+pub mod Turn
 pub mod Histories
 pub mod Unpowered

@@ -7,6 +7,7 @@ use crate::escaped::Escaped;
 use crate::failure::Failure;
 use crate::files::is_there;
 use crate::first_question::Line;
+use crate::hint::Hint;
 use crate::journal_tasks::look;
 use crate::locks::Locks;
 use crate::on_device::use_once;
@@ -62,6 +63,7 @@ pub fn use_again<'a, 'r, R: Locks + Net + Clock + AllocGlobal, E: Write + IsTerm
     sequel: &Sequel<'a>,
     line: Option<Line<'r, R>>,
     err: &mut E,
+    hint: &mut Option<Hint>,
 ) -> Result<Steps<'a>, Failure<'a>> {
     let before = Standing::of(rt, options.journal)?;
     let Some(first) = work.copy(rt.alloc())? else {
@@ -74,6 +76,7 @@ pub fn use_again<'a, 'r, R: Locks + Net + Clock + AllocGlobal, E: Write + IsTerm
             Output::Printed,
             line,
             err,
+            hint,
         );
     };
     let mut done = use_once(
@@ -85,16 +88,17 @@ pub fn use_again<'a, 'r, R: Locks + Net + Clock + AllocGlobal, E: Write + IsTerm
         Output::Printed,
         line,
         err,
+        hint,
     );
     for turn in 0..sequel.again {
         let failure = match done {
             Err(failure) if failure.is_broken_off() => failure,
             done => return tell_standing(rt, options, before, done, err),
         };
-        let back = take_back(rt, options, tables, before, err);
+        let back = take_back(rt, options, tables, before, err, hint);
         tell_turn(turn, sequel.again, &failure, &back, err);
         done = match back {
-            Ok(_) => use_copy(rt, options, tables, &work, failure, sequel, err),
+            Ok(_) => use_copy(rt, options, tables, &work, failure, sequel, err, hint),
             Err(failure) => Err(failure),
         };
     }
@@ -110,6 +114,7 @@ fn use_copy<'a, R: Locks + Net + Clock + AllocGlobal, E: Write + IsTerminal>(
     failure: Failure<'a>,
     sequel: &Sequel<'a>,
     err: &mut E,
+    hint: &mut Option<Hint>,
 ) -> Result<Steps<'a>, Failure<'a>> {
     match work.copy(rt.alloc())? {
         Some(next) => use_once(
@@ -121,6 +126,7 @@ fn use_copy<'a, R: Locks + Net + Clock + AllocGlobal, E: Write + IsTerminal>(
             Output::Printed,
             None,
             err,
+            hint,
         ),
         None => Err(failure),
     }
@@ -133,6 +139,7 @@ fn take_back<'a, R: Locks + Net + Clock + AllocGlobal, E: Write + IsTerminal>(
     tables: &ChipTables<'a>,
     before: Standing,
     err: &mut E,
+    hint: &mut Option<Hint>,
 ) -> Result<u32, Failure<'a>> {
     let count = Standing::of(rt, options.journal)?.begun_since(before);
     if count == 0 {
@@ -148,6 +155,7 @@ fn take_back<'a, R: Locks + Net + Clock + AllocGlobal, E: Write + IsTerminal>(
         Output::Printed,
         None,
         err,
+        hint,
     )?;
     match steps.answer {
         Answer::Undone(count) => Ok(count),

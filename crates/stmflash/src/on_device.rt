@@ -10,6 +10,7 @@ use crate::escaped::Escaped;
 use crate::failure::Failure;
 use crate::files::is_there;
 use crate::first_question::{Found, Line, Place, find_journal};
+use crate::hint::Hint;
 use crate::journal_file::JournalFile;
 use crate::locks::Locks;
 use crate::named_files::NamedFiles;
@@ -42,7 +43,8 @@ const FALSE_ERASES: &str =
 
 /// Does a task on a device, and what follows it. Where it takes the readout protection off, it is
 /// asked before a file of the session is opened. Where a folder has its journal, the device is asked
-/// first which board it is; `place` keeps what came of that.
+/// first which board it is; `place` keeps what came of that. What the line's last turns tell of a
+/// session that was broken off becomes `hint`.
 pub fn use_device<
     'a,
     R: Locks + Net + Clock + AllocGlobal + Clone + Drop,
@@ -56,6 +58,7 @@ pub fn use_device<
     place: &'a mut Place,
     input: &mut I,
     err: &mut E,
+    hint: &mut Option<Hint>,
 ) -> Result<Steps<'a>, Failure<'a>> {
     let is_for_good = erases_for_good(&task);
     let tables = ChipTables::read(rt, options.table)?;
@@ -66,7 +69,9 @@ pub fn use_device<
         confirm(input, err)?;
     }
     if !options.in_folder {
-        return use_beside(rt, options, &tables, files, work, sequel, None, err);
+        return use_beside(
+            rt, options, &tables, files, work, sequel, None, err, hint,
+        );
     }
     let names_board = work.asking_if(true).is_some();
     let found = match find_journal(rt, options, tables.chips(), names_board, place) {
@@ -76,7 +81,9 @@ pub fn use_device<
     let Found { options, line } = found;
     let files = files.beside(options.journal);
     files.check(rt)?;
-    use_beside(rt, &options, &tables, files, work, sequel, line, err)
+    use_beside(
+        rt, &options, &tables, files, work, sequel, line, err, hint,
+    )
 }
 
 /// The same beside a journal that is known, on a device to which there may be a line.
@@ -89,6 +96,7 @@ fn use_beside<'a, 'r, R: Locks + Net + Clock + AllocGlobal, E: Write + IsTermina
     sequel: &Sequel<'a>,
     line: Option<Line<'r, R>>,
     err: &mut E,
+    hint: &mut Option<Hint>,
 ) -> Result<Steps<'a>, Failure<'a>> {
     let work = work.on_fresh(options.is_fresh);
     if let Some(to) = sequel.to {
@@ -98,9 +106,9 @@ fn use_beside<'a, 'r, R: Locks + Net + Clock + AllocGlobal, E: Write + IsTermina
     let is_begun = begins_journal(rt, options, &work);
     tell_notes(options, is_begun, &work, err);
     let steps = if sequel.again > 0 {
-        use_again(rt, options, tables, work, sequel, line, err)?
+        use_again(rt, options, tables, work, sequel, line, err, hint)?
     } else {
-        use_once(rt, options, tables, work, sequel, output, line, err)?
+        use_once(rt, options, tables, work, sequel, output, line, err, hint)?
     };
     if is_begun && !steps.has_named_board() {
         tell_nameless(options, err);
@@ -123,6 +131,7 @@ pub fn use_once<'a, 'r, R: Locks + Net + Clock + AllocGlobal, E: Write + IsTermi
     output: Output<'a, R>,
     line: Option<Line<'r, R>>,
     err: &mut E,
+    hint: &mut Option<Hint>,
 ) -> Result<Steps<'a>, Failure<'a>> {
     let style = Style::of(rt, options, err);
     let screen = Screen::new(err, rt, rt.alloc(), style);
@@ -137,13 +146,13 @@ pub fn use_once<'a, 'r, R: Locks + Net + Clock + AllocGlobal, E: Write + IsTermi
             let chip = chip.clone()?;
             let question = question_of(options, &work, tells_board(&chip));
             on_simulator(
-                rt, options, work, question, sequel, table, own, file, chip, output, screen,
+                rt, options, work, question, sequel, table, own, file, chip, output, screen, hint,
             )
         }
         Device::Socket(path) => {
             let question = question_of(options, &work, has_telling_chip(table));
             on_socket(
-                rt, options, work, question, sequel, table, own, path, line, output, screen,
+                rt, options, work, question, sequel, table, own, path, line, output, screen, hint,
             )
         }
     }
@@ -274,6 +283,7 @@ fn on_simulator<'a, R: Locks + Clock + AllocGlobal, W: Write + Drop>(
     chip: Chip,
     output: Output<'a, R>,
     screen: Screen<'_, W, R>,
+    hint: &mut Option<Hint>,
 ) -> Result<Steps<'a>, Failure<'a>> {
     let opened = match JournalFile::open(rt, options.journal, options.without_lock) {
         // a simulator of which nothing else is known is fresh
@@ -301,6 +311,7 @@ fn on_simulator<'a, R: Locks + Clock + AllocGlobal, W: Write + Drop>(
                 options.journal,
                 output,
                 screen,
+                hint,
             )
         }
         Err(failure) => {
@@ -323,9 +334,11 @@ fn use_simulator<'a, R: Locks + Clock + AllocGlobal, W: Write + Drop>(
     name: &'a str,
     output: Output<'a, R>,
     screen: Screen<'_, W, R>,
+    hint: &mut Option<Hint>,
 ) -> Result<Steps<'a>, Failure<'a>> {
     let mut rig = ProgressRig::new(rig, Course::new(rt.alloc(), table, work.goal()), screen);
     let done = take_steps(rt.alloc(), &mut rig, own, work, question, name, sequel);
+    *hint = rig.hint();
     let rig = rig.finish(done.is_ok());
     let is_unstored = rig.is_unstored();
     let (memory, journal, mut files) = rig.into_parts();
@@ -382,6 +395,7 @@ fn on_socket<'a, 'r, R: Locks + Net + Clock + AllocGlobal, W: Write + Drop>(
     line: Option<Line<'r, R>>,
     output: Output<'a, R>,
     screen: Screen<'_, W, R>,
+    hint: &mut Option<Hint>,
 ) -> Result<Steps<'a>, Failure<'a>> {
     let opened = JournalFile::open(rt, options.journal, options.without_lock);
     let journal = serving_journal(opened, options.journal, &work)?;
@@ -400,6 +414,7 @@ fn on_socket<'a, 'r, R: Locks + Net + Clock + AllocGlobal, W: Write + Drop>(
         options.journal,
         sequel,
     );
+    *hint = rig.hint();
     let rig = rig.finish(done.is_ok());
     let has_given_up = rig.has_given_up();
     let done = if has_given_up {

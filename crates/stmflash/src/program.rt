@@ -4,6 +4,7 @@ use crate::answer::Answer;
 use crate::escaped::Escaped;
 use crate::failure::Failure;
 use crate::first_question::Place;
+use crate::hint::Hint;
 use crate::journal_tasks::{keep, log};
 use crate::locks::Locks;
 use crate::on_device::use_device;
@@ -37,9 +38,10 @@ pub fn program<
     out: &mut O,
     err: &mut E,
 ) -> u8 {
+    let mut hint = None;
     let done = match read_request(rt.alloc(), environment, words) {
         Ok(Request::Use(options, task, sequel)) => {
-            use_device(rt, &options, task, &sequel, place, input, err)
+            use_device(rt, &options, task, &sequel, place, input, err, &mut hint)
         }
         Ok(Request::Log(journal)) => alone(log(rt, journal)),
         Ok(Request::Keep(kept)) => alone(keep(rt, &kept)),
@@ -53,8 +55,8 @@ pub fn program<
         Err(Unread::Memory) => Err(Failure::Memory),
     };
     match done {
-        Ok(steps) => print_steps(rt, &steps, out, err),
-        Err(failure) => fail(rt, &failure, err),
+        Ok(steps) => print_steps(rt, &steps, hint, out, err),
+        Err(failure) => fail_told(rt, &failure, hint, err),
     }
 }
 
@@ -73,16 +75,43 @@ pub fn fail<R: AllocGlobal, E: Write>(rt: &R, failure: &Failure, err: &mut E) ->
     failure.status()
 }
 
+/// Tells a fault, and in a line behind it what came, where that tells more of it.
+fn fail_told<R: AllocGlobal, E: Write>(
+    rt: &R,
+    failure: &Failure,
+    hint: Option<Hint>,
+    err: &mut E,
+) -> u8 {
+    let status = fail(rt, failure, err);
+    if let Some(hint) = hint {
+        tell_hint(rt, failure, hint, err);
+    }
+    status
+}
+
+/// Tells what came, where that tells more of a failure, in one line that is written at once. Where
+/// there is no memory for the line, it is written in parts.
+fn tell_hint<R: AllocGlobal, E: Write>(rt: &R, failure: &Failure, hint: Hint, err: &mut E) {
+    let Some(hint) = hint.of(failure) else {
+        return;
+    };
+    let _ = match format!(in rt.alloc(); "hint: {hint}\n") {
+        Ok(line) => err.write_all(line.as_bytes()),
+        Err(_) => writeln!(err, "hint: {hint}"),
+    };
+}
+
 /// Prints what came of the words, and where a step failed, why.
 fn print_steps<R: AllocGlobal, O: Write, E: Write>(
     rt: &R,
     steps: &Steps,
+    hint: Option<Hint>,
     out: &mut O,
     err: &mut E,
 ) -> u8 {
     match (print_at_once(rt, steps, out), &steps.failure) {
         (Ok(()), None) => 0,
-        (_, Some(failure)) => fail(rt, failure, err),
+        (_, Some(failure)) => fail_told(rt, failure, hint, err),
         (Err(_), None) => fail(rt, &Failure::CannotWrite("standard output"), err),
     }
 }

@@ -1,21 +1,26 @@
-// A Rig whose calls are shown as they go on.
+// A Rig whose calls are shown as they go on, and looked back at where they came to no good end.
 ghost use Rattle.std.specs.Prelude.{◌≡◌};
 
 use crate::failure::Failure;
+use crate::hint::Hint;
+use crate::hinting::hint_of;
 use crate::keeper::Keeper;
 use crate::progress_course::Course;
 use crate::progress_screen::Screen;
 use crate::progress_watch::{Seen, Watch, page_named};
+use crate::turns::Turns;
 use std::alloc::Global;
 use std::io::Write;
 use std::time::Clock;
 use stm_wire::{Patience, Rig, RigFault};
 
-/// A Rig whose calls are shown as they go on. Each call is the inner Rig's, and so is what it tells
-/// of itself: what is promised on the inner one is promised on this one.
+/// A Rig whose calls are shown as they go on, and whose last turns are kept. Each call is the inner
+/// Rig's, and so is what it tells of itself: what is promised on the inner one is promised on this
+/// one.
 #[derive(Drop)]
 pub struct ProgressRig<'a, L: Rig + Drop, W: Drop, C> {
     inner: L,
+    turns: Turns,
     watch: Watch,
     progress: Course<'a>,
     screen: Screen<'a, W, C>,
@@ -30,11 +35,17 @@ impl<'a, L: Rig + Drop, W: Write + Drop, C: Clock> ProgressRig<'a, L, W, C> {
     ) -> ProgressRig<'a, L, W, C> {
         ProgressRig {
             inner,
+            turns: Turns::new(),
             watch: Watch::new(),
             progress,
             screen,
             sent: 0,
         }
+    }
+
+    /// What the last turns tell, where a session was broken off behind them.
+    pub fn hint(&self) -> Option<Hint> {
+        hint_of(&self.turns)
     }
 
     /// The inner Rig. Nothing is shown any more; where all was done, the last page is told.
@@ -43,6 +54,7 @@ impl<'a, L: Rig + Drop, W: Write + Drop, C: Clock> ProgressRig<'a, L, W, C> {
     {
         let ProgressRig {
             inner,
+            turns: _,
             watch: _,
             progress,
             mut screen,
@@ -111,6 +123,7 @@ impl<'a, L: Rig + Drop, W: Write + Drop, C: Clock> Rig for ProgressRig<'a, L, W,
             self.watch.put(byte);
             self.sent = self.sent.saturating_add(1);
         }
+        self.turns.put(byte);
         self.inner.put(byte)
     }
 
@@ -118,10 +131,13 @@ impl<'a, L: Rig + Drop, W: Write + Drop, C: Clock> Rig for ProgressRig<'a, L, W,
     fn get(&mut self, patience: Patience) -> Result<Option<u8>, RigFault> {
         // A byte's way where nothing is shown is as short as the inner Rig's.
         if !self.screen.is_shown() {
-            return self.inner.get(patience);
+            let answer = self.inner.get(patience)?;
+            self.turns.get(answer);
+            return Ok(answer);
         }
         self.show_put();
         let answer = self.inner.get(patience)?;
+        self.turns.get(answer);
         self.show_get(answer);
         Ok(answer)
     }
