@@ -11,7 +11,7 @@ import threading
 
 from board import CHIPS, PATIENCE, Board, Device, flash_of
 from story import TRIES, Story, held, store
-from trial import LATE, top
+from trial import LATE, fault_of, top
 
 NAME = "two-programs"
 NUMBER = 0x0412
@@ -88,7 +88,7 @@ def judge(program, count, locks=True):
             _, said = first.communicate()
             for _ in range(TRIES):
                 back = run(program, room, story.words(("undo",), board.socket))
-                if back.stderr.decode().strip() not in LATE:
+                if fault_of(back.stderr.decode().strip()) not in LATE:
                     break
             if back.returncode == 0 and board.held() == flash_of(chip):
                 return None

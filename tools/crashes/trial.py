@@ -16,6 +16,11 @@ WAITS = ("40", "300", "2000")
 LATE = ("stmflash: device does not follow the protocol", "stmflash: no answer from the device")
 
 
+def fault_of(said):
+    """What a session ended with, without the line behind it that tells what came."""
+    return said.split("\nhint: ")[0]
+
+
 class State:
     """A moment of a recorded session, what the disk has kept by then, and how many bytes of the line the device got."""
 
@@ -144,7 +149,7 @@ class Trial:
             said = ran.stderr.decode(errors="replace").strip()
             if ran.returncode == 0:
                 return ran.stdout.decode(errors="replace")
-            if said not in LATE:
+            if fault_of(said) not in LATE:
                 break
         raise Bad("%s says: %s" % (" ".join((name, *more)), said or "nothing, with status %d" % ran.returncode))
 
