@@ -69,9 +69,7 @@ pub fn use_device<
         confirm(input, err)?;
     }
     if !options.in_folder {
-        return use_beside(
-            rt, options, &tables, files, work, sequel, None, err, hint,
-        );
+        return use_beside(rt, options, &tables, files, work, sequel, None, err, hint);
     }
     let names_board = work.asking_if(true).is_some();
     let found = match find_journal(rt, options, tables.chips(), names_board, place) {
@@ -81,9 +79,7 @@ pub fn use_device<
     let Found { options, line } = found;
     let files = files.beside(options.journal);
     files.check(rt)?;
-    use_beside(
-        rt, &options, &tables, files, work, sequel, line, err, hint,
-    )
+    use_beside(rt, &options, &tables, files, work, sequel, line, err, hint)
 }
 
 /// The same beside a journal that is known, on a device to which there may be a line.
@@ -198,7 +194,10 @@ fn tell_notes<E: Write + IsTerminal>(options: &Options, is_begun: bool, work: &W
 fn tell_nameless<E: Write + IsTerminal>(options: &Options, err: &mut E) {
     if are_notes_told(options, err) {
         let name = Escaped(options.journal);
-        let _ = writeln!(err, "note: this board told no unique id: use journal {name} at no other");
+        let _ = writeln!(
+            err,
+            "note: this board told no unique id: use journal {name} at no other"
+        );
     }
 }
 

@@ -16,7 +16,7 @@ returns c =
     IfOk-weaker c.arg-2.result _ _
     (λ r h. (
       rule.0,
-       adds a1 (kind_rule rule.0) c.in_ok-arg.field-0 c.kind.result r m1 rule.1 c.kind.ensures.local h,
+      adds a1 (kind_rule rule.0) c.in_ok-arg.field-0 c.kind.result r m1 rule.1 c.kind.ensures.local h,
       rule.2,
     ))
     c.arg-2.ensures
