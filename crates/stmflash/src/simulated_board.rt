@@ -1,5 +1,5 @@
-// Which board a simulator is: a file beside that of its flash says so, where it is there. Words of `sim`
-// write it.
+// Which board a simulator is: a file beside that of its flash says so, where it is there. Words of
+// `sim` write it.
 ghost use Rattle.std.specs.Prelude.{◌≡◌};
 ghost use Rattle.stm_wire.specs.Chip.{at_places};
 ghost use Rattle.stm_wire.specs.Places.{no_places};
