@@ -196,14 +196,13 @@ fn take_wanted<'a, 'r, R: AllocGlobal>(
     })
 }
 
-/// The journal of the board that the device tells. From then on it has to be that board, where its
-/// session asks for it; and it isn't fresh from reset any more.
+/// The journal of the board that the device tells. From then on it has to be that board, and it isn't
+/// fresh from reset any more.
 fn ask_and_take<'a, 'r, R: Locks + Net + Clock + AllocGlobal>(
     rt: &'r R,
     options: &Options<'a>,
     table: &Table,
     is_fresh: bool,
-    names_board: bool,
     place: &'a mut Place,
 ) -> Result<Found<'a, 'r, R>, Failure<'a>> {
     let told = match ask_device(rt, options, table, is_fresh) {
@@ -213,7 +212,7 @@ fn ask_and_take<'a, 'r, R: Locks + Net + Clock + AllocGlobal>(
     let Told { unique, line } = told;
     keep_place(rt.alloc(), options.journal, unique, place)?;
     Ok(Found {
-        options: options_at(options, names_board, place),
+        options: options_at(options, place),
         line,
     })
 }
@@ -233,16 +232,11 @@ fn keep_place(
 }
 
 /// The options of a session with the board that has told itself.
-fn options_at<'a>(options: &Options<'a>, names_board: bool, place: &'a Place) -> Options<'a> {
-    let board = if names_board {
-        Some(place.board.as_str())
-    } else {
-        options.board
-    };
+fn options_at<'a>(options: &Options<'a>, place: &'a Place) -> Options<'a> {
     Options {
         journal: place.journal.as_str(),
         in_folder: false,
-        board,
+        board: Some(place.board.as_str()),
         is_fresh: false,
         ..*options
     }
@@ -265,12 +259,11 @@ fn left_alone<'a, R: AllocGlobal>(
 }
 
 /// The same options with a file in the place of the folder: the journal of the board that the device
-/// is. `names_board`: its session asks which board it is.
+/// is.
 pub fn find_journal<'a, 'r, R: Locks + Net + Clock + AllocGlobal + Clone + Drop>(
     rt: &'r R,
     options: &Options<'a>,
     table: &Table,
-    names_board: bool,
     place: &'a mut Place,
 ) -> Result<Found<'a, 'r, R>, Failure<'a>> {
     let folder = options.journal;
@@ -281,8 +274,8 @@ pub fn find_journal<'a, 'r, R: Locks + Net + Clock + AllocGlobal + Clone + Drop>
     let looked = looked.as_slice();
     let wanted = wanted_board(rt.alloc(), options.board)?;
     match choose(looked, &wanted, options.is_fresh) {
-        Choice::Ask => ask_and_take(rt, options, table, false, names_board, place),
-        Choice::Connect => ask_and_take(rt, options, table, true, names_board, place),
+        Choice::Ask => ask_and_take(rt, options, table, false, place),
+        Choice::Connect => ask_and_take(rt, options, table, true, place),
         Choice::Take => take_wanted(rt, options, wanted, place),
         Choice::Refuse => Err(left_alone(rt, folder, looked, place)),
     }

@@ -76,7 +76,6 @@ mod unusable;
 mod variables;
 mod work;
 
-use first_question::Place;
 use program::{fail, program};
 use std::io::ErrorKind;
 use std::process::ExitCode;
@@ -95,12 +94,10 @@ fn run(rt: &HostRuntime) -> io::Result<u8> {
         words.push(word.as_str())?;
     }
     let tables = variables.tables(rt)?;
-    let mut place = Place::new(rt.alloc());
     Ok(program(
         rt,
         variables.environment(tables.as_slice()),
         words.as_slice(),
-        &mut place,
         &mut rt.stdin(),
         &mut rt.stdout(),
         &mut rt.stderr(),

@@ -71,8 +71,7 @@ pub fn use_device<
     if !options.in_folder {
         return use_beside(rt, options, &tables, files, work, sequel, None, err, hint);
     }
-    let names_board = work.asking_if(true).is_some();
-    let found = match find_journal(rt, options, tables.chips(), names_board, place) {
+    let found = match find_journal(rt, options, tables.chips(), place) {
         Ok(found) => found,
         Err(failure) => return Err(failure),
     };

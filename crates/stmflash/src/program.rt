@@ -20,9 +20,8 @@ use stm_words::{Environment, Request, Unread, read_request};
 /// of words. It answers the exit status: 0 where all was done or help was asked for, 1 after a
 /// fault, 2 where the words can't be done, 3 where a simulator was stopped. A fault is one line on
 /// `err`, whatever the names in it; of words that `clap` refuses its text stands there. While a
-/// line or a journal is open nothing is printed but what goes on, where that is shown. `place` keeps
-/// the name of a journal that the words leave to the device's board. `input` is read only where it
-/// is asked whether to go on.
+/// line or a journal is open nothing is printed but what goes on, where that is shown. `input` is
+/// read only where it is asked whether to go on.
 pub fn program<
     'a,
     R: Locks + Net + Clock + AllocGlobal + Clone + Drop,
@@ -33,30 +32,67 @@ pub fn program<
     rt: &R,
     environment: Environment<'a>,
     words: &'a [&'a str],
+    input: &mut I,
+    out: &mut O,
+    err: &mut E,
+) -> u8 {
+    // the name of a journal that the words leave to the device's board
+    let mut place = Place::new(rt.alloc());
+    match read_request(rt.alloc(), environment, words) {
+        Ok(request) => answer(rt, request, &mut place, input, out, err),
+        Err(Unread::Help(text)) => print_help(rt, text.as_str(), out, err),
+        Err(Unread::Refused(text)) => {
+            let _ = write!(err, "{text}");
+            2
+        }
+        Err(Unread::Usage(fault)) => fail(rt, &Failure::Usage(fault), err),
+        Err(Unread::Memory) => fail(rt, &Failure::Memory, err),
+    }
+}
+
+/// Does what the words ask for, and tells what came of it.
+fn answer<
+    'a,
+    R: Locks + Net + Clock + AllocGlobal + Clone + Drop,
+    I: Read + IsTerminal,
+    O: Write,
+    E: Write + IsTerminal,
+>(
+    rt: &R,
+    request: Request<'a>,
     place: &'a mut Place,
     input: &mut I,
     out: &mut O,
     err: &mut E,
 ) -> u8 {
     let mut hint = None;
-    let done = match read_request(rt.alloc(), environment, words) {
-        Ok(Request::Use(options, task, sequel)) => {
-            use_device(rt, &options, task, &sequel, place, input, err, &mut hint)
-        }
-        Ok(Request::Log(journal)) => alone(log(rt, journal)),
-        Ok(Request::Keep(kept)) => alone(keep(rt, &kept)),
-        Ok(Request::Serve(served)) => alone(serve(rt, &served)),
-        Err(Unread::Help(text)) => return print_help(rt, text.as_str(), out, err),
-        Err(Unread::Refused(text)) => {
-            let _ = write!(err, "{text}");
-            return 2;
-        }
-        Err(Unread::Usage(fault)) => Err(Failure::Usage(fault)),
-        Err(Unread::Memory) => Err(Failure::Memory),
-    };
-    match done {
+    match run_request(rt, request, place, input, err, &mut hint) {
         Ok(steps) => print_steps(rt, &steps, hint, out, err),
         Err(failure) => fail_told(rt, &failure, hint, err),
+    }
+}
+
+/// Does what the words ask for.
+fn run_request<
+    'a,
+    R: Locks + Net + Clock + AllocGlobal + Clone + Drop,
+    I: Read + IsTerminal,
+    E: Write + IsTerminal,
+>(
+    rt: &R,
+    request: Request<'a>,
+    place: &'a mut Place,
+    input: &mut I,
+    err: &mut E,
+    hint: &mut Option<Hint>,
+) -> Result<Steps<'a>, Failure<'a>> {
+    match request {
+        Request::Use(options, task, sequel) => {
+            use_device(rt, &options, task, &sequel, place, input, err, hint)
+        }
+        Request::Log(journal) => alone(log(rt, journal)),
+        Request::Keep(kept) => alone(keep(rt, &kept)),
+        Request::Serve(served) => alone(serve(rt, &served)),
     }
 }
 
