@@ -12,3 +12,5 @@ pub mod NoWord
 pub mod NextRun
 pub mod Told
 pub mod Cuts
+pub mod OneCall
+pub mod WholeCalls

@@ -13,6 +13,8 @@ pub mod JournalChoice
 pub mod Hinting
 pub mod JournalFile
 pub mod Locks
+pub mod OneCall
+pub mod WholeCalls
 pub mod Logging
 pub mod Outgoing
 pub mod Serving

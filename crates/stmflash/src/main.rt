@@ -41,6 +41,7 @@ mod logging;
 mod named_files;
 mod names;
 mod on_device;
+mod one_call;
 mod outgoing;
 mod output;
 mod program;
