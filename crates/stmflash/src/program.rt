@@ -19,9 +19,9 @@ use stm_words::{Environment, Request, Unread, read_request};
 /// Runs the program on its words, the first of which is its name, and on what stands in the place
 /// of words. It answers the exit status: 0 where all was done or help was asked for, 1 after a
 /// fault, 2 where the words can't be done, 3 where a simulator was stopped. A fault is one line on
-/// `err`, whatever the names in it; of words that `clap` refuses its text stands there. While a
-/// line or a journal is open nothing is printed but what goes on, where that is shown. `input` is
-/// read only where it is asked whether to go on.
+/// `err`, whatever the names in it, and one more where what came tells why; of words that `clap`
+/// refuses its text stands there. While a line or a journal is open nothing is printed but what goes
+/// on, where that is shown. `input` is read only where it is asked whether to go on.
 pub fn program<
     'a,
     R: Locks + Net + Clock + AllocGlobal + Clone + Drop,

@@ -129,7 +129,7 @@ impl<'a, L: Rig + Drop, W: Write + Drop, C: Clock> Rig for ProgressRig<'a, L, W,
 
     #[inline(always)]
     fn get(&mut self, patience: Patience) -> Result<Option<u8>, RigFault> {
-        // A byte's way where nothing is shown is as short as the inner Rig's.
+        // Where nothing is shown, a byte's way is the inner Rig's, but for the turn that it is of.
         if !self.screen.is_shown() {
             let answer = self.inner.get(patience)?;
             self.turns.get(answer);
