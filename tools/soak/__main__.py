@@ -227,7 +227,8 @@ class Story:
         it to another board breaks a premise."""
         now = self.flash(use.file), self.world.files.get("J", b"")
         if use.name in ("go", "protect"):
-            if not use.no_board and journal.is_of_other(self.told_by(use.file)):
+            # a journal with a bad line is none, and names no board
+            if not use.no_board and journal is not None and journal.is_of_other(self.told_by(use.file)):
                 self.counts["at another board"] += 1
                 if status == 0 or self.before is not None and now != (flash, text):
                     raise Difference("%s was sent to another board than that of the journal, %s" % (use.name, use.file))
