@@ -4,6 +4,7 @@
 // answers one declaration of the kit, in `heap.rt` (of KIT/rattle/libc/src) or `c.rt` (of KIT/rattle/os/src), and its comment says
 // which, and what that asks. A slice `&mut [u8]` comes as its address and its length; a `Memory` has no bytes, and isn't passed.
 #include <errno.h>
+#include <fcntl.h>
 #include <stdbool.h>
 #include <stddef.h>
 #include <stdlib.h>
@@ -101,4 +102,11 @@ int rattle_errno(void)
 void rattle_set_errno(int error)
 {
     errno = error;
+}
+
+// c.rt: opens the directory that name reaches from dir, for reading, and answers a descriptor, or -1, also where name ends in a link
+// with no `/` behind it, or reaches no directory. The name is ended by a 0. (These flags aren't the bits that they are on x86-64.)
+int rattle_open_dir_at(int dir, const char *name)
+{
+    return openat(dir, name, O_RDONLY | O_DIRECTORY | O_NOFOLLOW | O_CLOEXEC);
 }

@@ -2,12 +2,14 @@
 //   env -i FIRST=one EMPTY= test_layer word '' 'two words'
 // It prints what doesn't hold, and its status says whether all does.
 #include <errno.h>
+#include <fcntl.h>
 #include <stdbool.h>
 #include <stdint.h>
 #include <stdio.h>
 #include <stdlib.h>
 #include <string.h>
 #include <sys/types.h>
+#include <unistd.h>
 
 extern char **environ;
 
@@ -24,6 +26,7 @@ ssize_t rattle_env(const char *name, char *buf, size_t room);
 ssize_t rattle_env_at(size_t i, char *buf, size_t room);
 int rattle_errno(void);
 void rattle_set_errno(int error);
+int rattle_open_dir_at(int dir, const char *name);
 
 // more than any machine has
 #define TOO_MUCH ((size_t)1 << 62)
@@ -151,6 +154,27 @@ static void test_errno(void)
     }
 }
 
+static void test_open_dir(void)
+{
+    char place[] = "/tmp/test_layer.XXXXXX";
+    HOLDS(mkdtemp(place) != NULL);
+    int at = rattle_open_dir_at(AT_FDCWD, place);
+    HOLDS(at >= 0 && (fcntl(at, F_GETFD) & FD_CLOEXEC) != 0);
+    HOLDS(symlinkat(".", at, "link") == 0);
+    int file = openat(at, "file", O_WRONLY | O_CREAT, 0600);
+    HOLDS(file >= 0);
+    int through = rattle_open_dir_at(at, "link/");
+    HOLDS(through >= 0);
+    HOLDS(rattle_open_dir_at(at, "link") == -1);
+    HOLDS(rattle_open_dir_at(at, "file") == -1);
+    HOLDS(rattle_open_dir_at(at, "none") == -1 && errno == ENOENT);
+    close(file);
+    close(through);
+    HOLDS(unlinkat(at, "file", 0) == 0 && unlinkat(at, "link", 0) == 0);
+    close(at);
+    HOLDS(rmdir(place) == 0);
+}
+
 int main(int count, char **given)
 {
     HOLDS(count == 4 && given[2][0] == '\0' && environ[0] != NULL && environ[1] != NULL && environ[2] == NULL);
@@ -159,6 +183,7 @@ int main(int count, char **given)
     test_texts(count, given);
     test_no_environment();
     test_errno();
+    test_open_dir();
     printf("%d of %d hold\n", tried_so_far - failed, tried_so_far);
     return failed != 0;
 }

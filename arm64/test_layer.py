@@ -32,6 +32,9 @@ FAULTS = {
     "entries are counted from 1": ("k < i)", "k + 1 < i)"),
     "errno is answered as 0": ("return errno;", "return 0;"),
     "errno isn't set": ("    errno = error;", "    (void)error;"),
+    "a link is taken for a folder": (" | O_NOFOLLOW", ""),
+    "a file is taken for a folder": (" | O_DIRECTORY", ""),
+    "a folder stays open in another program": (" | O_CLOEXEC", ""),
 }
 
 
