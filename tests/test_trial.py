@@ -476,9 +476,9 @@ class Ends(TrialPlace):
         self.assertTrue(self.held("saved") == self.before)
         return started
 
-    def test_a_signal_puts_back(self):
-        self.before = random.Random(3).randbytes(32768)
-        for number in (signal.SIGTERM, signal.SIGINT):
+    def signalled(self, number):
+        """A trial to which a signal came in its midst. One that had ended before it came, as on a busy machine, is begun anew."""
+        for _ in range(5):
             self.store("flash", self.before)
             self.serve(1)
             started = self.start_trial("0", "--progress")
@@ -488,7 +488,16 @@ class Ends(TrialPlace):
             started.send_signal(number)
             out, err = started.communicate(timeout=PATIENCE)
             self.assertServed()
-            self.assertEqual(started.returncode, 1)
+            if started.returncode != 0:
+                break
+            self.remove("saved", "flash", "flash.line")
+        return started.returncode, out, err
+
+    def test_a_signal_puts_back(self):
+        self.before = random.Random(3).randbytes(32768)
+        for number in (signal.SIGTERM, signal.SIGINT):
+            status, out, err = self.signalled(number)
+            self.assertEqual(status, 1)
             self.assertNotIn(b"Traceback", err)
             self.assertRegex(out.decode(), r"(?m)^put-back +holds")
             self.assertTrue(out.decode().endswith(f"don't use, because the trial wasn't ended: signal {number.name}\n"), out)
