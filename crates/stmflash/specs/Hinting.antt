@@ -9,6 +9,7 @@ use Rattle.stmflash.specs.declared.hint.Hint.TheVariants as hint
 use Rattle.stmflash.specs.declared.hinting.FlashCommand.{FlashCommand}
 use Rattle.stmflash.specs.declared.hinting.FlashCommand.TheVariants as of
 use Rattle.stm_files.specs.declared.turns.Turns.{Turns}
+use Rattle.stm_files.specs.Turn.{TurnData}
 use Rattle.stm_files.specs.Turns.{heard_of}
 
 -- the command whose code was put, with its complement (AN3155, sections 3.4 and 3.6 to 3.8)
