@@ -9,7 +9,7 @@ use Rattle.std.proofs.Math.ListN.{drop_of_length-le}
 use Rattle.stm_journal.specs.declared.kept.Kept.{Kept}
 use Rattle.stm_journal.specs.States.{StateData, SegmentData, segment_of, kept_at}
 use Rattle.stm_journal.specs.KeptPlaces.{kept_count}
-use Rattle.stm_files.specs.Logging.{kept_text, numbers_of, pages_text, range_text}
+use Rattle.stm_files.specs.Logging.{numbers_of, pages_text, range_text}
 
 -- the number and the line of a kept page
 abbrev told : Kept → ℕ × ℕ

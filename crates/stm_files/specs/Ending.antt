@@ -1,5 +1,5 @@
 -- What ending a journal does to a Rig.
-use Rattle.std.specs.Prelude.{◌≡◌, ℕ, List, []}
+use Rattle.std.specs.Prelude.{◌≡◌, []}
 use Rattle.stm_wire.specs.Rig.{RigState}
 
 -- the journal is empty, and the device is as it was, but for what it owed

@@ -3,7 +3,7 @@ ghost use Rattle.std.specs.Prelude.{◌≡◌};
 ghost use Rattle.stm_files.specs.declared.file_fault.FileFault.TheVariants.{Memory};
 
 use crate::unusable::Unusable;
-use std::alloc::{AllocError, AllocFailed};
+use std::alloc::AllocError;
 use std::io;
 use std::io::ErrorKind;
 
@@ -52,12 +52,6 @@ impl From<AllocError> for FileFault<'_> {
     ghost from_gives = { λ _ fault. fault ≡ Memory };
 
     fn from(_: AllocError) -> Self {
-        FileFault::Memory
-    }
-}
-
-impl<T: Drop> From<AllocFailed<T>> for FileFault<'_> {
-    fn from(_failed: AllocFailed<T>) -> Self {
         FileFault::Memory
     }
 }

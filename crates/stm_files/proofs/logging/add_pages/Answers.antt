@@ -1,6 +1,6 @@
-use Rattle.std.proofs.Common.{◌≡◌, ℕ, ◌++◌, ◌+◌, ◌<◌, ◌∷◌, [], ◌==◌, List, Bool, true, false, not, Some, ap, sym, ◌∙◌, append_assoc, drop, subst}
-use Rattle.stm_journal.specs.States.{StateData, segment_of}
-use Rattle.stm_files.specs.Logging.{kept_text, numbers_of, pages_text, range_text}
+use Rattle.std.proofs.Common.{ℕ, ◌++◌, ◌+◌, ◌<◌, ◌∷◌, [], List, true, false, ap, sym, ◌∙◌, append_assoc, drop, subst}
+use Rattle.stm_journal.specs.States.{StateData}
+use Rattle.stm_files.specs.Logging.{kept_text, numbers_of, pages_text}
 use Rattle.stm_files.proofs.LoggedPages.{counted, number-at, step}
 use Rattle.stm_files.proofs.logging.add_pages.Goals as goal
 use Rattle.stm_files.proofs.logging.add_pages.Goals.{then-not-follows+in_ok-add_range, else-not-follows}

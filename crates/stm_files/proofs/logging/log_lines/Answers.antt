@@ -1,4 +1,4 @@
-use Rattle.std.proofs.Common.{◌≡◌, ℕ, ◌++◌, ◌+◌, List, ap, ◌∙◌}
+use Rattle.std.proofs.Common.{ℕ, ◌++◌, ◌+◌, List, ap, ◌∙◌}
 use Rattle.stm_journal.specs.States.{StateData}
 use Rattle.stm_files.specs.Logging.{device_text, line_of}
 use Rattle.stm_files.proofs.LoggedPages.{line-more}
