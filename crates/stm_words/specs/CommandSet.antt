@@ -93,8 +93,8 @@ with_waits e name =
 -- a subcommand with the options that every use of a device has
 abbrev pub on_device : Environment → Text → App
 on_device e name =
-    with_rule (with_rule (with_rule (with_waits e name) (flag_rule (codes "progress")))
-    (flag_rule (codes "quiet"))) (option_rule (codes "stop"))
+    with_rule (with_rule (with_rule (with_rule (with_waits e name) (flag_rule (codes "progress")))
+    (flag_rule (codes "quiet"))) (flag_rule (codes "watch"))) (option_rule (codes "stop"))
 
 -- the same, with the options of which board it has to be
 abbrev pub on_board : Environment → Text → App
@@ -138,7 +138,7 @@ on_journal e name =
     with_rule (new_app name) (standing_option_rule (codes "journal") (text_of e.journal))
 
 abbrev pub log_app : Environment → App
-log_app e = on_journal e (codes "log")
+log_app e = with_rule (on_journal e (codes "log")) (flag_rule (codes "check"))
 
 abbrev pub keep_app : Environment → App
 keep_app e =

@@ -86,6 +86,7 @@ fn on_device<'a>(
     with_waits(alloc, environment, name, about)?
         .arg(flag(alloc, "progress", help::PROGRESS))?
         .arg(flag(alloc, "quiet", help::QUIET))?
+        .arg(flag(alloc, "watch", help::WATCH))?
         .arg(option(alloc, "stop", "K", help::STOP))
 }
 
@@ -188,7 +189,7 @@ fn on_journal<'a>(
 fn log<'a>(alloc: Global, environment: Environment<'a>) -> Result<Command<'a>, AllocError>
     ensures { IfOk result (Makes (log_app environment.entry)) }
 {
-    on_journal(alloc, environment, "log", help::LOG)
+    on_journal(alloc, environment, "log", help::LOG)?.arg(flag(alloc, "check", help::LOG_CHECK))
 }
 
 fn keep<'a>(alloc: Global, environment: Environment<'a>) -> Result<Command<'a>, AllocError>

@@ -90,7 +90,7 @@ fn run_request<
         Request::Use(options, task, sequel) => {
             use_device(rt, &options, task, &sequel, place, input, err, hint)
         }
-        Request::Log(journal) => alone(log(rt, journal)),
+        Request::Log(journal, _) => alone(log(rt, journal)),
         Request::Keep(kept) => alone(keep(rt, &kept)),
         Request::Serve(served) => alone(serve(rt, &served)),
     }
