@@ -87,6 +87,7 @@ fn on_device<'a>(
         .arg(flag(alloc, "progress", help::PROGRESS))?
         .arg(flag(alloc, "quiet", help::QUIET))?
         .arg(flag(alloc, "watch", help::WATCH))?
+        .arg(flag(alloc, "json", help::JSON))?
         .arg(option(alloc, "stop", "K", help::STOP))
 }
 
@@ -177,13 +178,10 @@ fn on_journal<'a>(
 ) -> Result<Command<'a>, AllocError>
     ensures { IfOk result (Makes (on_journal environment.entry name.entry.now)) }
 {
-    Command::new(alloc, name).about(about).arg(standing_option(
-        alloc,
-        "journal",
-        "FILE",
-        environment.journal,
-        help::JOURNAL,
-    ))
+    Command::new(alloc, name)
+        .about(about)
+        .arg(standing_option(alloc, "journal", "FILE", environment.journal, help::JOURNAL))?
+        .arg(flag(alloc, "json", help::JSON))
 }
 
 fn log<'a>(alloc: Global, environment: Environment<'a>) -> Result<Command<'a>, AllocError>

@@ -49,6 +49,9 @@ pub const PROGRESS: &str =
 
 pub const QUIET: &str = "Shows nothing while a session runs";
 
+pub const JSON: &str =
+    "Tells what was done, and each fault, as one line of JSON on standard output";
+
 pub const WATCH: &str =
     "Ends the session at the first reply that no device of the stated model could give";
 
