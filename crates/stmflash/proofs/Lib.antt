@@ -1,16 +1,7 @@
-pub mod Escaping
-pub mod Growing
-pub mod LoggedPages
 pub mod Telling
-pub mod Waiting
 pub mod Acting
 pub mod Stored
-pub mod Whole
 pub mod Risks
-pub mod Standings
-pub mod NoWord
 pub mod NextRun
-pub mod Told
-pub mod Cuts
 pub mod OneCall
 pub mod WholeCalls

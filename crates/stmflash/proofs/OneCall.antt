@@ -18,6 +18,7 @@ use Rattle.stm_session.specs.Refusals.{run_refusal}
 use Rattle.stm_session.specs.Runs.{Runs}
 use Rattle.stm_session.specs.Undoable.{Undoable, state_at}
 use Rattle.stm_words.specs.declared.sequel.Sequel.{Sequel}
+use Rattle.stm_files.specs.Ending.{EndsJournal}
 use Rattle.stmflash.specs.declared.action.Action.TheVariants as action
 use Rattle.stmflash.specs.declared.answer.Answer.{Answer}
 use Rattle.stmflash.specs.declared.answer.Answer.TheVariants as answer
@@ -31,7 +32,7 @@ use Rattle.stmflash.specs.Answer.{outcomes_told}
 use Rattle.stmflash.specs.Conduct.{Asks, RunsIfRoom, RunsTold}
 use Rattle.stmflash.specs.Content.{ImageOn, IsRawImage}
 use Rattle.stmflash.specs.OneCall.{CallsEndAsAsked, CanCall, EndsAsAsked, EndsWith, HasGone, IsKept, IsWritten, image_on}
-use Rattle.stmflash.specs.Steps.{EndsJournal, Follows, GoesBehind, Keeps, MayGo, MayKeep}
+use Rattle.stmflash.specs.Steps.{Follows, GoesBehind, Keeps, MayGo, MayKeep}
 
 -- what the layers below promise
 pub record Laws {R : Type 0} (view : R → RigState) : Type 0 where

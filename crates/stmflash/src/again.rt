@@ -3,13 +3,10 @@
 use crate::action::Action;
 use crate::answer::Answer;
 use crate::chip_tables::ChipTables;
-use crate::escaped::Escaped;
 use crate::failure::Failure;
-use crate::files::is_there;
 use crate::first_question::Line;
 use crate::hint::Hint;
 use crate::journal_tasks::look;
-use crate::locks::Locks;
 use crate::on_device::use_once;
 use crate::output::Output;
 use crate::steps::Steps;
@@ -19,6 +16,7 @@ use std::io;
 use std::io::{IsTerminal, Write};
 use std::net::Net;
 use std::time::Clock;
+use stm_files::{Escaped, Locks, is_there};
 use stm_words::{Options, Sequel};
 
 /// What a journal says of the write that was begun behind so many segments.

@@ -1,12 +1,10 @@
 // The program: what its words ask for.
 
 use crate::answer::Answer;
-use crate::escaped::Escaped;
 use crate::failure::Failure;
 use crate::first_question::Place;
 use crate::hint::Hint;
 use crate::journal_tasks::{keep, log};
-use crate::locks::Locks;
 use crate::on_device::use_device;
 use crate::serving::serve;
 use crate::steps::Steps;
@@ -14,6 +12,7 @@ use std::io;
 use std::io::{IsTerminal, Read, Write};
 use std::net::Net;
 use std::time::Clock;
+use stm_files::{Escaped, Locks};
 use stm_words::{Environment, Request, Unread, read_request};
 
 /// Runs the program on its words, the first of which is its name, and on what stands in the place
