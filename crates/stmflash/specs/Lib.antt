@@ -1,6 +1,8 @@
 pub mod Action
+pub mod Again
 pub mod Answer
 pub mod Board
+pub mod BrokenOff
 pub mod Conduct
 pub mod Confirmation
 pub mod Content
@@ -12,6 +14,7 @@ pub mod FalseErase
 pub mod JournalChoice
 pub mod Hinting
 pub mod JournalFile
+pub mod LeftStanding
 pub mod Locks
 pub mod OneCall
 pub mod WholeCalls

@@ -5,6 +5,7 @@
 mod action;
 mod again;
 mod answer;
+mod attempts;
 mod board;
 mod board_name;
 mod bound_socket;
@@ -35,6 +36,7 @@ mod journal_rig;
 mod journal_tasks;
 mod keeper;
 mod keeping;
+mod left_standing;
 mod likeness;
 mod locks;
 mod logging;
