@@ -5,6 +5,7 @@
 mod action;
 mod again;
 mod answer;
+mod attempts;
 mod board;
 mod changing;
 mod chip_tables;
@@ -22,6 +23,7 @@ mod journal_folder;
 mod journal_tasks;
 mod keeper;
 mod keeping;
+mod left_standing;
 mod named_files;
 mod on_device;
 mod one_call;
