@@ -5,3 +5,4 @@ pub mod Risks
 pub mod NextRun
 pub mod OneCall
 pub mod WholeCalls
+pub mod Acts

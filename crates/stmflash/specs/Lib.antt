@@ -1,11 +1,14 @@
 pub mod Action
+pub mod Again
 pub mod Answer
 pub mod Board
+pub mod BrokenOff
 pub mod Conduct
 pub mod Confirmation
 pub mod Content
 pub mod FalseErase
 pub mod Hinting
+pub mod LeftStanding
 pub mod OneCall
 pub mod WholeCalls
 pub mod Protections

@@ -1,5 +1,6 @@
 // Why the program failed, and what it says of it.
 ghost use Rattle.std.specs.Prelude.{◌≡◌};
+ghost use Rattle.stmflash.specs.BrokenOff.{is_broken_off};
 ghost use Rattle.stmflash.specs.declared.failure.Failure.TheVariants.{Session, Hex, Memory, Raw};
 
 use std::alloc::{AllocError, AllocFailed};
@@ -123,7 +124,9 @@ impl<'a> Failure<'a> {
 
     /// Whether a session was broken off by its line or by a device that doesn't follow the
     /// protocol, so that another may do what it was to do.
-    pub fn is_broken_off(&self) -> bool {
+    pub fn is_broken_off(&self) -> bool
+        ensures { result ≡ is_broken_off self.now }
+    {
         matches!(
             self,
             Failure::Session(Fault::Line) | Failure::Session(Fault::Device) | Failure::NoAnswer
