@@ -8,6 +8,7 @@ pub mod Confirmation
 pub mod Content
 pub mod FalseErase
 pub mod Hinting
+pub mod JsonLine
 pub mod LeftStanding
 pub mod OneCall
 pub mod WholeCalls
