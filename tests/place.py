@@ -20,6 +20,8 @@ ERASED = b"\xff" * SIZE
 ZEROS = b"\x00" * SIZE
 # a flash whose byte i is i modulo 251
 COUNTING = bytes(i % 251 for i in range(SIZE))
+# what `info` tells last, where the table tells of no board that was tried
+UNTRIED = "not tried: stmflash-trial\n"
 # what is told behind a fault of what came
 SILENT = "nothing came: is the board in its bootloader, with power?"
 ECHO = "the line echoes: are RX and TX joined?"

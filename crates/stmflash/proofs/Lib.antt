@@ -14,3 +14,4 @@ pub mod Told
 pub mod Cuts
 pub mod OneCall
 pub mod WholeCalls
+pub mod Tried

@@ -34,3 +34,4 @@ pub mod Steps
 pub mod Turn
 pub mod Histories
 pub mod Unpowered
+pub mod TriedBoards
