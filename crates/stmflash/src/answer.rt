@@ -3,14 +3,13 @@ ghost use Rattle.std.specs.Prelude.{IfOk};
 ghost use Rattle.stmflash.specs.Answer.{IsToldBeside};
 ghost use Rattle.stmflash.specs.TriedBoards.{texts_of};
 
-use crate::board_name::BoardName;
 use crate::chip_tables::ChipTables;
-use crate::escaped::Escaped;
 use crate::failure::Failure;
 use std::alloc::Global;
 use std::io;
 use std::io::Write;
 use stm_chip::TableFault;
+use stm_files::{BoardName, Escaped};
 use stm_session::{Board, Info, Told};
 use stm_wire::{Commands, EraseKind};
 use stm_words::TableNames;

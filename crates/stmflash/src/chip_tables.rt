@@ -3,10 +3,10 @@ ghost use Rattle.std.specs.Prelude.{IfOk};
 ghost use Rattle.stmflash.specs.TriedBoards.{AreTried, TriedOver, bytes_of, texts_of};
 
 use crate::failure::Failure;
-use crate::files::read_file;
 use std::alloc::Global;
 use std::fs::Files;
 use stm_chip::{Table, TableFault, read_table, tried_boards};
+use stm_files::read_file;
 use stm_words::TableNames;
 
 /// How many bytes the file of a chip table has at most.

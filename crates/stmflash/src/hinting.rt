@@ -6,8 +6,7 @@ ghost use Rattle.stmflash.specs.Hinting.{id_counted, id_told, refused, reply_tol
 ghost use Rattle.stmflash.specs.Hinting.{step_refused, stray};
 
 use crate::hint::Hint;
-use crate::turn::Turn;
-use crate::turns::Turns;
+use stm_files::{Turn, Turns};
 
 /// The byte that acknowledges a step, and the one that refuses it (AN3155, section 1).
 const ACK: u8 = 0x79;

@@ -1,0 +1,9 @@
+pub mod Escaping
+pub mod Growing
+pub mod LoggedPages
+pub mod Waiting
+pub mod Whole
+pub mod Standings
+pub mod NoWord
+pub mod Told
+pub mod Cuts
