@@ -20,10 +20,13 @@ ERASED = b"\xff" * SIZE
 ZEROS = b"\x00" * SIZE
 # a flash whose byte i is i modulo 251
 COUNTING = bytes(i % 251 for i in range(SIZE))
+# what `info` tells last, where the table tells of no board that was tried
+UNTRIED = "not tried: stmflash-trial\n"
 # what is told behind a fault of what came
 SILENT = "nothing came: is the board in its bootloader, with power?"
 ECHO = "the line echoes: are RX and TX joined?"
 NOISE = "bytes came that are no answer: is the board in its bootloader, is the speed right?"
+BUSY = "the board says that it is busy (76): wait, and try again; stmflash can't use one that says so each time"
 UNREAD = "address {:08X}: the device refused to read it: is the flash readout-protected, or smaller?"
 
 

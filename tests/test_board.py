@@ -6,7 +6,7 @@ import subprocess
 import threading
 
 import telling
-from place import PATIENCE, Place, Said, program
+from place import PATIENCE, UNTRIED, Place, Said, program
 from served import WAIT
 from telling import SIZE_AT, UNIQUE_AT
 
@@ -298,7 +298,7 @@ class Board(Place):
 
     def test_the_simulator_in_the_program_tells_none(self):
         self.assertFault(self.use("erase", "1", "--board", NAME, device="sim:0410:flash"), "device tells no board")
-        self.assertTold(self.use("info", device="sim:0410:flash"), INSIDE % (128, SIZE))
+        self.assertTold(self.use("info", device="sim:0410:flash"), INSIDE % (128, SIZE) + UNTRIED)
         self.assertTold(self.use("erase", "1", device="sim:0410:flash"), "segment 1: 1 pages erased\n")
         self.assertTrue(self.held("journal").startswith(b"stmjournal 2 0410\n"))
 
@@ -335,7 +335,7 @@ class Board(Place):
     def test_places_that_tell_nothing(self):
         for unique, kib in ((None, None), (12 * b"\xff", size(0xFFFF)), (12 * b"\x00", size(0))):
             with self.subTest(unique=unique, kib=kib):
-                self.assertTold(self.at(unique, "info", kib=kib), INFO % (128, SIZE))
+                self.assertTold(self.at(unique, "info", kib=kib), INFO % (128, SIZE) + UNTRIED)
                 self.assertEqual(self.asked(), BEFORE)
                 self.assertTold(self.at(unique, "erase", "127", kib=kib), "segment 1: 1 pages erased\n")
                 self.assertEqual(self.asked(), BEFORE)
@@ -348,13 +348,13 @@ class Board(Place):
         for kib, pages, told in ((64, 64, "flash 64 KiB\n"), (128, 128, "flash 128 KiB\n"), (1, 1, "flash 1 KiB\n"),
                                  (256, 128, "flash 256 KiB, more than the pages\n")):
             with self.subTest(kib=kib):
-                self.assertTold(self.at(HERE, "info", kib=size(kib)), INFO % (pages, 1024 * pages) + board + told)
-        self.assertTold(self.at(HERE, "info"), INFO % (128, SIZE) + board)
-        self.assertTold(self.at(None, "info", kib=size(64)), INFO % (64, 65536) + "flash 64 KiB\n")
+                self.assertTold(self.at(HERE, "info", kib=size(kib)), INFO % (pages, 1024 * pages) + board + told + UNTRIED)
+        self.assertTold(self.at(HERE, "info"), INFO % (128, SIZE) + board + UNTRIED)
+        self.assertTold(self.at(None, "info", kib=size(64)), INFO % (64, 65536) + "flash 64 KiB\n" + UNTRIED)
         raw = "id 0410\nversion 22\ncodes 00 01 02 11 21 31 43 73 82 92\ntable table\n"
         self.assertTold(self.at(HERE, "info", "--raw", kib=size(64)), raw + board + "flash 64 KiB\n")
         self.store("table", telling.TABLE.replace(b"[[128, 1024]]", b"[[8, 16384]]"))
-        self.assertTold(self.at(None, "info", kib=size(8)), INFO % (8, SIZE) + "flash 8 KiB, less than the pages\n")
+        self.assertTold(self.at(None, "info", kib=size(8)), INFO % (8, SIZE) + "flash 8 KiB, less than the pages\n" + UNTRIED)
 
     def test_a_smaller_flash_has_fewer_pages(self):
         self.assertSilent(self.at(HERE, "read", "out", kib=size(64)))

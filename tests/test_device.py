@@ -2,10 +2,10 @@
 
 import os
 
-from place import COUNTING, ERASED, SILENT, TABLE, ZEROS, Place
+from place import COUNTING, ERASED, SILENT, TABLE, UNTRIED, ZEROS, Place
 
 INFO = ("id 0412\nbase 08000000\npages 32\nsize 32768\nerase 43\nerased FF\nversion 22\n"
-        "codes 00 02 11 21 31 43 73 82 92\n")
+        "codes 00 02 11 21 31 43 73 82 92\n" + UNTRIED)
 RAW = "id 0412\nversion 22\ncodes 00 02 11 21 31 43 73 82 92\ntable {}\n"
 BAD_FLASH = "bad simulator file flash"
 # lines that no simulator's file has
@@ -53,6 +53,19 @@ class Device(Place):
         self.store("table", TABLE + b"erased = 0\n")
         self.assertTold(self.use("info"), INFO.replace("erased FF", "erased 00"))
         self.assertHolds(ZEROS, b"idle\n")
+
+    def test_tells_how_many_boards_were_tried(self):
+        """Simulated ones are none. In the table whose chip is taken: of others that stand below it none is counted."""
+        texts = 'part = "a", version = "22", who = "b", when = "2026-11-25", verdict = "c", file = "d"'
+        real, simulated = f"{{ {texts} }}", f"{{ {texts}, simulated = true }}"
+        for boards, told in (([], UNTRIED), ([simulated], UNTRIED), ([real], "tried: 1 board\n"),
+                             ([real, simulated, real], "tried: 2 boards\n"), (12 * [real], "tried: 12 boards\n")):
+            with self.subTest(boards=boards):
+                self.store("table", TABLE + f"tried = [{', '.join(boards)}]\n".encode())
+                self.assertTold(self.use("info"), INFO.replace(UNTRIED, told))
+                self.assertTold(self.use("info", "--raw"), RAW.format("table"))
+        self.store("table", TABLE + b"tried = [{ part = \"a\" }]\n")
+        self.assertFault(self.use("info"), "table: chip 1: missing")
 
     def test_refuses_a_flash_of_another_length(self):
         self.store("flash", b"seven")

@@ -3,11 +3,12 @@
 import os
 import sys
 
-from place import ECHO, NOISE, SILENT, TABLE, TOP, UNREAD, Place
+from place import BUSY, ECHO, NOISE, SILENT, TABLE, TOP, UNREAD, Place
 from test_giving_up import HASTY, Peer, be_silent, echo
 
 sys.path.insert(0, os.path.join(TOP, "tests", "planted"))
 
+from deviations import DEVIATIONS
 from planted_board import PlantedBoard, take
 
 DEVICE, NO_ANSWER, LINE = "device does not follow the protocol", "no answer from the device", "line failed"
@@ -78,6 +79,41 @@ class Guarded(PlantedBoard):
         self.wipe(page)
         self.end_erase(1)
         return True
+
+
+class Other(PlantedBoard):
+    """A board with one deviation of those that the trial has to find."""
+
+    def __init__(self, deviation, **sets):
+        super().__init__(0x412, SIZES, 0x43, {**DEVIATIONS[deviation].sets, **sets}, flash=bytes(i % 251 for i in range(32768)))
+
+
+class Busy(Other):
+    """A board that says 76 before so many of its acknowledgements, from a certain one on."""
+
+    def __init__(self, first, count):
+        super().__init__("none")
+        self.first, self.last = first, first + count
+
+    def acknowledge(self):
+        self.first, self.last = self.first - 1, self.last - 1
+        if self.first < 0 <= self.last:
+            self.out.append(0x76)
+        super().acknowledge()
+
+
+class Counted(Other):
+    """A board whose id has so many bytes."""
+
+    def __init__(self, count):
+        super().__init__("none")
+        self.count = count
+
+    def answer(self, code):
+        if code == 0x02:
+            self.out += bytes([self.count - 1, *self.count * [4], 0x79])
+        else:
+            super().answer(code)
 
 
 class Hints(Place):
@@ -167,11 +203,48 @@ class Hints(Place):
                     said = self.on(Guarded(step, 5), "read", *words, "OUT")
                     self.assertFault(said, DEVICE, hint=UNREAD.format(place))
 
+    def test_a_board_that_says_that_it_is_busy(self):
+        """Before it acknowledges an erase: its undo is refused too, until it doesn't say so any more."""
+        board = Other("76-before-an-ack")
+        before = bytes(board.flash)
+        for words in (("write", "-S", f"{AT:#x}", "image"), ("undo",)):
+            self.assertFault(self.on(board, *words), DEVICE, hint=BUSY)
+        board.sets.clear()
+        self.assertTold(self.on(board, "undo"), "undone 1\n")
+        self.assertEqual(bytes(board.flash), before)
+
+    def test_a_board_that_is_busy_at_any_step(self):
+        """Once, before the answer to any of the first steps: to Get, Get ID, a read's code, its address, its count."""
+        for first in range(5):
+            with self.subTest(first=first):
+                board = Busy(first, 1)
+                before = bytes(board.flash)
+                self.assertFault(self.on(board, "read", "OUT"), DEVICE, hint=BUSY)
+                self.assertSilent(self.on(board, "read", "OUT"))
+                self.assertFile("OUT", before)
+                self.remove("OUT")
+
+    def test_two_acks_for_7f(self):
+        """Both are taken, also by a session that says that the board is fresh."""
+        for words in (("write", "-S", f"{AT:#x}", "image"), ("undo", "--fresh")):
+            board = Other("two-acks-for-7f") if words[0] == "write" else board
+            board.reset()
+            self.assertEqual(self.on(board, *words).status, 0)
+        self.assertEqual(bytes(board.flash), bytes(i % 251 for i in range(32768)))
+
+    def test_an_id_of_other_bytes(self):
+        board = Other("id-of-3-bytes")
+        told = "the board tells an id of {} bytes: stmflash knows ids of 2 bytes alone, and can't use it"
+        for name, *words in (("info",), ("info", "--raw"), ("write", "-S", f"{AT:#x}", "image")):
+            self.assertFault(self.on(board, name, *words), DEVICE, hint=told.format(3))
+        for count in (1, 4, 256):
+            self.assertFault(self.on(Counted(count), "info"), DEVICE, hint=told.format(count))
+
     def test_an_echo(self):
         self.assertFault(self.at(echo, "info", hasty=HASTY), NO_ANSWER, hint=ECHO)
 
     def test_noise(self):
-        """A program that prints, and one that says something now and then."""
+        """A program that prints, one that says something now and then, and one that says for each byte what begins with 76."""
 
         def print_on(line, ending):
             while not ending.is_set():
@@ -181,7 +254,12 @@ class Hints(Place):
             while not ending.wait(0.01):
                 line.sendall(b"\x55")
 
+        def reply(line, ending):
+            while not ending.is_set():
+                line.sendall(b"v1.2\r\n" * len(line.recv(16)))
+
         self.assertFault(self.at(print_on, "info"), DEVICE, hint=NOISE)
+        self.assertFault(self.at(reply, "info", hasty=HASTY), NO_ANSWER, hint=NOISE)
         self.assertFault(self.at(hiss, "info", hasty=HASTY), NO_ANSWER, hint=NOISE)
 
     def test_silence(self):

@@ -31,7 +31,7 @@ class Json(Place):
         self.assertAnswers(self.use("info", "--json"),
                            {"answer": "info", "id": "0412", "base": "08000000", "pages": 32, "size": 32768, "erase": "43",
                             "erased": "FF", "version": "22",
-                            "codes": ["00", "02", "11", "21", "31", "43", "73", "82", "92"]})
+                            "codes": ["00", "02", "11", "21", "31", "43", "73", "82", "92"], "tried": 0})
         self.assertAnswers(self.use_image("write", IMAGE, "-v", "--json"),
                            {"answer": "written_and_verified", "segment": 1, "pages": 1, "bytes": 1024})
         self.assertAnswers(self.use_image("write", IMAGE, "--json"), {"answer": "written", "segment": 2, "pages": 0})

@@ -4,7 +4,7 @@ import os
 import tomllib
 
 import telling
-from place import TOP, Place
+from place import TOP, UNTRIED, Place
 from served import WAIT, Served
 
 HEAD = "[[chip]]\n"
@@ -62,10 +62,10 @@ class SimulatedBoard(Place):
 
     def test_a_size_alone_is_told(self):
         self.store("flash.board", b"size 16\n")
-        self.assertTold(self.at("info"), INFO % (16, 16384) + "flash 16 KiB\n")
+        self.assertTold(self.at("info"), INFO % (16, 16384) + "flash 16 KiB\n" + UNTRIED)
         self.remove("flash")
         self.store("flash.board", b"")
-        self.assertTold(self.at("info"), INFO % (128, 131072) + "flash 128 KiB\n")
+        self.assertTold(self.at("info"), INFO % (128, 131072) + "flash 128 KiB\n" + UNTRIED)
 
     def test_what_no_board_is(self):
         for text in (b"unique 12\n", b"unique\n", b"size\n", b"size x\n", b"size 123456\n", b"size -1\n", b"board 1\n", b"\xff",
@@ -88,7 +88,7 @@ class SimulatedBoard(Place):
                 self.store("flash.board", text)
                 self.assertNoBoard()
         self.store("flash.board", size + 248 * b"\n")
-        self.assertTold(self.at("info"), INFO % (16, 16384) + "flash 16 KiB\n")
+        self.assertTold(self.at("info"), INFO % (16, 16384) + "flash 16 KiB\n" + UNTRIED)
 
 
 class GivenBoard(Served):
@@ -115,7 +115,7 @@ class GivenBoard(Served):
     def test_a_part_of_another_size_with_a_name(self):
         served = INFO.replace("codes 00 02", "codes 00 01 02")
         board = f"unique {NAME}\nsize 64\n".encode()
-        told = served % (64, 65536) + f"board {NAME}\nflash 64 KiB\n"
+        told = served % (64, 65536) + f"board {NAME}\nflash 64 KiB\n" + UNTRIED
         self.assertTold(self.told("--unique", NAME.lower(), "--size", "64"), told)
         self.assertFile("flash.board", board)
         self.assertFile("flash", 65536 * b"\xff")
@@ -211,7 +211,7 @@ class EverySize(Place):
         self.assertEqual((told.status, told.err), (0, b""))
         lines = told.out.decode().splitlines()
         self.assertEqual(lines[:4], [f"id {number}", "base 08000000", f"pages {pages}", f"size {len(flash)}"])
-        self.assertEqual(lines[-2:], [f"board {name}", f"flash {kib} KiB"])
+        self.assertEqual(lines[-3:], [f"board {name}", f"flash {kib} KiB", UNTRIED.rstrip()])
         for words in (("write", "-S", hex(end - 7), "image"), ("erase", str(pages))):
             self.assertFault(at(*words), "address outside the flash")
             self.assertFile("flash", flash)

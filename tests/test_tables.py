@@ -5,7 +5,7 @@ import shutil
 import subprocess
 import unittest
 
-from place import PATIENCE, Place, Said, program
+from place import PATIENCE, UNTRIED, Place, Said, program
 from test_device import INFO, RAW
 
 # the folders of a test that stand where the system has its own
@@ -63,6 +63,18 @@ class Tables(Place):
         """The chip of this id is the one with this base."""
         told = INFO.replace("0412", number).replace("base 08000000", f"base {base:08X}")
         self.assertTold(self.info(*words, number=number, **variables), told)
+
+    def test_the_boards_of_the_chip_that_is_taken(self):
+        board = 'part = "a", version = "22", who = "b", when = "c", verdict = "d", file = "e"'
+        tried = ENTRY.format(0x412, 0x8000000) + f"tried = [{{ {board} }}, {{ {board} }}]\n"
+        self.place(INSTALLED, text=tried)
+        self.assertTold(self.info(), INFO.replace(UNTRIED, "tried: 2 boards\n"))
+        self.place(MACHINES, (0x410, 0x8000000))
+        self.assertTold(self.info(), INFO.replace(UNTRIED, "tried: 2 boards\n"))
+        self.place(self.home, (0x412, 0x8000000))
+        self.assertTold(self.info(), INFO)
+        self.place(self.home, text=ENTRY.format(0x412, 0x8000000) + f"tried = [{{ {board} }}]\n")
+        self.assertTold(self.info(), INFO.replace(UNTRIED, "tried: 1 board\n"))
 
     def test_go_over_one_another_entry_by_entry(self):
         """The user's goes over the machine's, that over the installed one, and of each table the other chips stay."""

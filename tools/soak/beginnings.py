@@ -97,7 +97,15 @@ def table_text(chance, chips):
             text += "unique = [0x%08X, %d]\n" % chip.unique_at
         if chip.size_at is not None:
             text += "size_at = 0x%08X\n" % chip.size_at
+        text += tried_text(*chip.tried())
     return text.encode()
+
+
+def tried_text(real, simulated):
+    """The key of so many boards that were tried. It may be left out where there is none."""
+    texts = "part = \"a\", version = \"22\", who = \"b\", when = \"c\", verdict = \"d\", file = \"e\""
+    boards = real * ["{ %s }" % texts] + simulated * ["{ %s, simulated = true }" % texts]
+    return "tried = [%s]\n" % ", ".join(boards) if boards else ""
 
 
 def draw_flash(chance, chip):

@@ -43,6 +43,10 @@ class Chip:
     def has_places(self):
         return self.unique_at is not None or self.size_at is not None
 
+    def tried(self):
+        """How many real boards with this chip the table says were tried, and how many simulated ones."""
+        return self.number % 4, self.number // 4 % 2
+
     def without_places(self):
         return Chip(self.number, self.base, self.sizes, self.extended, self.erased)
 

@@ -115,6 +115,8 @@ class World:
             lines.append(do(rig, table, use, image, self.files, use.is_fresh and board is None))
             if use.name == "info" and board is not None:
                 lines.append(tell_board(board, session.find(table, board.number)))
+            if use.name == "info":
+                lines.append(tell_tried(*session.find(table, int(use.number, 16)).tried()))
             if use.keeps():
                 lines.append(self.keep(rig, use.to))
             if use.go is not None:
@@ -303,6 +305,13 @@ def tell_board(board, chip):
         beside = ", more than the pages" if size > chip.size else ", less than the pages" if size < chip.size else ""
         found += b"flash %d KiB%s\n" % (board.kib, beside.encode())
     return found
+
+
+def tell_tried(real, _simulated):
+    """What `info` prints last."""
+    if real == 0:
+        return b"not tried: stmflash-trial\n"
+    return b"tried: %d board%s\n" % (real, b"s" if real > 1 else b"")
 
 
 def do(rig, table, use, image, files, is_fresh):

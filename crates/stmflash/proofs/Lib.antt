@@ -6,3 +6,4 @@ pub mod NextRun
 pub mod OneCall
 pub mod WholeCalls
 pub mod Acts
+pub mod Tried

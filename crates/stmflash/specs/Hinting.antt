@@ -1,6 +1,6 @@
 -- What is told of the last turns on a line.
 use Rattle.std.specs.Prelude.{ℕ, Bool, true, false, List, [], ◌∷◌, Option, Some, None}
-use Rattle.std.specs.Prelude.{◌==◌, ◌&&◌, ◌||◌, if◌then◌else◌, option_map}
+use Rattle.std.specs.Prelude.{◌==◌, ◌&&◌, ◌||◌, ◌+◌, if◌then◌else◌, not, option_map}
 use Rattle.std.specs.Option.{option_or}
 use Rattle.stm_wire.specs.Exchange.{number_of, pair_of}
 use Rattle.stm_wire.specs.Reply.{ack, nack}
@@ -88,19 +88,45 @@ begins [] bytes = true
 begins (a ∷ came) [] = false
 begins (a ∷ came) (b ∷ bytes) = a == b && begins came bytes
 
--- this byte came first for what was put, and all that came may be the beginning of that
-abbrev pub answer_told : ℕ → Bool → Option Hint
-answer_told first is_echo =
+-- for a step of a command, which has two bytes or more, just the byte came by which some devices say
+-- that they are busy (AN4221)
+abbrev pub says_busy : List ℕ → List ℕ → Bool
+says_busy (first ∷ second ∷ put) (byte ∷ []) = byte == 0x76
+says_busy _ _ = false
+
+-- this byte came first for what was put; all that came may be the beginning of that, or say that the
+-- device is busy
+abbrev pub answer_told : ℕ → Bool → Bool → Option Hint
+answer_told first is_echo is_busy =
     if first == ack || first == nack then None
     else if is_echo then Some hint.Echo
+    else if is_busy then Some hint.Busy
     else Some hint.NoAnswer
 
--- what came last is nothing, an answer, an echo, or something else
+-- Get ID was acknowledged (AN3155, section 3.3), and its count, which is one less than the bytes of
+-- the id, isn't that of two
+abbrev pub id_counted : List ℕ → Option Hint
+id_counted (first ∷ count ∷ came) =
+    if first == ack && not (count == 1) then Some (hint.IdOf (count + 1)) else None
+id_counted _ = None
+
+abbrev pub id_told : List ℕ → List ℕ → Option Hint
+id_told (code ∷ check ∷ []) came =
+    if code == 0x02 && check == 0xFD then id_counted came else None
+id_told _ came = None
+
+-- what came for what was put, this byte first, is an id of other bytes, an answer, an echo, or
+-- something else
+abbrev pub reply_told : ℕ → List ℕ → List ℕ → Option Hint
+reply_told first put came =
+    option_or (id_told put came) (answer_told first (begins came put) (says_busy put came))
+
+-- what came last is nothing, came unasked, or is a reply
 abbrev pub stray : List ℕ → List ℕ → Option Hint
 stray put [] = Some hint.Silent
 stray [] (first ∷ came) = Some hint.NoAnswer
 stray (byte ∷ put) (first ∷ came) =
-    answer_told first (begins (first ∷ came) (byte ∷ put))
+    reply_told first (byte ∷ put) (first ∷ came)
 
 -- A NACK in the last turn tells what was refused; else what came last of all tells whether it was an
 -- answer.

@@ -18,3 +18,4 @@ pub mod ReadingFor
 pub mod Steps
 pub mod Histories
 pub mod Unpowered
+pub mod TriedBoards

@@ -1,8 +1,14 @@
 // What came of the words, and how it is told.
+ghost use Rattle.std.specs.Prelude.{IfOk};
+ghost use Rattle.stmflash.specs.Answer.{IsToldBeside};
+ghost use Rattle.stmflash.specs.TriedBoards.{texts_of};
 
-use std::alloc::{AllocError, Global};
+use crate::chip_tables::ChipTables;
+use crate::failure::Failure;
+use std::alloc::Global;
 use std::io;
 use std::io::Write;
+use stm_chip::TableFault;
 use stm_files::{BoardName, Escaped};
 use stm_session::{Board, Info, Told};
 use stm_wire::{Commands, EraseKind};
@@ -15,6 +21,11 @@ pub enum Answer {
     Nothing,
     /// What the device is.
     Told(Info),
+    /// The same, and how many real boards with its chip were tried, as the chip table says.
+    ToldBeside {
+        info: Info,
+        tried: usize,
+    },
     /// What the device says itself.
     Identified(Told),
     /// The same, and the chip table that was read, by its name as it is printed.
@@ -58,13 +69,19 @@ pub enum Answer {
 }
 
 impl Answer {
-    /// What the device says itself, with the names of the chip tables that were read;
-    /// any other answer as it is.
-    pub fn beside(self, alloc: Global, table: TableNames) -> Result<Answer, AllocError> {
+    /// What the device is, with what the chip tables say of boards that were tried; what it says
+    /// itself, with the names of the tables; any other answer as it is.
+    pub fn beside<'a>(
+        self,
+        alloc: Global,
+        names: TableNames,
+        tables: &ChipTables<'a>,
+    ) -> Result<Answer, Failure<'a>> {
         match self {
+            Answer::Told(info) => Ok(told_beside(alloc, info, tables)?),
             Answer::Identified(told) => Ok(Answer::IdentifiedBeside {
                 told,
-                table: format!(in alloc; "{}", Escaped(table))?,
+                table: format!(in alloc; "{}", Escaped(names))?,
             }),
             answer => Ok(answer),
         }
@@ -73,10 +90,8 @@ impl Answer {
     /// Prints which board the device is, where it is told what it is.
     pub fn print_board<O: Write>(&self, board: &Board, out: &mut O) -> io::Result<()> {
         match self {
-            Answer::Told(info) => {
-                print_unique(board, out)?;
-                print_size(board, Some(info.size), out)
-            }
+            Answer::Told(info) => print_known(board, info, out),
+            Answer::ToldBeside { info, .. } => print_known(board, info, out),
             Answer::Identified(_) | Answer::IdentifiedBeside { .. } => {
                 print_unique(board, out)?;
                 print_size(board, None, out)
@@ -85,10 +100,19 @@ impl Answer {
         }
     }
 
+    /// Prints how many boards were tried, where it is told what the device is.
+    pub fn print_tried<O: Write>(&self, out: &mut O) -> io::Result<()> {
+        match self {
+            Answer::ToldBeside { tried, .. } => print_tried(*tried, out),
+            _ => Ok(()),
+        }
+    }
+
     /// Prints what is told on standard output.
     pub fn print<O: Write>(&self, out: &mut O) -> io::Result<()> {
         match self {
             Answer::Told(info) => print_info(info, out),
+            Answer::ToldBeside { info, .. } => print_info(info, out),
             Answer::Identified(told) => print_told(told, out),
             Answer::IdentifiedBeside { told, table } => print_beside(told, table.as_str(), out),
             Answer::Written { segment, pages } => print_written(*segment, *pages, out),
@@ -106,6 +130,29 @@ impl Answer {
             Answer::Logged(bytes) | Answer::Bytes(bytes) => out.write_all(bytes.as_slice()),
             Answer::Nothing => Ok(()),
         }
+    }
+}
+
+/// What a device is, and how many real boards with its chip were tried.
+fn told_beside(alloc: Global, info: Info, tables: &ChipTables<'_>) -> Result<Answer, TableFault>
+    ensures { IfOk result (IsToldBeside (texts_of tables.now) info) }
+{
+    let tried = tables.tried(alloc, info.id)?;
+    Ok(Answer::ToldBeside { info, tried })
+}
+
+/// Prints which board the device is, whose chip is known.
+fn print_known<O: Write>(board: &Board, info: &Info, out: &mut O) -> io::Result<()> {
+    print_unique(board, out)?;
+    print_size(board, Some(info.size), out)
+}
+
+/// Prints the line of the boards that were tried.
+fn print_tried<O: Write>(tried: usize, out: &mut O) -> io::Result<()> {
+    match tried {
+        0 => writeln!(out, "not tried: stmflash-trial"),
+        1 => writeln!(out, "tried: 1 board"),
+        _ => writeln!(out, "tried: {tried} boards"),
     }
 }
 

@@ -1,9 +1,11 @@
 // The chip tables of one use.
+ghost use Rattle.std.specs.Prelude.{IfOk};
+ghost use Rattle.stmflash.specs.TriedBoards.{AreTried, TriedOver, bytes_of, texts_of};
 
 use crate::failure::Failure;
 use std::alloc::Global;
 use std::fs::Files;
-use stm_chip::{Table, TableFault, read_table};
+use stm_chip::{Table, TableFault, read_table, tried_boards};
 use stm_files::read_file;
 use stm_words::TableNames;
 
@@ -45,6 +47,17 @@ impl<'a> TableText<'a> {
             Err(fault) => Err(Failure::StandingTable(self.name, fault)),
         }
     }
+
+    /// How many real boards of this chip were tried, as it tells; where it has no such chip, as many
+    /// as the tables below it tell.
+    fn tried(&self, alloc: Global, id: u16, below: usize) -> Result<usize, TableFault>
+        ensures { IfOk result (TriedOver (bytes_of self.now) id below) }
+    {
+        match tried_boards(alloc, self.text.as_slice(), id)? {
+            Some(count) => Ok(count),
+            None => Ok(below),
+        }
+    }
 }
 
 /// The chip tables of one use, of which one goes over the other. Each file is read once: one that
@@ -83,6 +96,17 @@ impl<'a> ChipTables<'a> {
     /// Their chips.
     pub fn chips(&self) -> &Table {
         &self.chips
+    }
+
+    /// How many real boards of this chip were tried, as the table tells whose chip is taken.
+    pub fn tried(&self, alloc: Global, id: u16) -> Result<usize, TableFault>
+        ensures { IfOk result (AreTried id (texts_of self.now)) }
+    {
+        let mut count = self.lowest.tried(alloc, id, 0)?;
+        for table in &self.over {
+            count = table.tried(alloc, id, count)?;
+        }
+        Ok(count)
     }
 
     /// Their chips once more.

@@ -16,6 +16,13 @@ pub enum Hint {
     /// What came begins with no answer, or came before anything was sent.
     #[error("bytes came that are no answer: is the board in its bootloader, is the speed right?")]
     NoAnswer,
+    /// Just 76 came, by which some bootloaders say that they are busy.
+    #[error("the board says that it is busy (76): wait, and try again; stmflash can't use one that \
+        says so each time")]
+    Busy,
+    /// So many bytes of id were told, and not two.
+    #[error("the board tells an id of {0} bytes: stmflash knows ids of 2 bytes alone, and can't use it")]
+    IdOf(u16),
     /// A NACK came for the code of Read Memory.
     #[error("the device refused to read: is its flash readout-protected?")]
     ReadRefused,

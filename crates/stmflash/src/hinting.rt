@@ -2,7 +2,8 @@
 ghost use Rattle.std.specs.Prelude.{◌≡◌};
 ghost use Rattle.stmflash.specs.Hinting.{address_of, answer_told, answered, begins, code_refused};
 ghost use Rattle.stmflash.specs.Hinting.{command_of, data_refused, hint_of, page_of, place_refused};
-ghost use Rattle.stmflash.specs.Hinting.{refused, step_refused, stray};
+ghost use Rattle.stmflash.specs.Hinting.{id_counted, id_told, refused, reply_told, says_busy};
+ghost use Rattle.stmflash.specs.Hinting.{step_refused, stray};
 
 use crate::hint::Hint;
 use stm_files::{Turn, Turns};
@@ -11,6 +12,9 @@ use stm_files::{Turn, Turns};
 const ACK: u8 = 0x79;
 
 const NACK: u8 = 0x1F;
+
+/// The byte by which some devices say that they are busy, before they acknowledge (AN4221).
+const BUSY: u8 = 0x76;
 
 /// A command that reads or changes the flash (AN3155, sections 3.4 and 3.6 to 3.8).
 #[derive(Clone, Copy, Debug, PartialEq, Eq)]
@@ -135,18 +139,62 @@ fn begins(came: &[u8], put: &[u8]) -> bool
     }
 }
 
+/// Whether just the byte came for a step of a command by which a device says that it is busy.
+fn says_busy(put: &[u8], came: &[u8]) -> bool
+    ensures { result ≡ says_busy put.now came.now }
+{
+    match put {
+        [_, _, ..] => match came {
+            [byte] => *byte == BUSY,
+            _ => false,
+        },
+        _ => false,
+    }
+}
+
+/// What is told of the count of the bytes of an id, which was acknowledged.
+fn of_count(came: &[u8]) -> Option<Hint>
+    ensures { result ≡ id_counted came.now }
+{
+    match came {
+        [first, count, ..] if *first == ACK && *count != 1 => {
+            Some(Hint::IdOf(u16::from(*count) + 1))
+        }
+        _ => None,
+    }
+}
+
+/// What is told of an id.
+fn of_id(put: &[u8], came: &[u8]) -> Option<Hint>
+    ensures { result ≡ id_told put.now came.now }
+{
+    match put {
+        [0x02, 0xFD] => of_count(came),
+        _ => None,
+    }
+}
+
 /// What is told of the first byte that came for what was put; all that came may be the beginning of
-/// that.
-fn of_answer(first: u8, is_echo: bool) -> Option<Hint>
-    ensures { result ≡ answer_told first is_echo }
+/// that, or say that the device is busy.
+fn of_answer(first: u8, is_echo: bool, is_busy: bool) -> Option<Hint>
+    ensures { result ≡ answer_told first is_echo is_busy }
 {
     if first == ACK || first == NACK {
         None
     } else if is_echo {
         Some(Hint::Echo)
+    } else if is_busy {
+        Some(Hint::Busy)
     } else {
         Some(Hint::NoAnswer)
     }
+}
+
+/// What is told of what came, this byte first, for what was put.
+fn of_reply(first: u8, put: &[u8], came: &[u8]) -> Option<Hint>
+    ensures { result ≡ reply_told first put.now came.now }
+{
+    of_id(put, came).or(of_answer(first, begins(came, put), says_busy(put, came)))
 }
 
 /// What is told of what came last for what was put.
@@ -155,7 +203,7 @@ fn of_heard(put: &[u8], came: &[u8]) -> Option<Hint>
 {
     match came {
         [first, ..] => match put {
-            [_, ..] => of_answer(*first, begins(came, put)),
+            [_, ..] => of_reply(*first, put, came),
             _ => Some(Hint::NoAnswer),
         },
         _ => Some(Hint::Silent),

@@ -105,7 +105,7 @@ fn use_beside<'a, 'r, R: Locks + Net + Clock + AllocGlobal, E: Write + IsTermina
     }
     Ok(Steps {
         board: steps.board,
-        answer: steps.answer.beside(rt.alloc(), options.table)?,
+        answer: steps.answer.beside(rt.alloc(), options.table, tables)?,
         kept: steps.kept,
         failure: steps.failure,
     })

@@ -57,6 +57,7 @@ impl<'a> Steps<'a> {
         if let Some(board) = &self.board {
             self.answer.print_board(board, out)?;
         }
+        self.answer.print_tried(out)?;
         match self.kept {
             Some(count) => print_kept(count, out),
             None => Ok(()),

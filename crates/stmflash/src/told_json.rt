@@ -39,7 +39,7 @@ fn json_of(alloc: Global, answer: &Answer, board: &Option<Board>) -> Result<Vec<
 pub fn name_of(answer: &Answer) -> &'static str {
     match answer {
         Answer::Nothing | Answer::Bytes(_) => "done",
-        Answer::Told(_) => "info",
+        Answer::Told(_) | Answer::ToldBeside { .. } => "info",
         Answer::Identified(_) | Answer::IdentifiedBeside { .. } => "identified",
         Answer::Sum(_) => "crc",
         Answer::Written { .. } => "written",
@@ -56,7 +56,10 @@ pub fn name_of(answer: &Answer) -> &'static str {
 fn is_of_board(answer: &Answer) -> bool {
     matches!(
         answer,
-        Answer::Told(_) | Answer::Identified(_) | Answer::IdentifiedBeside { .. }
+        Answer::Told(_)
+            | Answer::ToldBeside { .. }
+            | Answer::Identified(_)
+            | Answer::IdentifiedBeside { .. }
     )
 }
 
@@ -65,6 +68,10 @@ fn add_members(alloc: Global, line: &mut JsonLine, answer: &Answer) -> Result<()
     match answer {
         Answer::Nothing | Answer::Bytes(_) => Ok(()),
         Answer::Told(info) => add_info(alloc, line, info),
+        Answer::ToldBeside { info, tried } => {
+            add_info(alloc, line, info)?;
+            line.number("tried", *tried as u64)
+        }
         Answer::Identified(told) => add_told(alloc, line, told),
         Answer::IdentifiedBeside { told, table } => {
             add_told(alloc, line, told)?;
