@@ -1,14 +1,12 @@
 """One call: outside, where the words are read and what can't be done is refused; and inside, where stmflash-line has the port
 open and has run us again as its command."""
 
-import json
+import marshal
 import os
 import sys
 
 from . import chip as chips
-from . import image, leaving, sequence, tools, usage, words
-from .actions import Actions
-from .board import Board
+from . import sequence, tools, words
 from .fault import Failed, Fault
 from .journals import Journals
 from .patience import is_pty, wait
@@ -28,23 +26,29 @@ def main(program, given):
         return inside(program) if given == [INSIDE] and WORDS in os.environ else outside(program, given)
     except Fault as fault:
         sys.stdout.flush()
-        print(str(fault) + ("\n" + usage.USAGE if fault.usage else ""), file=sys.stderr, flush=True)
+        print(str(fault) + ("\n" + usage() if fault.usage else ""), file=sys.stderr, flush=True)
         return 1
     except KeyboardInterrupt:
         note("stopped; what was begun is taken back by the next call at this port")
         return 1
 
 
-# ---- outside
+def usage():
+    from . import usage as page
+    return page.USAGE
+
+
+# ---- outside; what only few calls need, or only the inside, is loaded where it is needed: each start of Python counts
 
 def outside(program, given):
     asked = words.read(given)
     if asked is None:
-        sys.stderr.write(usage.USAGE)
+        sys.stderr.write(usage())
         return 0
     below = tools.find(program)
     journals = Journals(asked.port)
     if asked.action == "log":
+        from .board import Board
         return show_log(Board(below, journals, 0))
     refuse(asked, below)
     for text in asked.notes:
@@ -53,16 +57,17 @@ def outside(program, given):
         told = Told(asked)
         told.banner()
         if asked.action == "w":
+            from . import image
             image.keep(asked.file)
             told.lines(image.Image(asked).lines())
     journals.make()
-    os.environ[WORDS] = json.dumps(given)
+    os.environ[WORDS] = marshal.dumps(given).hex()
     line = [below.line, asked.port, "--baud", str(asked.baud)]
     if asked.sequence is not None:
         leave = asked.leave()
         line.append(f"--boot={asked.entry()}" + ("" if leave is None else f":{leave}"))
     sys.stdout.flush()
-    os.execv(below.line, [*line, "--", sys.executable, program, INSIDE])
+    os.execv(below.line, [*line, "--", sys.executable, "-S", program, INSIDE])
 
 
 def refuse(asked, below):
@@ -96,9 +101,10 @@ def show_log(board):
 # ---- inside
 
 def inside(program):
-    asked = words.read(json.loads(os.environ[WORDS]))
+    from .board import Board
+    asked = words.read(marshal.loads(bytes.fromhex(os.environ[WORDS])))
     below = tools.find(program)
-    board = Board(below, Journals(asked.port), wait(asked.port, asked.baud))
+    board = Board(below, Journals(asked.port), wait())
     try:
         board.journals.end_keeping()
         return undo(board, asked) if asked.action == "undo" else do(board, asked, chips.read_table(below.table))
@@ -107,6 +113,8 @@ def inside(program):
 
 
 def do(board, asked, table):
+    from . import leaving
+    from .actions import Actions
     told = Told(asked)
     told.line(f"Interface serial_posix: {asked.baud} {asked.mode.upper()}")
     if asked.entry():
