@@ -133,15 +133,15 @@ class Waits(unittest.TestCase):
         self.adapter("ttyUSB0", "1\n")
         self.adapter("ttyACM0")
         self.assertEqual([patience.wait("/dev/ttyUSB0", baud, 0) for baud in (4000000, 115200, 57600, 9600, 1)],
-                         [100, 103, 152, 641, 60000])
-        self.assertEqual(patience.wait("/dev/ttyACM0", 115200, 0), 163)
+                         [250, 250, 250, 641, 60000])
+        self.assertEqual(patience.wait("/dev/ttyACM0", 9600, 0), 701)
         self.assertIsNone(patience.wait("/dev/ttyUSB1", 115200, 0))
 
     def test_a_client_whose_byte_waits_for_a_reset_waits_longer(self):
         self.adapter("ttyUSB0", "1\n")
         port = types.SimpleNamespace(name="/dev/ttyUSB0", baud=115200)
         boot = read_sequence("-rts&dtr,-dtr,,")
-        for resets, wait in ((False, 103), (True, 403)):
+        for resets, wait in ((False, 250), (True, 550)):
             self.assertEqual(session.wait_of(port, types.SimpleNamespace(resets=resets, boot=boot)), wait)
 
     def test_is_told_where_its_user_says_nothing(self):

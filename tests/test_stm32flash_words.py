@@ -615,16 +615,27 @@ class Parts(unittest.TestCase):
                                  *(["/dev/ttyUSB0", "--baud", "57600", boot]
                                    for boot in ("--boot=-rts,dtr:rts", "--boot=-rts,dtr", "--boot=:rts"))])
 
-    def test_the_wait_is_what_is_said(self):
+    def test_the_wait_is_what_is_known_of_the_port(self):
         patience = module("patience")
-        with unittest.mock.patch.dict(os.environ):
-            for said, wait in ((None, 500), ("", 500), ("77", 77)):
-                os.environ.pop("STMFLASH_WAIT", None)
-                if said is not None:
-                    os.environ["STMFLASH_WAIT"] = said
-                self.assertEqual(patience.wait(), wait)
-            os.environ["STMFLASH_WAIT"] = "soon"
-            self.assertRaises(module("fault").Fault, patience.wait)
+        with unittest.mock.patch.object(patience, "hold", lambda _: 1):
+            for given in (None, ""):
+                self.assertEqual([patience.wait(given, "a", baud) for baud in (4000000, 115200, 57600, 9600)], [100, 103, 152, 641])
+            self.assertEqual(patience.wait("77", "a", 115200), 77)
+            self.assertRaises(module("fault").Fault, patience.wait, "soon", "a", 115200)
+        with unittest.mock.patch.object(patience, "hold", lambda _: None):
+            self.assertEqual(patience.wait(None, "a", 115200), 500)
+
+    def test_the_chips_are_handed_on(self):
+        chip = module("chip")
+        table = chip.read_table(os.path.join(TOP, "chips.toml"))
+        packed = chip.pack(table)
+        for again in (chip.unpack(packed, "nowhere"), chip.unpack(b"", os.path.join(TOP, "chips.toml"))):
+            self.assertEqual({name: (one.name, one.starts) for name, one in again.items()},
+                             {name: (one.name, one.starts) for name, one in table.items()})
+        self.assertTrue(packed)
+        # what has no room among the settings is read again
+        entries = ({"id": number, "base": FLASH, "pages": [[number, 1024]], "name": f"chip {number}"} for number in range(1000))
+        self.assertEqual(chip.pack({entry["id"]: chip.Chip(entry) for entry in entries}), b"")
 
     def test_a_write_that_differs_is_done_again_as_often_as_is_asked(self):
         fault, actions = module("fault"), module("actions")

@@ -13,7 +13,8 @@ from .patience import is_pty, wait
 from .told import Told, note
 
 INSIDE = "--through"
-# the words of a call, for its inside: stmflash-line would put a socket's path for each {} of its command
+# the words of a call, the chips of its table and its user's wait, for its inside: stmflash-line would put a socket's path for each
+# {} of its command, and has a wait of its own for it
 WORDS = "STM32FLASH_WORDS"
 # that the entry sequence of -i resets the board, which its user says
 RESETS = "STM32FLASH_RESETS"
@@ -50,7 +51,7 @@ def outside(program, given):
     if asked.action == "log":
         from .board import Board
         return show_log(Board(below, journals, 0))
-    refuse(asked, below)
+    table = refuse(asked, below)
     for text in asked.notes:
         print(text, file=sys.stderr, flush=True)
     if asked.action != "undo":
@@ -61,7 +62,7 @@ def outside(program, given):
             image.keep(asked.file)
             told.lines(image.Image(asked).lines())
     journals.make()
-    os.environ[WORDS] = marshal.dumps(given).hex()
+    os.environ[WORDS] = marshal.dumps((given, chips.pack(table), os.environ.get("STMFLASH_WAIT"))).hex()
     line = [below.line, asked.port, "--baud", str(asked.baud)]
     if asked.sequence is not None:
         leave = asked.leave()
@@ -71,7 +72,7 @@ def outside(program, given):
 
 
 def refuse(asked, below):
-    """What can be seen without the board that it can't be done."""
+    """What can be seen without the board that it can't be done; the chips of the table."""
     if asked.mode != "8e1" and not is_pty(asked.port):
         raise Fault(f"ERROR: -m {asked.mode}: isn't there; 8e1 is, which the bootloader of every STM32 has")
     table = chips.read_table(below.table)
@@ -79,6 +80,7 @@ def refuse(asked, below):
         chips.refuse_outside(table, asked.address, "-S")
     if asked.start_at:
         chips.refuse_outside(table, asked.start_at, "-g")
+    return table
 
 
 def show_log(board):
@@ -102,12 +104,13 @@ def show_log(board):
 
 def inside(program):
     from .board import Board
-    asked = words.read(marshal.loads(bytes.fromhex(os.environ[WORDS])))
+    given, packed, patience = marshal.loads(bytes.fromhex(os.environ[WORDS]))
+    asked = words.read(given)
     below = tools.find(program)
-    board = Board(below, Journals(asked.port), wait())
+    board = Board(below, Journals(asked.port), wait(patience, asked.port, asked.baud))
     try:
         board.journals.end_keeping()
-        return undo(board, asked) if asked.action == "undo" else do(board, asked, chips.read_table(below.table))
+        return undo(board, asked) if asked.action == "undo" else do(board, asked, chips.unpack(packed, below.table))
     except Fault as fault:
         raise Fault(str(fault) + (f"\nstm32flash: {board.hint}" if board.hint else "")) from None
 

@@ -8,8 +8,8 @@ import os
 BYTES, BITS = 512, 11
 # what an adapter holds bytes back for where its driver doesn't say, and what the machine and the chip may take besides, in ms
 HOLD, REST = 16, 50
-# the least and the most, in ms
-LEAST, MOST = 100, 60000
+# the least, which a board may take half of stmflash's own wait for (stmflash-trial's reply-time), and the most, in ms
+LEAST, MOST = 250, 60000
 # Linux: how long an adapter of FTDI holds bytes back, in ms
 TTY, TIMER = "/sys/class/tty", "latency_timer"
 

@@ -23,11 +23,11 @@ at_first whole = record { whole = whole; known = Nothing; puts = 0; longest = No
 abbrev pub with_put : SilenceData → SilenceData
 with_put s = record s { puts = min (s.puts + 1) 2 }
 
--- What is waited where silence is due: four times the longest answer and 50 ms, and no more than the
+-- What is waited where silence is due: four times the longest answer and 20 ms, and no more than the
 -- whole wait, which it is where no answer was measured.
 abbrev pub due_wait : ℕ → Option ℕ → ℕ
 due_wait whole None = whole
-due_wait whole (Some longest) = min whole (4 * longest + 50)
+due_wait whole (Some longest) = min whole (4 * longest + 20)
 
 -- Behind an answer nothing more is due. A device at rest owes nothing, so that what is there is only
 -- looked at; and it is silent to one byte, the first of a pair.

@@ -13,7 +13,7 @@ const ACK: u8 = 0x79;
 const NACK: u8 = 0x1F;
 
 /// How many milliseconds are waited where silence is due, above four times the longest answer.
-const LEAST: u64 = 50;
+const MARGIN: u64 = 20;
 
 /// What is known of the bytes that a device may still owe.
 #[derive(Clone, Copy, PartialEq, Eq, Debug)]
@@ -175,7 +175,7 @@ fn due_wait(whole: u64, longest: Option<u32>) -> u64
     ensures { result ≡ due_wait whole longest }
 {
     match longest {
-        Some(longest) => whole.min(4 * u64::from(longest) + LEAST),
+        Some(longest) => whole.min(4 * u64::from(longest) + MARGIN),
         None => whole,
     }
 }
