@@ -625,6 +625,21 @@ class Parts(unittest.TestCase):
         with unittest.mock.patch.object(patience, "hold", lambda _: None):
             self.assertEqual(patience.wait(None, "a", 115200), 500)
 
+    def test_each_start_loads_what_it_needs(self):
+        """A call has three starts of Python: what takes long to load stays out of those that don't need it."""
+        heavy = {"argparse", "ctypes", "dataclasses", "hashlib", "inspect", "json", "shutil", "socket", "subprocess", "tempfile", "tomllib"}
+        own = {"as_stm32flash.actions", "as_stm32flash.board", "as_stm32flash.image", "as_stm32flash.crc", "stmflash_line.chips",
+               "stmflash_line.far", "stmflash_line.gpio_lines", "stmflash_line.model", "stmflash_line.watch"}
+        inside = "from as_stm32flash import call, leaving; from as_stm32flash.actions import Actions; from as_stm32flash.board import Board"
+        for text, needed in (
+                ("from as_stm32flash import call", set()),
+                (inside, {"ctypes", "subprocess", "as_stm32flash.actions", "as_stm32flash.board"}),
+                ("from stmflash_line import command, session, wake, words", {"argparse", "ctypes", "shutil", "socket", "subprocess"})):
+            with self.subTest(text=text):
+                told = subprocess.run([sys.executable, "-I", "-S", "-c", f"import sys; sys.path.insert(0, {os.path.join(TOP, 'line')!r}); "
+                                       f"sys.dont_write_bytecode = True; {text}; print(*sys.modules)"], capture_output=True, check=True)
+                self.assertEqual((heavy | own) & set(told.stdout.decode().split()) - needed, set())
+
     def test_the_chips_are_handed_on(self):
         chip = module("chip")
         table = chip.read_table(os.path.join(TOP, "chips.toml"))
