@@ -174,7 +174,7 @@ class GivingUp(Served):
         self.assertServed()
 
     def test_waits_as_long_as_is_said(self):
-        """Settling a fresh device has quiet waits, each as long as is said."""
+        """Settling a device has quiet waits: those at one of which nothing is known are as long as is said."""
         self.serve(2)
         seconds = []
         for wait in ("20", "2500"):

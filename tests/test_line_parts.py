@@ -10,6 +10,7 @@ import itertools
 import os
 import signal
 import socket
+import tempfile
 import termios
 import time
 import types
@@ -18,7 +19,7 @@ from unittest import mock
 
 from boards import LATENCY, WiredPlace
 from place import PATIENCE
-from stmflash_line import opening
+from stmflash_line import command, opening, patience, session
 from stmflash_line.join import Join
 from stmflash_line.port import Port
 from stmflash_line.sequences import read_sequence
@@ -109,6 +110,51 @@ class Played(WiredPlace):
             said = self.ended(started)
             self.assertEqual((said.status, said.err), (128 + signal.SIGTERM, b""))
             self.assertEqual(self.calls()[0], calls)
+
+
+class Waits(unittest.TestCase):
+    """How long a reply may take at a port, which COMMAND is told."""
+
+    def setUp(self):
+        made = tempfile.TemporaryDirectory()
+        self.addCleanup(made.cleanup)
+        self.folder = made.name
+        held = mock.patch.object(patience, "TTY", self.folder)
+        held.start()
+        self.addCleanup(held.stop)
+
+    def adapter(self, name, timer=None):
+        os.makedirs(os.path.join(self.folder, name, "device"))
+        if timer is not None:
+            with open(os.path.join(self.folder, name, "device", "latency_timer"), "w", encoding="ascii") as file:
+                file.write(timer)
+
+    def test_is_what_is_known_of_the_port(self):
+        self.adapter("ttyUSB0", "1\n")
+        self.adapter("ttyACM0")
+        self.assertEqual([patience.wait("/dev/ttyUSB0", baud, 0) for baud in (4000000, 115200, 57600, 9600, 1)],
+                         [250, 250, 250, 641, 60000])
+        self.assertEqual(patience.wait("/dev/ttyACM0", 9600, 0), 701)
+        self.assertIsNone(patience.wait("/dev/ttyUSB1", 115200, 0))
+
+    def test_a_client_whose_byte_waits_for_a_reset_waits_longer(self):
+        self.adapter("ttyUSB0", "1\n")
+        port = types.SimpleNamespace(name="/dev/ttyUSB0", baud=115200)
+        boot = read_sequence("-rts&dtr,-dtr,,")
+        for resets, wait in ((False, 250), (True, 550)):
+            self.assertEqual(session.wait_of(port, types.SimpleNamespace(resets=resets, boot=boot)), wait)
+
+    def test_is_told_where_its_user_says_nothing(self):
+        said = os.path.join(self.folder, "said")
+        for given, wait, told in ((None, 103, "103"), (None, None, ""), ("", 103, "103"), ("77", 103, "77"), ("77", None, "77")):
+            with self.subTest(given=given, wait=wait), mock.patch.dict(os.environ):
+                os.environ.pop("STMFLASH_WAIT", None)
+                if given is not None:
+                    os.environ["STMFLASH_WAIT"] = given
+                started = command.start(["sh", "-c", f"printf %s \"$STMFLASH_WAIT\" > {said}"], "socket", False, wait)
+                self.assertEqual(started.wait(PATIENCE), 0)
+                with open(said, encoding="ascii") as file:
+                    self.assertEqual(file.read(), told)
 
 
 class Modes(unittest.TestCase):

@@ -617,16 +617,40 @@ class Parts(unittest.TestCase):
 
     def test_the_wait_is_what_is_known_of_the_port(self):
         patience = module("patience")
-        with unittest.mock.patch.object(patience, "hold", lambda _: 1), unittest.mock.patch.dict(os.environ):
-            os.environ.pop("STMFLASH_WAIT", None)
-            self.assertEqual([patience.wait("a", baud) for baud in (4000000, 115200, 57600, 9600)], [100, 103, 152, 641])
-            os.environ["STMFLASH_WAIT"] = "77"
-            self.assertEqual(patience.wait("a", 115200), 77)
-            os.environ["STMFLASH_WAIT"] = "soon"
-            self.assertRaises(module("fault").Fault, patience.wait, "a", 115200)
-        with unittest.mock.patch.object(patience, "hold", lambda _: None), unittest.mock.patch.dict(os.environ):
-            os.environ.pop("STMFLASH_WAIT", None)
-            self.assertEqual(patience.wait("a", 115200), 500)
+        with unittest.mock.patch.object(patience, "hold", lambda _: 1):
+            for given in (None, ""):
+                self.assertEqual([patience.wait(given, "a", baud) for baud in (4000000, 115200, 57600, 9600)], [100, 103, 152, 641])
+            self.assertEqual(patience.wait("77", "a", 115200), 77)
+            self.assertRaises(module("fault").Fault, patience.wait, "soon", "a", 115200)
+        with unittest.mock.patch.object(patience, "hold", lambda _: None):
+            self.assertEqual(patience.wait(None, "a", 115200), 500)
+
+    def test_each_start_loads_what_it_needs(self):
+        """A call has three starts of Python: what takes long to load stays out of those that don't need it."""
+        heavy = {"argparse", "ctypes", "dataclasses", "hashlib", "inspect", "json", "shutil", "socket", "subprocess", "tempfile", "tomllib"}
+        own = {"as_stm32flash.actions", "as_stm32flash.board", "as_stm32flash.image", "as_stm32flash.crc", "stmflash_line.chips",
+               "stmflash_line.far", "stmflash_line.gpio_lines", "stmflash_line.model", "stmflash_line.watch"}
+        inside = "from as_stm32flash import call, leaving; from as_stm32flash.actions import Actions; from as_stm32flash.board import Board"
+        for text, needed in (
+                ("from as_stm32flash import call", set()),
+                (inside, {"ctypes", "subprocess", "as_stm32flash.actions", "as_stm32flash.board"}),
+                ("from stmflash_line import command, session, wake, words", {"argparse", "ctypes", "shutil", "socket", "subprocess"})):
+            with self.subTest(text=text):
+                told = subprocess.run([sys.executable, "-I", "-S", "-c", f"import sys; sys.path.insert(0, {os.path.join(TOP, 'line')!r}); "
+                                       f"sys.dont_write_bytecode = True; {text}; print(*sys.modules)"], capture_output=True, check=True)
+                self.assertEqual((heavy | own) & set(told.stdout.decode().split()) - needed, set())
+
+    def test_the_chips_are_handed_on(self):
+        chip = module("chip")
+        table = chip.read_table(os.path.join(TOP, "chips.toml"))
+        packed = chip.pack(table)
+        for again in (chip.unpack(packed, "nowhere"), chip.unpack(b"", os.path.join(TOP, "chips.toml"))):
+            self.assertEqual({name: (one.name, one.starts) for name, one in again.items()},
+                             {name: (one.name, one.starts) for name, one in table.items()})
+        self.assertTrue(packed)
+        # what has no room among the settings is read again
+        entries = ({"id": number, "base": FLASH, "pages": [[number, 1024]], "name": f"chip {number}"} for number in range(1000))
+        self.assertEqual(chip.pack({entry["id"]: chip.Chip(entry) for entry in entries}), b"")
 
     def test_a_write_that_differs_is_done_again_as_often_as_is_asked(self):
         fault, actions = module("fault"), module("actions")

@@ -3,9 +3,7 @@
 import os
 
 from . import part as parts
-from .crc import crc
 from .fault import Failed, Fault
-from .image import Image
 from .told import note
 
 CHANGED_BACK = "the flash is as it was before this call"
@@ -52,6 +50,7 @@ class Actions:
 
     def sum(self):
         """The CRC, of what is read: the number that the chip's own unit has for it."""
+        from .crc import crc
         part = parts.of(self.words, self.chip)
         self.told.line("CRC computation")
         if part.start % 4 or part.end % 4:
@@ -70,6 +69,7 @@ class Actions:
     # ---- that can be taken back
 
     def write(self):
+        from .image import Image
         image = Image(self.words)
         place = image.start or self.chip.base
         part = parts.Part(place, place + image.size)

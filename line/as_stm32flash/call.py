@@ -1,21 +1,20 @@
 """One call: outside, where the words are read and what can't be done is refused; and inside, where stmflash-line has the port
 open and has run us again as its command."""
 
-import json
+import marshal
 import os
 import sys
 
 from . import chip as chips
-from . import image, leaving, sequence, tools, usage, words
-from .actions import Actions
-from .board import Board
+from . import sequence, tools, words
 from .fault import Failed, Fault
 from .journals import Journals
 from .patience import is_pty, wait
 from .told import Told, note
 
 INSIDE = "--through"
-# the words of a call, for its inside: stmflash-line would put a socket's path for each {} of its command
+# the words of a call, the chips of its table and its user's wait, for its inside: stmflash-line would put a socket's path for each
+# {} of its command, and has a wait of its own for it
 WORDS = "STM32FLASH_WORDS"
 # that the entry sequence of -i resets the board, which its user says
 RESETS = "STM32FLASH_RESETS"
@@ -28,45 +27,52 @@ def main(program, given):
         return inside(program) if given == [INSIDE] and WORDS in os.environ else outside(program, given)
     except Fault as fault:
         sys.stdout.flush()
-        print(str(fault) + ("\n" + usage.USAGE if fault.usage else ""), file=sys.stderr, flush=True)
+        print(str(fault) + ("\n" + usage() if fault.usage else ""), file=sys.stderr, flush=True)
         return 1
     except KeyboardInterrupt:
         note("stopped; what was begun is taken back by the next call at this port")
         return 1
 
 
-# ---- outside
+def usage():
+    from . import usage as page
+    return page.USAGE
+
+
+# ---- outside; what only few calls need, or only the inside, is loaded where it is needed: each start of Python counts
 
 def outside(program, given):
     asked = words.read(given)
     if asked is None:
-        sys.stderr.write(usage.USAGE)
+        sys.stderr.write(usage())
         return 0
     below = tools.find(program)
     journals = Journals(asked.port)
     if asked.action == "log":
+        from .board import Board
         return show_log(Board(below, journals, 0))
-    refuse(asked, below)
+    table = refuse(asked, below)
     for text in asked.notes:
         print(text, file=sys.stderr, flush=True)
     if asked.action != "undo":
         told = Told(asked)
         told.banner()
         if asked.action == "w":
+            from . import image
             image.keep(asked.file)
             told.lines(image.Image(asked).lines())
     journals.make()
-    os.environ[WORDS] = json.dumps(given)
+    os.environ[WORDS] = marshal.dumps((given, chips.pack(table), os.environ.get("STMFLASH_WAIT"))).hex()
     line = [below.line, asked.port, "--baud", str(asked.baud)]
     if asked.sequence is not None:
         leave = asked.leave()
         line.append(f"--boot={asked.entry()}" + ("" if leave is None else f":{leave}"))
     sys.stdout.flush()
-    os.execv(below.line, [*line, "--", sys.executable, program, INSIDE])
+    os.execv(below.line, [*line, "--", sys.executable, "-S", program, INSIDE])
 
 
 def refuse(asked, below):
-    """What can be seen without the board that it can't be done."""
+    """What can be seen without the board that it can't be done; the chips of the table."""
     if asked.mode != "8e1" and not is_pty(asked.port):
         raise Fault(f"ERROR: -m {asked.mode}: isn't there; 8e1 is, which the bootloader of every STM32 has")
     table = chips.read_table(below.table)
@@ -74,6 +80,7 @@ def refuse(asked, below):
         chips.refuse_outside(table, asked.address, "-S")
     if asked.start_at:
         chips.refuse_outside(table, asked.start_at, "-g")
+    return table
 
 
 def show_log(board):
@@ -96,17 +103,21 @@ def show_log(board):
 # ---- inside
 
 def inside(program):
-    asked = words.read(json.loads(os.environ[WORDS]))
+    from .board import Board
+    given, packed, patience = marshal.loads(bytes.fromhex(os.environ[WORDS]))
+    asked = words.read(given)
     below = tools.find(program)
-    board = Board(below, Journals(asked.port), wait(asked.port, asked.baud))
+    board = Board(below, Journals(asked.port), wait(patience, asked.port, asked.baud))
     try:
         board.journals.end_keeping()
-        return undo(board, asked) if asked.action == "undo" else do(board, asked, chips.read_table(below.table))
+        return undo(board, asked) if asked.action == "undo" else do(board, asked, chips.unpack(packed, below.table))
     except Fault as fault:
         raise Fault(str(fault) + (f"\nstm32flash: {board.hint}" if board.hint else "")) from None
 
 
 def do(board, asked, table):
+    from . import leaving
+    from .actions import Actions
     told = Told(asked)
     told.line(f"Interface serial_posix: {asked.baud} {asked.mode.upper()}")
     if asked.entry():

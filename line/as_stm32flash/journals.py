@@ -1,6 +1,5 @@
 """The journals of a port: the one in use, and those that were put aside when a program was started."""
 
-import hashlib
 import os
 import re
 
@@ -144,6 +143,8 @@ def name_of(port):
     """A name that a port has for good: where its adapter is plugged in, as udev says it, or that of its device. A
     pseudo-terminal is known by the name that it is called by, since its own is another one each time."""
     if is_pty(port):
+        # loaded for those alone
+        import hashlib
         path = os.path.abspath(port)
         return f"{os.path.basename(path)}-{hashlib.sha256(os.fsencode(path)).hexdigest()[:12]}"
     device = os.path.realpath(port)

@@ -1,6 +1,6 @@
 """Whose a journal is: the chip and the board that its header names."""
 
-import dataclasses
+import collections
 import re
 
 # the header is the first line that isn't void, and what was torn off before it is short
@@ -8,12 +8,10 @@ HEADER = re.compile(rb"^stmjournal (?:[12] ([0-9A-F]{4})|3 ([0-9A-F]{4}) ((?:[0-
 BEGINNING = 4096
 
 
-@dataclasses.dataclass(frozen=True)
-class Owner:
+class Owner(collections.namedtuple("Owner", ("chip", "board"), defaults=(None, None))):
     """The product id of a chip and the unique id of a board, as upper-case digits; None where they aren't known."""
 
-    chip: str | None = None
-    board: str | None = None
+    __slots__ = ()
 
     def may_be(self, other):
         """Whether both may be one board, as far as they are known."""

@@ -1,17 +1,13 @@
 """Which part of the flash a call is for, by -S, or -s and -e."""
 
-import dataclasses
-
 from .fault import Fault
 
 
-@dataclasses.dataclass
 class Part:
     """From `start` on, up to `end`. `is_exact` is False where -e asks for pages behind the flash's end."""
 
-    start: int
-    end: int
-    is_exact: bool = True
+    def __init__(self, start, end, is_exact=True):
+        self.start, self.end, self.is_exact = start, end, is_exact
 
     def word(self):
         """It as stmflash is given it."""

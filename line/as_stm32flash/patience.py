@@ -1,4 +1,5 @@
-"""How long a reply may take at a port, which a session waits in full some four times, since a device is quiet then."""
+"""How long a reply may take at a port, which a session waits in full while nothing is known of the board. It may prove too short:
+then a session is done again. stmflash-line has a longer one for its command, of which nothing is done again."""
 
 import math
 import os
@@ -17,9 +18,8 @@ LEAST = 100
 PTY_MAJORS = range(136, 144)
 
 
-def wait(port, baud):
-    """The wait for a port at this speed, in ms; STMFLASH_WAIT decides where it is given."""
-    given = os.environ.get("STMFLASH_WAIT")
+def wait(given, port, baud):
+    """The wait for a port at this speed, in ms; what STMFLASH_WAIT was outside decides where it was given."""
     if given:
         if not re.fullmatch("[1-9][0-9]{0,4}", given) or int(given) > 60000:
             raise Fault(f"ERROR: STMFLASH_WAIT: {given} is no number from 1 to 60000")

@@ -1,19 +1,15 @@
 """Where the programs and the table are that stand below this one."""
 
-import dataclasses
 import os
-import shutil
 
 from .fault import Fault
 
 
-@dataclasses.dataclass
 class Tools:
     """The paths of stmflash, of stmflash-line, and of the table of chips."""
 
-    stmflash: str
-    line: str
-    table: str
+    def __init__(self, stmflash, line, table):
+        self.stmflash, self.line, self.table = stmflash, line, table
 
 
 def find(program):
@@ -25,8 +21,9 @@ def find(program):
 
 
 def find_program(beside, name):
-    for path in (os.path.join(beside, name), shutil.which(name)):
-        if path and os.path.isfile(path) and os.access(path, os.X_OK):
+    for folder in (beside, *filter(None, os.environ.get("PATH", os.defpath).split(os.pathsep))):
+        path = os.path.join(folder, name)
+        if os.path.isfile(path) and os.access(path, os.X_OK):
             return path
     raise Fault(f"ERROR: {name} isn't there, neither beside stm32flash nor in PATH")
 

@@ -1,6 +1,5 @@
 """The command line: the options of stm32flash 0.7, and what is refused of them before a byte is sent."""
 
-import dataclasses
 import getopt
 import re
 
@@ -18,33 +17,28 @@ LEAST_RX, LEAST_TX, MOST_RX, MOST_TX = 20, 6, 256, 257
 PAGES_OR_ADDRESS = "ERROR: Invalid options, can't specify start page / num pages and start address/length"
 
 
-@dataclasses.dataclass
 class Words:
     """What a call asks for."""
 
-    port: str = ""
-    # a letter of ACTIONS, "undo", "log", or nothing
-    action: str = ""
-    # of -r and -w
-    file: str = ""
-    baud: int = 57600
-    mode: str = "8e1"
-    verify: bool = False
-    retries: int = 10
-    # where the program is started; 0 is the flash's start
-    start_at: int | None = None
-    # of -S, of which either may be left out
-    address: int | None = None
-    length: int | None = None
-    # of -s and -e
-    page: int | None = None
-    pages: int | None = None
-    force: bool = False
-    resume: bool = False
-    reset: bool = False
-    # both sequences of -i, or nothing
-    sequence: str | None = None
-    notes: list[str] = dataclasses.field(default_factory=list)
+    def __init__(self, **given):
+        self.port = ""
+        # a letter of ACTIONS, "undo", "log", or nothing
+        self.action = ""
+        # of -r and -w
+        self.file = ""
+        self.baud, self.mode = 57600, "8e1"
+        self.verify, self.retries = False, 10
+        # where the program is started; 0 is the flash's start
+        self.start_at = None
+        # of -S, of which either may be left out
+        self.address = self.length = None
+        # of -s and -e
+        self.page = self.pages = None
+        self.force = self.resume = self.reset = False
+        # both sequences of -i, or nothing
+        self.sequence = None
+        self.notes = []
+        vars(self).update(given)
 
     def entry(self):
         """The sequence that is played at first."""

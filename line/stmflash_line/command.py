@@ -13,10 +13,10 @@ from .tied import tied
 GRACE = 5
 
 
-def run(command, path, fresh, join):
+def run(command, path, fresh, wait, join):
     """Runs COMMAND on the socket at this path, and answers its status. Where a signal ends us, or the port goes, it is
     ended too."""
-    child, wake = start(command, path, fresh), join.wake
+    child, wake = start(command, path, fresh, wait), join.wake
     try:
         until = None
         while child.poll() is None:
@@ -40,12 +40,15 @@ def run(command, path, fresh, join):
     return status or int(join.is_otherwise)
 
 
-def start(command, path, fresh):
-    """COMMAND, with the socket's path for every {}. It is told to end where we are killed."""
+def start(command, path, fresh, wait):
+    """COMMAND, with the socket's path for every {}, and how long a reply may take, in ms, where that is known and its user says
+    nothing. It is told to end where we are killed."""
     words = [word.replace("{}", path) for word in command]
     settings = {**os.environ, "STMFLASH_DEVICE": path}
     if fresh:
         settings["STMFLASH_FRESH"] = "1"
+    if wait is not None and not settings.get("STMFLASH_WAIT"):
+        settings["STMFLASH_WAIT"] = str(wait)
     try:
         return subprocess.Popen(words, env=settings, preexec_fn=tied())
     except OSError as error:

@@ -19,10 +19,6 @@ BITS = 11
 ERRORS = 0x02 | 0x04 | 0x08 | 0x10
 
 
-def is_far(word):
-    return word.startswith(("rfc2217://", "socket://"))
-
-
 def open_far(word, baud):
     """The port that this word names. What it can't promise of parity is said."""
     found = re.fullmatch(r"(rfc2217|socket)://([^/?#@:\[\]]+|\[[0-9a-fA-F:.]+\]):([0-9]{1,5})", word)

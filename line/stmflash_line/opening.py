@@ -8,13 +8,14 @@ import stat
 import termios
 import time
 
-from .far import is_far, open_far
 from .faults import Fault, number_of, say
 from .holders import holders, who_may
 from .port import Port
 
 # the numbers of pseudo-terminals (Linux: Documentation/admin-guide/devices.txt): they have neither parity nor speed
 PTY_MAJORS = range(136, 144)
+# how the name of a port begins that another machine has
+FAR = ("rfc2217://", "socket://")
 # Linux: how long an adapter of FTDI holds bytes back, in milliseconds
 TIMER = "/sys/class/tty/{}/device/latency_timer"
 
@@ -22,7 +23,9 @@ TIMER = "/sys/class/tty/{}/device/latency_timer"
 def open_port(word, baud):
     """The port that this word names: ours alone, 8 data bits, even parity, one stop bit, and quick; or one that another machine
     has."""
-    if is_far(word):
+    if word.startswith(FAR):
+        # needed by few, and so not loaded by all
+        from .far import open_far
         return open_far(word, baud)
     try:
         import serial

@@ -2,21 +2,19 @@
 
 import time
 
-from .chips import read_chips
 from .command import run
 from .faults import Fault, Gone
-from .gpio_lines import GpioLines
 from .join import Join
 from .moves import Moves
 from .opening import open_port
+from .patience import wait
 from .sockets import served, served_privately
-from .watch import Watch
 
 
 def use_port(given, wake):
     """Opens the port, uses the board on it, and leaves it as --after says."""
-    watch = Watch(read_chips()) if given.watch else None
-    lines = GpioLines(given.gpio_chip) if given.gpio_chip else None
+    watch = make_watch() if given.watch else None
+    lines = make_lines(given.gpio_chip) if given.gpio_chip else None
     port = open_port(given.port, given.baud)
     moves = Moves(port, lines)
     try:
@@ -44,7 +42,7 @@ def use_board(port, moves, given, wake, watch):
     with (served(given.socket) if given.socket else served_privately()) as (path, listener):
         join = Join(port, listener, wake, enter if given.resets else None, bool(given.command), given.idle, watch)
         if given.command:
-            return run(given.command, path, given.resets, join)
+            return run(given.command, path, given.resets, wait_of(port, given), join)
         return serve(join)
 
 
@@ -54,3 +52,23 @@ def serve(join):
         join.turn()
     join.leave()
     return 0
+
+
+def wait_of(port, given):
+    """How long a reply may take, in ms: also that of a client whose first byte waits until the board is reset. None where that
+    isn't known."""
+    pause = sum(value for name, value in given.boot if name == "wait") if given.resets else 0
+    return wait(port.name, port.baud, pause)
+
+
+# what few calls need is loaded for those alone: each start of Python counts
+
+def make_watch():
+    from .chips import read_chips
+    from .watch import Watch
+    return Watch(read_chips())
+
+
+def make_lines(chip):
+    from .gpio_lines import GpioLines
+    return GpioLines(chip)

@@ -5,7 +5,6 @@ import os
 import shutil
 import socket
 import stat
-import tempfile
 
 from .faults import Fault
 
@@ -70,7 +69,8 @@ def served_privately():
     """A socket in a folder that only we may enter, while it is needed."""
     remove_left_folders()
     try:
-        folder = tempfile.mkdtemp(prefix=FOLDER)
+        folder = os.path.join(temporary(), FOLDER + os.urandom(8).hex())
+        os.mkdir(folder, 0o700)
     except OSError as error:
         raise Fault(f"{error.filename}: {error.strerror}") from None
     try:
@@ -82,10 +82,19 @@ def served_privately():
         shutil.rmtree(folder, ignore_errors=True)
 
 
+def temporary():
+    """The folder of temporary files: the first of those that are usual which is there and can be written to."""
+    named = (os.environ.get(name) for name in ("TMPDIR", "TEMP", "TMP"))
+    for folder in (*named, "/tmp", "/var/tmp", "/usr/tmp"):
+        if folder and os.path.isdir(folder) and os.access(folder, os.W_OK | os.X_OK):
+            return os.path.abspath(folder)
+    return os.getcwd()
+
+
 def remove_left_folders():
     """Removes the folders of lines that were killed. One that begins just now has no socket of this name yet."""
     with contextlib.suppress(OSError):
-        for place in os.scandir(tempfile.gettempdir()):
+        for place in os.scandir(temporary()):
             if place.name.startswith(FOLDER) and place.stat(follow_symlinks=False).st_uid == os.geteuid():
                 if is_left(os.path.join(place.path, READY)):
                     shutil.rmtree(place.path, ignore_errors=True)

@@ -11,6 +11,7 @@ pub mod Outgoing
 pub mod Replies
 pub mod Serving
 pub mod ShortWaits
+pub mod Silence
 pub mod SimulatorFile
 pub mod SimulatorFileLaws
 pub mod SimulatorRig

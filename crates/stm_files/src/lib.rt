@@ -29,6 +29,7 @@ mod replies;
 mod restoring;
 mod short_waits;
 mod shown;
+mod silence;
 mod simulated_board;
 mod simulator_file;
 mod simulator_names;

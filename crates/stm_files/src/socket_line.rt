@@ -6,6 +6,7 @@ ghost use Rattle.stm_files.specs.SocketLine.{SendsAll, TakesFromLine};
 use crate::incoming::Incoming;
 use crate::outgoing::Outgoing;
 use crate::short_waits::ShortWaits;
+use crate::silence::Silence;
 use std::io;
 use std::io::{ErrorKind, Read, Write};
 use std::marker::Model;
@@ -39,9 +40,9 @@ pub struct SocketLine<'a, S: Timed, C> {
     /// The same socket, as it is written.
     writer: S,
     clock: &'a C,
-    brief: Duration,
-    /// The patience that the socket's own timeout has.
-    waits: Option<Patience>,
+    silence: Silence,
+    /// How many milliseconds the socket's own timeout has.
+    waits: Option<u64>,
     incoming: Incoming,
     outgoing: Outgoing,
     short_waits: ShortWaits,
@@ -91,7 +92,7 @@ impl<'a, C: Clock> SocketLine<'a, UnixStream, C> {
             reader,
             writer,
             clock,
-            brief: Duration::from_millis(brief),
+            silence: Silence::new(brief),
             waits: None,
             incoming: Incoming::new(),
             outgoing: Outgoing::new(),
@@ -132,6 +133,7 @@ impl<'a, S: Timed, C: Clock> SocketLine<'a, S, C> {
         ensures { OnOk result (PutsOnLine byte self.old self.new) }
     {
         self.short_waits.put();
+        self.silence.put();
         let done = self.outgoing.put(&mut self.writer, byte);
         self.sent(done)
     }
@@ -145,11 +147,11 @@ impl<'a, S: Timed, C: Clock> SocketLine<'a, S, C> {
         self.sent(done)
     }
 
-    /// How long a get of this patience waits.
-    fn time_of(&self, patience: Patience) -> Duration {
+    /// How many milliseconds a get of this patience waits.
+    fn time_of(&self, patience: Patience) -> u64 {
         match patience {
-            Patience::Brief => self.brief,
-            Patience::Long => Duration::from_millis(LONG),
+            Patience::Brief => self.silence.wait_now(),
+            Patience::Long => LONG,
         }
     }
 
@@ -157,11 +159,13 @@ impl<'a, S: Timed, C: Clock> SocketLine<'a, S, C> {
     fn wait(&mut self, patience: Patience) -> io::Result<()>
         ensures { self.new ≡ self.old }
     {
-        if self.waits == Some(patience) {
+        let time = self.time_of(patience);
+        if self.waits == Some(time) {
             return Ok(());
         }
-        self.reader.set_read_timeout(Some(self.time_of(patience)))?;
-        self.waits = Some(patience);
+        self.reader
+            .set_read_timeout(Some(Duration::from_millis(time)))?;
+        self.waits = Some(time);
         Ok(())
     }
 
@@ -186,6 +190,7 @@ impl<'a, S: Timed, C: Clock> SocketLine<'a, S, C> {
         }
         let byte = self.incoming.pop()?;
         self.short_waits.get(patience, None);
+        self.silence.hold(patience);
         Some(byte)
     }
 
@@ -197,6 +202,7 @@ impl<'a, S: Timed, C: Clock> SocketLine<'a, S, C> {
         self.flush()?;
         if let Some(byte) = self.incoming.pop() {
             self.short_waits.get(patience, None);
+            self.silence.hold(patience);
             return Ok(Some(byte));
         }
         self.wait(patience)?;
@@ -208,11 +214,43 @@ impl<'a, S: Timed, C: Clock> SocketLine<'a, S, C> {
                 return Err(self.give_up());
             }
         }
-        if let Some(now) = self.now(patience) {
+        let now = self.now(patience);
+        if let Some(now) = now {
             if self.short_waits.are_over(now) {
                 return Err(self.give_up());
             }
         }
+        self.hear(patience, answer, began, now);
         Ok(answer)
+    }
+
+    /// Takes note of what a get answered that had to wait, from one time to another.
+    fn hear(
+        &mut self,
+        patience: Patience,
+        answer: Option<u8>,
+        began: Option<Instant>,
+        ended: Option<Instant>,
+    )
+        ensures { self.new ≡ self.old }
+    {
+        match patience {
+            Patience::Brief if answer.is_some() => {
+                self.silence.hear(answer, millis_between(began, ended));
+            }
+            Patience::Brief => self.silence.hear(None, None),
+            Patience::Long => self.silence.hear_long(answer.is_some()),
+        }
+    }
+}
+
+/// How many milliseconds lie between two times at most, where both are known.
+fn millis_between(began: Option<Instant>, ended: Option<Instant>) -> Option<u32> {
+    let (Some(began), Some(ended)) = (began, ended) else {
+        return None;
+    };
+    match u32::try_from(ended.duration_since(began).as_millis()) {
+        Ok(millis) => Some(millis.saturating_add(1)),
+        Err(_) => Some(u32::MAX),
     }
 }

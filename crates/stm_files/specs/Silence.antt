@@ -1,0 +1,108 @@
+-- How long a brief get waits for a byte, by what is known of the bytes that a device may still owe.
+use Rattle.std.specs.Prelude.{ℕ, ◌+◌, ◌*◌, ◌==◌, ◌||◌, if◌then◌else◌, min, max, nat_le}
+use Rattle.std.specs.Prelude.{Bool, true, false, Option, Some, None}
+use Rattle.stm_wire.specs.Reply.{ack, nack}
+use Rattle.stm_wire.specs.declared.rig.Patience.{Patience}
+use Rattle.stm_wire.specs.declared.rig.Patience.TheVariants.{Brief, Long}
+use Rattle.stm_files.specs.declared.silence.Known.{Known}
+use Rattle.stm_files.specs.declared.silence.Known.TheVariants.{Nothing, Batched, Quiet, Answered}
+use Rattle.stm_files.specs.declared.silence.Known.TheVariants.{Rested, Begun}
+
+pub record SilenceData : Type 0 where
+  -- the whole wait, in milliseconds
+  pub whole : ℕ
+  pub known : Known
+  -- the bytes put since the last get; 2 stands for more too
+  pub puts : ℕ
+  -- how many milliseconds a brief get waited at most for a byte, where one came
+  pub longest : Option ℕ
+
+abbrev pub at_first : ℕ → SilenceData
+at_first whole = record { whole = whole; known = Nothing; puts = 0; longest = None }
+
+abbrev pub with_put : SilenceData → SilenceData
+with_put s = record s { puts = min (s.puts + 1) 2 }
+
+-- What is waited where silence is due: four times the longest answer and 20 ms, and no more than the
+-- whole wait, which it is where no answer was measured.
+abbrev pub due_wait : ℕ → Option ℕ → ℕ
+due_wait whole None = whole
+due_wait whole (Some longest) = min whole (4 * longest + 20)
+
+-- Behind an answer nothing more is due. A device at rest owes nothing, so that what is there is only
+-- looked at; and it is silent to one byte, the first of a pair.
+abbrev pub wait_of : Known → ℕ → ℕ → Option ℕ → ℕ
+wait_of Answered puts whole longest = if puts == 0 then due_wait whole longest else whole
+wait_of Rested puts whole longest =
+    if puts == 0 then min whole 1
+    else if puts == 1 then due_wait whole longest else whole
+wait_of other puts whole longest = whole
+
+abbrev pub wait_now : SilenceData → ℕ
+wait_now s = wait_of s.known s.puts s.whole s.longest
+
+-- what is known behind a get that stayed quiet, where at most one byte was put before it
+abbrev pub quiet_after : Known → ℕ → Known
+quiet_after Answered puts = if puts == 0 then Rested else Quiet
+quiet_after Rested puts = if puts == 0 then Rested else Begun
+quiet_after other puts = Quiet
+
+-- what a byte answers that was put to a quiet line: 79, or 1F
+abbrev pub is_reply : ℕ → Known
+is_reply byte = if byte == ack || byte == nack then Answered else Nothing
+
+-- what the second byte of a pair is answered by: 1F, behind which nothing is due
+abbrev pub is_refusal : ℕ → Known
+is_refusal byte = if byte == nack then Rested else Nothing
+
+-- what is known behind a byte that came; any other one came unawaited
+abbrev pub known_after : Known → ℕ → ℕ → Known
+known_after Quiet puts byte = if puts == 1 then is_reply byte else Nothing
+known_after Begun puts byte = if puts == 1 then is_refusal byte else Nothing
+known_after other puts byte = Nothing
+
+abbrev pub after_get : Known → ℕ → Option ℕ → Known
+after_get known puts None = quiet_after known puts
+after_get known puts (Some byte) = known_after known puts byte
+
+-- Behind a batch nothing is known, until a command was answered.
+abbrev pub unless_batched : Known → Known → Known
+unless_batched Batched known = Batched
+unless_batched other known = known
+
+abbrev pub known_behind : Known → ℕ → Known → Known
+known_behind before puts known = if nat_le 2 puts then Batched else unless_batched before known
+
+abbrev pub longer_of : Option ℕ → Option ℕ → Option ℕ
+longer_of None taken = taken
+longer_of (Some longest) None = Some longest
+longer_of (Some longest) (Some taken) = Some (max longest taken)
+
+-- A brief get that had to wait answered a byte after so many milliseconds, or stayed quiet.
+abbrev pub with_answer : Option ℕ → Option ℕ → SilenceData → SilenceData
+with_answer answer taken s =
+    record s {
+      known = known_behind s.known s.puts (after_get s.known s.puts answer);
+      puts = 0;
+      longest = longer_of s.longest taken;
+    }
+
+-- A get that waits long, as each step of a command has one, was answered or stayed quiet. Behind an
+-- answer to a frame, of two bytes or more, the device is in step with its host, and what follows that
+-- is brief begins the next session. 7F alone may be answered twice.
+abbrev pub known_long : Known → ℕ → Bool → Known
+known_long known puts false = unless_batched known Nothing
+known_long known puts true =
+    if nat_le 2 puts then Rested
+    else if puts == 0 then known else unless_batched known Nothing
+
+abbrev pub with_long : Bool → SilenceData → SilenceData
+with_long is_answered s = record s { known = known_long s.known s.puts is_answered; puts = 0 }
+
+-- A get answered a byte that was there.
+abbrev pub known_held : Patience → Known → ℕ → Known
+known_held Brief known puts = known_behind known puts Nothing
+known_held Long known puts = if puts == 0 then known else unless_batched known Nothing
+
+abbrev pub with_held : Patience → SilenceData → SilenceData
+with_held patience s = record s { known = known_held patience s.known s.puts; puts = 0 }

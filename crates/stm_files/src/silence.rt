@@ -1,0 +1,243 @@
+// How long a brief get waits for a byte.
+ghost use Rattle.std.specs.Prelude.{◌≡◌, ◌≤◌};
+ghost use Rattle.stm_files.specs.Silence.{SilenceData, after_get, at_first, due_wait, is_refusal};
+ghost use Rattle.stm_files.specs.Silence.{is_reply, known_after, known_behind, known_held, known_long};
+ghost use Rattle.stm_files.specs.Silence.{longer_of, quiet_after, unless_batched, wait_now};
+ghost use Rattle.stm_files.specs.Silence.{with_answer, with_held, with_long, with_put};
+
+use std::marker::Model;
+use stm_wire::Patience;
+
+const ACK: u8 = 0x79;
+
+const NACK: u8 = 0x1F;
+
+/// How many milliseconds are waited where silence is due, above four times the longest answer.
+const MARGIN: u64 = 20;
+
+/// What is known of the bytes that a device may still owe.
+#[derive(Clone, Copy, PartialEq, Eq, Debug)]
+pub enum Known {
+    /// Nothing: any byte may be on its way.
+    Nothing,
+    /// Nothing either, and a batch was put, whose replies may come late.
+    Batched,
+    /// The line was quiet for a whole wait.
+    Quiet,
+    /// The one byte that was put to a quiet line was answered by 79 or 1F.
+    Answered,
+    /// Behind that it was quiet, or a command was answered: the device is connected, has nothing
+    /// begun, and owes nothing.
+    Rested,
+    /// A byte was put to a device at rest, and it was silent: the first of a pair is begun.
+    Begun,
+}
+
+/// How long a brief get waits. It is the whole wait, as long as a reply may take, wherever one may
+/// still come; and a shorter one where silence is due: behind the one answer of a byte, and behind
+/// the first byte of a pair. What shorter is, is measured on this line.
+#[derive(Drop)]
+pub struct Silence {
+    whole: u64,
+    known: Known,
+    puts: u8,
+    longest: Option<u32>,
+}
+
+impl Model for Silence {
+    ghost Value = { SilenceData };
+
+    ghost view = { λ s. record {
+      whole = s.whole;
+      known = s.known;
+      puts = s.puts;
+      longest = s.longest;
+    } };
+
+    ghost invariant = { λ s. s.puts ≤ 2 };
+}
+
+/// The longer one of two times, where there are two.
+fn longer_of(longest: Option<u32>, taken: Option<u32>) -> Option<u32>
+    ensures { result ≡ longer_of longest taken }
+{
+    match (longest, taken) {
+        (Some(longest), Some(taken)) => Some(longest.max(taken)),
+        (Some(longest), None) => Some(longest),
+        (None, taken) => taken,
+    }
+}
+
+/// What a byte says that came for one that was put to a quiet line.
+fn is_reply(byte: u8) -> Known
+    ensures { result ≡ is_reply byte }
+{
+    if byte == ACK || byte == NACK {
+        Known::Answered
+    } else {
+        Known::Nothing
+    }
+}
+
+/// What a byte says that came for the second one of a pair.
+fn is_refusal(byte: u8) -> Known
+    ensures { result ≡ is_refusal byte }
+{
+    if byte == NACK {
+        Known::Rested
+    } else {
+        Known::Nothing
+    }
+}
+
+impl Known {
+    /// What is known behind a get that stayed quiet.
+    fn quiet_after(self, puts: u8) -> Known
+        ensures { result ≡ quiet_after self puts }
+    {
+        match self {
+            Known::Answered if puts == 0 => Known::Rested,
+            Known::Rested if puts == 0 => Known::Rested,
+            Known::Rested => Known::Begun,
+            _ => Known::Quiet,
+        }
+    }
+
+    /// What is known behind a byte that came.
+    fn known_after(self, puts: u8, byte: u8) -> Known
+        ensures { result ≡ known_after self puts byte }
+    {
+        match self {
+            Known::Quiet if puts == 1 => is_reply(byte),
+            Known::Begun if puts == 1 => is_refusal(byte),
+            _ => Known::Nothing,
+        }
+    }
+
+    /// What is known behind a brief get.
+    fn after_get(self, puts: u8, answer: Option<u8>) -> Known
+        ensures { result ≡ after_get self puts answer }
+    {
+        match answer {
+            Some(byte) => self.known_after(puts, byte),
+            None => self.quiet_after(puts),
+        }
+    }
+
+    /// The same as `known`, unless a batch was put before.
+    fn unless_batched(self, known: Known) -> Known
+        ensures { result ≡ unless_batched self known }
+    {
+        match self {
+            Known::Batched => Known::Batched,
+            _ => known,
+        }
+    }
+
+    /// The same as `known`, unless a batch was put, now or before.
+    fn known_behind(self, puts: u8, known: Known) -> Known
+        ensures { result ≡ known_behind self puts known }
+    {
+        if puts >= 2 {
+            return Known::Batched;
+        }
+        self.unless_batched(known)
+    }
+
+    /// What is known behind a get that waits long.
+    fn known_long(self, puts: u8, is_answered: bool) -> Known
+        ensures { result ≡ known_long self puts is_answered }
+    {
+        if is_answered && puts >= 2 {
+            return Known::Rested;
+        }
+        if is_answered && puts == 0 {
+            return self;
+        }
+        self.unless_batched(Known::Nothing)
+    }
+
+    /// What is known behind a byte that was there.
+    #[inline(always)]
+    fn known_held(self, patience: Patience, puts: u8) -> Known
+        ensures { result ≡ known_held patience self puts }
+    {
+        match patience {
+            Patience::Long if puts == 0 => self,
+            Patience::Long => self.unless_batched(Known::Nothing),
+            Patience::Brief => self.known_behind(puts, Known::Nothing),
+        }
+    }
+}
+
+/// What is waited where silence is due, in milliseconds.
+fn due_wait(whole: u64, longest: Option<u32>) -> u64
+    ensures { result ≡ due_wait whole longest }
+{
+    match longest {
+        Some(longest) => whole.min(4 * u64::from(longest) + MARGIN),
+        None => whole,
+    }
+}
+
+impl Silence {
+    /// On a line of which nothing is known, where a reply may take so many milliseconds.
+    pub fn new(whole: u64) -> Silence
+        ensures { result ≡ at_first whole }
+    {
+        Silence {
+            whole,
+            known: Known::Nothing,
+            puts: 0,
+            longest: None,
+        }
+    }
+
+    /// A byte is put.
+    #[inline(always)]
+    pub fn put(&mut self)
+        ensures { self.new ≡ with_put self.old }
+    {
+        self.puts = (self.puts + 1).min(2);
+    }
+
+    /// How many milliseconds a brief get waits now.
+    pub fn wait_now(&self) -> u64
+        ensures is { result ≡ wait_now self.now }
+        ensures most { result ≤ self.now.whole }
+    {
+        match self.known {
+            Known::Answered if self.puts == 0 => due_wait(self.whole, self.longest),
+            Known::Rested if self.puts == 0 => self.whole.min(1),
+            Known::Rested if self.puts == 1 => due_wait(self.whole, self.longest),
+            _ => self.whole,
+        }
+    }
+
+    /// A brief get that had to wait has answered: a byte after so many milliseconds, or none.
+    pub fn hear(&mut self, answer: Option<u8>, taken: Option<u32>)
+        ensures { self.new ≡ with_answer answer taken self.old }
+    {
+        let after = self.known.after_get(self.puts, answer);
+        self.known = self.known.known_behind(self.puts, after);
+        self.puts = 0;
+        self.longest = longer_of(self.longest, taken);
+    }
+
+    /// A get that waits long was answered, or stayed quiet.
+    pub fn hear_long(&mut self, is_answered: bool)
+        ensures { self.new ≡ with_long is_answered self.old }
+    {
+        self.known = self.known.known_long(self.puts, is_answered);
+        self.puts = 0;
+    }
+
+    /// A get answered a byte that was there.
+    #[inline(always)]
+    pub fn hold(&mut self, patience: Patience)
+        ensures { self.new ≡ with_held patience self.old }
+    {
+        self.known = self.known.known_held(patience, self.puts);
+        self.puts = 0;
+    }
+}

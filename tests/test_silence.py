@@ -1,0 +1,152 @@
+"""How long a program waits at a device that is silent: as long as is said where a reply may still come, and shorter where silence
+is due. No clock is read here: each time that the program sets for its line is looked at, by tests/syncs.py."""
+
+import socket
+import struct
+import threading
+import time
+import unittest
+
+import syncs
+import telling
+from place import PATIENCE
+from served import Served, relay
+
+# setsockopt, and its word for how long a read waits: as many seconds, and as many millionths
+SETSOCKOPT, RECEIVE_TIME, TIME = 54, 20, struct.Struct("=qq")
+# a wait that a busy machine's answers don't come near; and how long a command waits
+WHOLE, LONG = 2000, 40000
+# what is there is only looked at
+LOOK = 1
+FLASH = bytes(128 * 1024)
+FRESH = b"fresh"
+BOARD = b"unique " + 12 * b"A1" + b"\n"
+ACK, NACK = b"\x79", b"\x1f"
+BEFORE = b"stmjournal 2 0410\nopen 1\npage 5 " + b"0" * 2048 + b"\nerase 5\n"
+
+
+def time_of(process):
+    """How long a read is to wait, in ms, by the call that a process is held in; None where that is another one."""
+    with open(f"/proc/{process}/syscall", encoding="ascii") as file:
+        _, _, _, option, place, *_ = (int(word, 0) for word in file.read().split())
+    if option != RECEIVE_TIME:
+        return None
+    with open(f"/proc/{process}/mem", "rb") as memory:
+        memory.seek(place)
+        seconds, millionths = TIME.unpack(memory.read(TIME.size))
+    return 1000 * seconds + millionths // 1000
+
+
+class Silence(Served):
+    def setUp(self):
+        super().setUp()
+        self.store("table", telling.TABLE)
+        self.store("flash", FLASH)
+        self.store("flash.board", BOARD)
+
+    def waits(self, *words, whole=WHOLE, device="board"):
+        """The times that the program sets, one behind another that differs from it: what is between a look and a whole wait is
+        told as "short"."""
+        times = []
+        given = (*words, "--table", "table", "--device", device, "--journal", "journal", "--wait", str(whole))
+        try:
+            said, _ = syncs.call(self.folder, given, held=SETSOCKOPT, at=lambda _, process: times.append(time_of(process)))
+        except syncs.CannotHold as why:
+            raise unittest.SkipTest(str(why)) from None
+        self.assertEqual((said.status, said.err), (0, b""))
+        return ["short" if LOOK < at < whole else at for at in times if at is not None]
+
+    def at(self, stands, *words):
+        """The same of a simulator that stands so."""
+        self.store("flash.line", stands + b"\n")
+        self.serve(1, number="0410")
+        waits = self.waits(*words)
+        self.assertServed()
+        return waits
+
+    def behind(self, change, whole):
+        """The same of a board whose replies are changed so."""
+        self.serve(1, number="0410")
+        with socket.socket(socket.AF_UNIX, socket.SOCK_STREAM) as listener:
+            listener.bind(self.path("stand"))
+            listener.listen()
+            listener.settimeout(PATIENCE)
+
+            def serve():
+                line, _ = listener.accept()
+                with line, self.connect() as board:
+                    relay(line, board, change)
+
+            serving = threading.Thread(target=serve)
+            serving.start()
+            waits = self.waits("info", whole=whole, device="stand")
+            serving.join(PATIENCE)
+        self.assertServed()
+        return waits
+
+    def test_a_session_behind_the_question_waits_for_no_reply_that_is_not_due(self):
+        """Both settle the device. The first knows nothing of it: it is quiet before 7F for a whole wait. The second is begun at a
+        device that has just answered, and looks at what is there."""
+        behind = [LOOK, "short", WHOLE, LOOK, LONG]
+        self.assertEqual(self.at(FRESH, "info"), [WHOLE, "short", WHOLE, LOOK, LONG, *behind])
+        # the first 7F stays without a reply, as the first byte of a pair, and nothing was measured yet
+        self.assertEqual(self.at(b"idle", "info"), [WHOLE, "short", LONG, *behind])
+        # a read that asks for the chip first has three sessions
+        self.assertEqual(self.at(b"idle", "read", "out"), [WHOLE, "short", LONG, *behind, *behind])
+
+    def test_behind_a_batch_each_wait_is_whole(self):
+        """Its replies may come late, and an erase may still run: until a command was answered no wait is short."""
+        self.store("journal", BEFORE)
+        waits = self.at(b"rest 43BC", "undo")
+        self.assertEqual(waits[:3], [WHOLE, LONG, LOOK])
+        self.assertNotIn("short", waits)
+
+    def test_a_late_board_is_waited_for(self):
+        """Where an answer took a third of the wait, no wait is shorter where silence is due."""
+        whole = 600
+
+        def late(replies):
+            time.sleep(0.2)
+            return replies
+
+        self.assertEqual(self.behind(late, whole), [whole, LOOK, LONG, LOOK, whole, LOOK, LONG])
+
+    def test_a_second_acknowledgement_may_come_late(self):
+        """Some bootloaders acknowledge 7F twice. The second 79 comes behind the short wait, and is no answer to what is sent then:
+        nothing is known any more, and the device is settled all the same."""
+        for pause in (0.0, 0.08, 0.15, 0.3):
+            with self.subTest(pause=pause):
+                self.store("flash.line", FRESH + b"\n")
+                twice = []
+
+                def change(replies, twice=twice, pause=pause):
+                    if replies[:1] != ACK or twice:
+                        return replies
+                    twice.append(True)
+                    # what the board sends meanwhile comes behind it
+                    self.line.sendall(ACK)
+                    time.sleep(pause)
+                    return replies
+
+                self.once(change, 1000)
+
+    def once(self, change, whole):
+        """Runs `info` at a board whose replies are changed so; `self.line` is the line."""
+        self.serve(1, number="0410")
+        with socket.socket(socket.AF_UNIX, socket.SOCK_STREAM) as listener:
+            listener.bind(self.path("stand"))
+            listener.listen()
+            listener.settimeout(PATIENCE)
+
+            def serve():
+                self.line, _ = listener.accept()
+                with self.line, self.connect() as board:
+                    relay(self.line, board, change)
+
+            serving = threading.Thread(target=serve)
+            serving.start()
+            said = self.use("info", "--wait", str(whole), device="stand")
+            serving.join(PATIENCE)
+        self.remove("stand")
+        self.assertEqual((said.status, said.err), (0, b""))
+        self.assertServed()
