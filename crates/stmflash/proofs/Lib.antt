@@ -14,3 +14,6 @@ pub mod Told
 pub mod Cuts
 pub mod OneCall
 pub mod WholeCalls
+pub mod PageSums
+pub mod Tallies
+pub mod Checks

@@ -1,6 +1,7 @@
 pub mod Action
 pub mod Answer
 pub mod Board
+pub mod Checking
 pub mod Conduct
 pub mod Confirmation
 pub mod Content
@@ -17,6 +18,7 @@ pub mod OneCall
 pub mod WholeCalls
 pub mod Logging
 pub mod Outgoing
+pub mod PageSum
 pub mod Serving
 pub mod ShortWaits
 pub mod SimulatorFile
@@ -34,3 +36,4 @@ pub mod Steps
 pub mod Turn
 pub mod Histories
 pub mod Unpowered
+pub mod Tally

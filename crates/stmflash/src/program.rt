@@ -5,7 +5,7 @@ use crate::escaped::Escaped;
 use crate::failure::Failure;
 use crate::first_question::Place;
 use crate::hint::Hint;
-use crate::journal_tasks::{keep, log};
+use crate::journal_tasks::{check, keep, log};
 use crate::locks::Locks;
 use crate::on_device::use_device;
 use crate::serving::serve;
@@ -90,7 +90,8 @@ fn run_request<
         Request::Use(options, task, sequel) => {
             use_device(rt, &options, task, &sequel, place, input, err, hint)
         }
-        Request::Log(journal, _) => alone(log(rt, journal)),
+        Request::Log(journal, false) => alone(log(rt, journal)),
+        Request::Log(journal, true) => alone(check(rt, journal)),
         Request::Keep(kept) => alone(keep(rt, &kept)),
         Request::Serve(served) => alone(serve(rt, &served)),
     }
