@@ -100,7 +100,7 @@ check:
 	cd crates/$(NAMED) && rt check
 
 try:
-	$(if $(filter stm_words stmflash,$(NAMED)),sh tools/demo.sh && python3 tests/run bin/stmflash-unproved --without $(WITHOUT),\
+	$(if $(filter stm_words stm_files stmflash,$(NAMED)),sh tools/demo.sh && python3 tests/run bin/stmflash-unproved --without $(WITHOUT),\
 	    cd crates/$(or $(TESTS_$(NAMED)),$(NAMED)) && rt try --test)
 
 # each step of it stands in tools/gate

@@ -113,19 +113,29 @@ class Sent(Place):
     def test_a_real_board_stands_in_the_table(self):
         self.put(self.changed("simulated = true\n", ""))
         day = self.text.split('date = "')[1].split('"')[0]
-        line = f'tried = [{{ "part" = "simulator", "version" = 34, "who" = "the stmflash authors", "when" = "{day}", ' \
-               f'"verdict" = "follows the model", "file" = "trials/{NAME}" }}]'
-        self.assertRefused(f"the table's entry 0412 has to have: {line}", at="trials")
-        self.store("table", (TABLE + line + "\n").encode())
+        board = f'{{ "part" = "simulator", "version" = "22", "who" = "the stmflash authors", "when" = "{day}", ' \
+                f'"verdict" = "follows the model", "file" = "trials/{NAME}" }}'
+        self.assertRefused(f"tried of 0412 lacks {board}", at="table")
+        self.store("table", (TABLE + f"tried = [{board}]\n").encode())
         self.assertEqual(self.trials(), Said(0, b"", b""))
         self.assertIn("Real boards: 1, of 1 of the 1 chips in the table.", self.held("page").decode())
         os.remove(self.path("page"))
+        self.store("table", (TABLE + f"tried = [{board}, {board}]\n").encode())
+        self.assertRefused(f'tried of 0412 has "trials/{NAME}" more than once', at="table")
+        other = board.replace('"22"', '"31"').replace(" }", ', "simulated" = true }')
+        self.store("table", (TABLE + f"tried = [{other}]\n").encode())
+        self.assertRefused(f'tried of 0412 says of "trials/{NAME}" version = "31", and the file version = "22"\n'
+                           f'table: tried of 0412 says of "trials/{NAME}" simulated = true, and the file no simulated', at="table")
         shutil.rmtree(self.path("trials"))
         os.mkdir(self.path("trials"))
-        self.assertRefused("the table's entry 0412 has to have: no tried", at="trials")
+        self.assertRefused(f'tried of 0412 has "trials/{NAME}", which is no trial of a real board of this id', at="table")
+        self.store("table", (TABLE + "tried = 1\n").encode())
+        self.assertRefused("tried of 0412 is no array of tables", at="table")
 
-    def test_the_program_passes_over_it(self):
-        """A table with such an entry is one that it reads."""
-        said = self.call("sim", "--table", "table", "--id", "0412", "--flash", "flash", "--socket", "/none/board")
-        self.store("table", (TABLE + 'tried = [{ part = "a", version = 34 }]\n').encode())
-        self.assertEqual(self.call("sim", "--table", "table", "--id", "0412", "--flash", "flash", "--socket", "/none/board"), said)
+    def test_a_long_name(self):
+        name = f"0412-22-{'a' * 59}-1.toml"
+        self.put(self.text, name)
+        self.assertRefused(f"its name is too long: trials/{name} has to have 80 bytes at most", at=name)
+        self.remove("trials/" + name)
+        self.put(self.text, name.replace("aa", "a", 1))
+        self.assertEqual(self.trials().status, 0)

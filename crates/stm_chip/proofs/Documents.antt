@@ -13,7 +13,7 @@ use Rattle.stm_chip.specs.Document.{HasEntries, HaveOwnIds, IsChipWith, IsNewId,
 use Rattle.stm_chip.specs.declared.fault.TableFault.{TableFault}
 use Rattle.stm_chip.specs.declared.fault.TableFault.TheVariants.{Syntax, Missing, Limit, TwiceId, Memory}
 
-items_of_same : (xs ys : List Data) → items_of xs ≡ items_of ys → xs ≡ ys
+pub items_of_same : (xs ys : List Data) → items_of xs ≡ items_of ys → xs ≡ ys
 items_of_same [] [] e = refl
 items_of_same [] (y ∷ ys) e = cc
 items_of_same (x ∷ xs) [] e = cc

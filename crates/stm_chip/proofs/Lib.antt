@@ -1,8 +1,9 @@
 pub mod Documents
 pub mod Fitting
+pub mod Items
 pub mod Joining
+pub mod Lacking
 pub mod Paging
 pub mod Programming
 pub mod Replacing
-pub mod Runs
 pub mod Touching

@@ -1,13 +1,16 @@
 -- What an entry of a chip table says, and the chip that it means.
-use Rattle.std.specs.Prelude.{ℕ, ℤ, pos, ◌≡◌, ◌+◌, ◌^◌, ◌<◌, ◌≤◌, List, [], ◌∷◌, Option, None, Some}
-use Rattle.std.specs.Prelude.{codes, option_and_then, option_map, length, replicate, All}
+use Rattle.std.specs.Prelude.{ℕ, ℤ, pos, ◌≡◌, ◌+◌, ◌^◌, ◌<◌, ◌≤◌, List, [], Option, None, Some}
+use Rattle.std.specs.Prelude.{codes, option_and_then, option_map, length, replicate, All, IsTrue}
 use Rattle.std.specs.List.{flat_map}
-use Rattle.toml.specs.Data.{Data, Items, no_items, item, as_array, as_integer, as_str, get, at}
+use Rattle.toml.specs.Data.{Data, Items, as_array, as_integer, as_str, get, at}
 use Rattle.stm_wire.specs.Chip.{ChipData, IsChip}
 use Rattle.stm_wire.specs.declared.chip.EraseKind.{EraseKind}
 use Rattle.stm_wire.specs.declared.chip.EraseKind.TheVariants.{Page, Extended}
 use Rattle.stm_wire.specs.declared.places.BoardPlaces.{BoardPlaces}
 use Rattle.stm_wire.specs.declared.places.UniquePlace.{UniquePlace}
+use Rattle.stm_chip.specs.Items.{each_of}
+use Rattle.stm_chip.specs.Tried.{tried_of}
+use Rattle.stm_chip.specs.declared.tried.TriedBoard.{TriedBoard}
 
 -- how many pages, and of how many bytes
 abbrev pub Run : Type 0
@@ -22,14 +25,9 @@ abbrev pub run_of : Data → Option Run
 run_of d =
     run_of_two (option_and_then as_integer (at 0 d)) (option_and_then as_integer (at 1 d)) (at 2 d)
 
-abbrev pub with_run : Option Run → Option (List Run) → Option (List Run)
-with_run (Some run) (Some runs) = Some (run ∷ runs)
-with_run _ _ = None
-
 -- the runs of an array, where each item is one
-unfoldable pub runs_of : Items → Option (List Run)
-runs_of no_items = Some []
-runs_of (item d ds) = with_run (run_of d) (runs_of ds)
+abbrev pub runs_of : Items → Option (List Run)
+runs_of = each_of run_of
 
 -- where the unique id of a device stands: its address, and how many bytes it has
 abbrev pub UniqueKey : Type 0
@@ -55,9 +53,10 @@ pub record Keys : Type 0 where
   pub erase : List ℕ
   pub erased : ℤ
   pub places : PlaceKeys
+  pub tried : List TriedBoard
 
-abbrev pub keys_with : ℤ → ℤ → List Run → List ℕ → ℤ → PlaceKeys → Keys
-keys_with id base runs erase erased places =
+abbrev pub keys_with : ℤ → ℤ → List Run → List ℕ → ℤ → PlaceKeys → List TriedBoard → Keys
+keys_with id base runs erase erased places tried =
     record {
       id = id;
       base = base;
@@ -65,13 +64,14 @@ keys_with id base runs erase erased places =
       erase = erase;
       erased = erased;
       places = places;
+      tried = tried;
     }
 
 abbrev pub keys_from : Option ℤ → Option ℤ → Option (List Run) → Option (List ℕ)
-    → Option ℤ → Option PlaceKeys → Option Keys
-keys_from (Some id) (Some base) (Some runs) (Some erase) (Some erased) (Some places) =
-    Some (keys_with id base runs erase erased places)
-keys_from _ _ _ _ _ _ = None
+    → Option ℤ → Option PlaceKeys → Option (List TriedBoard) → Option Keys
+keys_from (Some id) (Some base) (Some runs) (Some erase) (Some erased) (Some places) (Some tried) =
+    Some (keys_with id base runs erase erased places tried)
+keys_from _ _ _ _ _ _ _ = None
 
 -- what an erased place holds: all bits set, where the key is absent
 abbrev pub erased_of : Option Data → Option ℤ
@@ -100,7 +100,7 @@ keys_of d =
     (option_and_then as_integer (get (codes "base") d))
     (option_and_then runs_of (option_and_then as_array (get (codes "pages") d)))
     (option_and_then as_str (get (codes "erase") d)) (erased_of (get (codes "erased") d))
-    (places_of d)
+    (places_of d) (tried_of (get (codes "tried") d))
 
 -- a run has a page
 abbrev pub IsRun : Run → Type 0
@@ -128,6 +128,10 @@ pub record ArePlacesOf (keys : PlaceKeys) (places : BoardPlaces) : Type 0 where
   pub unique : keys.unique ≡ option_map key_of_unique places.unique
   pub size_at : keys.size_at ≡ option_map key_of_size places.size
 
+-- the texts of a board that was tried are short ones
+abbrev pub IsShortBoard : TriedBoard → Type 0
+IsShortBoard board = IsTrue board.are_short
+
 -- the chip of these keys
 pub record IsChipOf (keys : Keys) (chip : ChipData) : Type 0 where
   pub id : keys.id ≡ pos chip.id
@@ -137,6 +141,8 @@ pub record IsChipOf (keys : Keys) (chip : ChipData) : Type 0 where
   pub erase : keys.erase ≡ word_of chip.kind
   pub erased : keys.erased ≡ pos chip.erased
   pub places : ArePlacesOf keys.places chip.places
+  -- what was tried is beside the chip
+  pub tried : All IsShortBoard keys.tried
   -- which board it is stands in no table
   pub board : chip.unique ≡ []
   pub limits : IsChip chip

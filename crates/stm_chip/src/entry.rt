@@ -8,6 +8,7 @@ ghost use Rattle.stm_chip.specs.Entry.{IsChipOf, BreaksLimit, places_with};
 
 use crate::keys::EntryKeys;
 use crate::places::board_places;
+use crate::tried::are_short;
 use std::alloc::{AllocError, Global};
 use stm_wire::{Chip, EraseKind};
 
@@ -60,9 +61,12 @@ fn page_sizes(alloc: Global, runs: &[(i64, i64)]) -> Result<Option<Vec<u32>>, Al
 pub(crate) fn chip_of(alloc: Global, keys: &EntryKeys<'_>) -> Result<Option<Chip>, AllocError>
     ensures { let values = keys_with keys.now.id keys.now.base keys.now.runs.items
         keys.now.erase.now keys.now.erased
-        (places_with keys.now.places.unique keys.now.places.size_at) in
+        (places_with keys.now.places.unique keys.now.places.size_at) keys.now.tried.items in
         IfOk result (λ chip. MatchOption chip (BreaksLimit values) (IsChipOf values)) }
 {
+    if !are_short(&keys.tried) {
+        return Ok(None);
+    }
     let Some(sizes) = page_sizes(alloc, &keys.runs)? else {
         return Ok(None);
     };

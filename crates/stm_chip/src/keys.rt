@@ -5,6 +5,7 @@ ghost use Rattle.toml.specs.View.{array_view, view};
 ghost use Rattle.stm_chip.specs.Entry.{erased_of, run_of, runs_of, keys_of, keys_with};
 ghost use Rattle.stm_chip.specs.Entry.{unique_of, size_at_of, places_of, places_with};
 
+use crate::tried::{TriedBoard, read_tried};
 use std::alloc::{AllocError, Global};
 use toml::Value;
 
@@ -19,6 +20,8 @@ pub(crate) struct EntryKeys<'a> {
     /// What an erased place holds.
     pub(crate) erased: i64,
     pub(crate) places: PlaceKeys,
+    /// The boards that were tried.
+    pub(crate) tried: Vec<TriedBoard>,
 }
 
 /// The values of the keys that say where a chip tells its board. Each may be absent.
@@ -31,7 +34,7 @@ pub(crate) struct PlaceKeys {
 }
 
 /// The whole number at a key.
-fn whole(entry: &Value, key: &str) -> Option<i64>
+pub(crate) fn whole(entry: &Value, key: &str) -> Option<i64>
     ensures { result ≡ option_and_then as_integer (get key.now (view entry.now)) }
 {
     match entry.get(key) {
@@ -41,7 +44,7 @@ fn whole(entry: &Value, key: &str) -> Option<i64>
 }
 
 /// The text at a key.
-fn text<'a>(entry: &'a Value, key: &str) -> Option<&'a str>
+pub(crate) fn text<'a>(entry: &'a Value, key: &str) -> Option<&'a str>
     ensures { option_map (λ s. s.now) result
         ≡ option_and_then as_str (get key.now (view entry.now)) }
 {
@@ -161,10 +164,11 @@ pub(crate) fn read_keys<'a>(
 ) -> Result<Option<EntryKeys<'a>>, AllocError>
     ensures { let values = option_map
         (λ k. keys_with k.id k.base k.runs.items k.erase.now k.erased
-        (places_with k.places.unique k.places.size_at)) in
+        (places_with k.places.unique k.places.size_at) k.tried.items) in
         IfOk result (λ keys. values keys ≡ keys_of (view entry.now)) }
 {
     let runs = read_pages(alloc, entry)?;
+    let tried = read_tried(alloc, entry)?;
     match (
         whole(entry, "id"),
         whole(entry, "base"),
@@ -172,17 +176,20 @@ pub(crate) fn read_keys<'a>(
         text(entry, "erase"),
         read_erased(entry),
         read_places(entry),
+        tried,
     ) {
-        (Some(id), Some(base), Some(runs), Some(erase), Some(erased), Some(places)) => {
-            Ok(Some(EntryKeys {
-                id,
-                base,
-                runs,
-                erase,
-                erased,
-                places,
-            }))
-        }
+        (Some(id), Some(base), Some(runs), Some(erase), Some(erased), Some(places), Some(tried)) =>
+            {
+                Ok(Some(EntryKeys {
+                    id,
+                    base,
+                    runs,
+                    erase,
+                    erased,
+                    places,
+                    tried,
+                }))
+            }
         _ => Ok(None),
     }
 }

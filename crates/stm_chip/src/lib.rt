@@ -9,8 +9,10 @@ mod places;
 mod plan;
 mod table;
 mod touch;
+mod tried;
 
 pub use fault::{PlanFault, TableFault};
 pub use plan::{Frame, PagePlan, page_frames, page_plan};
 pub use table::{Table, read_table};
 pub use touch::{is_inside_flash, touched};
+pub use tried::tried_boards;

@@ -86,7 +86,7 @@ pub(crate) fn first_with(chips: &[Chip], id: u16) -> Option<&Chip>
 }
 
 /// The tree of a text.
-fn read_document(alloc: Global, text: &[u8]) -> Result<toml::Table, TableFault>
+pub(crate) fn read_document(alloc: Global, text: &[u8]) -> Result<toml::Table, TableFault>
     ensures { MatchResult result (λ document. IsDocument text.now (table_view document))
         (IsFaultOf text.now) }
 {
@@ -116,7 +116,7 @@ fn are_tables(items: &[Value]) -> bool
 }
 
 /// The tables at the key `chip`, or None where something else stands there.
-fn entries(document: &toml::Table) -> Option<&Vec<Value>>
+pub(crate) fn entries(document: &toml::Table) -> Option<&Vec<Value>>
     ensures { MatchOption result
         ((entries : List Data) → ¬ HasEntries (table_view document.now) entries)
         (λ items. HasEntries (table_view document.now) (data_of items.now)) }
@@ -163,10 +163,11 @@ fn read_entries(alloc: Global, entries: &Vec<Value>) -> Result<Vec<Chip>, TableF
 /// Each has the keys `id` and `base` (whole numbers), `pages` (an array of arrays of two whole
 /// numbers: how many pages, of how many bytes) and `erase` (`"page"` or `"extended"`), and may have
 /// `erased` (what an erased place holds: 255, which stands where it is absent, or 0), `unique` (an
-/// array of two whole numbers: where the device's unique id stands, and how many bytes it has) and
-/// `size_at` (a whole number: where the size of its flash stands); further keys are ignored. The
-/// first faulty entry decides, and in it first what is missing, then a broken
-/// limit, then an id that came before.
+/// array of two whole numbers: where the device's unique id stands, and how many bytes it has),
+/// `size_at` (a whole number: where the size of its flash stands) and `tried` (an array of tables,
+/// one for each board that was tried, of which `tried_boards` tells); further keys are ignored. The
+/// first faulty entry decides, and in it first what is missing, then a broken limit, then an id that
+/// came before.
 pub fn read_table(alloc: Global, text: &[u8]) -> Result<Table, TableFault>
     ensures { MatchResult result (IsTableOf text.now) (IsFaultOf text.now) }
 {

@@ -5,3 +5,4 @@ mod places;
 mod plans;
 mod tables;
 mod touches;
+mod tried;

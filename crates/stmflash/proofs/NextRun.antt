@@ -12,8 +12,8 @@ use Rattle.stmflash.specs.declared.action.Action.TheVariants as action
 use Rattle.stmflash.specs.declared.answer.Answer.{Answer}
 use Rattle.stmflash.specs.declared.failure.Failure.{Failure}
 use Rattle.stmflash.specs.Histories.{ActionsAreHistories, CanAct, IsHistory, IsSaidRightly, StaysInSession, StoppedActionsAreTakenBack, StoredCanBegin, StoredGoesOn}
-use Rattle.stmflash.specs.SimulatorFile.{StandsSo, simulator_at}
-use Rattle.stmflash.specs.SimulatorRig.{SimulatorState, simulator_rig_state}
+use Rattle.stm_files.specs.SimulatorFile.{StandsSo, simulator_at}
+use Rattle.stm_files.specs.SimulatorRig.{SimulatorState, simulator_rig_state}
 use Rattle.stmflash.specs.Unpowered.{DoesOnFiles, IsTakenBack, Suits}
 use Rattle.stmflash.proofs.Risks.{same-world}
 

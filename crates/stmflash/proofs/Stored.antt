@@ -4,7 +4,7 @@ use Rattle.stm_wire.specs.Chip.{ChipData}
 use Rattle.stm_wire.specs.Device.{Device, IsDevice, IsReady, IsReadyPhase, Phase}
 use Rattle.stm_session.specs.Undoable.{Undoable}
 use Rattle.stmflash.specs.Histories.{StoredCanBegin, StoredGoesOn}
-use Rattle.stmflash.specs.SimulatorFile.{simulator_at}
+use Rattle.stm_files.specs.SimulatorFile.{simulator_at}
 
 -- a list without as many as it has
 drop-all : (xs : List ℕ) → drop (length xs) xs ≡ []

@@ -8,8 +8,9 @@ use Rattle.stmflash.specs.declared.hint.Hint.{Hint}
 use Rattle.stmflash.specs.declared.hint.Hint.TheVariants as hint
 use Rattle.stmflash.specs.declared.hinting.FlashCommand.{FlashCommand}
 use Rattle.stmflash.specs.declared.hinting.FlashCommand.TheVariants as of
-use Rattle.stmflash.specs.declared.turns.Turns.{Turns}
-use Rattle.stmflash.specs.Turn.{TurnData}
+use Rattle.stm_files.specs.declared.turns.Turns.{Turns}
+use Rattle.stm_files.specs.Turn.{TurnData}
+use Rattle.stm_files.specs.Turns.{heard_of}
 
 -- the command whose code was put, with its complement (AN3155, sections 3.4 and 3.6 to 3.8)
 abbrev pub command_of : List ℕ → Option FlashCommand
@@ -100,14 +101,6 @@ stray put [] = Some hint.Silent
 stray [] (first ∷ came) = Some hint.NoAnswer
 stray (byte ∷ put) (first ∷ came) =
     answer_told first (begins (first ∷ came) (byte ∷ put))
-
--- the last turn in which something came
-abbrev pub heard_in : TurnData → TurnData → List ℕ → TurnData
-heard_in last heard [] = heard
-heard_in last heard (first ∷ came) = last
-
-abbrev pub heard_of : Turns → TurnData
-heard_of turns = heard_in turns.last turns.heard turns.last.came
 
 -- A NACK in the last turn tells what was refused; else what came last of all tells whether it was an
 -- answer.

@@ -17,7 +17,7 @@ use Rattle.stmflash.specs.declared.action.Action.TheVariants as action
 use Rattle.stmflash.specs.declared.answer.Answer.{Answer}
 use Rattle.stmflash.specs.declared.failure.Failure.{Failure}
 use Rattle.stmflash.specs.Action.{Does}
-use Rattle.stmflash.specs.SimulatorFile.{StandsSo, simulator_at}
+use Rattle.stm_files.specs.SimulatorFile.{StandsSo, simulator_at}
 
 -- From one Rig to another some events lead, one after another, none of which gives up the way
 -- back; another can follow.

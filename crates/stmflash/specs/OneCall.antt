@@ -28,13 +28,14 @@ use Rattle.stm_session.specs.Moments.{IsSafe}
 use Rattle.stm_session.specs.RunOrder.{RunsInOrder}
 use Rattle.stm_session.specs.Undoable.{is_unfinished_at}
 use Rattle.stm_words.specs.declared.sequel.Sequel.{Sequel}
+use Rattle.stm_files.specs.Ending.{EndsJournal}
 use Rattle.stmflash.specs.declared.action.Action.TheVariants as action
 use Rattle.stmflash.specs.declared.content.Content.{Content}
 use Rattle.stmflash.specs.declared.content.Content.TheVariants.{Placed, AtBase}
 use Rattle.stmflash.specs.declared.steps.Steps.{Steps}
 use Rattle.stmflash.specs.declared.work.Work.TheVariants as work
 use Rattle.stmflash.specs.Action.{CanGo}
-use Rattle.stmflash.specs.Steps.{EndsJournal, TakesKnown}
+use Rattle.stmflash.specs.Steps.{TakesKnown}
 
 -- the image that a content is on this chip: bytes without a place lie where its flash begins
 abbrev pub image_on : ChipData → Content → Pairs

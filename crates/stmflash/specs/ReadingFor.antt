@@ -14,7 +14,7 @@ use Rattle.stmflash.specs.declared.answer.Answer.{Answer}
 use Rattle.stmflash.specs.declared.answer.Answer.TheVariants as answer
 use Rattle.stmflash.specs.declared.failure.Failure.{Failure}
 use Rattle.stmflash.specs.declared.failure.Failure.TheVariants.{Session}
-use Rattle.stmflash.specs.Crc.{crc_of}
+use Rattle.stm_files.specs.Crc.{crc_of}
 use Rattle.stmflash.specs.Reading.{ReadsPart, part_given, start_given, to_the_end}
 
 -- bytes are told by their CRC

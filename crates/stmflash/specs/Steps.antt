@@ -10,6 +10,7 @@ use Rattle.stm_wire.specs.Rig.{RigState}
 use Rattle.stm_journal.specs.Calls.{AreFetches}
 use Rattle.stm_session.specs.declared.asking_board.Board.{Board}
 use Rattle.stm_words.specs.declared.sequel.Sequel.{Sequel}
+use Rattle.stm_files.specs.Ending.{EndsJournal}
 use Rattle.stmflash.specs.declared.action.Action.TheVariants as action
 use Rattle.stmflash.specs.declared.answer.Answer.{Answer}
 use Rattle.stmflash.specs.declared.board.Asking.{Asking}
@@ -35,15 +36,6 @@ pub record Stays (old new : RigState) : Type 0 where
   pub has_room : old.has_room ↔ new.has_room
   pub long_gets : new.long_gets ≡ old.long_gets
   pub told : new.told ≡ old.told
-
--- the journal is empty, and the device is as it was, but for what it owed
-pub record EndsJournal (old new : RigState) : Type 0 where
-  pub honest : new.is_honest
-  pub journal : new.journal ≡ []
-  pub chip : new.device.chip ≡ old.device.chip
-  pub flash : new.device.flash ≡ old.device.flash
-  pub phase : new.device.phase ≡ old.device.phase
-  pub owed : new.device.owed ≡ []
 
 -- the journal is kept, by the Rig's own way; where it can't be, it was only read
 pub record Keeps {R : Type 0} (view : R → RigState) (old new : R)

@@ -11,12 +11,12 @@ use Rattle.stmflash.specs.declared.action.Action.{Action}
 use Rattle.stmflash.specs.declared.action.Action.TheVariants as action
 use Rattle.stmflash.specs.declared.answer.Answer.{Answer}
 use Rattle.stmflash.specs.declared.failure.Failure.{Failure}
-use Rattle.stmflash.specs.declared.simulator_file.StoredSimulator.{StoredSimulator}
+use Rattle.stm_files.specs.declared.simulator_file.StoredSimulator.{StoredSimulator}
 use Rattle.stmflash.specs.Action.{Does}
 use Rattle.stmflash.specs.Histories.{IsSaidRightly, StaysInSession}
-use Rattle.stmflash.specs.SimulatorFile.{simulator_at}
-use Rattle.stmflash.specs.SimulatorRig.{SimulatorState, simulator_rig_state}
-use Rattle.stmflash.specs.Standing.{phase_of}
+use Rattle.stm_files.specs.SimulatorFile.{simulator_at}
+use Rattle.stm_files.specs.SimulatorRig.{SimulatorState, simulator_rig_state}
+use Rattle.stm_files.specs.Standing.{phase_of}
 
 -- what a run of the program finds: the simulator as its files hold it, and the journal beside it
 abbrev pub found : StoredSimulator → List ℕ → World

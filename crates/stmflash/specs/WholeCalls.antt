@@ -1,5 +1,5 @@
 -- What a whole call leaves at Ok, in which the device may be asked first which board it is.
-use Rattle.std.specs.Prelude.{◌≡◌, Bool, true, false, List, None, Ok}
+use Rattle.std.specs.Prelude.{◌≡◌, Bool, true, false, List, None, Result, Ok}
 use Rattle.stm_wire.specs.Chip.{ChipData}
 use Rattle.stm_wire.specs.Rig.{RigState}
 use Rattle.stm_chip.specs.Document.{IsChipWith}
@@ -11,7 +11,9 @@ use Rattle.stm_words.specs.declared.sequel.Sequel.{Sequel}
 use Rattle.stmflash.specs.declared.action.Action.TheVariants as action
 use Rattle.stmflash.specs.declared.board.Question.{Question}
 use Rattle.stmflash.specs.declared.content.Content.{Content}
+use Rattle.stmflash.specs.declared.failure.Failure.{Failure}
 use Rattle.stmflash.specs.declared.steps.Steps.{Steps}
+use Rattle.stmflash.specs.declared.work.Work.{Work}
 use Rattle.stmflash.specs.declared.work.Work.TheVariants as work
 use Rattle.stmflash.specs.OneCall.{EndsAsAsked}
 use Rattle.stmflash.specs.Steps.{TakesSteps}
@@ -44,5 +46,15 @@ WholeCallsEndAsAsked R view =
     (old new : R) (steps : Steps) → CanAsk question.is_asked table (view old) → steps.failure ≡ None
     → TakesSteps view table question (work.Act (action.WriteAndVerify content)) sequel old new
     (Ok steps)
+    → (own : List ChipData)
+    × EndsAsAsked view own content sequel (view old).device.chip (view old).device.flash new
+
+-- The same of one call of what is asked for: where that is a write that is verified, and it
+-- answered Ok with no failure, it was done.
+abbrev pub WritesAsAsked : {R : Type 0} → (R → RigState) → List ChipData → Question → Work → Sequel
+    → R → R → Result Steps Failure → Type 0
+WritesAsAsked view table question does sequel old new result =
+    (content : Content) (steps : Steps) → does ≡ work.Act (action.WriteAndVerify content)
+    → CanAsk question.is_asked table (view old) → result ≡ Ok steps → steps.failure ≡ None
     → (own : List ChipData)
     × EndsAsAsked view own content sequel (view old).device.chip (view old).device.flash new

@@ -1,10 +1,9 @@
 // What came of the words, and how it is told.
 
-use crate::board_name::BoardName;
-use crate::escaped::Escaped;
 use std::alloc::{AllocError, Global};
 use std::io;
 use std::io::Write;
+use stm_files::{BoardName, Escaped};
 use stm_session::{Board, Info, Told};
 use stm_wire::{Commands, EraseKind};
 use stm_words::TableNames;

@@ -1,10 +1,10 @@
 // The chip tables of one use.
 
 use crate::failure::Failure;
-use crate::files::read_file;
 use std::alloc::Global;
 use std::fs::Files;
 use stm_chip::{Table, TableFault, read_table};
+use stm_files::read_file;
 use stm_words::TableNames;
 
 /// How many bytes the file of a chip table has at most.

@@ -3,11 +3,10 @@ ghost use Rattle.std.specs.Prelude.{◌≡◌, Ok, IfOk, IfErr, List, ℕ};
 ghost use Rattle.stmflash.specs.Content.{ComesOf, ImageOn, IsCopy, IsNoPlace, IsPlace, has_room, is_hex};
 
 use crate::failure::Failure;
-use crate::files::read_file;
-use crate::foreign::foreign_form;
 use std::alloc::{AllocError, Global};
 use std::fs::Files;
 use stm_chip::Table;
+use stm_files::{foreign_form, read_file};
 use stm_image::{Image, read_hex, read_raw};
 use stm_session::{Fault, info};
 use stm_wire::Rig;

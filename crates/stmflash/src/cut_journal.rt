@@ -2,16 +2,14 @@
 ghost use Rattle.std.specs.Prelude.{◌≡◌, ◌-◌};
 
 use crate::answer::Answer;
-use crate::cut_text::CutText;
 use crate::failure::Failure;
-use crate::journal_file::JournalFile;
 use crate::journal_tasks::load;
 use crate::keeping::count_kept;
-use crate::likeness::{has_same_pages, is_cut};
-use crate::locks::Locks;
-use crate::replacement::{ALONE, Replacement, remove_leftovers};
-use crate::shown::Shown;
 use std::fs::Files;
+use stm_files::{
+    ALONE, CutText, JournalFile, Locks, Replacement, Shown, has_same_pages, is_cut,
+    remove_leftovers,
+};
 use stm_journal::Journal;
 use stm_session::Fault;
 
@@ -67,7 +65,7 @@ fn cut_beside<'a, R: Locks + AllocGlobal>(
     let beside = text.into_file();
     let is_right = match written {
         Ok(()) => reads_back(rt, name, journal, file, given_up, &beside),
-        Err(failure) => Err(failure),
+        Err(fault) => Err(Failure::from(fault)),
     };
     match is_right {
         Ok(true) => Ok(beside),
@@ -106,5 +104,5 @@ fn reads_back<'a, R: Locks + AllocGlobal>(
     if !is_cut(journal, &new, given_up) {
         return Ok(false);
     }
-    has_same_pages(journal, file, &new, &mut shown, given_up, name)
+    Ok(has_same_pages(journal, file, &new, &mut shown, given_up, name)?)
 }

@@ -1,14 +1,13 @@
 // Why the program failed, and what it says of it.
 ghost use Rattle.std.specs.Prelude.{◌≡◌};
+ghost use Rattle.stmflash.specs.BrokenOff.{is_broken_off};
 ghost use Rattle.stmflash.specs.declared.failure.Failure.TheVariants.{Session, Hex, Memory, Raw};
 
-use crate::foreign::Foreign;
-use crate::reason::Reason;
-use crate::unusable::Unusable;
 use std::alloc::{AllocError, AllocFailed};
 use std::io;
 use std::io::ErrorKind;
 use stm_chip::TableFault;
+use stm_files::{FileFault, Foreign, Reason, Unusable};
 use stm_image::{HexFault, RawFault};
 use stm_session::Fault;
 use stm_words::UsageFault;
@@ -125,7 +124,9 @@ impl<'a> Failure<'a> {
 
     /// Whether a session was broken off by its line or by a device that doesn't follow the
     /// protocol, so that another may do what it was to do.
-    pub fn is_broken_off(&self) -> bool {
+    pub fn is_broken_off(&self) -> bool
+        ensures { result ≡ is_broken_off self.now }
+    {
         matches!(
             self,
             Failure::Session(Fault::Line) | Failure::Session(Fault::Device) | Failure::NoAnswer
@@ -166,6 +167,25 @@ impl<'a> Failure<'a> {
             Some(e) if e.kind() == ErrorKind::OutOfMemory => Failure::Memory,
             Some(e) => Failure::JournalFailed(Reason(e)),
             None => Failure::Session(Fault::Journal),
+        }
+    }
+}
+
+impl<'a> From<FileFault<'a>> for Failure<'a> {
+    fn from(fault: FileFault<'a>) -> Self {
+        match fault {
+            FileFault::Memory => Failure::Memory,
+            FileFault::CannotRead(name) => Failure::CannotRead(name),
+            FileFault::CannotWrite(name) => Failure::CannotWrite(name),
+            FileFault::CannotReadLine(name) => Failure::CannotReadLine(name),
+            FileFault::CannotWriteLine(name) => Failure::CannotWriteLine(name),
+            FileFault::CannotReadBoard(name) => Failure::CannotReadBoard(name),
+            FileFault::CannotWriteBoard(name) => Failure::CannotWriteBoard(name),
+            FileFault::BadSimulatorFile(name) => Failure::BadSimulatorFile(name),
+            FileFault::BadBoardFile(name) => Failure::BadBoardFile(name),
+            FileFault::SimulatorUnusable(name, why) => Failure::of_simulator(why, name),
+            FileFault::NoDevice => Failure::Session(Fault::Device),
+            FileFault::Journal(reason) => Failure::of_reason(reason),
         }
     }
 }

@@ -4,20 +4,16 @@ ghost use Rattle.std.specs.Prelude.{◌≢◌, [], IfOk};
 
 use crate::board::ask_and_allow;
 use crate::failure::Failure;
-use crate::journal_choice::{Choice, Looked, choose};
-use crate::journal_file::JournalFile;
 use crate::journal_folder::{Trouble, look_all, name_in, unfinished_names};
-use crate::locks::Locks;
 use crate::on_device::connect_line;
-use crate::simulated_board::unique_of;
-use crate::simulator_file::SimulatorFiles;
-use crate::socket_line::SocketLine;
-use crate::socket_rig::SocketRig;
 use std::alloc::{AllocError, Global};
 use std::net::Net;
 use std::os::unix::net::UnixStream;
 use std::time::Clock;
 use stm_chip::Table;
+use stm_files::{
+    Choice, JournalFile, Locks, Looked, SimulatorFiles, SocketLine, SocketRig, choose, unique_of,
+};
 use stm_session::Fault;
 use stm_wire::{Rig, UniqueId, connect};
 use stm_words::{Device, Options};

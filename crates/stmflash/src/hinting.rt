@@ -5,8 +5,7 @@ ghost use Rattle.stmflash.specs.Hinting.{command_of, data_refused, hint_of, page
 ghost use Rattle.stmflash.specs.Hinting.{refused, step_refused, stray};
 
 use crate::hint::Hint;
-use crate::turn::Turn;
-use crate::turns::Turns;
+use stm_files::{Turn, Turns};
 
 /// The byte that acknowledges a step, and the one that refuses it (AN3155, section 1).
 const ACK: u8 = 0x79;

@@ -1,15 +1,12 @@
 // A folder of journals, each of which has the name of its board.
 
-use crate::board_name::BoardName;
 use crate::failure::Failure;
-use crate::files::is_there;
-use crate::journal_choice::Looked;
 use crate::journal_tasks::look;
-use crate::simulated_board::unique_of;
 use std::alloc::{AllocError, AllocFailed, Global};
 use std::fs::Files;
 use std::io::ErrorKind;
 use std::{fs, io};
+use stm_files::{BoardName, Looked, is_there, unique_of};
 use stm_journal::Journal;
 use stm_session::Fault;
 use stm_wire::UniqueId;

@@ -2,16 +2,14 @@
 ghost use Rattle.std.specs.Prelude.{◌≡◌, OnErr, OnOk};
 ghost use Rattle.stm_wire.specs.Dialogue.{GoesOn};
 ghost use Rattle.stm_journal.specs.Calls.{AreFetches};
-ghost use Rattle.stmflash.specs.Steps.{EndsJournal, Stays};
+ghost use Rattle.stm_files.specs.Ending.{EndsJournal};
+ghost use Rattle.stmflash.specs.Steps.{Stays};
 
 use crate::failure::Failure;
 use crate::keeping::count_kept;
-use crate::locks::Locks;
-use crate::simulator_rig::SimulatorRig;
-use crate::socket_line::Timed;
-use crate::socket_rig::SocketRig;
 use std::alloc::Global;
 use std::time::Clock;
+use stm_files::{Locks, SimulatorRig, SocketRig, Timed};
 use stm_journal::Journal;
 use stm_session::Fault;
 use stm_wire::Rig;

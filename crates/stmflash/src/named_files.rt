@@ -1,13 +1,11 @@
 // The files that the words of one use name.
 
 use crate::failure::Failure;
-use crate::names::is_same_file;
-use crate::replacement::try_beside;
-use crate::simulator_names::SimulatorNames;
 use crate::tables::is_table;
 use std::fs;
 use std::fs::Files;
 use std::io::ErrorKind;
+use stm_files::{SimulatorNames, is_same_file, try_beside};
 use stm_words::{Device, Options, TableNames, Task};
 
 /// The name of standard output.
@@ -110,7 +108,7 @@ impl<'a> NamedFiles<'a> {
         if self.is_read(rt, names.line()) {
             return Err(Failure::CannotWriteLine(file));
         }
-        names.check(rt)
+        Ok(names.check(rt)?)
     }
 
     /// Whether the name is that of a table or of the image.

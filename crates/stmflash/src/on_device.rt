@@ -6,24 +6,15 @@ use crate::answer::Answer;
 use crate::board::{Question, has_telling_chip, tells_board};
 use crate::chip_tables::ChipTables;
 use crate::confirmation::{confirm, erases_for_good};
-use crate::escaped::Escaped;
 use crate::failure::Failure;
-use crate::files::is_there;
 use crate::first_question::{Found, Line, Place, find_journal};
 use crate::hint::Hint;
-use crate::journal_file::JournalFile;
-use crate::locks::Locks;
 use crate::named_files::NamedFiles;
 use crate::output::Output;
 use crate::progress_course::Course;
 use crate::progress_rig::ProgressRig;
 use crate::progress_screen::{Screen, Style};
-use crate::simulator_file::SimulatorFiles;
-use crate::simulator_rig::SimulatorRig;
-use crate::socket_line::SocketLine;
-use crate::socket_rig::SocketRig;
 use crate::steps::{Steps, failed_by, failure_of, take_steps};
-use crate::unusable::Unusable;
 use crate::work::Work;
 use std::fs;
 use std::fs::Files;
@@ -32,6 +23,10 @@ use std::net::Net;
 use std::os::unix::fs::FileTypeExt;
 use std::time::Clock;
 use stm_chip::Table;
+use stm_files::{
+    Escaped, JournalFile, Locks, SimulatorFiles, SimulatorRig, SocketLine, SocketRig, Unusable,
+    is_there,
+};
 use stm_session::Fault;
 use stm_wire::Chip;
 use stm_words::{Device, Options, Progress, Sequel, Task};

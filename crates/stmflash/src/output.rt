@@ -2,10 +2,10 @@
 
 use crate::failure::Failure;
 use crate::named_files::NamedFiles;
-use crate::replacement::{ANYONE, Replacement, try_beside};
 use std::fs::{Files, OpenFile, OpenOptions};
 use std::io::{ErrorKind, Write};
 use std::{fs, io};
+use stm_files::{ANYONE, Replacement, try_beside};
 
 /// Where the bytes of a flash go that were read.
 #[derive(Drop)]

@@ -8,10 +8,10 @@ use crate::keeper::Keeper;
 use crate::progress_course::Course;
 use crate::progress_screen::Screen;
 use crate::progress_watch::{Seen, Watch, page_named};
-use crate::turns::Turns;
 use std::alloc::Global;
 use std::io::Write;
 use std::time::Clock;
+use stm_files::Turns;
 use stm_wire::{Patience, Rig, RigFault};
 
 /// A Rig whose calls are shown as they go on, and whose last turns are kept. Each call is the inner

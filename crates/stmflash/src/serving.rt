@@ -1,25 +1,22 @@
 // A simulator behind a Unix socket.
 ghost use Rattle.std.specs.Prelude.{◌≡◌, ◌<◌, ◌≤◌, ℕ, List, IsTrue, length, take};
 ghost use Rattle.std.specs.Io.KnownBytes.{Appends, Consumes};
-ghost use Rattle.stmflash.specs.Replies.{begun, telling};
-ghost use Rattle.stmflash.specs.Serving.{fed_all};
+ghost use Rattle.stm_files.specs.Replies.{begun, telling};
+ghost use Rattle.stm_files.specs.Serving.{fed_all};
 
 use crate::answer::Answer;
-use crate::bound_socket::BoundSocket;
 use crate::chip_tables::ChipTables;
 use crate::failure::Failure;
-use crate::locks::Locks;
-use crate::replies::tell_all;
-use crate::simulated_board::{SimulatedBoard, given_board};
-use crate::simulator_file::SimulatorFiles;
-use crate::simulator_names::SimulatorNames;
-use crate::standing::line_of;
+use crate::given_board::given_board;
 use crate::tables::is_table;
 use std::fs::Files;
 use std::io::{ErrorKind, Read, Write};
 use std::net::Net;
 use std::os::unix::net::{UnixListener, UnixStream};
 use std::time::Duration;
+use stm_files::{
+    BoundSocket, Locks, SimulatedBoard, SimulatorFiles, SimulatorNames, line_of, tell_all,
+};
 use stm_session::Fault;
 use stm_wire::{Chip, Simulator};
 use stm_words::Served;
@@ -147,7 +144,7 @@ fn make_files<'a, R: Locks + AllocGlobal>(
     if let Some(board) = board {
         board.store(rt, served.flash)?;
     }
-    files.make(sim.flash())
+    Ok(files.make(sim.flash())?)
 }
 
 /// Refuses a socket that is one of the simulator's files, and files of which one
@@ -211,5 +208,5 @@ fn store<'a, R: Locks + AllocGlobal>(
     files: &mut SimulatorFiles<'_, 'a, R>,
 ) -> Result<(), Failure<'a>> {
     let line = line_of(rt.alloc(), sim.is_gone(), sim.rest())?;
-    files.store(sim.flash(), line.as_slice())
+    Ok(files.store(sim.flash(), line.as_slice())?)
 }

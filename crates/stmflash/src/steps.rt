@@ -2,12 +2,14 @@
 // before answered Ok.
 ghost use Rattle.stmflash.specs.Steps.{Follows, MayGo, MayKeep, TakesAsked, TakesKnown};
 ghost use Rattle.stmflash.specs.Steps.{TakesSteps, TakesTold};
+ghost use Rattle.stmflash.specs.WholeCalls.{WritesAsAsked};
 
 use crate::action::Action;
 use crate::answer::{Answer, print_kept};
 use crate::board::{Question, ask_first, table_beside};
 use crate::failure::Failure;
 use crate::keeper::Keeper;
+use crate::one_call::a_whole_call_ends_as_asked;
 use crate::work::Work;
 use std::alloc::Global;
 use std::io;
@@ -63,8 +65,26 @@ impl<'a> Steps<'a> {
 }
 
 /// Does what is asked of a device, and what follows it. The device is asked first which board it is,
-/// where that is to be; its session has the chip of that board then.
+/// where that is to be; its session has the chip of that board then. Where a write that is verified
+/// answers Ok and no step failed, what was asked for was done.
 pub fn take_steps<'a, L: Keeper>(
+    alloc: Global,
+    rig: &mut L,
+    table: Table,
+    work: Work,
+    question: Question<'a>,
+    journal: &'a str,
+    sequel: &Sequel<'a>,
+) -> Result<Steps<'a>, Failure<'a>>
+    ensures steps { TakesSteps L.view table question.entry work sequel.now rig.old rig.new result }
+    ensures ends { WritesAsAsked L.view table question.entry work sequel.now rig.old rig.new result }
+{
+    a_whole_call_ends_as_asked::<L>();
+    ask_and_take(alloc, rig, table, work, question, journal, sequel)
+}
+
+/// Asks the device first, and does it.
+fn ask_and_take<'a, L: Keeper>(
     alloc: Global,
     rig: &mut L,
     table: Table,

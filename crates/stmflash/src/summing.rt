@@ -6,11 +6,11 @@ ghost use Rattle.stmflash.specs.Reading.{ReadsRange};
 ghost use Rattle.stmflash.specs.ReadingFor.{SumsUp, summed};
 
 use crate::answer::Answer;
-use crate::crc::crc;
 use crate::failure::Failure;
 use crate::reading::read;
 use std::alloc::Global;
 use stm_chip::Table;
+use stm_files::crc::crc;
 use stm_wire::Rig;
 use stm_words::Range;
 

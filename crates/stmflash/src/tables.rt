@@ -1,12 +1,12 @@
 // The chip tables: which are read where no word names one, and which names are theirs.
 
 use crate::failure::Failure;
-use crate::names::is_same_file;
 use std::alloc::AllocError;
 use std::env::{Env, VarError};
 use std::fs::Files;
 use std::io::ErrorKind;
 use std::{env, fs};
+use stm_files::is_same_file;
 use stm_words::TableNames;
 
 /// Where a chip table is installed; the first that is there is taken.

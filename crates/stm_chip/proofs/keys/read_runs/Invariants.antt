@@ -1,7 +1,7 @@
 use Rattle.std.proofs.Common.{◌≡◌, drop}
 use Rattle.toml.specs.View.{items_view}
 use Rattle.stm_chip.specs.Entry.{runs_of}
-use Rattle.stm_chip.proofs.Runs.{joined}
+use Rattle.stm_chip.proofs.Items.{joined}
 use Rattle.stm_chip.proofs.keys.read_runs.Given as goal
 
 abbrev pub invariant-loop-value : goal.invariant-loop-value

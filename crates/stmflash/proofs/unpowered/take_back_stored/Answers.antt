@@ -8,7 +8,7 @@ use Rattle.stmflash.specs.declared.action.Action.{Action}
 use Rattle.stmflash.specs.declared.action.Action.TheVariants as action
 use Rattle.stmflash.specs.declared.answer.Answer.{Answer}
 use Rattle.stmflash.specs.declared.failure.Failure.{Failure}
-use Rattle.stmflash.specs.Standing.{phase_of}
+use Rattle.stm_files.specs.Standing.{phase_of}
 use Rattle.stmflash.specs.Unpowered.{DoesOnFiles, IsTakenBack, Suits, found}
 use Rattle.stmflash.proofs.NextRun.{FileLaws, can-begin, taken-back}
 use Rattle.stmflash.proofs.unpowered.take_back_stored.Goals as goal

@@ -1,0 +1,12 @@
+pub mod Escaping
+pub mod Growing
+pub mod LoggedPages
+pub mod Waiting
+pub mod Whole
+pub mod Standings
+pub mod NoWord
+pub mod Told
+pub mod Cuts
+pub mod PageSums
+pub mod Tallies
+pub mod Checks

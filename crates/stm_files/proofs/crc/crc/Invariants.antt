@@ -1,0 +1,10 @@
+use Rattle.std.proofs.Common.{◌≡◌, length}
+use Rattle.stm_files.specs.Crc.{crc_from, crc_of, words_of}
+use Rattle.stm_files.proofs.crc.crc.Given as goal
+
+-- the register, with the words that are left, comes to what all of them do
+abbrev pub invariant-loop-left : goal.invariant-loop-left
+invariant-loop-left l = crc_from l.register (words_of l.left) ≡ crc_of l.bytes
+
+abbrev pub decreases-loop-left : goal.decreases-loop-left
+decreases-loop-left l = length l.left

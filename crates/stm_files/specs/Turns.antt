@@ -1,0 +1,12 @@
+-- The last turns on a line.
+use Rattle.std.specs.Prelude.{ℕ, List, [], ◌∷◌}
+use Rattle.stm_files.specs.declared.turns.Turns.{Turns}
+use Rattle.stm_files.specs.Turn.{TurnData}
+
+-- the last turn in which something came
+abbrev pub heard_in : TurnData → TurnData → List ℕ → TurnData
+heard_in last heard [] = heard
+heard_in last heard (first ∷ came) = last
+
+abbrev pub heard_of : Turns → TurnData
+heard_of turns = heard_in turns.last turns.heard turns.last.came

@@ -1,0 +1,394 @@
+// A journal in a file, for a Rig with any line.
+ghost use Rattle.std.specs.Prelude.{◌≡◌, ◌≤◌, ◌<◌, ◌-◌, ◌^◌, true, false, IfOk, OnErr, OnOk};
+ghost use Rattle.std.specs.Prelude.{◌||◌, IfSome, length};
+ghost use Rattle.std.specs.Io.KnownBytes.{Appends, IsAtEnd};
+ghost use Rattle.stm_files.specs.JournalFile.{JournalBytes, IsNew, ahead_of, is_failed, known_of};
+ghost use Rattle.stm_files.specs.JournalFile.{lock_of};
+ghost use Rattle.stm_files.specs.Locks.{IsHeld, IsHeldIfThere};
+
+use crate::disk_file::DiskFile;
+use crate::file_fault::FileFault;
+use crate::files::{open_to_hold, sync_folder};
+use crate::giving_up::give_up_journal;
+use crate::held::Held;
+use crate::journal_rig::Source;
+use crate::locks::Locks;
+use crate::names::{is_named, is_one, resolve};
+use crate::replacement::ALONE;
+use crate::unusable::Unusable;
+use std::fs::{OpenFile, OpenOptions};
+use std::io::ErrorKind;
+use std::marker::Model;
+use std::os::unix::fs::OpenOptionsExt;
+use std::{fs, io, mem};
+use stm_disk::add_lines;
+
+/// What is said where the file isn't the one any more that was read and added to.
+const CHANGED: &str = "it was moved, replaced, cut or added to";
+
+/// How far the writing of a file has come.
+#[derive(Drop)]
+pub enum Writing<F> {
+    /// Nothing was added yet.
+    Unopened,
+    /// The file is open, and all that was added is on the disk.
+    Open(F),
+    /// An append failed.
+    Failed,
+}
+
+/// A journal in a file, which is made by the first append. This program has it for itself from
+/// before it is read until this is dropped. After an append has failed, the file's end is not
+/// known, and nothing more is added: it has to be opened and read again.
+#[derive(Drop)]
+pub struct JournalFile<'a, R: Locks> {
+    rt: &'a R,
+    name: &'a str,
+    /// The file needs no lock: it was said that no other program has it.
+    without_lock: bool,
+    writing: Writing<R::File>,
+    /// The file as it is read, once it is there.
+    reading: Option<Held<R>>,
+    /// How many bytes the file has.
+    end: u64,
+    /// Why the file that was to be made can't be had.
+    refusal: Option<Unusable>,
+    /// Why a call failed.
+    reason: Option<io::Error>,
+}
+
+impl<'a, R: Locks> Model for JournalFile<'a, R> {
+    ghost Value = { JournalBytes };
+
+    ghost view = { λ j. record {
+      known = known_of R.File.contents j.writing;
+      has_failed = is_failed j.writing;
+      ahead = ahead_of j.reading;
+      lock = lock_of j.reading;
+      without_lock = j.without_lock;
+    } };
+
+    ghost invariant = { λ j. IsHeldIfThere j.without_lock (lock_of j.reading) };
+}
+
+impl<'a, R: Locks + AllocGlobal> JournalFile<'a, R> {
+    /// The journal in the file of this name, which this program has for itself from now on. Where
+    /// it's said that no other program has it, it needs no lock on a file system that has none.
+    pub fn open(
+        rt: &'a R,
+        name: &'a str,
+        without_lock: bool,
+    ) -> Result<JournalFile<'a, R>, Unusable>
+        ensures { IfOk result (IsNew without_lock) }
+    {
+        let (reading, end) = match open_held(rt, name, without_lock)? {
+            Some((held, end)) => (Some(held), end),
+            None => (None, 0),
+        };
+        Ok(JournalFile {
+            rt,
+            name,
+            without_lock,
+            writing: Writing::Unopened,
+            reading,
+            end,
+            refusal: None,
+            reason: None,
+        })
+    }
+
+    /// An empty journal in no file, which takes no line.
+    pub fn none(rt: &'a R) -> JournalFile<'a, R> {
+        JournalFile {
+            rt,
+            name: "",
+            without_lock: false,
+            writing: Writing::Failed,
+            reading: None,
+            end: 0,
+            refusal: None,
+            reason: None,
+        }
+    }
+
+    /// Adds the bytes at the end of the file, and answers once they are on the disk. Where it
+    /// fails, a beginning of them may have been added, and stays.
+    pub fn append(&mut self, bytes: &[u8]) -> io::Result<()>
+        ensures added { OnOk result (Appends self.old.known self.new.known bytes.now) }
+        ensures ok { OnOk result ((self.old.has_failed ≡ false) × (self.new.has_failed ≡ false)) }
+        ensures held { OnOk result (IsHeld self.old.without_lock self.new.lock) }
+        ensures err { OnErr result (self.new.has_failed ≡ true) }
+    {
+        match self.add(bytes) {
+            Ok(()) => Ok(()),
+            Err(e) => Err(self.failed_by(e)),
+        }
+    }
+
+    fn add(&mut self, bytes: &[u8]) -> io::Result<()>
+        ensures added { OnOk result (Appends self.old.known self.new.known bytes.now) }
+        ensures ok { OnOk result ((self.old.has_failed ≡ false) × (self.new.has_failed ≡ false)) }
+        ensures held { OnOk result (IsHeld self.old.without_lock self.new.lock) }
+        ensures err { OnErr result (self.new.has_failed ≡ true) }
+    {
+        let file = match mem::replace(&mut self.writing, Writing::Failed) {
+            Writing::Unopened => self.begin()?,
+            Writing::Open(file) => file,
+            Writing::Failed => return Err(io::Error::from(ErrorKind::Other)),
+        };
+        self.check_place(&file)?;
+        let mut on_disk = DiskFile { file };
+        add_lines(&mut on_disk, self.end, bytes)?;
+        self.end = self.end.saturating_add(bytes.len() as u64);
+        self.writing = Writing::Open(on_disk.file);
+        Ok(())
+    }
+
+    /// Opens the file to add at its end, and makes it where it is not there. Its
+    /// name is on the disk then, and what it holds.
+    fn begin(&mut self) -> io::Result<R::File>
+        ensures known { self.new.known ≡ self.old.known }
+        ensures failed { self.new.has_failed ≡ self.old.has_failed }
+        ensures without { self.new.without_lock ≡ self.old.without_lock }
+    {
+        let target = resolve(self.rt, self.name)?;
+        self.begin_at(target.as_path().as_str())
+    }
+
+    /// The same, at the path behind the name's symbolic links.
+    fn begin_at(&mut self, path: &str) -> io::Result<R::File>
+        ensures known { self.new.known ≡ self.old.known }
+        ensures failed { self.new.has_failed ≡ self.old.has_failed }
+        ensures without { self.new.without_lock ≡ self.old.without_lock }
+    {
+        if self.reading.is_none() {
+            self.make(path)?;
+        }
+        let file = OpenOptions::new().append(true).open(self.rt, path)?;
+        self.check_read(&file)?;
+        if self.end > 0 {
+            // what a program wrote that was killed may be in memory alone
+            file.sync_all()?;
+        }
+        sync_folder(self.rt, path)?;
+        Ok(file)
+    }
+
+    /// Makes the file, so that this program has it.
+    fn make(&mut self, path: &str) -> io::Result<()>
+        ensures known { self.new.known ≡ self.old.known }
+        ensures failed { self.new.has_failed ≡ self.old.has_failed }
+        ensures without { self.new.without_lock ≡ self.old.without_lock }
+    {
+        match make_held(self.rt, path, self.without_lock) {
+            Ok(held) => {
+                self.reading = Some(held);
+                Ok(())
+            }
+            Err(Unusable::Unread(e)) => Err(e),
+            Err(why) => {
+                self.refusal = Some(why);
+                Err(io::Error::from(ErrorKind::Other))
+            }
+        }
+    }
+
+    /// Refuses a file that isn't the one that is read.
+    fn check_read(&self, file: &R::File) -> io::Result<()> {
+        match &self.reading {
+            Some(read) if is_one(&read.file().metadata()?, &file.metadata()?) => Ok(()),
+            _ => Err(io::Error::other(CHANGED)),
+        }
+    }
+
+    /// Ends the journal, by its name: the file is removed, or renamed to a name that isn't there, and
+    /// from then on it isn't there. It has to be the one still that was read and added to.
+    pub fn end<'w>(&mut self, name: &'w str, to: Option<&'w str>) -> Result<(), FileFault<'w>> {
+        if !self.stays() {
+            return Err(FileFault::Journal(self.take_reason()));
+        }
+        give_up_journal(self.rt, name, to)?;
+        self.writing = Writing::Unopened;
+        self.reading = None;
+        self.end = 0;
+        Ok(())
+    }
+
+    /// The journal's bytes. A file that is not there is an empty journal.
+    pub fn read(&mut self) -> io::Result<Vec<u8>>
+        ensures known { self.new.known ≡ self.old.known }
+        ensures failed { self.new.has_failed ≡ self.old.has_failed }
+        ensures lock { self.new.lock ≡ self.old.lock }
+        ensures without { self.new.without_lock ≡ self.old.without_lock }
+        ensures end { OnOk result (IsAtEnd self.new.ahead) }
+    {
+        let mut bytes = Vec::new(self.rt.alloc());
+        if let Some(file) = &mut self.reading {
+            file.read(&mut bytes)?;
+        }
+        Ok(bytes)
+    }
+}
+
+impl<'a, R: Locks> JournalFile<'a, R> {
+    /// Refuses to go on with a file to which its name doesn't lead any more, or whose length isn't
+    /// the one that is known: what is added there would be lost, or stand behind what
+    /// isn't known.
+    fn check_place(&self, file: &R::File) -> io::Result<()>
+        ensures { OnOk result (IsHeld self.now.without_lock self.now.lock) }
+    {
+        if self.reading.is_none() {
+            return Err(io::Error::other(CHANGED));
+        }
+        let told = file.metadata()?;
+        match fs::metadata(self.rt, self.name) {
+            Ok(named) if is_one(&told, &named) && told.len() == self.end => Ok(()),
+            Ok(_) => Err(io::Error::other(CHANGED)),
+            Err(e) if is_no_name(e.kind()) => Err(io::Error::other(CHANGED)),
+            Err(e) => Err(e),
+        }
+    }
+
+    /// Whether all that was added is still there, in the place that its name leads to.
+    pub fn stays(&mut self) -> bool
+        ensures { self.new ≡ self.old }
+    {
+        let answer = match &self.writing {
+            Writing::Open(file) => self.check_place(file),
+            _ => Ok(()),
+        };
+        match answer {
+            Ok(()) => true,
+            Err(e) => {
+                self.reason = Some(e);
+                false
+            }
+        }
+    }
+
+    /// Refuses a file that isn't the one any more that was opened and read.
+    pub fn check_unchanged(&self) -> io::Result<()> {
+        match &self.reading {
+            Some(held) => self.check_place(held.file()),
+            None => Err(io::Error::other(CHANGED)),
+        }
+    }
+
+    /// Keeps why a call failed, and hands its kind on.
+    fn failed_by(&mut self, e: io::Error) -> io::Error
+        ensures { self.new ≡ self.old }
+    {
+        let kind = e.kind();
+        self.reason = Some(e);
+        io::Error::from(kind)
+    }
+
+    /// Reads from a place on, and answers how many bytes; 0 at or past the end. A file
+    /// that is not there is empty.
+    pub fn fetch(&mut self, at: u64, buf: &mut [u8]) -> io::Result<usize>
+        ensures known { self.new.known ≡ self.old.known }
+        ensures failed { self.new.has_failed ≡ self.old.has_failed }
+        ensures lock { self.new.lock ≡ self.old.lock }
+        ensures without { self.new.without_lock ≡ self.old.without_lock }
+        ensures length { length buf.new ≡ length buf.old }
+        ensures within { IfOk result (λ n. n ≤ length buf.old) }
+        ensures last { 2 ^ 63 - 1 ≤ at → IfOk result (λ n. n ≡ 0) }
+        ensures end { at < 2 ^ 63 - 1 → 0 < length buf.old
+            → IfOk result (λ n. n ≡ 0 → IsAtEnd self.new.ahead) }
+    {
+        if at >= i64::MAX as u64 {
+            return Ok(0);
+        }
+        match &mut self.reading {
+            Some(file) => file.fetch(at, buf),
+            None => Ok(0),
+        }
+    }
+
+    /// Whether the file is there.
+    pub fn is_there(&self) -> bool {
+        self.reading.is_some()
+    }
+
+    /// Why the file can't be had: it wasn't there at first, and was to be made.
+    pub fn take_refusal(&mut self) -> Option<Unusable>
+        ensures { self.new ≡ self.old }
+    {
+        mem::replace(&mut self.refusal, None)
+    }
+
+    /// Why an append failed, or what was added doesn't stay.
+    pub fn take_reason(&mut self) -> Option<io::Error>
+        ensures { self.new ≡ self.old }
+    {
+        mem::replace(&mut self.reason, None)
+    }
+
+    /// Adds nothing more, as after an append that failed.
+    pub fn give_up(&mut self)
+        ensures failed { self.new.has_failed ≡ true }
+    {
+        self.writing = Writing::Failed;
+    }
+
+    /// Whether an append failed.
+    pub fn has_failed(&self) -> bool
+        ensures { result ≡ self.now.has_failed }
+    {
+        matches!(self.writing, Writing::Failed)
+    }
+}
+
+impl<'a, R: Locks> Source for JournalFile<'a, R> {
+    fn fetch(&mut self, at: u64, buf: &mut [u8]) -> io::Result<usize>
+        ensures length { length buf.new ≡ length buf.old }
+        ensures within { IfOk result (λ n. n ≤ length buf.old) }
+        ensures last { 2 ^ 63 - 1 ≤ at → IfOk result (λ n. n ≡ 0) }
+    {
+        self.fetch(at, buf)
+    }
+}
+
+/// Whether a name leads nowhere.
+fn is_no_name(kind: ErrorKind) -> bool {
+    kind == ErrorKind::NotFound || kind == ErrorKind::NotADirectory
+}
+
+/// Opens the file of this name for this program alone, and tells how long it is; none where there
+/// is none.
+fn open_held<R: Locks>(
+    rt: &R,
+    name: &str,
+    without_lock: bool,
+) -> Result<Option<(Held<R>, u64)>, Unusable>
+    ensures { IfOk result (λ opened. IfSome opened
+        (λ pair. (pair.0.is_locked || without_lock) ≡ true)) }
+{
+    let file = match open_to_hold(rt, name) {
+        Ok(Some(file)) => file,
+        Ok(None) => return Ok(None),
+        Err(e) => return Err(Unusable::Unread(e)),
+    };
+    let held = Held::claim(rt, file, without_lock)?;
+    if !is_named(rt, held.file(), name) {
+        return Err(Unusable::InUse);
+    }
+    match held.file().metadata() {
+        Ok(told) => Ok(Some((held, told.len()))),
+        Err(e) => Err(Unusable::Unread(e)),
+    }
+}
+
+/// Makes a file for this program alone, where none is. Nobody else may use it: it will hold what was
+/// in the flash.
+fn make_held<R: Locks>(rt: &R, path: &str, without_lock: bool) -> Result<Held<R>, Unusable>
+    ensures { IfOk result (λ held. (held.is_locked || without_lock) ≡ true) }
+{
+    let mut options = OpenOptions::new();
+    options.read(true).append(true).create_new(true).mode(ALONE);
+    match options.open(rt, path) {
+        Ok(file) => Held::claim(rt, file, without_lock),
+        Err(e) if e.kind() == ErrorKind::AlreadyExists => Err(Unusable::InUse),
+        Err(e) => Err(Unusable::Unread(e)),
+    }
+}

@@ -1,0 +1,96 @@
+// How long short waits on a line may go on.
+ghost use Rattle.std.specs.Prelude.{◌≡◌, option_map};
+ghost use Rattle.std.specs.Duration.{as_nanos};
+ghost use Rattle.std.specs.Time.{instant_nanos};
+ghost use Rattle.stm_files.specs.ShortWaits.{WaitsData, no_waits, with_put, with_get, is_over_at};
+ghost use Rattle.stm_files.specs.ShortWaits.{is_over_in};
+
+use std::marker::Model;
+use std::mem;
+use std::time::{Duration, Instant};
+use stm_wire::Patience;
+
+/// How many gets go on before anything is over: a bootloader that is settled byte by byte has
+/// refused one long before.
+const FEWEST: u32 = 16;
+
+/// The short gets on a line that follow one another, with one byte put between two of them or none,
+/// as draining and settling byte by byte have them. They are over once there were 16 and they have
+/// gone on for so long: no bootloader needs as many. A get that waits long ends them, and so does a
+/// batch of bytes, to which a device may owe no reply.
+#[derive(Drop)]
+pub struct ShortWaits {
+    limit: Option<Duration>,
+    puts: u32,
+    gets: u32,
+    since: Option<Instant>,
+}
+
+impl Model for ShortWaits {
+    ghost Value = { WaitsData };
+
+    ghost view = { λ w. record {
+      limit = option_map as_nanos w.limit;
+      puts = w.puts;
+      gets = w.gets;
+      since = option_map instant_nanos w.since;
+    } };
+}
+
+impl ShortWaits {
+    /// None yet, which may go on for so long; None: for ever.
+    pub fn new(limit: Option<Duration>) -> ShortWaits
+        ensures { result ≡ no_waits (option_map as_nanos limit) }
+    {
+        ShortWaits {
+            limit,
+            puts: 0,
+            gets: 0,
+            since: None,
+        }
+    }
+
+    /// A byte is put.
+    #[inline(always)]
+    pub fn put(&mut self)
+        ensures { self.new ≡ with_put self.old }
+    {
+        self.puts = self.puts.saturating_add(1);
+    }
+
+    /// A get begins; where it has to wait, at this time.
+    #[inline(always)]
+    pub fn get(&mut self, patience: Patience, at: Option<Instant>)
+        ensures { self.new ≡ with_get patience (option_map instant_nanos at) self.old }
+    {
+        let is_one = self.puts <= 1;
+        self.puts = 0;
+        if patience == Patience::Brief && is_one {
+            self.gets = self.gets.saturating_add(1);
+            self.since = self.since.or(at);
+        } else {
+            self.gets = 0;
+            self.since = None;
+        }
+    }
+
+    /// Whether they are over now.
+    pub fn are_over(&self, now: Instant) -> bool
+        ensures { result ≡ is_over_at (instant_nanos now) self.now }
+    {
+        let (Some(limit), Some(since)) = (self.limit, self.since) else {
+            return false;
+        };
+        self.gets >= FEWEST && now.duration_since(since).as_nanos() >= limit.as_nanos()
+    }
+
+    /// Whether one wait of this length is over it alone.
+    pub fn are_over_in(&self, time: Duration) -> bool
+        ensures { result ≡ is_over_in (as_nanos time) self.now.limit }
+    {
+        match self.limit {
+            Some(limit) => time.as_nanos() >= limit.as_nanos(),
+            None => false,
+        }
+    }
+}

@@ -1,0 +1,218 @@
+// A line to a device behind a Unix socket.
+ghost use Rattle.std.specs.Prelude.{◌≡◌, IfOk, IsOk, MatchOption, OnOk, Some};
+ghost use Rattle.stm_files.specs.SocketLine.{HasToWait, LineState, PutsOnLine, ReadsNothing};
+ghost use Rattle.stm_files.specs.SocketLine.{SendsAll, TakesFromLine};
+
+use crate::incoming::Incoming;
+use crate::outgoing::Outgoing;
+use crate::short_waits::ShortWaits;
+use std::io;
+use std::io::{ErrorKind, Read, Write};
+use std::marker::Model;
+use std::net::Net;
+use std::os::unix::net::UnixStream;
+use std::time::{Clock, Duration, Instant};
+use stm_wire::Patience;
+
+/// How long the slowest command may take, in milliseconds.
+const LONG: u64 = 40_000;
+
+/// A stream on which a read that has to wait longer than a time fails with `ErrorKind::WouldBlock`.
+pub trait Timed: Read + Write {
+    /// Sets that time; None: a read waits for ever.
+    fn set_read_timeout(&self, time: Option<Duration>) -> io::Result<()>;
+}
+
+impl Timed for UnixStream {
+    fn set_read_timeout(&self, time: Option<Duration>) -> io::Result<()> {
+        self.set_read_timeout(time)
+    }
+}
+
+/// A line to a device behind a Unix socket. Bytes put go out together before the next byte is asked
+/// for; bytes that come are taken as many as there are. Where a device is silent for so long that
+/// none can be there, the line has failed.
+#[derive(Drop)]
+pub struct SocketLine<'a, S: Timed, C> {
+    /// The socket, as it is read.
+    reader: S,
+    /// The same socket, as it is written.
+    writer: S,
+    clock: &'a C,
+    brief: Duration,
+    /// The patience that the socket's own timeout has.
+    waits: Option<Patience>,
+    incoming: Incoming,
+    outgoing: Outgoing,
+    short_waits: ShortWaits,
+    /// The device was given up.
+    has_given_up: bool,
+}
+
+impl<'a, S: Timed, C> Model for SocketLine<'a, S, C> {
+    ghost Value = { LineState };
+
+    ghost view = { λ l. record {
+      sent = S.Write.contents l.writer;
+      waiting = l.outgoing;
+      ahead = S.Read.remaining l.reader;
+      held = l.incoming;
+    } };
+}
+
+/// The socket of this name, to be read and to be written; a write waits no longer than this.
+fn open<R: Net>(
+    rt: &R,
+    name: &str,
+    limit: Option<Duration>,
+) -> io::Result<(UnixStream, UnixStream)> {
+    let reader = UnixStream::connect(rt, name)?;
+    let writer = reader.try_clone()?;
+    writer.set_write_timeout(limit)?;
+    Ok((reader, writer))
+}
+
+impl<'a, C: Clock> SocketLine<'a, UnixStream, C> {
+    /// A line to the socket of this name, on which a brief wait is so many milliseconds, and which
+    /// is given up after so many seconds without an answer; 0: never.
+    pub fn connect<R: Net>(
+        rt: &R,
+        clock: &'a C,
+        name: &str,
+        brief: u64,
+        give_up: u64,
+    ) -> io::Result<SocketLine<'a, UnixStream, C>> {
+        let limit = match give_up {
+            0 => None,
+            seconds => Some(Duration::from_secs(seconds)),
+        };
+        let (reader, writer) = open(rt, name, limit)?;
+        Ok(SocketLine {
+            reader,
+            writer,
+            clock,
+            brief: Duration::from_millis(brief),
+            waits: None,
+            incoming: Incoming::new(),
+            outgoing: Outgoing::new(),
+            short_waits: ShortWaits::new(limit),
+            has_given_up: false,
+        })
+    }
+}
+
+impl<'a, S: Timed, C: Clock> SocketLine<'a, S, C> {
+    /// Whether the device was given up: it answered nothing for too long, or
+    /// didn't take what was sent.
+    pub fn has_given_up(&self) -> bool {
+        self.has_given_up
+    }
+
+    /// Gives the device up.
+    fn give_up(&mut self) -> io::Error
+        ensures { self.new ≡ self.old }
+    {
+        self.has_given_up = true;
+        io::Error::from(ErrorKind::TimedOut)
+    }
+
+    /// Hands a sending on; where the socket took nothing for too long, the device is given up.
+    fn sent(&mut self, done: io::Result<()>) -> io::Result<()>
+        ensures same { self.new ≡ self.old }
+        ensures done { OnOk result (IsOk done) }
+    {
+        match done {
+            Err(e) if e.kind() == ErrorKind::WouldBlock => Err(self.give_up()),
+            done => done,
+        }
+    }
+
+    /// Sends a byte, with those that wait, before the next one is asked for.
+    pub fn put(&mut self, byte: u8) -> io::Result<()>
+        ensures { OnOk result (PutsOnLine byte self.old self.new) }
+    {
+        self.short_waits.put();
+        let done = self.outgoing.put(&mut self.writer, byte);
+        self.sent(done)
+    }
+
+    /// Sends the bytes that were put.
+    pub fn flush(&mut self) -> io::Result<()>
+        ensures sent { OnOk result (SendsAll self.old self.new) }
+        ensures unread { ReadsNothing self.old self.new }
+    {
+        let done = self.outgoing.send(&mut self.writer);
+        self.sent(done)
+    }
+
+    /// How long a get of this patience waits.
+    fn time_of(&self, patience: Patience) -> Duration {
+        match patience {
+            Patience::Brief => self.brief,
+            Patience::Long => Duration::from_millis(LONG),
+        }
+    }
+
+    /// Sets how long the socket waits.
+    fn wait(&mut self, patience: Patience) -> io::Result<()>
+        ensures { self.new ≡ self.old }
+    {
+        if self.waits == Some(patience) {
+            return Ok(());
+        }
+        self.reader.set_read_timeout(Some(self.time_of(patience)))?;
+        self.waits = Some(patience);
+        Ok(())
+    }
+
+    /// The time now, where a get of this patience asks for it.
+    fn now(&self, patience: Patience) -> Option<Instant> {
+        match patience {
+            Patience::Brief => Instant::now(self.clock).ok(),
+            Patience::Long => None,
+        }
+    }
+
+    /// The next byte that is held; None where none is, or others have to be sent before. This is
+    /// asked at each byte, and calls nothing.
+    #[inline(always)]
+    pub fn pop(&mut self, patience: Patience) -> Option<u8>
+        ensures { MatchOption result
+            ((self.new ≡ self.old) × HasToWait self.old)
+            (λ byte. TakesFromLine (Some byte) self.old self.new) }
+    {
+        if !self.outgoing.is_empty() {
+            return None;
+        }
+        let byte = self.incoming.pop()?;
+        self.short_waits.get(patience, None);
+        Some(byte)
+    }
+
+    /// The next byte that came, or None where it stayed quiet.
+    #[inline(never)]
+    pub fn take(&mut self, patience: Patience) -> io::Result<Option<u8>>
+        ensures { IfOk result (λ answer. TakesFromLine answer self.old self.new) }
+    {
+        self.flush()?;
+        if let Some(byte) = self.incoming.pop() {
+            self.short_waits.get(patience, None);
+            return Ok(Some(byte));
+        }
+        self.wait(patience)?;
+        let began = self.now(patience);
+        self.short_waits.get(patience, began);
+        let answer = self.incoming.receive(&mut self.reader)?;
+        if answer.is_none() && patience == Patience::Long {
+            if self.short_waits.are_over_in(Duration::from_millis(LONG)) {
+                return Err(self.give_up());
+            }
+        }
+        if let Some(now) = self.now(patience) {
+            if self.short_waits.are_over(now) {
+                return Err(self.give_up());
+            }
+        }
+        Ok(answer)
+    }
+}

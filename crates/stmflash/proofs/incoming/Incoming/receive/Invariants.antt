@@ -1,6 +1,0 @@
-use Rattle.std.proofs.Common.{◌≡◌, []}
-use Rattle.std.specs.Io.KnownBytes.{Keeps}
-use Rattle.stmflash.proofs.incoming.Incoming.receive.Given as goal
-
-abbrev pub invariant-loop : goal.invariant-loop
-invariant-loop g l = (l.self ≡ []) × Keeps (g.S.Read.remaining l.fn.stream) (g.S.Read.remaining l.stream)

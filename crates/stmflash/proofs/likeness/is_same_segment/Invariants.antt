@@ -1,9 +1,0 @@
-use Rattle.std.proofs.Common.{◌≡◌, ℕ, ◌<◌, option_map}
-use Rattle.stm_journal.specs.KeptPlaces.{kept_entry}
-use Rattle.stmflash.specs.Cutting.{page_outline}
-use Rattle.stmflash.proofs.likeness.is_same_segment.Given as goal
-
--- the pages so far are alike
-abbrev pub invariant-loop-i : goal.invariant-loop-i
-invariant-loop-i l =
-    (i : ℕ) → i < l.i → option_map page_outline (kept_entry l.old.state l.k i) ≡ option_map page_outline (kept_entry l.new.state l.j i)

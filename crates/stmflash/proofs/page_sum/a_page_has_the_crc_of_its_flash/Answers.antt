@@ -1,5 +1,0 @@
-use Rattle.stmflash.proofs.PageSums.{of-the-flash}
-use Rattle.stmflash.proofs.page_sum.a_page_has_the_crc_of_its_flash.Goals as goal
-
-pub returns : goal.returns
-returns c = of-the-flash

@@ -1,6 +1,0 @@
-use Rattle.std.proofs.Common.{◌≡◌, take}
-use Rattle.stmflash.specs.Replies.{begun, telling}
-use Rattle.stmflash.proofs.replies.tell_all.Given as goal
-
-abbrev pub invariant-loop-byte : goal.invariant-loop-byte
-invariant-loop-byte l = record { device = l.sim; told = l.told.items } ≡ telling (begun l.fn.sim) (take l.byte-index l.bytes)
