@@ -59,7 +59,7 @@ pub use likeness::{has_same_pages, is_cut};
 pub use locks::{LockAnswer, Locks};
 pub use logging::log_lines;
 pub use names::is_same_file;
-pub use page_sum::{a_changed_byte_is_told, a_page_has_the_crc_of_its_flash, page_sum};
+pub use page_sum::{a_changed_byte_is_told, a_page_has_the_crc_of_its_flash};
 pub use reason::Reason;
 pub use replacement::{ALONE, ANYONE, Replacement, remove_leftovers, try_beside};
 pub use replies::tell_all;
