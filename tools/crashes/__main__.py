@@ -10,6 +10,7 @@ is made anew in a folder, and everything is taken back there:
 - `undone N` has to leave every byte of the flash as it was before the journal's first command, and `undo 1`, where the
   journal has more segments, as it was before the newest. N is how many segments the journal has by the second model of
   tools/soak.
+- `log --check` has to read the journal before that, and refuses none.
 - Where the crash left no journal, the flash has to be what it was at first, and `info` has to do, and to leave it so; behind
   `keep` what it was then.
 - What a session has told to be done is on the disk, whole: the journal, or its new name, or OUT, or the simulator's FILE.

@@ -180,13 +180,21 @@ class Trial:
             self.take_back(name)
 
     def take_back(self, name):
-        """Undoes the newest segment, and then all that are left."""
+        """Reads the journal whole, undoes the newest segment, and then all that are left."""
+        self.read_whole(name)
         depth = self.depth(name)
         if depth is not None and depth > 1:
             self.undone(name, 1, "1")
             self.same(self.story.flashes[depth - 1], "the flash isn't what it was before segment %d" % depth)
         self.undone(name, None if depth is None else depth - 1 if depth > 1 else depth)
         self.same(self.story.flashes[0], "the flash isn't what it was")
+
+    def read_whole(self, name):
+        """`log --check` refuses nothing that a crash left."""
+        ran = subprocess.run([self.program, "log", "--check", "--journal", name], cwd=self.room, env={}, stdin=subprocess.DEVNULL,
+                             capture_output=True)
+        if ran.returncode != 0 or b" bytes behind them\n" not in ran.stdout:
+            raise Bad("log --check says: %s" % (ran.stderr or ran.stdout).decode(errors="replace").strip())
 
     def undone(self, name, wanted, *more):
         said = self.use("undo", name, *more)

@@ -7,3 +7,6 @@ pub mod Standings
 pub mod NoWord
 pub mod Told
 pub mod Cuts
+pub mod PageSums
+pub mod Tallies
+pub mod Checks

@@ -70,7 +70,7 @@ step first last n pages rest out false is e =
     ∙ ap (λ c. out ++ (if c then pages_text first n rest else range_text first last ++ pages_text n n rest)) e ∙ ap (λ ps. out ++ pages_text first last ps) (sym is)
 
 -- one number more
-range-more : (a n : ℕ) → range_with_len a (n + 1) ≡ range_with_len a n ++ (a + n) ∷ []
+pub range-more : (a n : ℕ) → range_with_len a (n + 1) ≡ range_with_len a n ++ (a + n) ∷ []
 range-more a n = sym (map-id (range_with_len a (n + 1))) ∙ map-range_with_len_more (λ m. m) a n (a + n) refl ∙ ap (λ ns. ns ++ (a + n) ∷ []) (map-id (range_with_len a n))
 
 -- a segment's line more

@@ -1,3 +1,4 @@
+pub mod Checking
 pub mod Crc
 pub mod Cutting
 pub mod DiskFile
@@ -8,6 +9,7 @@ pub mod JournalFile
 pub mod Locks
 pub mod Logging
 pub mod Outgoing
+pub mod PageSum
 pub mod Replies
 pub mod Serving
 pub mod ShortWaits
@@ -19,5 +21,6 @@ pub mod SimulatorRigLaws
 pub mod SocketLine
 pub mod SocketRig
 pub mod Standing
+pub mod Tally
 pub mod Turn
 pub mod Turns

@@ -6,7 +6,7 @@ ghost use Rattle.stm_files.specs.Crc.{crc_of, fed_word, moved, shifted, shifts, 
 const POLYNOMIAL: u32 = 0x04C1_1DB7;
 
 /// What the register is before the first word.
-const START: u32 = 0xFFFF_FFFF;
+pub(crate) const START: u32 = 0xFFFF_FFFF;
 
 /// The register after one bit.
 fn shift(register: u32) -> u32
@@ -36,7 +36,7 @@ fn shift_byte(register: u32) -> u32
 }
 
 /// The register after a word: all of its bits are put in at once, and then shifted out.
-fn feed(register: u32, word: u32) -> u32
+pub(crate) fn feed(register: u32, word: u32) -> u32
     ensures { result ≡ fed_word register word }
 {
     let half = shift_byte(shift_byte(register ^ word));
@@ -59,7 +59,7 @@ pub fn crc(bytes: &[u8]) -> u32
 }
 
 /// The word of four bytes, the lowest first.
-fn word(a: u8, b: u8, c: u8, d: u8) -> u32
+pub(crate) fn word(a: u8, b: u8, c: u8, d: u8) -> u32
     ensures { result ≡ word_of a b c d }
 {
     u32::from(a) + u32::from(b) * 0x100 + u32::from(c) * 0x1_0000 + u32::from(d) * 0x100_0000

@@ -4,6 +4,7 @@
 
 mod board_name;
 mod bound_socket;
+mod checking;
 pub mod crc;
 mod cut_text;
 mod disk_file;
@@ -23,6 +24,7 @@ mod locks;
 mod logging;
 mod names;
 mod outgoing;
+mod page_sum;
 mod reason;
 mod replacement;
 mod replies;
@@ -37,12 +39,14 @@ mod simulator_rig;
 mod socket_line;
 mod socket_rig;
 mod standing;
+mod tally;
 mod turn;
 mod turns;
 mod unusable;
 
 pub use board_name::BoardName;
 pub use bound_socket::BoundSocket;
+pub use checking::check_journal;
 pub use cut_text::CutText;
 pub use escaped::Escaped;
 pub use file_fault::FileFault;
@@ -56,6 +60,7 @@ pub use likeness::{has_same_pages, is_cut};
 pub use locks::{LockAnswer, Locks};
 pub use logging::log_lines;
 pub use names::is_same_file;
+pub use page_sum::{a_changed_byte_is_told, a_page_has_the_crc_of_its_flash};
 pub use reason::Reason;
 pub use replacement::{ALONE, ANYONE, Replacement, remove_leftovers, try_beside};
 pub use replies::tell_all;

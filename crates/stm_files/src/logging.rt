@@ -11,7 +11,7 @@ use stm_journal::{Intent, Journal, Stage};
 use stm_wire::UniqueId;
 
 /// Adds a word and a number.
-fn add_number(
+pub fn add_number(
     out: &mut Vec<u8>,
     alloc: Global,
     word: &[u8],
@@ -117,7 +117,7 @@ fn add_standing(
 }
 
 /// Adds the line of segment `k`, where there is one.
-fn add_segment(
+pub fn add_segment(
     out: &mut Vec<u8>,
     alloc: Global,
     journal: &Journal,
@@ -161,7 +161,7 @@ fn add_board(out: &mut Vec<u8>, alloc: Global, unique: UniqueId) -> Result<(), A
 }
 
 /// Adds the lines of the device and of its board, where the journal names them.
-fn add_device(out: &mut Vec<u8>, alloc: Global, journal: &Journal) -> Result<(), AllocError>
+pub fn add_device(out: &mut Vec<u8>, alloc: Global, journal: &Journal) -> Result<(), AllocError>
     ensures { OnOk result (out.new.items ≡ out.old.items ++ device_text journal.now.state) }
 {
     if let Some(id) = journal.id() {
@@ -174,7 +174,7 @@ fn add_device(out: &mut Vec<u8>, alloc: Global, journal: &Journal) -> Result<(),
 }
 
 /// Adds what can be done next.
-fn add_end(out: &mut Vec<u8>, alloc: Global, journal: &Journal) -> Result<(), AllocError>
+pub fn add_end(out: &mut Vec<u8>, alloc: Global, journal: &Journal) -> Result<(), AllocError>
     ensures { OnOk result (out.new.items ≡ out.old.items ++ end_text journal.now.state) }
 {
     if journal.is_unfinished() {

@@ -4,7 +4,7 @@ ghost use Rattle.std.specs.Prelude.{◌≡◌, ◌≤◌, ◌-◌, ◌^◌, leng
 use crate::fetching::fetch_from;
 use crate::files::open_if_there;
 use crate::journal_rig::Source;
-use std::fs::Files;
+use std::fs::{Files, OpenFile};
 use std::io;
 use std::io::ErrorKind;
 
@@ -13,15 +13,27 @@ use std::io::ErrorKind;
 #[derive(Drop)]
 pub struct Shown<R: Files> {
     file: R::File,
+    /// Where it ends for who looks at it.
+    end: u64,
 }
 
 impl<R: Files> Shown<R> {
     /// The journal in the file of this name, which has to be there.
     pub fn open(rt: &R, name: &str) -> io::Result<Shown<R>> {
         match open_if_there(rt, name)? {
-            Some(file) => Ok(Shown { file }),
+            Some(file) => Ok(Shown {
+                file,
+                end: i64::MAX as u64,
+            }),
             None => Err(io::Error::from(ErrorKind::NotFound)),
         }
+    }
+
+    /// The same, with the bytes that it has by now: what is added from here on isn't read.
+    pub fn open_by_now(rt: &R, name: &str) -> io::Result<Shown<R>> {
+        let mut shown = Shown::open(rt, name)?;
+        shown.end = shown.file.metadata()?.len();
+        Ok(shown)
     }
 }
 
@@ -31,9 +43,21 @@ impl<R: Files> Source for Shown<R> {
         ensures within { IfOk result (λ n. n ≤ length buf.old) }
         ensures last { 2 ^ 63 - 1 ≤ at → IfOk result (λ n. n ≡ 0) }
     {
-        if at >= i64::MAX as u64 {
+        if at >= self.end || at >= i64::MAX as u64 {
             return Ok(0);
         }
-        fetch_from(&mut self.file, at, buf)
+        let room = room_before(self.end - at, buf.len());
+        fetch_from(&mut self.file, at, &mut buf[..room])
+    }
+}
+
+/// How many of so many bytes are read, where so many are left.
+fn room_before(left: u64, wanted: usize) -> usize
+    ensures { result ≤ wanted }
+{
+    if left < wanted as u64 {
+        left as usize
+    } else {
+        wanted
     }
 }

@@ -6,7 +6,9 @@ use crate::failure::Failure;
 use crate::keeping::count_kept;
 use std::alloc::Global;
 use std::fs::Files;
-use stm_files::{JournalFile, JournalRig, Locks, Shown, Source, give_up_journal, log_lines};
+use stm_files::{
+    JournalFile, JournalRig, Locks, Shown, Source, check_journal, give_up_journal, log_lines,
+};
 use stm_journal::{Journal, JournalFault};
 use stm_session::Fault;
 use stm_words::Kept;
@@ -20,8 +22,7 @@ pub fn load<'a, S: Source + Drop>(
     let mut rig = JournalRig::new(source);
     match Journal::load(alloc, &mut rig) {
         Ok(journal) => Ok((journal, rig)),
-        Err(JournalFault::File) => Err(Failure::CannotRead(name)),
-        Err(fault) => Err(Failure::Session(Fault::from(fault))),
+        Err(fault) => Err(unread(name, fault)),
     }
 }
 
@@ -30,6 +31,27 @@ pub fn load<'a, S: Source + Drop>(
 pub fn log<'a, R: Files + AllocGlobal>(rt: &R, name: &'a str) -> Result<Answer, Failure<'a>> {
     let journal = look(rt, name)?;
     tell(rt.alloc(), &journal)
+}
+
+/// Reads the journal in a file whole, and tells of what it's made. It isn't locked either: what is
+/// there when this begins is read, and what a session beside it adds meanwhile isn't.
+pub fn check<'a, R: Files + AllocGlobal>(rt: &R, name: &'a str) -> Result<Answer, Failure<'a>> {
+    let shown = match Shown::open_by_now(rt, name) {
+        Ok(shown) => shown,
+        Err(e) => return Err(Failure::of_file(&e, Failure::CannotRead(name))),
+    };
+    match check_journal(rt.alloc(), &mut JournalRig::new(shown)) {
+        Ok(text) => Ok(Answer::Logged(text)),
+        Err(fault) => Err(unread(name, fault)),
+    }
+}
+
+/// Why the journal in the file of this name wasn't read.
+fn unread<'a>(name: &'a str, fault: JournalFault) -> Failure<'a> {
+    match fault {
+        JournalFault::File => Failure::CannotRead(name),
+        fault => Failure::Session(Fault::from(fault)),
+    }
 }
 
 /// The journal in a file as it is by now, without a lock.

@@ -4,7 +4,7 @@ use crate::answer::Answer;
 use crate::failure::Failure;
 use crate::first_question::Place;
 use crate::hint::Hint;
-use crate::journal_tasks::{keep, log};
+use crate::journal_tasks::{check, keep, log};
 use crate::on_device::use_device;
 use crate::serving::serve;
 use crate::steps::Steps;
@@ -108,7 +108,8 @@ fn run_request<
         Request::Use(options, task, sequel) => {
             use_device(rt, &options, task, &sequel, place, input, err, hint)
         }
-        Request::Log(journal, _) => alone(log(rt, journal)),
+        Request::Log(journal, false) => alone(log(rt, journal)),
+        Request::Log(journal, true) => alone(check(rt, journal)),
         Request::Keep(kept) => alone(keep(rt, &kept)),
         Request::Serve(served) => alone(serve(rt, &served)),
     }

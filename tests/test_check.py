@@ -1,0 +1,135 @@
+"""What `log --check` tells of a journal: all of its lines, and each page that it keeps with its CRC."""
+
+import os
+import random
+import sys
+import threading
+
+from place import COUNTING, TOP, Place
+from test_log import BAD, FOLLOWED
+
+sys.path.insert(0, os.path.join(TOP, "line"))
+from as_stm32flash.crc import crc
+
+HEADER = b"stmjournal 2 0412\n"
+
+
+def padded(data):
+    """These bytes, made whole words by zeros."""
+    return data + b"\0" * (-len(data) % 4)
+
+
+def page(number, line, data):
+    """What is told of a page that is kept in this line."""
+    return f"page {number}, line {line}, {len(data)} bytes, crc {crc(padded(data)):08X}\n"
+
+
+def counted(text):
+    """What is told of a text's lines."""
+    *lines, tail = text.split(b"\n")
+    return f"{len(lines)} lines, {sum(line.endswith(b'!') for line in lines)} of them void, {len(tail)} bytes behind them\n"
+
+
+def expected(text, logged):
+    """What is told of the text of the journal to follow by hand, of which `log` tells this: page 5 is kept in line 3."""
+    told = []
+    for line in logged.splitlines(keepends=True):
+        if line.endswith("undone\n") or line.endswith("undo first\n"):
+            told.append(counted(text))
+        told.append(line)
+        if line.startswith("segment 1") and "1 pages" in line:
+            told.append(page(5, 3, b"\xff\x0a"))
+    return "".join(told)
+
+
+class Check(Place):
+    def check(self):
+        return self.call("log", "--check", "--journal", "journal")
+
+    def assertCheck(self, journal, text):
+        """This is all that is told of the journal, which stays as it is; no other file is made."""
+        self.store("journal", journal)
+        self.assertTold(self.check(), text)
+        self.assertFile("journal", journal)
+
+    def test_tells_each_state(self):
+        """Cut at each byte, and with zeros where a crash of the PC kept none of them, it says what is there: none is refused."""
+        text = b"".join(line + b"\n" for line, _ in FOLLOWED)
+        for count in range(len(text) + 1):
+            begun = text[:count]
+            self.store("journal", begun)
+            logged = self.call("log", "--journal", "journal").out.decode()
+            for tail in (b"", b"\0" * 7):
+                with self.subTest(count=count, tail=tail):
+                    self.assertCheck(begun + tail, expected(begun + tail, logged))
+
+    def test_tells_each_page(self):
+        """Pages of each length, in the order of their lines, and none of a command that was taken back."""
+        pages = [(number, random.Random(number).randbytes(number + 1)) for number in range(9)]
+        pages += [(65535, random.Random(9).randbytes(70000))]
+        lines = b"".join(b"page %d %s\n" % (number, data.hex().upper().encode()) for number, data in pages)
+        journal = HEADER + b"open 1\nend 1\nopen 2\npage 3 00\nend 2\nundone 2\nopen 2\n" + lines + b"end 2\n"
+        told = "".join(page(number, line, data) for line, (number, data) in enumerate(pages, 9))
+        self.assertCheck(journal, "id 0412\nsegment 1: ended, 0 pages\nsegment 2: ended, 10 pages: 0-8 65535\n" + told
+                         + counted(journal) + "2 can be undone\n")
+
+    def test_each_digit_counts(self):
+        """Each digit of a page, made another one, makes its CRC another one."""
+        for size in (1, 2, 3, 4, 66):
+            digits = random.Random(size).randbytes(size).hex().upper()
+            others = [digits]
+            for at, digit in enumerate(digits):
+                others += [digits[:at] + other + digits[at + 1:] for other in "0123456789ABCDEF" if other != digit]
+            lines = "".join(f"page {number} {digits}\n" for number, digits in enumerate(others))
+            self.store("journal", HEADER + b"open 1\n" + lines.encode() + b"end 1\n")
+            said = self.check()
+            sums = [line.rpartition(" crc ")[2] for line in said.out.decode().splitlines() if " crc " in line]
+            with self.subTest(size=size):
+                self.assertEqual((said.status, said.err, len(sums)), (0, b"", len(others)))
+                self.assertNotIn(sums[0], sums[1:])
+
+    def test_has_the_crc_of_the_flash(self):
+        """What is told of a page is what `crc` tells of it before the write, and behind the undo."""
+        self.store("flash", COUNTING)
+        part = ("-S", "0x08001400:1024")
+        before = self.use("crc", *part).out
+        self.use("erase", "5")
+        self.assertNotEqual(self.use("crc", *part).out, before)
+        self.assertIn(b"page 5, line 3, 1024 bytes, " + before, self.check().out)
+        self.use("undo")
+        self.assertEqual(self.use("crc", *part).out, before)
+
+    def test_tells_what_is_there_when_it_begins(self):
+        """What a session adds meanwhile is neither counted nor told."""
+        def pairs(first, last):
+            return b"".join(b"open %d\nend %d\n" % (number, number) for number in range(first, last))
+
+        self.store("journal", HEADER + pairs(1, 20000))
+        ended = threading.Event()
+
+        def add():
+            with open(self.path("journal"), "ab", buffering=0) as file:
+                for first in range(20000, 65000, 100):
+                    if ended.wait(0.002):
+                        return
+                    file.write(pairs(first, first + 100))
+
+        adding = threading.Thread(target=add)
+        adding.start()
+        try:
+            said = self.check()
+        finally:
+            ended.set()
+            adding.join()
+        depth = said.out.count(b"segment ")
+        self.assertGreaterEqual(depth, 19999)
+        self.assertEqual(said.out.splitlines()[-2:], [b"%d lines, 0 of them void, 0 bytes behind them" % (1 + 2 * depth),
+                                                      b"%d can be undone" % depth])
+
+    def test_refuses_what_log_refuses(self):
+        self.assertFault(self.check(), "cannot read journal")
+        self.store("journal", BAD)
+        self.assertFault(self.check(), "bad journal line 2")
+        os.remove(self.path("journal"))
+        os.mkdir(self.path("journal"))
+        self.assertFault(self.check(), "cannot read journal")
