@@ -15,3 +15,4 @@ pub mod Cuts
 pub mod OneCall
 pub mod WholeCalls
 pub mod Acts
+pub mod Unfresh

@@ -11,6 +11,7 @@ pub mod Cutting
 pub mod DiskFile
 pub mod Escaped
 pub mod FalseErase
+pub mod FreshUndo
 pub mod JournalChoice
 pub mod Hinting
 pub mod JournalFile
