@@ -7,7 +7,7 @@ _stmflash_ports() { mapfile -t COMPREPLY < <(compgen -G "$1*" | grep -E '^/dev/(
 _stmflash() {
     local word=${COMP_WORDS[COMP_CWORD]} before=${COMP_WORDS[COMP_CWORD-1]} subcommand="" i
     local subcommands="info read crc write verify erase undo go protect log keep sim help"
-    local device="--table --device --journal --journals --no-lock --wait --stop --give-up --progress --quiet --fresh --help"
+    local device="--table --device --journal --journals --no-lock --wait --stop --give-up --progress --quiet --watch --json --fresh --help"
     local asked="$device --board --no-board"
     COMPREPLY=()
     for ((i = 1; i < COMP_CWORD; i++)); do
@@ -44,8 +44,8 @@ _stmflash() {
         undo) _stmflash_words "$word" "$asked -h" ;;
         go) _stmflash_words "$word" "$asked -h" ;;
         protect) _stmflash_words "$word" "$asked --yes -h" ;;
-        log) _stmflash_words "$word" "--journal --help -h" ;;
-        keep) _stmflash_words "$word" "--journal --no-lock --last --help -h" ;;
+        log) _stmflash_words "$word" "--journal --check --json --help -h" ;;
+        keep) _stmflash_words "$word" "--journal --no-lock --last --json --help -h" ;;
         sim) _stmflash_words "$word" "--table --id --flash --unique --size --no-lock --socket --clients --mode --help -h" ;;
     esac
 }

@@ -93,8 +93,9 @@ with_waits e name =
 -- a subcommand with the options that every use of a device has
 abbrev pub on_device : Environment → Text → App
 on_device e name =
-    with_rule (with_rule (with_rule (with_waits e name) (flag_rule (codes "progress")))
-    (flag_rule (codes "quiet"))) (option_rule (codes "stop"))
+    with_rule (with_rule (with_rule (with_rule (with_rule (with_waits e name)
+    (flag_rule (codes "progress"))) (flag_rule (codes "quiet"))) (flag_rule (codes "watch")))
+    (flag_rule (codes "json"))) (option_rule (codes "stop"))
 
 -- the same, with the options of which board it has to be
 abbrev pub on_board : Environment → Text → App
@@ -135,10 +136,12 @@ undo_app e = with_rule (on_board e (codes "undo")) (default_rule (codes "COUNT")
 -- a subcommand that reads a journal and uses no device
 abbrev pub on_journal : Environment → Text → App
 on_journal e name =
-    with_rule (new_app name) (standing_option_rule (codes "journal") (text_of e.journal))
+    with_rule
+    (with_rule (new_app name) (standing_option_rule (codes "journal") (text_of e.journal)))
+    (flag_rule (codes "json"))
 
 abbrev pub log_app : Environment → App
-log_app e = on_journal e (codes "log")
+log_app e = with_rule (on_journal e (codes "log")) (flag_rule (codes "check"))
 
 abbrev pub keep_app : Environment → App
 keep_app e =

@@ -86,6 +86,8 @@ fn on_device<'a>(
     with_waits(alloc, environment, name, about)?
         .arg(flag(alloc, "progress", help::PROGRESS))?
         .arg(flag(alloc, "quiet", help::QUIET))?
+        .arg(flag(alloc, "watch", help::WATCH))?
+        .arg(flag(alloc, "json", help::JSON))?
         .arg(option(alloc, "stop", "K", help::STOP))
 }
 
@@ -176,19 +178,16 @@ fn on_journal<'a>(
 ) -> Result<Command<'a>, AllocError>
     ensures { IfOk result (Makes (on_journal environment.entry name.entry.now)) }
 {
-    Command::new(alloc, name).about(about).arg(standing_option(
-        alloc,
-        "journal",
-        "FILE",
-        environment.journal,
-        help::JOURNAL,
-    ))
+    Command::new(alloc, name)
+        .about(about)
+        .arg(standing_option(alloc, "journal", "FILE", environment.journal, help::JOURNAL))?
+        .arg(flag(alloc, "json", help::JSON))
 }
 
 fn log<'a>(alloc: Global, environment: Environment<'a>) -> Result<Command<'a>, AllocError>
     ensures { IfOk result (Makes (log_app environment.entry)) }
 {
-    on_journal(alloc, environment, "log", help::LOG)
+    on_journal(alloc, environment, "log", help::LOG)?.arg(flag(alloc, "check", help::LOG_CHECK))
 }
 
 fn keep<'a>(alloc: Global, environment: Environment<'a>) -> Result<Command<'a>, AllocError>

@@ -23,4 +23,6 @@ pub struct Environment<'a> {
     pub is_fresh: bool,
     /// Whether no other program has the files, so that they need no lock.
     pub without_lock: bool,
+    /// Whether what came of the words is told as JSON.
+    pub is_json: bool,
 }

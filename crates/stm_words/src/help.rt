@@ -24,6 +24,8 @@ pub const PROTECT: &str = "Changes a protection; readout-unprotect erases the ch
 
 pub const LOG: &str = "Tells what a journal says; no device is used";
 
+pub const LOG_CHECK: &str = "Reads all of it, every kept byte too, and tells what is damaged";
+
 pub const KEEP: &str =
     "Lets what was written and erased stay for good: the journal is removed, or renamed to TO";
 
@@ -46,6 +48,12 @@ pub const PROGRESS: &str =
     "Tells each page in a line of its own on standard error, also where that is no terminal";
 
 pub const QUIET: &str = "Shows nothing while a session runs";
+
+pub const JSON: &str =
+    "Tells what was done, and each fault, as one line of JSON on standard output";
+
+pub const WATCH: &str =
+    "Ends the session at the first reply that no device of the stated model could give";
 
 pub const FRESH: &str = "The device was reset since the last session";
 

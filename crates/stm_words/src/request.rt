@@ -1,7 +1,7 @@
 // What the words ask for.
 
 use crate::environment::Environment;
-use crate::given::word;
+use crate::given::{flag, word};
 use crate::kept::Kept;
 use crate::options::Options;
 use crate::sequel::Sequel;
@@ -17,8 +17,8 @@ use std::alloc::Global;
 pub enum Request<'a> {
     /// A use of a device, and what follows it.
     Use(Options<'a>, Task<'a>, Sequel<'a>),
-    /// A look at the journal in this file.
-    Log(&'a str),
+    /// A look at the journal in this file; or a check of all of it.
+    Log(&'a str, bool),
     /// An end of a journal, whose writes and erases stay.
     Keep(Kept<'a>),
     /// A simulator on a socket.
@@ -34,7 +34,9 @@ impl<'a> Request<'a> {
         matches: &ArgMatches<'a>,
     ) -> Result<Request<'a>, Unread<'a>> {
         match matches.subcommand() {
-            Some(("log", given)) => Ok(Request::Log(word(given, "journal")?)),
+            Some(("log", given)) => {
+                Ok(Request::Log(word(given, "journal")?, flag(given, "check")))
+            },
             Some(("keep", given)) => Ok(Request::Keep(Kept::parse(environment, given)?)),
             Some(("sim", given)) => Ok(Request::Serve(Served::parse(environment, given)?)),
             Some((name, given)) => {

@@ -10,18 +10,21 @@ use crate::locks::Locks;
 use crate::on_device::use_device;
 use crate::serving::serve;
 use crate::steps::Steps;
+use crate::told_json::{json_of_failure, json_of_refusal, json_of_steps, name_of};
+use std::alloc::AllocError;
 use std::io;
 use std::io::{IsTerminal, Read, Write};
 use std::net::Net;
 use std::time::Clock;
-use stm_words::{Environment, Request, Unread, read_request};
+use stm_words::{Environment, Request, Unread, read_request, wants_json};
 
 /// Runs the program on its words, the first of which is its name, and on what stands in the place
 /// of words. It answers the exit status: 0 where all was done or help was asked for, 1 after a
 /// fault, 2 where the words can't be done, 3 where a simulator was stopped. A fault is one line on
 /// `err`, whatever the names in it, and one more where what came tells why; of words that `clap`
 /// refuses its text stands there. While a line or a journal is open nothing is printed but what goes
-/// on, where that is shown. `input` is read only where it is asked whether to go on.
+/// on, where that is shown. `input` is read only where it is asked whether to go on. Where JSON is
+/// asked for, what was done is told on `out` as lines of it, and a fault there too.
 pub fn program<
     'a,
     R: Locks + Net + Clock + AllocGlobal + Clone + Drop,
@@ -38,16 +41,31 @@ pub fn program<
 ) -> u8 {
     // the name of a journal that the words leave to the device's board
     let mut place = Place::new(rt.alloc());
+    let is_json = environment.is_json || wants_json(words);
     match read_request(rt.alloc(), environment, words) {
-        Ok(request) => answer(rt, request, &mut place, input, out, err),
+        Ok(request) => answer(rt, request, &mut place, is_json, input, out, err),
         Err(Unread::Help(text)) => print_help(rt, text.as_str(), out, err),
-        Err(Unread::Refused(text)) => {
-            let _ = write!(err, "{text}");
-            2
+        Err(Unread::Refused(text)) => refuse(rt, text.as_str(), is_json, out, err),
+        Err(Unread::Usage(fault)) => {
+            fail_told(rt, &Failure::Usage(fault), None, is_json, out, err)
         }
-        Err(Unread::Usage(fault)) => fail(rt, &Failure::Usage(fault), err),
-        Err(Unread::Memory) => fail(rt, &Failure::Memory, err),
+        Err(Unread::Memory) => fail_told(rt, &Failure::Memory, None, is_json, out, err),
     }
+}
+
+/// Tells that `clap` refuses the words, in its own text.
+fn refuse<R: AllocGlobal, O: Write, E: Write>(
+    rt: &R,
+    text: &str,
+    is_json: bool,
+    out: &mut O,
+    err: &mut E,
+) -> u8 {
+    let _ = write!(err, "{text}");
+    if is_json {
+        let _ = print_line(json_of_refusal(rt.alloc(), text), "fault", "usage", out);
+    }
+    2
 }
 
 /// Does what the words ask for, and tells what came of it.
@@ -61,14 +79,15 @@ fn answer<
     rt: &R,
     request: Request<'a>,
     place: &'a mut Place,
+    is_json: bool,
     input: &mut I,
     out: &mut O,
     err: &mut E,
 ) -> u8 {
     let mut hint = None;
     match run_request(rt, request, place, input, err, &mut hint) {
-        Ok(steps) => print_steps(rt, &steps, hint, out, err),
-        Err(failure) => fail_told(rt, &failure, hint, err),
+        Ok(steps) => print_steps(rt, &steps, hint, is_json, out, err),
+        Err(failure) => fail_told(rt, &failure, hint, is_json, out, err),
     }
 }
 
@@ -90,7 +109,7 @@ fn run_request<
         Request::Use(options, task, sequel) => {
             use_device(rt, &options, task, &sequel, place, input, err, hint)
         }
-        Request::Log(journal) => alone(log(rt, journal)),
+        Request::Log(journal, _) => alone(log(rt, journal)),
         Request::Keep(kept) => alone(keep(rt, &kept)),
         Request::Serve(served) => alone(serve(rt, &served)),
     }
@@ -111,18 +130,39 @@ pub fn fail<R: AllocGlobal, E: Write>(rt: &R, failure: &Failure, err: &mut E) ->
     failure.status()
 }
 
-/// Tells a fault, and in a line behind it what came, where that tells more of it.
-fn fail_told<R: AllocGlobal, E: Write>(
+/// Tells a fault, and in a line behind it what came, where that tells more of it. Where JSON is asked
+/// for, it is told on `out` too.
+fn fail_told<R: AllocGlobal, O: Write, E: Write>(
     rt: &R,
     failure: &Failure,
     hint: Option<Hint>,
+    is_json: bool,
+    out: &mut O,
     err: &mut E,
 ) -> u8 {
     let status = fail(rt, failure, err);
     if let Some(hint) = hint {
         tell_hint(rt, failure, hint, err);
     }
+    if is_json {
+        let line = json_of_failure(rt.alloc(), failure, hint);
+        let _ = print_line(line, "fault", failure.name(), out);
+    }
     status
+}
+
+/// Prints lines of JSON at once. Where there was no memory for them, it is one line that names what
+/// was done, or the fault, and says no more.
+fn print_line<O: Write>(
+    lines: Result<Vec<u8>, AllocError>,
+    member: &str,
+    name: &str,
+    out: &mut O,
+) -> io::Result<()> {
+    match lines {
+        Ok(text) => out.write_all(text.as_slice()),
+        Err(_) => writeln!(out, "{{\"{member}\":\"{name}\"}}"),
+    }
 }
 
 /// Tells what came, where that tells more of a failure, in one line that is written at once. Where
@@ -142,14 +182,29 @@ fn print_steps<R: AllocGlobal, O: Write, E: Write>(
     rt: &R,
     steps: &Steps,
     hint: Option<Hint>,
+    is_json: bool,
     out: &mut O,
     err: &mut E,
 ) -> u8 {
-    match (print_at_once(rt, steps, out), &steps.failure) {
+    match (print_as(rt, steps, is_json, out), &steps.failure) {
         (Ok(()), None) => 0,
-        (_, Some(failure)) => fail_told(rt, failure, hint, err),
+        (_, Some(failure)) => fail_told(rt, failure, hint, is_json, out, err),
         (Err(_), None) => fail(rt, &Failure::CannotWrite("standard output"), err),
     }
+}
+
+/// Prints the steps, as text or as JSON.
+fn print_as<R: AllocGlobal, O: Write>(
+    rt: &R,
+    steps: &Steps,
+    is_json: bool,
+    out: &mut O,
+) -> io::Result<()> {
+    if is_json {
+        let lines = json_of_steps(rt.alloc(), steps);
+        return print_line(lines, "answer", name_of(&steps.answer), out);
+    }
+    print_at_once(rt, steps, out)
 }
 
 /// Prints the steps as one text, so that who takes a line of it and goes has taken none of its

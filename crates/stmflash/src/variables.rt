@@ -21,6 +21,7 @@ pub struct Variables {
     without_board: bool,
     is_fresh: bool,
     without_lock: bool,
+    is_json: bool,
 }
 
 impl Variables {
@@ -35,6 +36,7 @@ impl Variables {
         let without_board = is_one(rt, "STMFLASH_NO_BOARD")?;
         let is_fresh = is_one(rt, "STMFLASH_FRESH")?;
         let without_lock = is_one(rt, "STMFLASH_NO_LOCK")?;
+        let is_json = is_one(rt, "STMFLASH_JSON")?;
         Ok(Variables {
             table,
             users_table,
@@ -45,6 +47,7 @@ impl Variables {
             without_board,
             is_fresh,
             without_lock,
+            is_json,
         })
     }
 
@@ -70,6 +73,7 @@ impl Variables {
             without_board: self.without_board,
             is_fresh: self.is_fresh,
             without_lock: self.without_lock,
+            is_json: self.is_json,
         }
     }
 }

@@ -1,0 +1,44 @@
+-- A line of JSON (RFC 8259): one object, whose values are texts, numbers and lists of texts.
+use Rattle.std.specs.Prelude.{◌≡◌, ℕ, ◌/◌, ◌%◌, ◌+◌, ◌==◌, ◌||◌, List, [], ◌∷◌, ◌++◌, codes, decimal}
+use Rattle.std.specs.Prelude.{if◌then◌else◌, nat_lt}
+
+-- a digit in base 16, in small letters
+abbrev pub hex_digit : ℕ → ℕ
+hex_digit n = if nat_lt n 10 then 48 + n else 87 + n
+
+-- a control character by its number: \u00 and two digits
+abbrev pub by_number : ℕ → List ℕ
+by_number byte = codes "\\u00" ++ (hex_digit (byte / 16) ∷ hex_digit (byte % 16) ∷ [])
+
+-- what stands for a byte of a text within quotation marks
+abbrev pub quoted_byte : ℕ → List ℕ
+quoted_byte byte =
+    if byte == 0x22 then 0x5C ∷ byte ∷ []
+    else if byte == 0x5C then 0x5C ∷ byte ∷ []
+    else if nat_lt byte 0x20 then by_number byte
+    else byte ∷ []
+
+-- a text within quotation marks
+abbrev pub quoted : List ℕ → List ℕ
+quoted [] = []
+quoted (byte ∷ text) = quoted_byte byte ++ quoted text
+
+-- a text with its quotation marks
+abbrev pub text_value : List ℕ → List ℕ
+text_value text = 0x22 ∷ (quoted text ++ 0x22 ∷ [])
+
+-- a member whose value is a text, behind another
+abbrev pub text_member : List ℕ → List ℕ → List ℕ
+text_member name text = 0x2C ∷ (text_value name ++ (0x3A ∷ text_value text))
+
+-- a member whose value is a number, behind another
+abbrev pub number_member : List ℕ → ℕ → List ℕ
+number_member name number = 0x2C ∷ (text_value name ++ (0x3A ∷ decimal number))
+
+-- an object that begins with this member
+abbrev pub object_of : List ℕ → List ℕ → List ℕ
+object_of name text = 0x7B ∷ (text_value name ++ (0x3A ∷ text_value text))
+
+-- the end of an object, and of the line
+abbrev pub line_end : List ℕ
+line_end = 0x7D ∷ 0x0A ∷ []

@@ -1,0 +1,115 @@
+"""What was done, told as lines of JSON."""
+
+import json
+import os
+import re
+
+from place import ERASED, SILENT, TOP, Place
+
+IMAGE = b"\x00" * 1024
+
+
+class Json(Place):
+    def lines(self, said, status=0):
+        """The objects that were told, each in a line of its own."""
+        self.assertEqual(said.status, status)
+        self.assertTrue(said.out.endswith(b"\n"))
+        return [json.loads(line) for line in said.out.split(b"\n")[:-1]]
+
+    def assertAnswers(self, said, *answers):
+        self.assertEqual(said.err, b"")
+        self.assertEqual(self.lines(said), list(answers))
+
+    def assertFails(self, said, name, says, status=1, before=(), **more):
+        """One object of a fault behind what was done before, and on standard error the same as without JSON."""
+        self.assertEqual(self.lines(said, status), [*before, {"fault": name, "says": says, **more, "status": status}])
+        hint = f"hint: {more['hint']}\n" if more else ""
+        self.assertEqual(said.err.decode(), f"stmflash: {says}\n" + hint)
+
+    def test_answers(self):
+        """Each kind of answer has its name, and the numbers that its text has."""
+        self.assertAnswers(self.use("info", "--json"),
+                           {"answer": "info", "id": "0412", "base": "08000000", "pages": 32, "size": 32768, "erase": "43",
+                            "erased": "FF", "version": "22",
+                            "codes": ["00", "02", "11", "21", "31", "43", "73", "82", "92"]})
+        self.assertAnswers(self.use_image("write", IMAGE, "-v", "--json"),
+                           {"answer": "written_and_verified", "segment": 1, "pages": 1, "bytes": 1024})
+        self.assertAnswers(self.use_image("write", IMAGE, "--json"), {"answer": "written", "segment": 2, "pages": 0})
+        self.assertAnswers(self.use_image("verify", IMAGE, "--json"), {"answer": "verified", "bytes": 1024})
+        self.assertAnswers(self.use("erase", "5", "--json"), {"answer": "erased", "segment": 3, "pages": 0})
+        self.assertAnswers(self.use("crc", "-S", "0x08000000:4", "--json"), {"answer": "crc", "crc": "C704DD7B"})
+        self.assertAnswers(self.use("read", "copy", "--json"), {"answer": "done"})
+        self.assertFile("copy", IMAGE + ERASED[1024:])
+        self.assertAnswers(self.call("log", "--journal", "journal", "--json"),
+                           {"answer": "log", "lines": ["id 0412", "segment 1: ended, 1 pages: 0", "segment 2: ended, 0 pages",
+                                                       "segment 3: ended, 0 pages", "3 can be undone"]})
+        self.assertAnswers(self.use("undo", "1", "--json"), {"answer": "undone", "count": 1})
+        self.assertAnswers(self.call("keep", "--journal", "journal", "--last", "1", "--json"),
+                           {"answer": "kept", "count": 1, "left": 1})
+        self.assertAnswers(self.call("keep", "--journal", "journal", "--json"), {"answer": "kept", "count": 1})
+
+    def test_raw(self):
+        told, = self.lines(self.use("info", "--raw", "--json"))
+        self.assertEqual((told["answer"], told["id"], told["table"]), ("identified", "0412", "table"))
+
+    def test_a_board(self):
+        """Which board it is stands in what info tells."""
+        self.store("table", b'[[chip]]\nid = 0x412\nbase = 0x08000000\npages = [[32, 1024]]\nerase = "page"\n'
+                            b'unique = [0x1FFFF7E8, 12]\nsize_at = 0x1FFFF7E0\n')
+        self.store("flash.board", b"unique 00112233445566778899AABB\nsize 16\n")
+        told, = self.lines(self.use("info", "--json"))
+        self.assertEqual((told["board"], told["flash_kib"], told["pages"]), ("00112233445566778899AABB", 16, 16))
+
+    def test_each_step_has_a_line(self):
+        """What is done behind a write is told behind it, and so is what failed there."""
+        self.assertAnswers(self.use_image("write", IMAGE, "--keep", "--json"),
+                           {"answer": "written", "segment": 1, "pages": 1}, {"answer": "kept", "count": 1})
+        written = {"answer": "written", "segment": 1, "pages": 1}
+        said = self.use_image("write", b"\x01", "--keep", "--go", "0x09000000", "--json")
+        self.assertFails(said, "no_protocol", "device does not follow the protocol",
+                         before=[written, {"answer": "kept", "count": 1}])
+
+    def test_faults(self):
+        """A fault has its name, its text, what came, and the status; and is told on standard error as ever."""
+        self.store("flash.line", b"gone\n")
+        self.store("flash", ERASED)
+        self.assertFails(self.use("info", "--json"), "no_protocol", "device does not follow the protocol", hint=SILENT)
+        self.assertFails(self.use_image("verify", b"", "--json", device="nowhere"), "cannot_connect", "cannot connect nowhere")
+        self.assertFails(self.use("erase", "--json"), "usage", "usage: give pages or --all", 2)
+        self.assertFails(self.use("erase", "5", "--json", "--wait", "x"), "usage", "usage: bad number x", 2)
+
+    def test_names_are_quoted(self):
+        """A quotation mark, a backslash and what isn't printed leave the line one object."""
+        name = 'a"b\\c\nd\x01é'
+        said = self.call("log", "--journal", name, "--json")
+        told, = self.lines(said, 1)
+        self.assertEqual(told["says"], 'cannot read a"b\\c\\nd\\x01é')
+
+    def test_refused_words(self):
+        """What the words' own reader says, whole; and of help nothing but the help."""
+        said = self.call("nonsense", "--json")
+        told, = self.lines(said, 2)
+        self.assertEqual((told["fault"], told["says"], told["status"]), ("usage", said.err.decode(), 2))
+        self.assertTrue(self.call("--help", variables={"STMFLASH_JSON": "1"}).out.startswith(b"Flashes"))
+
+    def test_by_the_variable(self):
+        words = ("log", "--journal", "journal")
+        self.assertTold(self.use("erase", "5"), "segment 1: 0 pages erased\n")
+        self.assertEqual(self.lines(self.call(*words, variables={"STMFLASH_JSON": "1"}))[0]["answer"], "log")
+        for other in ("0", "yes", ""):
+            self.assertTrue(self.call(*words, variables={"STMFLASH_JSON": other}).out.startswith(b"id 0412"))
+
+    def test_a_word_behind_two_dashes_is_a_word(self):
+        self.assertTold(self.use("read", "--", "--json"), "")
+        self.assertTrue(self.is_there("--json"))
+
+    def test_the_page_has_each_name(self):
+        """docs/JSON.md names each answer and fault that the program has, and no other."""
+        with open(os.path.join(TOP, "docs", "JSON.md"), encoding="utf-8") as page:
+            answers, faults = page.read().split("## Answers")[1].split("## Faults")
+        folder = os.path.join(TOP, "crates", "stmflash", "src")
+        for file, part in (("told_json.rt", answers), ("fault_name.rt", faults)):
+            with open(os.path.join(folder, file), encoding="utf-8") as source:
+                named = set(re.findall(r'=>\s+"([a-z_]+)",', source.read()))
+            rows = [line.split("|")[1] for line in part.splitlines() if line.startswith("| `")][1:]
+            self.assertEqual({name for row in rows for name in re.findall("`([a-z_]+)`", row)}, named)
