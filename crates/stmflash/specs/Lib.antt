@@ -13,6 +13,7 @@ pub mod Escaped
 pub mod FalseErase
 pub mod FreshUndo
 pub mod JournalChoice
+pub mod JsonLine
 pub mod Hinting
 pub mod JournalFile
 pub mod LeftStanding
