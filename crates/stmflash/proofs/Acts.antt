@@ -1,6 +1,6 @@
 -- Acts one behind the other, and the turns of a write that is done again.
-use Rattle.std.proofs.Common.{◌+◌, ◌≤◌, ◌∙◌, Option, Some, None, sym, ap, arith, ◌≡◌, ℕ, List, []}
-use Rattle.std.proofs.Common.{◌∷◌, ◌++◌, Result, Ok, Err, IfOk, inl, refl, subst}
+use Rattle.std.proofs.Common.{◌+◌, ◌≤◌, ◌∙◌, Option, Some, None, ap, arith, ◌≡◌, ℕ, List, [], ◌∷◌}
+use Rattle.std.proofs.Common.{◌++◌, Result, Ok, Err, IfOk, inl, refl, subst}
 use Rattle.stmflash.specs.declared.failure.Failure.{Failure}
 use Rattle.stmflash.specs.declared.steps.Steps.{Steps}
 use Rattle.stmflash.specs.declared.left_standing.Standing.{Standing}

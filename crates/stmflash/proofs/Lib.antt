@@ -7,3 +7,4 @@ pub mod OneCall
 pub mod WholeCalls
 pub mod Acts
 pub mod Tried
+pub mod Unfresh

@@ -3,9 +3,10 @@
 --
 -- The journal is read, and the write is done. Where it failed by its line or its protocol, the
 -- journal is read once more, and just the segments that came since are taken back. Where that
--- answered Ok the same write is done once more. Each such turn is told, and there are so many at
--- the most. What failed otherwise ends it; behind a failure it is told what stands.
-use Rattle.std.specs.Prelude.{◌≡◌, ℕ, ◌+◌, ◌≤◌, ◌⊎◌, Bool, true, false, List, [], ◌∷◌, ◌++◌}
+-- answered Ok the same write is done once more; a take-back that failed by its line or its protocol
+-- is tried again in the next turn. Each turn is told, and there are so many at the most. What failed
+-- otherwise ends it; behind a failure it is told what stands.
+use Rattle.std.specs.Prelude.{◌≡◌, ℕ, ◌+◌, ◌≤◌, ◌⊎◌, true, false, List, [], ◌∷◌, ◌++◌}
 use Rattle.std.specs.Prelude.{Option, Some, None, Result, Ok, Err, IfOk}
 use Rattle.stmflash.specs.declared.failure.Failure.{Failure}
 use Rattle.stmflash.specs.declared.failure.Failure.TheVariants.{Memory}

@@ -1,3 +1,4 @@
+-- Which failures break a session off, so that another may do what it was to do.
 use Rattle.std.specs.Prelude.{Bool, true, false}
 use Rattle.stmflash.specs.declared.failure.Failure.{Failure}
 use Rattle.stmflash.specs.declared.failure.Failure.TheVariants.{NoAnswer, Session}

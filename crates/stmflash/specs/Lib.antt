@@ -7,6 +7,7 @@ pub mod Conduct
 pub mod Confirmation
 pub mod Content
 pub mod FalseErase
+pub mod FreshUndo
 pub mod Hinting
 pub mod JsonLine
 pub mod LeftStanding

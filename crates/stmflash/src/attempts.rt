@@ -1,6 +1,7 @@
-// A write that is done again where its line or its protocol failed: the loop, over whatever does it.
+// A write that is done again where its line or its protocol failed: the loop, over what does it.
 ghost use Rattle.std.specs.Prelude.{◌≡◌, ◌≤◌, ℕ, List, Some, Ok};
-ghost use Rattle.stmflash.specs.Again.{Act, DoesAgain, InTurns, IsTurn, LeadTo, Retries, TakesBack, Tells};
+ghost use Rattle.stmflash.specs.Again.{Act, DoesAgain, InTurns, IsTurn, LeadTo, Retries, TakesBack};
+ghost use Rattle.stmflash.specs.Again.{Tells};
 ghost use Rattle.stmflash.specs.Action.{IsDoneAgain};
 
 use crate::failure::Failure;
@@ -76,7 +77,8 @@ fn attempt_copy<'a, A: Attempts<'a>>(
     }
 }
 
-/// A turn behind a failure: takes back what came since, tells that, and does the same work once more.
+/// A turn behind a failure: takes back what came since, tells that, and does the same work once
+/// more.
 fn take_turn<'a, A: Attempts<'a>>(
     alloc: Global,
     all: &mut A,

@@ -39,7 +39,8 @@ pub enum Stands {
 }
 
 impl Stands {
-    /// Which stand behind those that there were, and an unfinished one also where it was there before.
+    /// Which stand behind those that there were, and an unfinished one also where it was there
+    /// before.
     pub fn of(before: Standing, now: Standing) -> Stands
         ensures { result ≡ stands before now }
     {

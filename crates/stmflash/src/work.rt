@@ -1,7 +1,8 @@
 // What is done on a device, whether or not the table has its chip.
-ghost use Rattle.std.specs.Prelude.{◌≡◌, IfOk};
+ghost use Rattle.std.specs.Prelude.{◌≡◌, IfOk, false};
 ghost use Rattle.stmflash.specs.Action.{IsDoneAgain, Works};
 ghost use Rattle.stmflash.specs.Board.{asking_if, asking_of, once_asked};
+ghost use Rattle.stmflash.specs.FreshUndo.{is_fresh_undo, work_on_fresh};
 
 use crate::action::Action;
 use crate::answer::Answer;
@@ -36,7 +37,9 @@ pub enum Work {
 
 impl Work {
     /// What a task asks for. The file of an image is read.
-    pub fn of<'a, R: Files + AllocGlobal>(rt: &R, task: Task<'a>) -> Result<Work, Failure<'a>> {
+    pub fn of<'a, R: Files + AllocGlobal>(rt: &R, task: Task<'a>) -> Result<Work, Failure<'a>>
+        ensures { IfOk result (λ work. is_fresh_undo work ≡ false) }
+    {
         match task {
             Task::Info { is_raw: true } => Ok(Work::Identify),
             Task::Sum(range) => Ok(Work::Sum(range)),
@@ -80,7 +83,9 @@ impl Work {
     }
 
     /// The same for a device that was reset since the last session, where that is said.
-    pub fn on_fresh(self, is_fresh: bool) -> Work {
+    pub fn on_fresh(self, is_fresh: bool) -> Work
+        ensures { result ≡ work_on_fresh is_fresh self }
+    {
         match self {
             Work::Act(action) => Work::Act(action.on_fresh(is_fresh)),
             work => work,

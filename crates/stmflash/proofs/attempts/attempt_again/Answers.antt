@@ -1,4 +1,4 @@
-use Rattle.std.proofs.Common.{[], ◌∷◌, ◌++◌, Result, Ok, Err, Option, Some, None, refl, sym, subst}
+use Rattle.std.proofs.Common.{[], ◌∷◌, ◌++◌, Ok, Err, Option, refl, subst}
 use Rattle.stmflash.specs.declared.work.Work.{Work}
 use Rattle.stmflash.specs.Action.{IsDoneAgain}
 use Rattle.stmflash.specs.Again.Act.{Attempted, Read}

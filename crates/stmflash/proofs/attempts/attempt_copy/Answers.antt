@@ -1,4 +1,4 @@
-use Rattle.std.proofs.Common.{[], ◌∷◌, refl, subst, ℕ, Option, Some, None}
+use Rattle.std.proofs.Common.{[], ◌∷◌, refl, subst, Option}
 use Rattle.stmflash.specs.declared.work.Work.{Work}
 use Rattle.stmflash.specs.Action.{IsDoneAgain}
 use Rattle.stmflash.specs.Again.Act.{Attempted}

@@ -1,11 +1,9 @@
-use Rattle.std.proofs.Common.{[], ◌∷◌, ◌++◌, ◌+◌, ◌≡◌, Result, Ok, Err, ℕ, List, true, refl, sym}
-use Rattle.std.proofs.Common.{subst, inl, inr, arith}
+use Rattle.std.proofs.Common.{[], ◌∷◌, ◌++◌, ◌≡◌, Result, refl, sym, subst, inr, arith}
 use Rattle.stmflash.specs.declared.failure.Failure.{Failure}
 use Rattle.stmflash.specs.declared.steps.Steps.{Steps}
-use Rattle.stmflash.specs.Again.{Act, InTurns, IsLast, LeadTo, Turns}
+use Rattle.stmflash.specs.Again.{Turns}
 use Rattle.stmflash.specs.Again.Act.{Attempted}
 use Rattle.stmflash.specs.Again.Turns.{first, more}
-use Rattle.stmflash.specs.BrokenOff.{is_broken_off}
 use Rattle.stmflash.proofs.Acts.{lead-append, spent-last}
 use Rattle.stmflash.proofs.attempts.attempt_in_turns.Goals as goal
 

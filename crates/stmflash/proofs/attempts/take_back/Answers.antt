@@ -1,4 +1,4 @@
-use Rattle.std.proofs.Common.{List, [], ◌∷◌, ◌≤◌, ◌≡◌, ◌+◌, Ok, Err, refl, sym, ◌∙◌, arith}
+use Rattle.std.proofs.Common.{[], ◌∷◌, ◌≤◌, ◌≡◌, ◌+◌, Ok, Err, refl, sym, ◌∙◌, arith}
 use Rattle.stmflash.specs.Again.Act.{Read, Undone}
 use Rattle.stmflash.specs.Again.TakesBack.{nothing, undone, unread}
 use Rattle.stmflash.proofs.attempts.take_back.Goals as goal

@@ -1,6 +1,6 @@
-use Rattle.std.proofs.Common.{[], ◌∷◌, ◌++◌, Result, Ok, Err, ℕ, refl, sym, subst}
+use Rattle.std.proofs.Common.{[], ◌∷◌, ◌++◌, Result, Err, ℕ, refl, sym, subst}
 use Rattle.stmflash.specs.declared.failure.Failure.{Failure}
-use Rattle.stmflash.specs.Again.{Retries, TakesBack}
+use Rattle.stmflash.specs.Again.{Retries}
 use Rattle.stmflash.specs.Again.Act.{ToldTurn}
 use Rattle.stmflash.specs.Again.Retries.{not_taken}
 use Rattle.stmflash.proofs.Acts.{lead-append}
@@ -39,8 +39,8 @@ returns-in-Err g c =
         takes_back = takes;
         next = [];
         retries = (let P : Result ℕ Failure
-            → Type 0 = λ x. Retries c.args.work.now c.args.failure x [] (Err c.in-Err.why) in subst P
-            (sym c.in-Err.is) (not_taken c.in-Err.why));
+            → Type 0 = λ x. Retries c.args.work.now c.args.failure x []
+            (Err c.in-Err.why) in subst P (sym c.in-Err.is) (not_taken c.in-Err.why));
         acts_are = refl;
       },
     )

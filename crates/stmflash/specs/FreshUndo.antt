@@ -1,0 +1,17 @@
+-- The undo of a device that is said to be fresh from reset: it is settled with 7F alone, and only
+-- where that was said.
+use Rattle.std.specs.Prelude.{Bool, true, false}
+use Rattle.stmflash.specs.declared.action.Action.TheVariants as action
+use Rattle.stmflash.specs.declared.work.Work.{Work}
+use Rattle.stmflash.specs.declared.work.Work.TheVariants as work
+use Rattle.stmflash.specs.Action.{on_fresh}
+
+-- it is such an undo
+abbrev pub is_fresh_undo : Work → Bool
+is_fresh_undo (work.Act (action.UndoFresh count)) = true
+is_fresh_undo does = false
+
+-- the same work on a device that is said to be so, or isn't
+abbrev pub work_on_fresh : Bool → Work → Work
+work_on_fresh is_fresh (work.Act does) = work.Act (on_fresh is_fresh does)
+work_on_fresh is_fresh does = does
