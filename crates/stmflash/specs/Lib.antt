@@ -12,6 +12,7 @@ pub mod FalseErase
 pub mod JournalChoice
 pub mod Hinting
 pub mod JournalFile
+pub mod JsonLine
 pub mod Locks
 pub mod OneCall
 pub mod WholeCalls
