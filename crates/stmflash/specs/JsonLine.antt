@@ -1,6 +1,7 @@
 -- A line of JSON (RFC 8259): one object, whose values are texts, numbers and lists of texts.
 use Rattle.std.specs.Prelude.{◌≡◌, ℕ, ◌/◌, ◌%◌, ◌+◌, ◌==◌, ◌||◌, List, [], ◌∷◌, ◌++◌, codes, decimal}
 use Rattle.std.specs.Prelude.{if◌then◌else◌, nat_lt}
+use Rattle.std.specs.List.{flat_map}
 
 -- a digit in base 16, in small letters
 abbrev pub hex_digit : ℕ → ℕ
@@ -20,8 +21,7 @@ quoted_byte byte =
 
 -- a text within quotation marks
 abbrev pub quoted : List ℕ → List ℕ
-quoted [] = []
-quoted (byte ∷ text) = quoted_byte byte ++ quoted text
+quoted = flat_map quoted_byte
 
 -- a text with its quotation marks
 abbrev pub text_value : List ℕ → List ℕ
