@@ -142,7 +142,11 @@ class Waits(unittest.TestCase):
         port = types.SimpleNamespace(name="/dev/ttyUSB0", baud=115200)
         boot = read_sequence("-rts&dtr,-dtr,,")
         for resets, wait in ((False, 250), (True, 550)):
-            self.assertEqual(session.wait_of(port, types.SimpleNamespace(resets=resets, boot=boot)), wait)
+            given = types.SimpleNamespace(resets=resets, boot=boot, command=["stmflash", "write", "image"])
+            self.assertEqual(session.wait_of(port, given), wait)
+            # what was stopped may still keep the board busy
+            given.command = ["stmflash", "undo", "--journal", "journal"]
+            self.assertIsNone(session.wait_of(port, given))
 
     def test_is_told_where_its_user_says_nothing(self):
         said = os.path.join(self.folder, "said")
