@@ -1,6 +1,6 @@
 -- Pieces that are added one after another, each synced before the next, leave a beginning of lines.
 use Rattle.std.proofs.Common.{◌≡◌, ◌+◌, ◌-◌, ◌≤◌, ◌^◌, ℕ, List, [], ◌++◌, Result, Ok, Err}
-use Rattle.std.proofs.Common.{length, take, drop, sym, ap, subst, ◌∙◌, inl, inr, arith, OnOk}
+use Rattle.std.proofs.Common.{length, take, drop, sym, ap, subst, ◌∙◌, inl, inr, arith, OnOk, OnErr}
 use Rattle.std.specs.Result.{IsErrAnd}
 use Rattle.std.proofs.lemmas.Bool.{cases_lt}
 use Rattle.std.proofs.lemmas.List.{append-nil, append_assoc, length-append, length-take, length-take-le, take-take, take_all}
@@ -77,10 +77,22 @@ all_stays bytes a b model honest seen synced = record {
 
 -- the end of a call that has failed
 pub failed_adding : {T E : Type 0} (result : Result T E) (Q : E → Type 0) (bytes : List ℕ)
-    (a b : FileState) → IsErrAnd result Q → LeavesOnly (LeftByAdding a.seen bytes) a b
-    → AddsHonestly bytes result a b
-failed_adding (Ok x) Q bytes a b failed time = absurd failed
-failed_adding (Err e) Q bytes a b failed time = record { ok = tt; time = time }
+    (a b : FileState) → IsErrAnd result Q → (n : ℕ) × (b.seen ≡ a.seen ++ take n bytes)
+    → LeavesOnly (LeftByAdding a.seen bytes) a b → AddsHonestly bytes result a b
+failed_adding (Ok x) Q bytes a b failed some time = absurd failed
+failed_adding (Err e) Q bytes a b failed some time =
+    record { ok = tt; err = some; time = time }
+
+-- a piece whose sync has failed is there all the same
+piece_there : {T E : Type 0} (result : Result T E) (piece : List ℕ) (a b c : FileState)
+    → b.seen ≡ a.seen ++ piece → c.seen ≡ b.seen
+    → OnErr result ((n : ℕ) × (c.seen ≡ a.seen ++ take n piece))
+piece_there (Ok x) piece a b c seen same = tt
+piece_there (Err e) piece a b c seen same = (
+  length piece,
+  same ∙ seen
+      ∙ ap (λ (xs : List ℕ). a.seen ++ xs) (sym (take_all (length piece) piece (omega arith))),
+)
 
 pub piece_stays : {T E : Type 0} (result : Result T E) (piece : List ℕ) (a b c : FileState)
     → (c.is_honest → IsModel c) → b.seen ≡ a.seen ++ piece → SyncsHonestly result b c
@@ -99,6 +111,7 @@ pub piece_added : {T E : Type 0} (result : Result T E) (at : ℕ) (piece : List 
     → AddsHonestly piece result a c
 piece_added result at piece a b c model_a model_b model_c whole s seen synced first by = record {
   ok = piece_stays result piece a b c model_c seen by;
+  err = piece_there result piece a b c seen by.seen;
   time = piece_at_sync result at piece a b c model_b whole s seen synced first by;
 }
 
@@ -128,6 +141,20 @@ next_leaves old bytes mid piece left done count before is by =
           ∙ ap (λ (xs : List ℕ). old ++ xs) (sym (append_assoc front more tail))
           ∙ ap (λ (xs : List ℕ). old ++ (xs ++ tail)) (sym (take-add done some.0 bytes)),
       by.3,
+    )
+
+-- what is there of the next piece is a beginning of the whole
+pub next_there : (done count : ℕ) (bytes piece : List ℕ) (a b c : FileState)
+    → piece ≡ take count (drop done bytes) → b.seen ≡ a.seen ++ take done bytes
+    → (n : ℕ) × (c.seen ≡ b.seen ++ take n piece) → (n : ℕ) × (c.seen ≡ a.seen ++ take n bytes)
+next_there done count bytes piece a b c is before by =
+    let some = beginning_of by.0 count (drop done bytes) in
+    let more : List ℕ = take some.0 (drop done bytes) in
+    let begun : take by.0 piece ≡ more = ap (λ (xs : List ℕ). take by.0 xs) is ∙ some.1 in (
+      done + some.0,
+      by.1 ∙ ap (λ (xs : List ℕ). b.seen ++ xs) begun ∙ ap (λ (xs : List ℕ). xs ++ more) before
+          ∙ append_assoc a.seen (take done bytes) more
+          ∙ ap (λ (xs : List ℕ). a.seen ++ xs) (sym (take-add done some.0 bytes)),
     )
 
 -- so many bytes were added, and are synced

@@ -1,5 +1,9 @@
 pub mod Crashes
 pub mod Times
 pub mod Adding
+pub mod InTurn
 pub mod Stopping
 pub mod Remembering
+pub mod OnDisk
+pub mod Folders
+pub mod Locked

@@ -3,6 +3,11 @@ pub mod Crash
 pub mod GrowingFile
 pub mod Moments
 pub mod Lines
+pub mod Appends
 pub mod MemoryFile
 pub mod MemoryFileLaws
 pub mod Stops
+pub mod DiskRig
+pub mod DiskRigLaws
+pub mod Folder
+pub mod LockedFile

@@ -1,5 +1,5 @@
 -- What adding lines to a file promises of a crash.
-use Rattle.std.specs.Prelude.{◌≡◌, ℕ, List, ◌++◌, length, take, Result, OnOk}
+use Rattle.std.specs.Prelude.{◌≡◌, ℕ, List, ◌++◌, length, take, Result, OnOk, OnErr}
 use Rattle.stm_journal.specs.Text.{HasNoLF}
 use Rattle.stm_disk.specs.GrowingFile.{FileState}
 use Rattle.stm_disk.specs.Moments.{LeavesOnly}
@@ -22,8 +22,10 @@ pub record Stays (bytes : List ℕ) (old new : FileState) : Type 0 where
   pub synced : new.synced ≡ length new.seen
   pub left : (left : List ℕ) → new.left_since new.moment left → left ≡ old.seen ++ bytes
 
--- whenever the PC crashes, a beginning of the lines is left, and at Ok all
+-- Whenever the PC crashes, a beginning of the lines is left, and at Ok all. Where it failed, a
+-- beginning of the bytes is there.
 pub record AddsHonestly {T E : Type 0} (bytes : List ℕ) (result : Result T E)
     (old new : FileState) : Type 0 where
   pub ok : OnOk result (Stays bytes old new)
+  pub err : OnErr result ((n : ℕ) × (new.seen ≡ old.seen ++ take n bytes))
   pub time : LeavesOnly (LeftByAdding old.seen bytes) old new

@@ -3,7 +3,7 @@ use Rattle.std.proofs.Common.{ℕ, ◌≡◌, ◌≤◌, ◌+◌, ◌-◌, ◌++
 use Rattle.std.proofs.KnownBytes.{Appends-trans, Appends-nil}
 use Rattle.std.proofs.Math.Seq.{take-add}
 use Rattle.std.specs.Io.KnownBytes.{Appends}
-use Rattle.stm_disk.proofs.Adding.{so_far_none, so_far_settled, so_far_more, so_far_all, next_time, failed_adding}
+use Rattle.stm_disk.proofs.Adding.{so_far_none, so_far_settled, so_far_more, so_far_all, next_time, next_there, failed_adding}
 use Rattle.stm_disk.proofs.lines.add_lines.Goals as goal
 
 rest-is : (done : ℕ) (bytes : List ℕ) → take (length bytes - done) (drop done bytes) ≡ drop done bytes
@@ -70,6 +70,7 @@ returns-in_err-add_piece-clause-honest g c = λ h s.
     let m = g.met.F.GrowingFile.model c.loop-done.file so.honest in
     let settled = so_far_settled c.args.at c.saturating_add-place.result done bytes a b m s.place i.within (λ small. omega (arith, small, c.saturating_add-place.ensures)) so in
     failed_adding c.from_residual.result _ bytes a (V c.add_piece.new.file) c.from_residual.ensures.1
+    (next_there done count bytes _ a b (V c.add_piece.new.file) (piece-is done count bytes) so.seen (c.in_err-add_piece.ensures.honest so.honest settled).err)
     (next_time c.add_piece.result done count bytes _ a b (V c.add_piece.new.file) (piece-is done count bytes) so (c.add_piece.ensures.honest so.honest settled))
 
 pub returns-clause-honest : goal.returns-clause-honest
@@ -79,5 +80,6 @@ returns-clause-honest g c = λ h s.
     record {
       ok = so_far_all c.loop-done.done c.args.bytes.now (V c.args.file.now) (V c.loop-done.file)
           (g.met.F.GrowingFile.model c.loop-done.file so.honest) (omega (arith, c.loop-done-test.false)) so;
+      err = tt;
       time = so.time;
     }

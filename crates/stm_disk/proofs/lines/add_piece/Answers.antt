@@ -19,6 +19,7 @@ pub returns-in_err-append-clause-honest : goal.returns-in_err-append-clause-hone
 returns-in_err-append-clause-honest g c = λ h s.
     let V = g.F.GrowingFile.view in
     failed_adding c.from_residual.result _ c.args.piece.now (V c.args.file.now) (V c.append.new.self) c.from_residual.ensures.1
+    (c.in_err-append.ensures.honest h).err
     (piece_appended c.append.result c.args.at c.args.piece.now (V c.args.file.now) (V c.append.new.self)
     (g.met.F.GrowingFile.model c.args.file.now h) c.requires s (c.append.ensures.honest h))
 
