@@ -3,8 +3,8 @@
 import os
 import random
 import sys
-import threading
 
+import syncs
 from place import COUNTING, TOP, Place
 from test_log import BAD, FOLLOWED
 
@@ -100,31 +100,17 @@ class Check(Place):
         self.assertEqual(self.use("crc", *part).out, before)
 
     def test_tells_what_is_there_when_it_begins(self):
-        """What a session adds meanwhile is neither counted nor told."""
-        def pairs(first, last):
-            return b"".join(b"open %d\nend %d\n" % (number, number) for number in range(first, last))
+        """What a session adds meanwhile, here before its first reads, is neither counted nor told."""
+        def add(number, process):
+            if number < 8:
+                with open(self.path("journal"), "ab") as file:
+                    file.write(b"open %d\nend %d\n" % (number + 2, number + 2))
 
-        self.store("journal", HEADER + pairs(1, 20000))
-        ended = threading.Event()
-
-        def add():
-            with open(self.path("journal"), "ab", buffering=0) as file:
-                for first in range(20000, 65000, 100):
-                    if ended.wait(0.002):
-                        return
-                    file.write(pairs(first, first + 100))
-
-        adding = threading.Thread(target=add)
-        adding.start()
-        try:
-            said = self.check()
-        finally:
-            ended.set()
-            adding.join()
-        depth = said.out.count(b"segment ")
-        self.assertGreaterEqual(depth, 19999)
-        self.assertEqual(said.out.splitlines()[-2:], [b"%d lines, 0 of them void, 0 bytes behind them" % (1 + 2 * depth),
-                                                      b"%d can be undone" % depth])
+        journal = HEADER + b"open 1\nend 1\n"
+        self.store("journal", journal)
+        said, read = syncs.call(self.folder, ("log", "--check", "--journal", "journal"), held=syncs.LSEEK, at=add)
+        self.assertTold(said, "id 0412\nsegment 1: ended, 0 pages\n" + counted(journal) + "1 can be undone\n")
+        self.assertGreater(read.count("journal"), 1)
 
     def test_refuses_what_log_refuses(self):
         self.assertFault(self.check(), "cannot read journal")
