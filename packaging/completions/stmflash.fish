@@ -39,7 +39,7 @@ complete -c stmflash -n "__stmflash_in $device log keep" -l json -d 'Tells what 
 complete -c stmflash -n "__stmflash_in $device" -l fresh -d 'The device was just reset'
 complete -c stmflash -n "__stmflash_in $device" -l board -x -d 'The unique id that is wanted, or its last digits'
 complete -c stmflash -n "__stmflash_in $device" -l no-board -d 'Does not ask which board it is'
-complete -c stmflash -n "__stmflash_in log" -l check -d 'Reads all of it, and tells what is damaged'
+complete -c stmflash -n "__stmflash_in log" -l check -d 'Reads all of it, and tells the CRC of each kept page'
 complete -c stmflash -n "__stmflash_in info" -l raw -d 'What a device of any chip tells'
 complete -c stmflash -n "__stmflash_in read crc write verify" -s S -x -d 'address[:length]'
 complete -c stmflash -n "__stmflash_in write verify" -s f -d 'Takes the file as raw bytes'

@@ -24,7 +24,8 @@ pub const PROTECT: &str = "Changes a protection; readout-unprotect erases the ch
 
 pub const LOG: &str = "Tells what a journal says; no device is used";
 
-pub const LOG_CHECK: &str = "Reads all of it, every kept byte too, and tells what is damaged";
+pub const LOG_CHECK: &str =
+    "Reads all of it, every kept byte too, and tells the CRC of each kept page";
 
 pub const KEEP: &str =
     "Lets what was written and erased stay for good: the journal is removed, or renamed to TO";
