@@ -169,13 +169,13 @@ class Completions(Place):
             text = file.read()
         lines = dict(re.findall(r"^        ([a-z]+)\) _arguments ((?:.*\\\n)*.*);;$", text, re.M))
         shared = {name: set(re.findall(r"(?<![\w-])(-\w|--[a-z][a-z-]*)(?=[\[,}])", body)) for name, body in
-                  re.findall(r"^    (help|journal|lock|device|asked|range)=\((.*?)\)$", text, re.M | re.S)}
-        shared["device"] |= shared["help"] | shared["journal"] | shared["lock"]
+                  re.findall(r"^    (help|journal|lock|json|device|asked|range)=\((.*?)\)$", text, re.M | re.S)}
+        shared["device"] |= shared["help"] | shared["journal"] | shared["lock"] | shared["json"]
         subcommands = self.subcommands()
         self.assertEqual(set(re.findall(r"^        '([a-z]+):", text, re.M)), subcommands)
         for name in subcommands - {"help"}:
             with self.subTest(subcommand=name):
                 offered = set(re.findall(r"['\"](-\w|--[a-z][a-z-]*)\[", lines[name]))
-                for group in re.findall(r"\$(help|journal|lock|device|asked|range)\b", lines[name]):
+                for group in re.findall(r"\$(help|journal|lock|json|device|asked|range)\b", lines[name]):
                     offered |= shared[group]
                 self.assertEqual(offered, options(self.help_of(name)))

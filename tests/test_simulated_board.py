@@ -4,7 +4,7 @@ import os
 import tomllib
 
 import telling
-from place import TOP, UNTRIED, Place
+from place import TOP, UNTRIED, UNTRIED, Place
 from served import WAIT, Served
 
 HEAD = "[[chip]]\n"
@@ -35,7 +35,7 @@ class SimulatedBoard(Place):
 
     def test_a_part_of_64_kib_has_64_pages(self):
         self.store("flash.board", f"unique {NAME}\nsize 64\n".encode())
-        told = INFO % (64, 65536) + f"board {NAME}\nflash 64 KiB\n"
+        told = INFO % (64, 65536) + f"board {NAME}\nflash 64 KiB\n" + UNTRIED
         self.assertTold(self.at("info"), told)
         self.store("flash", COUNTING)
         self.assertFault(self.at("erase", "64"), "address outside the flash")
