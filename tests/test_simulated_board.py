@@ -4,7 +4,7 @@ import os
 import tomllib
 
 import telling
-from place import TOP, UNTRIED, UNTRIED, Place
+from place import TOP, UNTRIED, Place
 from served import WAIT, Served
 
 HEAD = "[[chip]]\n"
