@@ -4,7 +4,6 @@ import os
 import random
 import sys
 
-import syncs
 from place import COUNTING, TOP, Place
 from test_log import BAD, FOLLOWED
 
@@ -98,19 +97,6 @@ class Check(Place):
         self.assertIn(b"page 5, line 3, 1024 bytes, " + before, self.check().out)
         self.use("undo")
         self.assertEqual(self.use("crc", *part).out, before)
-
-    def test_tells_what_is_there_when_it_begins(self):
-        """What a session adds meanwhile, here before its first reads, is neither counted nor told."""
-        def add(number, process):
-            if number < 8:
-                with open(self.path("journal"), "ab") as file:
-                    file.write(b"open %d\nend %d\n" % (number + 2, number + 2))
-
-        journal = HEADER + b"open 1\nend 1\n"
-        self.store("journal", journal)
-        said, read = syncs.call(self.folder, ("log", "--check", "--journal", "journal"), held=syncs.LSEEK, at=add)
-        self.assertTold(said, "id 0412\nsegment 1: ended, 0 pages\n" + counted(journal) + "1 can be undone\n")
-        self.assertGreater(read.count("journal"), 1)
 
     def test_refuses_what_log_refuses(self):
         self.assertFault(self.check(), "cannot read journal")
