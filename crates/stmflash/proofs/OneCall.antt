@@ -36,7 +36,7 @@ use Rattle.stmflash.specs.Conduct.{Asks, RunsIfRoom, RunsTold}
 use Rattle.stmflash.specs.Content.{ImageOn, IsRawImage}
 use Rattle.stmflash.specs.OneCall.{CallsEndAsAsked, CanCall, EndsAsAsked, EndsWith, HasGone, IsKept}
 use Rattle.stmflash.specs.OneCall.{IsWritten, image_on}
-use Rattle.stmflash.specs.Steps.{EndsJournal, Follows, GoesBehind, Keeps, MayGo, MayKeep}
+use Rattle.stmflash.specs.Steps.{Follows, GoesBehind, Keeps, MayGo, MayKeep}
 
 -- what the layers below promise
 pub record Laws {R : Type 0} (view : R → RigState) : Type 0 where

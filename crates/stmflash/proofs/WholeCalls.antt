@@ -254,10 +254,10 @@ module _ {R : Type 0} (view : R → RigState) (law : ToldBoardIsTheDevices)
 
 -- the same of one call of what is asked for
 pub writes-as-asked : {R : Type 0} (view : R → RigState) → WholeCallsEndAsAsked R view
-    → (table : List ChipData) (question : Question) (does : Work) (sequel : Sequel) (old new : R)
-    (result : Result Steps Failure) → TakesSteps view table question does sequel old new result
-    → WritesAsAsked view table question does sequel old new result
-writes-as-asked view law table question does sequel old new result takes content steps is can said
+    → (table : List ChipData) (question : Question) (asked : Work) (sequel : Sequel) (old new : R)
+    (result : Result Steps Failure) → TakesSteps view table question asked sequel old new result
+    → WritesAsAsked view table question asked sequel old new result
+writes-as-asked view law table question asked sequel old new result takes content steps is can said
     none =
     let wrote : Work = work.Act (action.WriteAndVerify content) in
     let T : Work → Type 0 = λ w. TakesSteps view table question w sequel old new result in
