@@ -6,6 +6,7 @@ STMFLASH_LONG=1 tries each planted board with both erase commands, also those th
 
 import concurrent.futures
 import contextlib
+import functools
 import os
 import pty
 import random
@@ -466,8 +467,10 @@ class Ends(TrialPlace):
 
     def start_trial(self, pause="0.2", *more):
         words = ["--device", "board", "--table", "table", "--save", "saved", "--yes", "--wait", "20", "--pause", pause, *more]
+        # a shell that runs the tests behind it has its children ignore this one
+        heard = functools.partial(signal.signal, signal.SIGINT, signal.SIG_DFL)
         started = subprocess.Popen([sys.executable, TRIAL, *words], cwd=self.folder, env={}, stdin=subprocess.DEVNULL,
-                                   stdout=subprocess.PIPE, stderr=subprocess.PIPE)
+                                   stdout=subprocess.PIPE, stderr=subprocess.PIPE, preexec_fn=heard)
         self.addCleanup(started.communicate)
         self.addCleanup(started.kill)
         while b"saved in " not in started.stdout.readline():
