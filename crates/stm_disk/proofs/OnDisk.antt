@@ -1,173 +1,268 @@
 -- What the calls of a Rig with its journal on a disk promise, from what its line and file do.
 use Rattle.std.proofs.Common.{◌≡◌, inl, inr, ◌+◌, ◌-◌, ◌^◌, ◌≤◌, ℕ, List, [], ◌∷◌, ◌++◌}
 use Rattle.std.proofs.Common.{length, take}
-use Rattle.std.proofs.Common.{Bool, true, not, is_ok, true≢false, Option, Some, None}
+use Rattle.std.proofs.Common.{Bool, true, false, not, is_ok, true≢false, Option, Some, None}
 use Rattle.std.proofs.Common.{Result, Ok, Err, OnOk}
 use Rattle.std.proofs.Common.{refl, sym, ◌∙◌, ap, subst, arith, append-nil, take_all, length-append}
 use Rattle.std.specs.Result.{IsErr}
 use Rattle.std.proofs.Math.Seq.{take-append-add, take-append_seam}
-use Rattle.stm_wire.specs.Call.{Call, Append}
+use Rattle.stm_wire.specs.Call.{Call, Append, Fetch, Get, Put}
 use Rattle.stm_wire.specs.declared.fault.RigFault.{RigFault}
 use Rattle.stm_wire.specs.declared.rig.Patience.{Patience}
 use Rattle.stm_wire.specs.declared.rig.Patience.TheVariants.{Brief, Long}
 use Rattle.stm_wire.specs.Device.{Device, LosesOwed}
 use Rattle.stm_wire.specs.Rig.{RigState, IsModel, Elapses, LeftByPut, LeftByGet, LeftByAppend}
 use Rattle.stm_wire.specs.Rig.{PutsHonestly, GetsHonestly, AppendsHonestly, FetchesHonestly}
-use Rattle.stm_wire.specs.Rig.{RecordsAppend, HasCause, Tells, waited}
+use Rattle.stm_wire.specs.Rig.{HasCause, PutsAside, Records, RecordsAppend, Tells, waited}
 use Rattle.stm_journal.specs.Text.{text_of}
 use Rattle.stm_journal.specs.Journals.{journal_of}
 use Rattle.stm_disk.specs.Crash.{MayBeLeft}
 use Rattle.stm_disk.specs.GrowingFile.{FileState}
 use Rattle.stm_disk.specs.GrowingFile.{IsModel as IsFileModel}
 use Rattle.stm_disk.specs.Lines.{LeftByAdding, Stays}
-use Rattle.stm_disk.specs.DiskRig.{DiskState, HoldsJournal, IsDisk, IsOnDisk, told_of, SameLines}
+use Rattle.stm_disk.specs.RigCalls.{PutsAsRig, GetsAsRig, AppendsAsRig, FetchesAsRig}
+use Rattle.stm_disk.specs.DiskRig.{DiskState, HoldsJournal, IsDisk, IsOnDisk, SameLines}
+use Rattle.stm_disk.specs.DiskRig.{disk_rig_state, LeftByCall, CrashesAreStopsIn}
 use Rattle.stm_disk.specs.DiskRig.{CrashesAreStopsHere, CrashesInSessionsAreStops}
 use Rattle.stm_disk.proofs.Crashes.{settled_left}
 use Rattle.stm_disk.proofs.Stopping.{crashes_are_stops}
 
 -- no call reads the counts
-elapses : (P Q : Device → List ℕ → Type 0) (h h2 : Type 0) (a b a2 b2 : ℕ) (old new : RigState)
+elapses : (P Q : Device → List ℕ → Type 0) (old new : DiskState)
     → ((d : Device) (journal : List ℕ) → P d journal → Q d journal)
-    → Elapses P old new → Elapses Q (told_of h a b old) (told_of h2 a2 b2 new)
-elapses P Q h h2 a b a2 b2 old new weaken time =
-    record {
-      later = time.later;
-      nothing_else = λ t d journal le left. elim (time.nothing_else t d journal le left) [
-        | inl was ↦ inl was
-        | inr is ↦ inr (weaken d journal is)
-      ];
-      keeps = time.keeps;
-    }
-
-idle : (P : Device → List ℕ → Type 0) (h h2 : Type 0) (a b a2 b2 : ℕ) (rig : RigState)
-    → Elapses P (told_of h a b rig) (told_of h2 a2 b2 rig)
-idle P h h2 a b a2 b2 rig = record {
-  later = omega arith;
-  nothing_else = λ t d journal le left. inl left;
-  keeps = λ t d journal le left. left;
+    → Elapses P old.line new.line → Elapses Q (disk_rig_state old) (disk_rig_state new)
+elapses P Q old new weaken time = record {
+  later = time.later;
+  nothing_else = λ t d journal le left. elim (time.nothing_else t d journal le left) [
+    | inl was ↦ inl was
+    | inr is ↦ inr (weaken d journal is)
+  ];
+  keeps = time.keeps;
 }
 
-pub puts : (byte : ℕ) (result : Result (Unit {0}) RigFault) (h h2 : Type 0) (a b a2 b2 : ℕ)
-    (old new : RigState) → h2 → PutsHonestly byte result old new
-    → PutsHonestly byte result (told_of h a b old) (told_of h2 a2 b2 new)
-puts byte result h h2 a b a2 b2 old new is p =
-    record {
-      honest = is;
-      ok = p.ok;
-      err = p.err;
-      time =
-          elapses (LeftByPut byte old) (LeftByPut byte (told_of h a b old)) h h2 a b a2 b2 old new
-          (λ d journal left. left) p.time;
-    }
+idle : (P : Device → List ℕ → Type 0) (old new : DiskState) → new.line ≡ old.line
+    → Elapses P (disk_rig_state old) (disk_rig_state new)
+idle P old new same =
+    let G : RigState → Type 0 = λ r.
+    Elapses P (disk_rig_state old) (disk_rig_state (record new { line = r })) in
+    subst G (sym same) (record {
+      later = omega arith;
+      nothing_else = λ t d journal le left. inl left;
+      keeps = λ t d journal le left. left;
+    })
 
-pub gets : (result : Result (Option ℕ) RigFault) (h h2 : Type 0) (a b a2 b2 : ℕ)
-    (old new : RigState) → h2 → GetsHonestly result old new
-    → GetsHonestly result (told_of h a b old) (told_of h2 a2 b2 new)
-gets result h h2 a b a2 b2 old new is g =
-    record {
-      honest = is;
-      ok = g.ok;
-      journal = g.journal;
-      err = g.err;
-      time =
-          elapses (LeftByGet old) (LeftByGet (told_of h a b old)) h h2 a b a2 b2 old new
-          (λ d journal left. left) g.time;
-    }
+puts : (byte : ℕ) (result : Result (Unit {0}) RigFault) (old new : DiskState) → IsDisk new
+    → PutsHonestly byte result old.line new.line
+    → PutsHonestly byte result (disk_rig_state old) (disk_rig_state new)
+puts byte result old new is p = record {
+  honest = is;
+  ok = p.ok;
+  err = p.err;
+  time =
+      elapses (LeftByPut byte old.line) (LeftByPut byte (disk_rig_state old)) old new
+      (λ d journal left. left) p.time;
+}
 
-pub appends : (bytes : List ℕ) (result : Result (Unit {0}) RigFault) (h h2 : Type 0)
-    (a b a2 b2 : ℕ) (old new : RigState) → h2 → AppendsHonestly bytes result old new
-    → AppendsHonestly bytes result (told_of h a b old) (told_of h2 a2 b2 new)
-appends bytes result h h2 a b a2 b2 old new is by =
-    record {
-      honest = is;
-      ok = by.ok;
-      err = by.err;
-      time =
-          elapses (LeftByAppend bytes old) (LeftByAppend bytes (told_of h a b old)) h h2 a b a2 b2
-          old new (λ d journal left. left) by.time;
-      beginnings = by.beginnings;
-    }
+gets : (result : Result (Option ℕ) RigFault) (old new : DiskState) → IsDisk new
+    → GetsHonestly result old.line new.line
+    → GetsHonestly result (disk_rig_state old) (disk_rig_state new)
+gets result old new is g = record {
+  honest = is;
+  ok = g.ok;
+  journal = g.journal;
+  err = g.err;
+  time =
+      elapses (LeftByGet old.line) (LeftByGet (disk_rig_state old)) old new
+      (λ d journal left. left) g.time;
+}
 
-pub fetches : (at : ℕ) (buf after_buf : List ℕ) (result : Result ℕ RigFault) (h h2 : Type 0)
-    (a b a2 b2 : ℕ) (old new : RigState) → h2 → FetchesHonestly at buf after_buf result old new
-    → FetchesHonestly at buf after_buf result (told_of h a b old) (told_of h2 a2 b2 new)
-fetches at buf after_buf result h h2 a b a2 b2 old new is f =
-    record {
-      honest = is;
-      ok = f.ok;
-      bytes = f.bytes;
-      more = f.more;
-      err = f.err;
-      time =
-          elapses (LeftByGet old) (LeftByGet (told_of h a b old)) h h2 a b a2 b2 old new
-          (λ d journal left. left) f.time;
-    }
+appends : (bytes : List ℕ) (result : Result (Unit {0}) RigFault) (old new : DiskState)
+    → IsDisk new → AppendsHonestly bytes result old.line new.line
+    → AppendsHonestly bytes result (disk_rig_state old) (disk_rig_state new)
+appends bytes result old new is by = record {
+  honest = is;
+  ok = by.ok;
+  err = by.err;
+  time =
+      elapses (LeftByAppend bytes old.line) (LeftByAppend bytes (disk_rig_state old)) old new
+      (λ d journal left. left) by.time;
+  beginnings = by.beginnings;
+}
+
+fetches : (at : ℕ) (buf after_buf : List ℕ) (result : Result ℕ RigFault) (old new : DiskState)
+    → IsDisk new → FetchesHonestly at buf after_buf result old.line new.line
+    → FetchesHonestly at buf after_buf result (disk_rig_state old) (disk_rig_state new)
+fetches at buf after_buf result old new is f = record {
+  honest = is;
+  ok = f.ok;
+  bytes = f.bytes;
+  more = f.more;
+  err = f.err;
+  time =
+      elapses (LeftByGet old.line) (LeftByGet (disk_rig_state old)) old new
+      (λ d journal left. left) f.time;
+}
+
+-- counts of a line and of what was refused
+pub causes : {T : Type 0} (before now refused : ℕ) (result : Result T RigFault)
+    → HasCause before now result → HasCause (before + refused) (now + refused) result
+causes before now refused (Ok x) h = record {
+  later = omega (arith, h.later);
+  done = ap (λ (n : ℕ). n + refused) h.done;
+  failed = tt;
+}
+causes before now refused (Err e) h = record {
+  later = omega (arith, h.later);
+  done = tt;
+  failed = omega (arith, h.failed);
+}
+
+pub refusal_causes : {T : Type 0} (count before now : ℕ) (result : Result T RigFault)
+    → HasCause before now result → HasCause (count + before) (count + now) result
+refusal_causes count before now (Ok x) h = record {
+  later = omega (arith, h.later);
+  done = ap (λ (n : ℕ). count + n) h.done;
+  failed = tt;
+}
+refusal_causes count before now (Err e) h = record {
+  later = omega (arith, h.later);
+  done = tt;
+  failed = omega (arith, h.failed);
+}
+
+-- waits aren't counted
+pub not_waited : (patience : Patience) → None ≡ waited patience None
+not_waited Brief = refl
+not_waited Long = refl
+
+-- a fetch that is refused tells nothing
+pub not_told : (after : List ℕ) (result : Result ℕ RigFault) (told : Option (List ℕ))
+    → IsErr result → Tells after result told told
+not_told after (Ok x) told failed = absurd (true≢false (sym failed))
+not_told after (Err e) None failed = refl
+not_told after (Err e) (Some past) failed = refl
+
+pub failed : {T : Type 0} {result : Result T RigFault} {fault : RigFault} → result ≡ Err fault
+    → IsErr result
+failed {T} {result} {fault} is =
+    subst (λ (r : Result T RigFault). IsErr r) (sym is) refl
+
+-- a call that did nothing stands in no record
+unrecorded : {T : Type 0} (call : Call) (result : Result T RigFault) (calls : Option (List Call))
+    → IsErr result → Records call result calls calls
+unrecorded call (Ok x) calls failed = absurd (true≢false (sym failed))
+unrecorded call (Err e) None failed = refl
+unrecorded call (Err e) (Some past) failed = inr refl
+
+unappended : (bytes : List ℕ) (fault : RigFault) (calls : Option (List Call))
+    → RecordsAppend {T = Unit {0}} bytes (Err fault) calls calls
+unappended bytes fault None = refl
+unappended bytes fault (Some past) = inr refl
 
 -- calls that are refused do nothing
-pub put_refused : (byte : ℕ) (result : Result (Unit {0}) RigFault) (h h2 : Type 0) (a b a2 b2 : ℕ)
-    (rig rig2 : RigState) → rig2 ≡ rig → IsErr result → h2
-    → PutsHonestly byte result (told_of h a b rig) (told_of h2 a2 b2 rig2)
-put_refused byte (Ok x) h h2 a b a2 b2 rig rig2 same failed is = absurd (true≢false (sym failed))
-put_refused byte (Err e) h h2 a b a2 b2 rig rig2 same failed is =
-    let G : RigState → Type 0 = λ r.
-    PutsHonestly {T = Unit {0}} byte (Err e) (told_of h a b rig) (told_of h2 a2 b2 r) in
+pub put_refused : (byte : ℕ) (result : Result (Unit {0}) RigFault) (refused : ℕ)
+    (old new : DiskState) → new ≡ record old { refused = refused } → IsErr result
+    → HasCause old.refused refused result
+    → PutsAsRig byte result (disk_rig_state old) (disk_rig_state new)
+put_refused byte (Ok x) refused old new same failed count = absurd (true≢false (sym failed))
+put_refused byte (Err e) refused old new same failed count =
+    let rig = old.line in
+    let G : DiskState → Type 0 = λ d.
+    PutsAsRig byte (Err e) (disk_rig_state old) (disk_rig_state d) in
     subst G (sym same) (record {
-      honest = is;
-      ok = tt;
-      err = (refl, (rig.device, inl refl, (0, refl)));
-      time = idle (LeftByPut byte (told_of h a b rig)) h h2 a b a2 b2 rig;
+      cause = refusal_causes rig.line_failures old.refused refused (Err e) count;
+      journal_count = refl;
+      recorded = unrecorded {T = Unit {0}} (Put byte) (Err e) rig.calls failed;
+      entered = λ room. absurd room;
+      aside = record { long_gets = refl; told = refl };
+      honest = λ is. record {
+        honest = record { line = is.line; file = is.file };
+        ok = tt;
+        err = (refl, (rig.device, inl refl, (0, refl)));
+        time = idle (LeftByPut byte (disk_rig_state old)) old (record old { refused = refused }) refl;
+      };
     })
 
-pub get_refused : (result : Result (Option ℕ) RigFault) (h h2 : Type 0) (a b a2 b2 : ℕ)
-    (rig rig2 : RigState) → rig2 ≡ rig → IsErr result → h2
-    → GetsHonestly result (told_of h a b rig) (told_of h2 a2 b2 rig2)
-get_refused (Ok x) h h2 a b a2 b2 rig rig2 same failed is = absurd (true≢false (sym failed))
-get_refused (Err e) h h2 a b a2 b2 rig rig2 same failed is =
-    let G : RigState → Type 0 = λ r.
-    GetsHonestly (Err e) (told_of h a b rig) (told_of h2 a2 b2 r) in
+pub get_refused : (patience : Patience) (result : Result (Option ℕ) RigFault) (refused : ℕ)
+    (old new : DiskState) → new ≡ record old { refused = refused } → IsErr result
+    → HasCause old.refused refused result
+    → GetsAsRig patience result (disk_rig_state old) (disk_rig_state new)
+get_refused patience (Ok x) refused old new same failed count = absurd (true≢false (sym failed))
+get_refused patience (Err e) refused old new same failed count =
+    let rig = old.line in
+    let G : DiskState → Type 0 = λ d.
+    GetsAsRig patience (Err e) (disk_rig_state old) (disk_rig_state d) in
     subst G (sym same) (record {
-      honest = is;
-      ok = tt;
-      journal = refl;
-      err = (refl, (0, refl));
-      time = idle (LeftByGet (told_of h a b rig)) h h2 a b a2 b2 rig;
+      cause = refusal_causes rig.line_failures old.refused refused (Err e) count;
+      journal_count = refl;
+      recorded = unrecorded {T = Option ℕ} (Get None) (Err e) rig.calls failed;
+      entered = λ room. absurd room;
+      aside = record { long_gets = not_waited patience; told = refl };
+      honest = λ is. record {
+        honest = record { line = is.line; file = is.file };
+        ok = tt;
+        journal = refl;
+        err = (refl, (0, refl));
+        time = idle (LeftByGet (disk_rig_state old)) old (record old { refused = refused }) refl;
+      };
     })
 
-pub append_refused : (bytes : List ℕ) (result : Result (Unit {0}) RigFault) (fault : RigFault)
-    (h h2 : Type 0) (a b a2 b2 : ℕ) (rig rig2 : RigState) → rig2 ≡ rig → result ≡ Err fault
-    → IsModel rig → h2 → AppendsHonestly bytes result (told_of h a b rig) (told_of h2 a2 b2 rig2)
-append_refused bytes result fault h h2 a b a2 b2 rig rig2 same failed model is =
-    let G : RigState → Type 0 = λ r.
-    AppendsHonestly {T = Unit {0}} bytes (Err fault) (told_of h a b rig) (told_of h2 a2 b2 r) in
-    let R : Result (Unit {0}) RigFault → Type 0 = λ r.
-    AppendsHonestly bytes r (told_of h a b rig) (told_of h2 a2 b2 rig2) in
-    subst R (sym failed) (subst G (sym same) (record {
-      honest = is;
-      ok = tt;
-      err = ((0, sym (append-nil rig.journal)), (0, refl));
-      time = idle (LeftByAppend bytes (told_of h a b rig)) h h2 a b a2 b2 rig;
-      beginnings = λ t n d le above lost.
-          let J : List ℕ → Type 0 = λ j. rig.left_since t d j in
-          subst J (sym (take_all n rig.journal above)) (model.counts_now t d le lost);
-    }))
+pub append_refused : (bytes : List ℕ) (result : Result (Unit {0}) RigFault) (failures : ℕ)
+    (old new : DiskState) → new ≡ record old { journal_failures = failures } → IsErr result
+    → HasCause old.journal_failures failures result → (old.line.is_honest → IsModel old.line)
+    → AppendsAsRig bytes result (disk_rig_state old) (disk_rig_state new)
+append_refused bytes (Ok x) failures old new same failed count model =
+    absurd (true≢false (sym failed))
+append_refused bytes (Err e) failures old new same failed count model =
+    let rig = old.line in
+    let G : DiskState → Type 0 = λ d.
+    AppendsAsRig bytes (Err e) (disk_rig_state old) (disk_rig_state d) in
+    subst G (sym same) (record {
+      cause = count;
+      line_count = refl;
+      recorded = unappended bytes e rig.calls;
+      entered = λ room. absurd room;
+      aside = record { long_gets = refl; told = refl };
+      honest = λ is. record {
+        honest = record { line = is.line; file = is.file };
+        ok = tt;
+        err = ((0, sym (append-nil rig.journal)), (0, refl));
+        time =
+            idle (LeftByAppend bytes (disk_rig_state old)) old
+            (record old { journal_failures = failures }) refl;
+        beginnings = λ t n d le above lost.
+            let J : List ℕ → Type 0 = λ j. rig.left_since t d j in
+            subst J (sym (take_all n rig.journal above)) ((model is.line).counts_now t d le lost);
+      };
+    })
 
-pub fetch_refused : (at : ℕ) (buf after_buf : List ℕ) (result : Result ℕ RigFault)
-    (fault : RigFault) (h h2 : Type 0) (a b a2 b2 : ℕ) (rig rig2 : RigState) → rig2 ≡ rig
-    → result ≡ Err fault → h2
-    → FetchesHonestly at buf after_buf result (told_of h a b rig) (told_of h2 a2 b2 rig2)
-fetch_refused at buf after_buf result fault h h2 a b a2 b2 rig rig2 same failed is =
-    let G : RigState → Type 0 = λ r.
-    FetchesHonestly at buf after_buf (Err fault) (told_of h a b rig) (told_of h2 a2 b2 r) in
-    let R : Result ℕ RigFault → Type 0 = λ r.
-    FetchesHonestly at buf after_buf r (told_of h a b rig) (told_of h2 a2 b2 rig2) in
-    subst R (sym failed) (subst G (sym same) (record {
-      honest = is;
-      ok = tt;
-      bytes = tt;
-      more = tt;
-      err = (refl, (0, refl));
-      time = idle (LeftByGet (told_of h a b rig)) h h2 a b a2 b2 rig;
-    }))
+pub fetch_refused : (at : ℕ) (buf : List ℕ) (result : Result ℕ RigFault) (failures : ℕ)
+    (old new : DiskState) → new ≡ record old { journal_failures = failures } → IsErr result
+    → HasCause old.journal_failures failures result
+    → FetchesAsRig at buf buf result (disk_rig_state old) (disk_rig_state new)
+fetch_refused at buf (Ok x) failures old new same failed count = absurd (true≢false (sym failed))
+fetch_refused at buf (Err e) failures old new same failed count =
+    let rig = old.line in
+    let G : DiskState → Type 0 = λ d.
+    FetchesAsRig at buf buf (Err e) (disk_rig_state old) (disk_rig_state d) in
+    subst G (sym same) (record {
+      within = record { same_length = refl; within = tt; last = λ from. tt };
+      cause = count;
+      line_count = refl;
+      recorded = unrecorded {T = ℕ} Fetch (Err e) rig.calls failed;
+      entered = λ room. absurd room;
+      aside = record { long_gets = refl; told = not_told buf (Err e) rig.told failed };
+      honest = λ is. record {
+        honest = record { line = is.line; file = is.file };
+        ok = tt;
+        bytes = tt;
+        more = tt;
+        err = (refl, (0, refl));
+        time =
+            idle (LeftByGet (disk_rig_state old)) old
+            (record old { journal_failures = failures }) refl;
+      };
+    })
 
 -- the journal of a call that adds nothing
 pub put_keeps : (byte : ℕ) (result : Result (Unit {0}) RigFault) (old new : RigState)
@@ -188,6 +283,71 @@ holds_still journal journal2 size file same h = record {
   seen = h.seen ∙ sym same;
   settled = h.settled;
 }
+
+-- a call that adds nothing leaves line and file as one
+kept_disk : (old : DiskState) (line : RigState) → line.is_honest
+    → line.journal ≡ old.line.journal → IsDisk old → IsDisk (record old { line = line })
+kept_disk old line honest keeps is = record {
+  line = honest;
+  file = λ e. holds_still old.line.journal line.journal old.size old.file keeps (is.file e);
+}
+
+-- calls that the line answers
+pub put_done : (byte : ℕ) (result : Result (Unit {0}) RigFault) (old : DiskState) (line : RigState)
+    → PutsAsRig byte result old.line line
+    → PutsAsRig byte result (disk_rig_state old) (disk_rig_state (record old { line = line }))
+put_done byte result old line p = record {
+  cause = causes old.line.line_failures line.line_failures old.refused result p.cause;
+  journal_count = refl;
+  recorded = p.recorded;
+  entered = λ room. absurd room;
+  aside = record { long_gets = refl; told = p.aside.told };
+  honest = λ is.
+      let q = p.honest is.line in
+      puts byte result old (record old { line = line })
+      (kept_disk old line q.honest (put_keeps byte result old.line line q) is) q;
+}
+
+pub get_done : (patience : Patience) (result : Result (Option ℕ) RigFault) (old : DiskState)
+    (line : RigState) → GetsAsRig patience result old.line line
+    → GetsAsRig patience result (disk_rig_state old) (disk_rig_state (record old { line = line }))
+get_done patience result old line p = record {
+  cause = causes old.line.line_failures line.line_failures old.refused result p.cause;
+  journal_count = refl;
+  recorded = p.recorded;
+  entered = λ room. absurd room;
+  aside = record { long_gets = not_waited patience; told = p.aside.told };
+  honest = λ is.
+      let q = p.honest is.line in
+      gets result old (record old { line = line }) (kept_disk old line q.honest q.journal is) q;
+}
+
+pub fetch_done : (at : ℕ) (buf after_buf : List ℕ) (answer result : Result ℕ RigFault)
+    (failures : ℕ) (line : RigState) (old new : DiskState)
+    → new ≡ record old { line = line; journal_failures = failures } → result ≡ answer
+    → HasCause old.journal_failures failures result
+    → FetchesAsRig at buf after_buf answer old.line line
+    → FetchesAsRig at buf after_buf result (disk_rig_state old) (disk_rig_state new)
+fetch_done at buf after_buf answer result failures line old new same is_answer count by =
+    let F : Result ℕ RigFault → Type 0 = λ r. FetchesAsRig at buf after_buf r old.line line in
+    let p = subst F (sym is_answer) by in
+    let G : DiskState → Type 0 = λ d.
+    FetchesAsRig at buf after_buf result (disk_rig_state old) (disk_rig_state d) in
+    subst G (sym same) (record {
+      within = p.within;
+      cause = count;
+      line_count = ap (λ (n : ℕ). n + old.refused) p.line_count;
+      recorded = p.recorded;
+      entered = λ room. absurd room;
+      aside = record { long_gets = refl; told = p.aside.told };
+      honest = λ is.
+          let q = p.honest is.line in
+          let there : DiskState = record old { line = line; journal_failures = failures } in
+          let kept =
+          kept_disk old line q.honest (fetch_keeps at buf after_buf result old.line line q) is in
+          fetches at buf after_buf result old there
+          (record { line = kept.line; file = kept.file }) q;
+    })
 
 -- the same bytes have the same lines
 pub same_lines : (left journal : List ℕ) → left ≡ journal → SameLines left journal
@@ -215,6 +375,19 @@ kept_covers P size old new f model h keeps t d journal left le p stop since = (
   same_lines left journal (held_left old.journal size f left model h since ∙ sym (keeps d journal
       p)),
 )
+
+pub crashes_kept : (call : Call) (old new : DiskState) → new.file ≡ old.file
+    → (old.file.is_honest → IsFileModel old.file)
+    → ((d : Device) (journal : List ℕ) → LeftByCall call (disk_rig_state old) d journal
+    → journal ≡ old.line.journal)
+    → CrashesAreStopsIn call old new
+crashes_kept call old new same model keeps is failed =
+    let P = LeftByCall call (disk_rig_state old) in
+    let held = is.file failed in
+    let F : FileState → Type 0 = λ f.
+    CrashesAreStopsHere P (disk_rig_state old) (disk_rig_state new) old.file f in
+    subst F (sym same) (kept_covers P old.size (disk_rig_state old) (disk_rig_state new) old.file
+    (model held.honest) held keeps)
 
 -- An append that the line didn't take, so that the file was left alone.
 pub untaken_covers : (bytes : List ℕ) (size : ℕ) (old new : RigState) (f : FileState)
@@ -313,121 +486,82 @@ on_disk bytes size journal journal2 f f2 h is stays =
       };
     }
 
--- counts of a line and of what was refused
-pub causes : {T : Type 0} (before now refused : ℕ) (result : Result T RigFault)
-    → HasCause before now result → HasCause (before + refused) (now + refused) result
-causes before now refused (Ok x) h = record {
-  later = omega (arith, h.later);
-  done = ap (λ (n : ℕ). n + refused) h.done;
-  failed = tt;
-}
-causes before now refused (Err e) h = record {
-  later = omega (arith, h.later);
-  done = tt;
-  failed = omega (arith, h.failed);
-}
-
-pub refusal_causes : {T : Type 0} (count before now : ℕ) (result : Result T RigFault)
-    → HasCause before now result → HasCause (count + before) (count + now) result
-refusal_causes count before now (Ok x) h = record {
-  later = omega (arith, h.later);
-  done = ap (λ (n : ℕ). count + n) h.done;
-  failed = tt;
-}
-refusal_causes count before now (Err e) h = record {
-  later = omega (arith, h.later);
-  done = tt;
-  failed = omega (arith, h.failed);
-}
-
--- waits aren't counted
-pub not_waited : (patience : Patience) → None ≡ waited patience None
-not_waited Brief = refl
-not_waited Long = refl
-
--- a fetch that is refused tells nothing
-pub not_told : (after : List ℕ) (result : Result ℕ RigFault) (told : Option (List ℕ))
-    → IsErr result → Tells after result told told
-not_told after (Ok x) told failed = absurd (true≢false (sym failed))
-not_told after (Err e) None failed = refl
-not_told after (Err e) (Some past) failed = refl
-
--- what was refused has failed before, and still has
-pub still_refused : (disk disk2 : DiskState) → disk2.line ≡ disk.line → disk2.has_failed ≡ true
-    → IsDisk disk → IsDisk disk2
-still_refused disk disk2 same failed is =
-    let H : RigState → Type 0 = λ r. r.is_honest in
-    record {
-      line = subst H (sym same) is.line;
-      file = λ e. absurd (true≢false (sym failed ∙ e));
+-- what is kept of an append, and then of its answer
+pub appended : (line : RigState) (file : FileState) (size failures : ℕ) (has_failed : Bool)
+    (old kept new : DiskState)
+    → kept ≡ record old { line = line; file = file; size = size; has_failed = has_failed }
+    → new ≡ record kept { journal_failures = failures }
+    → new ≡ record old {
+      line = line;
+      file = file;
+      size = size;
+      has_failed = has_failed;
+      journal_failures = failures;
     }
-
--- another Rig, file and place, which are the same
-pub holds_moved : (line line2 : RigState) (size size2 : ℕ) (file file2 : FileState)
-    → line2 ≡ line → size2 ≡ size → file2 ≡ file → HoldsJournal line.journal size file
-    → HoldsJournal line2.journal size2 file2
-holds_moved line line2 size size2 file file2 same_line same_size same_file h =
-    let L : RigState → Type 0 = λ r. HoldsJournal r.journal size2 file2 in
-    let S : ℕ → Type 0 = λ n. HoldsJournal line.journal n file2 in
-    let F : FileState → Type 0 = λ f. HoldsJournal line.journal size f in
-    subst L (sym same_line) (subst S (sym same_size) (subst F (sym same_file) h))
-
--- a put or a get that is refused counts as the line's failure
-pub line_is_refused : {T : Type 0} (line line2 : RigState) (refused refused2 : ℕ)
-    (result : Result T RigFault) → line2 ≡ line → HasCause refused refused2 result
-    → HasCause (line.line_failures + refused) (line2.line_failures + refused2) result
-line_is_refused line line2 refused refused2 result same h =
-    let G : RigState → Type 0 = λ r.
-    HasCause (line.line_failures + refused) (r.line_failures + refused2) result in
-    subst G (sym same) (refusal_causes line.line_failures refused refused2 result h)
+appended line file size failures has_failed old kept new first last =
+    last ∙ ap (λ (d : DiskState). record d { journal_failures = failures }) first
 
 -- An append that was added to both, or has failed: the Rig goes on, or is given up.
-pub added_disk : (disk disk2 : DiskState) (answer : Result (Unit {0}) RigFault) (bytes : List ℕ)
-    (line : RigState) (file : FileState) (added : Bool) → disk2.line ≡ line → disk2.file ≡ file
-    → disk2.has_failed ≡ not added → added ≡ is_ok answer
-    → (added ≡ true → disk.size + length bytes ≤ 2 ^ 64 - 1
-    → disk2.size ≡ disk.size + length bytes)
-    → line.is_honest → (file.is_honest → IsFileModel file)
-    → OnOk answer (IsOnDisk bytes disk.size line.journal disk.file file) → IsDisk disk2
-added_disk disk disk2 (Ok x) bytes line file added same_line same_file failed is size_is honest
-    model on =
-    let H : RigState → Type 0 = λ r. r.is_honest in
-    let small : disk.size + length bytes ≤ 2 ^ 64 - 1 =
+added_disk : (bytes : List ℕ) (answer : Result (Unit {0}) RigFault) (old new : DiskState)
+    → new.has_failed ≡ not (is_ok answer)
+    → (is_ok answer ≡ true → old.size + length bytes ≤ 2 ^ 64 - 1
+    → new.size ≡ old.size + length bytes)
+    → new.line.is_honest → (new.file.is_honest → IsFileModel new.file)
+    → OnOk answer (IsOnDisk bytes old.size new.line.journal old.file new.file) → IsDisk new
+added_disk bytes (Ok x) old new failed size_is honest model on =
+    let small : old.size + length bytes ≤ 2 ^ 64 - 1 =
     omega (arith, on.holds.settled.place, (model on.holds.honest).limit) in
-    record {
-      line = subst H (sym same_line) honest;
-      file = λ e.
-          holds_moved line disk2.line (disk.size + length bytes) disk2.size file disk2.file
-          same_line (size_is is small) same_file on.holds;
-    }
-added_disk disk disk2 (Err e) bytes line file added same_line same_file failed is size_is honest
-    model on =
-    let H : RigState → Type 0 = λ r. r.is_honest in
-    record {
-      line = subst H (sym same_line) honest;
-      file = λ e. absurd (true≢false (sym (failed ∙ ap (λ (b : Bool). not b) is) ∙ e));
-    }
+    let S : ℕ → Type 0 = λ n. HoldsJournal new.line.journal n new.file in
+    record { line = honest; file = λ e. subst S (sym (size_is refl small)) on.holds }
+added_disk bytes (Err e) old new failed size_is honest model on = record {
+  line = honest;
+  file = λ e. absurd (true≢false (sym failed ∙ e));
+}
 
--- the same, of what its answer and its line were kept as
-pub append_kept : (bytes : List ℕ) (answer result : Result (Unit {0}) RigFault) (h h2 : Type 0)
-    (a b a2 b2 : ℕ) (old line new : RigState) → result ≡ answer → new ≡ line → h2
-    → AppendsHonestly bytes answer old line
-    → AppendsHonestly bytes result (told_of h a b old) (told_of h2 a2 b2 new)
-append_kept bytes answer result h h2 a b a2 b2 old line new same same_line is by =
+pub cause_kept : (old kept new : ℕ) (answer result : Result (Unit {0}) RigFault) → kept ≡ old
+    → result ≡ answer → HasCause kept new result → HasCause old new answer
+cause_kept old kept new answer result same is_answer cause =
+    let R : Result (Unit {0}) RigFault → Type 0 = λ r. HasCause old new r in
+    subst R is_answer (subst (λ (n : ℕ). HasCause n new result) same cause)
+
+pub append_done : (bytes : List ℕ) (answer result : Result (Unit {0}) RigFault)
+    (old there new : DiskState) → new ≡ there → result ≡ answer
+    → there.refused ≡ old.refused → there.has_failed ≡ not (is_ok answer)
+    → HasCause old.journal_failures there.journal_failures answer
+    → there.line.line_failures ≡ old.line.line_failures
+    → RecordsAppend bytes answer old.line.calls there.line.calls
+    → PutsAside old.line there.line
+    → (old.line.is_honest → AppendsHonestly bytes answer old.line there.line)
+    → (is_ok answer ≡ true → old.size + length bytes ≤ 2 ^ 64 - 1
+    → there.size ≡ old.size + length bytes)
+    → (there.file.is_honest → IsFileModel there.file)
+    → (IsDisk old → OnOk answer (IsOnDisk bytes old.size there.line.journal old.file there.file))
+    → AppendsAsRig bytes result (disk_rig_state old) (disk_rig_state new)
+append_done bytes answer result old there new same is_answer refused failed cause count recorded
+    aside honest size_is model on =
+    let G : DiskState → Type 0 = λ d.
+    AppendsAsRig bytes result (disk_rig_state old) (disk_rig_state d) in
     let R : Result (Unit {0}) RigFault → Type 0 = λ r.
-    AppendsHonestly bytes r (told_of h a b old) (told_of h2 a2 b2 new) in
-    let G : RigState → Type 0 = λ r.
-    AppendsHonestly bytes answer (told_of h a b old) (told_of h2 a2 b2 r) in
-    subst R (sym same) (subst G (sym same_line) (appends bytes answer h h2 a b a2 b2 old line is
-    by))
+    AppendsAsRig bytes r (disk_rig_state old) (disk_rig_state there) in
+    subst G (sym same) (subst R (sym is_answer) (record {
+      cause = cause;
+      line_count = omega (arith, refused, count);
+      recorded = recorded;
+      entered = λ room. absurd room;
+      aside = record { long_gets = refl; told = aside.told };
+      honest = λ is.
+          let by = honest is.line in
+          appends bytes answer old there
+          (added_disk bytes answer old there failed size_is by.honest model (on is)) by;
+    }))
 
-pub covers_kept : (P : Device → List ℕ → Type 0) (old line new : RigState) (f file f2 : FileState)
-    → new ≡ line → f2 ≡ file → CrashesAreStopsHere P old line f file
-    → CrashesAreStopsHere P old new f f2
-covers_kept P old line new f file f2 same_line same_file covers =
-    let G : RigState → Type 0 = λ r. CrashesAreStopsHere P old r f f2 in
-    let F : FileState → Type 0 = λ x. CrashesAreStopsHere P old line f x in
-    subst G (sym same_line) (subst F (sym same_file) covers)
+pub append_crashes : (bytes : List ℕ) (old there new : DiskState) → new ≡ there
+    → (IsDisk old → old.has_failed ≡ false
+    → CrashesAreStopsHere (LeftByAppend bytes old.line) old.line there.line old.file there.file)
+    → CrashesAreStopsIn (Append bytes) old new
+append_crashes bytes old there new same crashes =
+    let G : DiskState → Type 0 = λ d. CrashesAreStopsIn (Append bytes) old d in
+    subst G (sym same) crashes
 
 pub stays_kept : (bytes : List ℕ) (answer result : Result (Unit {0}) RigFault) (size : ℕ)
     (journal : List ℕ) (f file f2 : FileState) → result ≡ answer → f2 ≡ file
@@ -440,33 +574,6 @@ stays_kept bytes answer (Ok x) size journal f file f2 same same_file on =
     subst R (sym same) on in
     subst F (sym same_file) there.stays
 stays_kept bytes answer (Err e) size journal f file f2 same same_file on = tt
-
-pub fetch_kept : (at : ℕ) (buf after_buf : List ℕ) (answer result : Result ℕ RigFault)
-    (h h2 : Type 0) (a b a2 b2 : ℕ) (old line new : RigState) → result ≡ answer → new ≡ line → h2
-    → FetchesHonestly at buf after_buf answer old line
-    → FetchesHonestly at buf after_buf result (told_of h a b old) (told_of h2 a2 b2 new)
-fetch_kept at buf after_buf answer result h h2 a b a2 b2 old line new same same_line is by =
-    let R : Result ℕ RigFault → Type 0 = λ r.
-    FetchesHonestly at buf after_buf r (told_of h a b old) (told_of h2 a2 b2 new) in
-    let G : RigState → Type 0 = λ r.
-    FetchesHonestly at buf after_buf answer (told_of h a b old) (told_of h2 a2 b2 r) in
-    subst R (sym same) (subst G (sym same_line) (fetches at buf after_buf answer h h2 a b a2 b2
-    old line is by))
-
--- a fetch leaves the file alone
-pub fetched_disk : (disk disk2 : DiskState) (line : RigState) → disk2.line ≡ line
-    → disk2.file ≡ disk.file → disk2.size ≡ disk.size → disk2.has_failed ≡ disk.has_failed
-    → line.is_honest → line.journal ≡ disk.line.journal → IsDisk disk → IsDisk disk2
-fetched_disk disk disk2 line same_line same_file same_size same_failed honest keeps is =
-    let H : RigState → Type 0 = λ r. r.is_honest in
-    record {
-      line = subst H (sym same_line) honest;
-      file = λ e.
-          holds_moved line disk2.line disk.size disk2.size disk.file disk2.file same_line
-          same_size same_file
-          (holds_still disk.line.journal line.journal disk.size disk.file keeps
-          (is.file (sym same_failed ∙ e)));
-    }
 
 -- a call in a session
 pub crashes_in_sessions : {R F : Type 0} (view : R → RigState) (file_view : F → FileState)

@@ -1,5 +1,5 @@
 -- A device on a line, and a journal in a file on a disk, as one Rig.
-use Rattle.std.specs.Prelude.{◌≡◌, ℕ, ◌+◌, ◌≤◌, List, length, Bool, false, None}
+use Rattle.std.specs.Prelude.{◌≡◌, ℕ, ◌+◌, ◌≤◌, List, length, Bool, false, true, None}
 use Rattle.stm_wire.specs.Device.{Device}
 use Rattle.stm_wire.specs.Call.{Call, Put, Get, Append, Fetch}
 use Rattle.stm_wire.specs.Rig.{RigState, LeftByPut, LeftByGet, LeftByAppend}
@@ -7,6 +7,7 @@ use Rattle.stm_journal.specs.Text.{text_of}
 use Rattle.stm_journal.specs.Journals.{journal_of}
 use Rattle.stm_disk.specs.GrowingFile.{FileState}
 use Rattle.stm_disk.specs.Lines.{IsSettled, Stays}
+use Rattle.stm_disk.specs.declared.disk_rig.DiskRig.{DiskRig}
 
 pub record DiskState : Type 1 where
   -- the line's own Rig, whose journal is what the file is to hold
@@ -54,14 +55,15 @@ abbrev pub disk_rig_state : DiskState → RigState
 disk_rig_state disk =
     told_of (IsDisk disk) (disk.line.line_failures + disk.refused) disk.journal_failures disk.line
 
-abbrev pub disk_of : RigState → FileState → ℕ → Bool → ℕ → ℕ → DiskState
-disk_of line file size has_failed refused journal_failures = record {
-  line = line;
-  file = file;
-  size = size;
-  has_failed = has_failed;
-  refused = refused;
-  journal_failures = journal_failures;
+-- what contracts see of such a Rig, by what they see of its line and its file
+abbrev pub disk_of : {L F : Type 0} → (L → RigState) → (F → FileState) → DiskRig L F → DiskState
+disk_of line file rig = record {
+  line = line rig.line;
+  file = file rig.file;
+  size = rig.size;
+  has_failed = rig.has_failed;
+  refused = rig.refused;
+  journal_failures = rig.journal_failures;
 }
 
 -- the same whole lines, so that they come to the same journal
@@ -85,6 +87,18 @@ LeftByCall (Put byte) old = LeftByPut byte old
 LeftByCall (Get answer) old = LeftByGet old
 LeftByCall (Append bytes) old = LeftByAppend bytes old
 LeftByCall Fetch old = LeftByGet old
+
+-- a crash of the PC in this call is a stop in it, of an honest Rig of which no append has failed
+abbrev pub CrashesAreStopsIn : Call → DiskState → DiskState → Type 0
+CrashesAreStopsIn call old new =
+    (disk_rig_state old).is_honest → old.has_failed ≡ false
+    → CrashesAreStopsHere (LeftByCall call (disk_rig_state old)) (disk_rig_state old)
+    (disk_rig_state new) old.file new.file
+
+-- once an append has failed, line and file are left as they are
+abbrev pub IdlesOnceFailed : {L F : Type 0} → DiskRig L F → DiskRig L F → Type 0
+IdlesOnceFailed old new =
+    old.has_failed ≡ true → (new.line ≡ old.line) × (new.file ≡ old.file)
 
 -- what a stop may have left by then, it may have left later, as each call of a Rig says
 pub record KeepsOn (old new : RigState) : Type 0 where

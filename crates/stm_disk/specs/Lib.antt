@@ -7,6 +7,7 @@ pub mod Appends
 pub mod MemoryFile
 pub mod MemoryFileLaws
 pub mod Stops
+pub mod RigCalls
 pub mod DiskRig
 pub mod DiskRigLaws
 pub mod Folder

@@ -1,14 +1,13 @@
 // A device on a line, and a journal in a file on a disk.
-ghost use Rattle.std.specs.Prelude.{◌≡◌, ◌+◌, ◌-◌, ◌^◌, ◌≤◌, false, not, true, OnErr, OnOk};
+ghost use Rattle.std.specs.Prelude.{◌≡◌, ◌+◌, ◌-◌, ◌^◌, ◌≤◌, false, not, true, None, OnErr, OnOk};
 ghost use Rattle.std.specs.Result.{IsErr};
-ghost use Rattle.stm_wire.specs.Call.{Put, Fetch};
-ghost use Rattle.stm_wire.specs.Rig.{AppendsHonestly, FetchesHonestly, FetchesWithin, GetsHonestly};
-ghost use Rattle.stm_wire.specs.Rig.{HasCause, PutsHonestly, Records, RecordsAppend, entry_of_get};
-ghost use Rattle.stm_wire.specs.Rig.{Enters, EntersAppend, FetchesAside, GetsAside, PutsAside};
-ghost use Rattle.stm_wire.specs.Rig.{LeftByAppend, LeftByGet, LeftByPut};
+ghost use Rattle.stm_wire.specs.Call.{Append, Fetch, Get, Put};
+ghost use Rattle.stm_wire.specs.Rig.{AppendsHonestly, HasCause, LeftByAppend};
+ghost use Rattle.stm_wire.specs.Rig.{PutsAside, RecordsAppend};
 ghost use Rattle.stm_disk.specs.Lines.{Stays};
-ghost use Rattle.stm_disk.specs.DiskRig.{CrashesAreStopsHere, HoldsJournal, IsDisk, IsOnDisk};
-ghost use Rattle.stm_disk.specs.DiskRig.{disk_of, disk_rig_state};
+ghost use Rattle.stm_disk.specs.RigCalls.{AppendsAsRig, FetchesAsRig, GetsAsRig, PutsAsRig};
+ghost use Rattle.stm_disk.specs.DiskRig.{CrashesAreStopsHere, CrashesAreStopsIn, HoldsJournal};
+ghost use Rattle.stm_disk.specs.DiskRig.{IdlesOnceFailed, IsOnDisk, disk_of, disk_rig_state};
 ghost use Rattle.stm_disk.specs.DiskRigLaws.{follows};
 
 use crate::{GrowingFile, add_lines};
@@ -40,8 +39,7 @@ impl<L: Rig + Drop, F: GrowingFile + Drop> DiskRig<L, F> {
         ensures starts { result.has_failed ≡ false }
         ensures honest { (L.view line).is_honest
             → HoldsJournal (L.view line).journal size (F.view file)
-            → IsDisk (disk_of (L.view result.line) (F.view result.file) result.size
-            result.has_failed result.refused result.journal_failures) }
+            → (⟦<Self as Rig>⟧.view result).is_honest }
     {
         DiskRig {
             line,
@@ -65,11 +63,7 @@ impl<L: Rig + Drop, F: GrowingFile + Drop> DiskRig<L, F> {
     fn refuse<T>(&mut self) -> Result<T, RigFault>
         ensures err { IsErr result }
         ensures count { HasCause self.old.refused self.new.refused result }
-        ensures line { self.new.line ≡ self.old.line }
-        ensures file { self.new.file ≡ self.old.file }
-        ensures size { self.new.size ≡ self.old.size }
-        ensures failed { self.new.has_failed ≡ self.old.has_failed }
-        ensures failures { self.new.journal_failures ≡ self.old.journal_failures }
+        ensures rest { self.new ≡ record self.old { refused = self.new.refused } }
     {
         self.refused = self.refused.saturating_add(1);
         Err(RigFault::Line)
@@ -79,11 +73,8 @@ impl<L: Rig + Drop, F: GrowingFile + Drop> DiskRig<L, F> {
     fn count_journal<T: Drop>(&mut self, answer: Result<T, RigFault>) -> Result<T, RigFault>
         ensures answer { result ≡ answer }
         ensures cause { HasCause self.old.journal_failures self.new.journal_failures result }
-        ensures line { self.new.line ≡ self.old.line }
-        ensures file { self.new.file ≡ self.old.file }
-        ensures size { self.new.size ≡ self.old.size }
-        ensures failed { self.new.has_failed ≡ self.old.has_failed }
-        ensures refused { self.new.refused ≡ self.old.refused }
+        ensures rest { self.new
+            ≡ record self.old { journal_failures = self.new.journal_failures } }
     {
         if answer.is_err() {
             self.journal_failures = self.journal_failures.saturating_add(1);
@@ -93,13 +84,10 @@ impl<L: Rig + Drop, F: GrowingFile + Drop> DiskRig<L, F> {
 
     /// Keeps that so many bytes were added, or that they weren't.
     fn keep_size(&mut self, count: usize, is_added: bool)
-        ensures line { self.new.line ≡ self.old.line }
-        ensures file { self.new.file ≡ self.old.file }
         ensures size { is_added ≡ true → self.old.size + count ≤ 2 ^ 64 - 1
             → self.new.size ≡ self.old.size + count }
-        ensures failed { self.new.has_failed ≡ not is_added }
-        ensures refused { self.new.refused ≡ self.old.refused }
-        ensures failures { self.new.journal_failures ≡ self.old.journal_failures }
+        ensures rest { self.new
+            ≡ record self.old { size = self.new.size; has_failed = not is_added } }
     {
         self.size = self.size.saturating_add(count as u64);
         self.has_failed = !is_added;
@@ -136,54 +124,19 @@ fn append_to_both<L: Rig, F: GrowingFile>(
 }
 
 impl<L: Rig + Drop, F: GrowingFile + Drop> Rig for DiskRig<L, F> {
-    ghost view = { λ rig. disk_rig_state (disk_of (L.view rig.line) (F.view rig.file) rig.size
-        rig.has_failed rig.refused rig.journal_failures) };
+    ghost view = { λ rig. disk_rig_state (disk_of L.view F.view rig) };
 
-    ghost model = { λ rig honest. follows (disk_of (L.view rig.line) (F.view rig.file) rig.size
-        rig.has_failed rig.refused rig.journal_failures) (L.model rig.line honest.line) };
+    ghost model = { λ rig honest. follows (disk_of L.view F.view rig)
+        (L.model rig.line honest.line) };
 
     ghost places = { λ rig. L.places rig.line };
 
     fn put(&mut self, byte: u8) -> Result<(), RigFault>
-        ensures cause { let old = disk_rig_state (disk_of (L.view self.old.line) (F.view self.old.file)
-            self.old.size self.old.has_failed self.old.refused self.old.journal_failures) in
-            let new = disk_rig_state (disk_of (L.view self.new.line) (F.view self.new.file)
-            self.new.size self.new.has_failed self.new.refused self.new.journal_failures) in
-            HasCause old.line_failures new.line_failures result }
-        ensures journal_count { let old = disk_rig_state (disk_of (L.view self.old.line) (F.view self.old.file)
-            self.old.size self.old.has_failed self.old.refused self.old.journal_failures) in
-            let new = disk_rig_state (disk_of (L.view self.new.line) (F.view self.new.file)
-            self.new.size self.new.has_failed self.new.refused self.new.journal_failures) in
-            new.journal_failures ≡ old.journal_failures }
-        ensures recorded { let old = disk_rig_state (disk_of (L.view self.old.line) (F.view self.old.file)
-            self.old.size self.old.has_failed self.old.refused self.old.journal_failures) in
-            let new = disk_rig_state (disk_of (L.view self.new.line) (F.view self.new.file)
-            self.new.size self.new.has_failed self.new.refused self.new.journal_failures) in
-            Records (Put byte) result old.calls new.calls }
-        ensures entered { let old = disk_rig_state (disk_of (L.view self.old.line) (F.view self.old.file)
-            self.old.size self.old.has_failed self.old.refused self.old.journal_failures) in
-            let new = disk_rig_state (disk_of (L.view self.new.line) (F.view self.new.file)
-            self.new.size self.new.has_failed self.new.refused self.new.journal_failures) in
-            Enters (Put byte) old new }
-        ensures aside { let old = disk_rig_state (disk_of (L.view self.old.line) (F.view self.old.file)
-            self.old.size self.old.has_failed self.old.refused self.old.journal_failures) in
-            let new = disk_rig_state (disk_of (L.view self.new.line) (F.view self.new.file)
-            self.new.size self.new.has_failed self.new.refused self.new.journal_failures) in
-            PutsAside old new }
-        ensures honest { let old = disk_rig_state (disk_of (L.view self.old.line) (F.view self.old.file)
-            self.old.size self.old.has_failed self.old.refused self.old.journal_failures) in
-            let new = disk_rig_state (disk_of (L.view self.new.line) (F.view self.new.file)
-            self.new.size self.new.has_failed self.new.refused self.new.journal_failures) in
-            old.is_honest → PutsHonestly byte result old new }
-        ensures crash { let old = disk_rig_state (disk_of (L.view self.old.line) (F.view self.old.file)
-            self.old.size self.old.has_failed self.old.refused self.old.journal_failures) in
-            let new = disk_rig_state (disk_of (L.view self.new.line) (F.view self.new.file)
-            self.new.size self.new.has_failed self.new.refused self.new.journal_failures) in
-            old.is_honest → self.old.has_failed ≡ false
-            → CrashesAreStopsHere (LeftByPut byte old) old new
-            (F.view self.old.file) (F.view self.new.file) }
-        ensures idle { self.old.has_failed ≡ true
-            → (self.new.line ≡ self.old.line) × (self.new.file ≡ self.old.file) }
+        ensures rig { let view = ⟦<Self as Rig>⟧.view in
+            PutsAsRig byte result (view self.old) (view self.new) }
+        ensures crash { let disk = disk_of L.view F.view in
+            CrashesAreStopsIn (Put byte) (disk self.old) (disk self.new) }
+        ensures idle { IdlesOnceFailed self.old self.new }
     {
         if self.has_failed {
             return self.refuse();
@@ -192,45 +145,11 @@ impl<L: Rig + Drop, F: GrowingFile + Drop> Rig for DiskRig<L, F> {
     }
 
     fn get(&mut self, patience: Patience) -> Result<Option<u8>, RigFault>
-        ensures cause { let old = disk_rig_state (disk_of (L.view self.old.line) (F.view self.old.file)
-            self.old.size self.old.has_failed self.old.refused self.old.journal_failures) in
-            let new = disk_rig_state (disk_of (L.view self.new.line) (F.view self.new.file)
-            self.new.size self.new.has_failed self.new.refused self.new.journal_failures) in
-            HasCause old.line_failures new.line_failures result }
-        ensures journal_count { let old = disk_rig_state (disk_of (L.view self.old.line) (F.view self.old.file)
-            self.old.size self.old.has_failed self.old.refused self.old.journal_failures) in
-            let new = disk_rig_state (disk_of (L.view self.new.line) (F.view self.new.file)
-            self.new.size self.new.has_failed self.new.refused self.new.journal_failures) in
-            new.journal_failures ≡ old.journal_failures }
-        ensures recorded { let old = disk_rig_state (disk_of (L.view self.old.line) (F.view self.old.file)
-            self.old.size self.old.has_failed self.old.refused self.old.journal_failures) in
-            let new = disk_rig_state (disk_of (L.view self.new.line) (F.view self.new.file)
-            self.new.size self.new.has_failed self.new.refused self.new.journal_failures) in
-            Records (entry_of_get result) result old.calls new.calls }
-        ensures entered { let old = disk_rig_state (disk_of (L.view self.old.line) (F.view self.old.file)
-            self.old.size self.old.has_failed self.old.refused self.old.journal_failures) in
-            let new = disk_rig_state (disk_of (L.view self.new.line) (F.view self.new.file)
-            self.new.size self.new.has_failed self.new.refused self.new.journal_failures) in
-            Enters (entry_of_get result) old new }
-        ensures aside { let old = disk_rig_state (disk_of (L.view self.old.line) (F.view self.old.file)
-            self.old.size self.old.has_failed self.old.refused self.old.journal_failures) in
-            let new = disk_rig_state (disk_of (L.view self.new.line) (F.view self.new.file)
-            self.new.size self.new.has_failed self.new.refused self.new.journal_failures) in
-            GetsAside patience old new }
-        ensures honest { let old = disk_rig_state (disk_of (L.view self.old.line) (F.view self.old.file)
-            self.old.size self.old.has_failed self.old.refused self.old.journal_failures) in
-            let new = disk_rig_state (disk_of (L.view self.new.line) (F.view self.new.file)
-            self.new.size self.new.has_failed self.new.refused self.new.journal_failures) in
-            old.is_honest → GetsHonestly result old new }
-        ensures crash { let old = disk_rig_state (disk_of (L.view self.old.line) (F.view self.old.file)
-            self.old.size self.old.has_failed self.old.refused self.old.journal_failures) in
-            let new = disk_rig_state (disk_of (L.view self.new.line) (F.view self.new.file)
-            self.new.size self.new.has_failed self.new.refused self.new.journal_failures) in
-            old.is_honest → self.old.has_failed ≡ false
-            → CrashesAreStopsHere (LeftByGet old) old new
-            (F.view self.old.file) (F.view self.new.file) }
-        ensures idle { self.old.has_failed ≡ true
-            → (self.new.line ≡ self.old.line) × (self.new.file ≡ self.old.file) }
+        ensures rig { let view = ⟦<Self as Rig>⟧.view in
+            GetsAsRig patience result (view self.old) (view self.new) }
+        ensures crash { let disk = disk_of L.view F.view in
+            CrashesAreStopsIn (Get None) (disk self.old) (disk self.new) }
+        ensures idle { IdlesOnceFailed self.old self.new }
     {
         if self.has_failed {
             return self.refuse();
@@ -239,50 +158,12 @@ impl<L: Rig + Drop, F: GrowingFile + Drop> Rig for DiskRig<L, F> {
     }
 
     fn append(&mut self, bytes: &[u8]) -> Result<(), RigFault>
-        ensures cause { let old = disk_rig_state (disk_of (L.view self.old.line) (F.view self.old.file)
-            self.old.size self.old.has_failed self.old.refused self.old.journal_failures) in
-            let new = disk_rig_state (disk_of (L.view self.new.line) (F.view self.new.file)
-            self.new.size self.new.has_failed self.new.refused self.new.journal_failures) in
-            HasCause old.journal_failures new.journal_failures result }
-        ensures line_count { let old = disk_rig_state (disk_of (L.view self.old.line) (F.view self.old.file)
-            self.old.size self.old.has_failed self.old.refused self.old.journal_failures) in
-            let new = disk_rig_state (disk_of (L.view self.new.line) (F.view self.new.file)
-            self.new.size self.new.has_failed self.new.refused self.new.journal_failures) in
-            new.line_failures ≡ old.line_failures }
-        ensures recorded { let old = disk_rig_state (disk_of (L.view self.old.line) (F.view self.old.file)
-            self.old.size self.old.has_failed self.old.refused self.old.journal_failures) in
-            let new = disk_rig_state (disk_of (L.view self.new.line) (F.view self.new.file)
-            self.new.size self.new.has_failed self.new.refused self.new.journal_failures) in
-            RecordsAppend bytes.now result old.calls new.calls }
-        ensures entered { let old = disk_rig_state (disk_of (L.view self.old.line) (F.view self.old.file)
-            self.old.size self.old.has_failed self.old.refused self.old.journal_failures) in
-            let new = disk_rig_state (disk_of (L.view self.new.line) (F.view self.new.file)
-            self.new.size self.new.has_failed self.new.refused self.new.journal_failures) in
-            EntersAppend bytes.now old new }
-        ensures aside { let old = disk_rig_state (disk_of (L.view self.old.line) (F.view self.old.file)
-            self.old.size self.old.has_failed self.old.refused self.old.journal_failures) in
-            let new = disk_rig_state (disk_of (L.view self.new.line) (F.view self.new.file)
-            self.new.size self.new.has_failed self.new.refused self.new.journal_failures) in
-            PutsAside old new }
-        ensures honest { let old = disk_rig_state (disk_of (L.view self.old.line) (F.view self.old.file)
-            self.old.size self.old.has_failed self.old.refused self.old.journal_failures) in
-            let new = disk_rig_state (disk_of (L.view self.new.line) (F.view self.new.file)
-            self.new.size self.new.has_failed self.new.refused self.new.journal_failures) in
-            old.is_honest → AppendsHonestly bytes.now result old new }
-        ensures crash { let old = disk_rig_state (disk_of (L.view self.old.line) (F.view self.old.file)
-            self.old.size self.old.has_failed self.old.refused self.old.journal_failures) in
-            let new = disk_rig_state (disk_of (L.view self.new.line) (F.view self.new.file)
-            self.new.size self.new.has_failed self.new.refused self.new.journal_failures) in
-            old.is_honest → self.old.has_failed ≡ false
-            → CrashesAreStopsHere (LeftByAppend bytes.now old) old new
-            (F.view self.old.file) (F.view self.new.file) }
-        ensures idle { self.old.has_failed ≡ true
-            → (self.new.line ≡ self.old.line) × (self.new.file ≡ self.old.file) }
-        ensures on_disk { let old = disk_rig_state (disk_of (L.view self.old.line) (F.view self.old.file)
-            self.old.size self.old.has_failed self.old.refused self.old.journal_failures) in
-            let new = disk_rig_state (disk_of (L.view self.new.line) (F.view self.new.file)
-            self.new.size self.new.has_failed self.new.refused self.new.journal_failures) in
-            old.is_honest
+        ensures rig { let view = ⟦<Self as Rig>⟧.view in
+            AppendsAsRig bytes.now result (view self.old) (view self.new) }
+        ensures crash { let disk = disk_of L.view F.view in
+            CrashesAreStopsIn (Append bytes.now) (disk self.old) (disk self.new) }
+        ensures idle { IdlesOnceFailed self.old self.new }
+        ensures on_disk { (⟦<Self as Rig>⟧.view self.old).is_honest
             → OnOk result (Stays bytes.now (F.view self.old.file) (F.view self.new.file)) }
         ensures failed { OnErr result (self.new.has_failed ≡ true) }
     {
@@ -295,46 +176,11 @@ impl<L: Rig + Drop, F: GrowingFile + Drop> Rig for DiskRig<L, F> {
     }
 
     fn fetch(&mut self, at: u64, buf: &mut [u8]) -> Result<usize, RigFault>
-        ensures within { FetchesWithin at buf.old buf.new result }
-        ensures cause { let old = disk_rig_state (disk_of (L.view self.old.line) (F.view self.old.file)
-            self.old.size self.old.has_failed self.old.refused self.old.journal_failures) in
-            let new = disk_rig_state (disk_of (L.view self.new.line) (F.view self.new.file)
-            self.new.size self.new.has_failed self.new.refused self.new.journal_failures) in
-            HasCause old.journal_failures new.journal_failures result }
-        ensures line_count { let old = disk_rig_state (disk_of (L.view self.old.line) (F.view self.old.file)
-            self.old.size self.old.has_failed self.old.refused self.old.journal_failures) in
-            let new = disk_rig_state (disk_of (L.view self.new.line) (F.view self.new.file)
-            self.new.size self.new.has_failed self.new.refused self.new.journal_failures) in
-            new.line_failures ≡ old.line_failures }
-        ensures recorded { let old = disk_rig_state (disk_of (L.view self.old.line) (F.view self.old.file)
-            self.old.size self.old.has_failed self.old.refused self.old.journal_failures) in
-            let new = disk_rig_state (disk_of (L.view self.new.line) (F.view self.new.file)
-            self.new.size self.new.has_failed self.new.refused self.new.journal_failures) in
-            Records Fetch result old.calls new.calls }
-        ensures entered { let old = disk_rig_state (disk_of (L.view self.old.line) (F.view self.old.file)
-            self.old.size self.old.has_failed self.old.refused self.old.journal_failures) in
-            let new = disk_rig_state (disk_of (L.view self.new.line) (F.view self.new.file)
-            self.new.size self.new.has_failed self.new.refused self.new.journal_failures) in
-            Enters Fetch old new }
-        ensures aside { let old = disk_rig_state (disk_of (L.view self.old.line) (F.view self.old.file)
-            self.old.size self.old.has_failed self.old.refused self.old.journal_failures) in
-            let new = disk_rig_state (disk_of (L.view self.new.line) (F.view self.new.file)
-            self.new.size self.new.has_failed self.new.refused self.new.journal_failures) in
-            FetchesAside buf.new result old new }
-        ensures honest { let old = disk_rig_state (disk_of (L.view self.old.line) (F.view self.old.file)
-            self.old.size self.old.has_failed self.old.refused self.old.journal_failures) in
-            let new = disk_rig_state (disk_of (L.view self.new.line) (F.view self.new.file)
-            self.new.size self.new.has_failed self.new.refused self.new.journal_failures) in
-            old.is_honest → FetchesHonestly at buf.old buf.new result old new }
-        ensures crash { let old = disk_rig_state (disk_of (L.view self.old.line) (F.view self.old.file)
-            self.old.size self.old.has_failed self.old.refused self.old.journal_failures) in
-            let new = disk_rig_state (disk_of (L.view self.new.line) (F.view self.new.file)
-            self.new.size self.new.has_failed self.new.refused self.new.journal_failures) in
-            old.is_honest → self.old.has_failed ≡ false
-            → CrashesAreStopsHere (LeftByGet old) old new
-            (F.view self.old.file) (F.view self.new.file) }
-        ensures idle { self.old.has_failed ≡ true
-            → (self.new.line ≡ self.old.line) × (self.new.file ≡ self.old.file) }
+        ensures rig { let view = ⟦<Self as Rig>⟧.view in
+            FetchesAsRig at buf.old buf.new result (view self.old) (view self.new) }
+        ensures crash { let disk = disk_of L.view F.view in
+            CrashesAreStopsIn Fetch (disk self.old) (disk self.new) }
+        ensures idle { IdlesOnceFailed self.old self.new }
     {
         if self.has_failed {
             return self.count_journal(Err(RigFault::File));

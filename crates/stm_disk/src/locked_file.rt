@@ -39,9 +39,8 @@ impl<F: GrowingFile + Drop> GrowingFile for LockedFile<F> {
     fn append(&mut self, bytes: &[u8]) -> io::Result<()>
         ensures known { OnOk result
             (Appends (F.view self.old.file).known (F.view self.new.file).known bytes.now) }
-        ensures honest { let old = locked_state self.old.is_locked (F.view self.old.file) in
-            let new = locked_state self.new.is_locked (F.view self.new.file) in
-            old.is_honest → AppendsHonestly bytes.now result old new }
+        ensures honest { let view = ⟦<Self as GrowingFile>⟧.view in (view self.old).is_honest
+            → AppendsHonestly bytes.now result (view self.old) (view self.new) }
         ensures locked { OnOk result (self.old.is_locked ≡ true) }
         ensures unlocked { self.old.is_locked ≡ false → self.new ≡ self.old }
     {

@@ -1,0 +1,76 @@
+// Lines that are added to a file, in pieces and one append behind the other.
+use crate::failing_file::FileCall::{Append, Sync};
+use crate::failing_file::{FailingFile, FileCall};
+use std::alloc::Global;
+use std::test::Fail;
+use stm_disk::{GrowingFile, add_both, add_lines, take_up};
+
+/// So many bytes, each x, and then these.
+fn line(alloc: Global, count: usize, end: &[u8]) -> Result<Vec<u8>, Fail> {
+    let mut bytes = vec![in alloc; b'x'; count]?;
+    bytes.extend_from_slice(end)?;
+    Ok(bytes)
+}
+
+/// Where lines begin, how many x they have, what is behind these, and the calls that add them: an
+/// LF that stands in another sector than the first byte is added only once all in front of it is
+/// on the disk.
+const PIECES: [(u64, usize, &[u8], &[FileCall]); 5] = [
+    (0, 0, b"", &[]),
+    (0, 3, b"\nx\n", &[Append(6), Sync]),
+    (0, 511, b"\nx\n", &[Append(513), Sync, Append(1), Sync]),
+    (510, 2, b"\nx\n", &[Append(2), Sync, Append(3), Sync]),
+    (511, 600, b"", &[Append(600), Sync]),
+];
+
+/// The first of these whose calls are others.
+fn first_other(alloc: Global) -> Result<Option<usize>, Fail> {
+    for (number, (at, count, end, calls)) in PIECES.iter().enumerate() {
+        let mut file = FailingFile::new(alloc, 0);
+        let bytes = line(alloc, *count, *end)?;
+        add_lines(&mut file, *at, &bytes)?;
+        if file.calls() != *calls || file.bytes() != bytes.as_slice() {
+            return Ok(Some(number));
+        }
+    }
+    Ok(None)
+}
+
+#[test]
+fn no_lf_is_on_the_disk_before_its_line(rt: HostRuntime) -> Result<(), Fail> {
+    assert_eq!(rt; first_other(rt.alloc())?, None);
+    Ok(())
+}
+
+/// Which call fails, and what is there of "ab\n" and "cd\n" then.
+const BOTH: [(usize, &[u8]); 5] = [
+    (0, b"ab\ncd\n"),
+    (1, b"ab"),
+    (2, b"ab\n"),
+    (3, b"ab\ncd"),
+    (4, b"ab\ncd\n"),
+];
+
+#[test]
+fn the_second_comes_behind_the_first(rt: HostRuntime) -> Result<(), Fail> {
+    for (fails, left) in BOTH {
+        let mut file = FailingFile::new(rt.alloc(), fails);
+        let is_ok = add_both(&mut file, 0, b"ab\n", b"cd\n").is_ok();
+        assert_eq!(rt; (is_ok, file.bytes()), (fails == 0, left), "call {fails}");
+    }
+    Ok(())
+}
+
+/// Which call fails of an append of "ab\n" and of its taking up, and whether it is taken up.
+const TAKEN_UP: [(usize, bool); 3] = [(0, true), (1, true), (2, false)];
+
+#[test]
+fn a_file_is_taken_up_where_its_sync_answers(rt: HostRuntime) -> Result<(), Fail> {
+    for (fails, is_taken_up) in TAKEN_UP {
+        let mut file = FailingFile::new(rt.alloc(), fails);
+        let _ = file.append(b"ab\n");
+        assert_eq!(rt; take_up(&mut file).is_ok(), is_taken_up, "call {fails}");
+        assert_eq!(rt; file.calls(), [Append(3), Sync].as_slice());
+    }
+    Ok(())
+}
