@@ -32,6 +32,7 @@ mod unique_id;
 mod verdict;
 mod write_memory;
 
+pub use bytes::part;
 pub use chip::{Chip, EraseKind};
 pub use erase_memory::erase_page;
 pub use fault::{RigFault, WireFault};
@@ -55,6 +56,7 @@ pub use refusable_read::{read_unless_refused, refusable_reads_are_harmless};
 pub use rig::{Patience, Rig, RigCall};
 pub use settling::{connect, settle, settle_under};
 pub use simulator::{Simulator, Stage};
+pub use telling::{asks_unique, kib_bytes};
 pub use unique_id::UniqueId;
-pub use verdict::Verdict;
+pub use verdict::{Verdict, fits_inside, verdict_of};
 pub use write_memory::program;

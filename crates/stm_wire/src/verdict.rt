@@ -45,12 +45,14 @@ fn xor_from(first: u8, bytes: &[u8]) -> u8
     bytes.iter().fold(first, |check, byte| check ^ *byte)
 }
 
+/// Whether the byte at an address lies in the flash.
 pub fn is_inside(chip: &Chip, address: u32) -> bool
     ensures { result ≡ is_inside chip.now address }
 {
     chip.base() <= address && u64::from(address) < chip.end()
 }
 
+/// Whether so many bytes from an address on lie in the flash.
 pub fn fits_inside(chip: &Chip, address: u32, n: u16) -> bool
     ensures { result ≡ fits_inside chip.now address n }
 {
