@@ -187,6 +187,11 @@ abbrev pub first_due : Known → List ℕ → Option ℕ
 first_due k (due ∷ rest) = Some due
 first_due k [] = if k.count == 0 then None else get_or k.flash k.at None
 
+-- the address of the byte of the flash that has to come next, where one has
+abbrev pub address_due : Known → List ℕ → Option ℕ
+address_due k (due ∷ rest) = None
+address_due k [] = if k.count == 0 then None else Some (k.chip.base + k.at)
+
 -- after a byte that came
 abbrev pub heard_of : Known → List ℕ → ℕ → Known
 heard_of k (due ∷ rest) byte = record k { due = rest }

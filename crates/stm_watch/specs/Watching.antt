@@ -1,9 +1,9 @@
 -- A watched Rig, as contracts see it.
-use Rattle.std.specs.Prelude.{◌≡◌, ℕ, ◌+◌, true, List, [], ◌∷◌}
+use Rattle.std.specs.Prelude.{◌≡◌, ℕ, ◌+◌, true, false, List, [], ◌∷◌}
 use Rattle.std.specs.Prelude.{Option, Some, None}
 use Rattle.stm_wire.specs.Call.{Call, Get}
 use Rattle.stm_wire.specs.Rig.{RigState}
-use Rattle.stm_watch.specs.Known.{Known, is_due, heard}
+use Rattle.stm_watch.specs.Known.{Known, is_due, heard, first_due, address_due}
 use Rattle.stm_watch.specs.Seen.{IsSeen}
 
 -- the last of these calls, a get, failed
@@ -42,3 +42,9 @@ watched k (Some refusal) line journal rig =
 abbrev pub IsHeard : Option ℕ → Known → Known → Type 0
 IsHeard None old new = new ≡ old
 IsHeard (Some byte) old new = (is_due byte old ≡ true) × (new ≡ heard byte old)
+
+-- this byte may not come where this is known, where that one was due, or none; and of a byte of the
+-- flash this is the address
+abbrev pub IsRefused : Option ℕ → ℕ → Option ℕ → Known → Type 0
+IsRefused due came address k = (is_due came k ≡ false) × (due ≡ first_due k k.due)
+    × (address ≡ address_due k k.due)

@@ -7,8 +7,7 @@ ghost use Rattle.stm_wire.specs.Simulator.{Fits};
 ghost use Rattle.stm_watch.specs.Known.{stored, stored_all, with_items, erased_known};
 ghost use Rattle.stm_watch.specs.Known.{changed_known};
 
-use crate::parts::part;
-use stm_wire::Chip;
+use stm_wire::{Chip, part};
 
 /// What is known of a place over which this byte was written.
 fn stored(erased: u8, old: Option<u8>, sent: u8) -> Option<u8>

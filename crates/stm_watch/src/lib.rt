@@ -4,15 +4,14 @@
 
 mod change;
 mod laws;
-mod parts;
+mod listing;
 mod replies;
 mod sight;
-mod telling;
-mod verdict;
 mod watch;
 mod watch_rig;
 
 pub use laws::{honest_passes, watched_is_heard_of};
+pub use listing::is_listing;
 pub use sight::Sight;
 pub use watch::Watch;
 pub use watch_rig::{Refusal, WatchRig};

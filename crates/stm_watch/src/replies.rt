@@ -6,10 +6,8 @@ ghost use Rattle.stm_watch.specs.Known.{told, told_of_read, count_read, count_of
 ghost use Rattle.stm_watch.specs.Known.{place_read, place_of_read, sight_after};
 
 use crate::sight::Sight;
-use crate::telling::{asks_unique, kib_bytes};
-use crate::verdict::fits_inside;
 use std::alloc::AllocError;
-use stm_wire::Chip;
+use stm_wire::{Chip, asks_unique, fits_inside, kib_bytes};
 
 /// Whether an open list ends a step that is acknowledged.
 pub fn step_ends(bytes: &[u8]) -> bool

@@ -6,15 +6,14 @@ ghost use Rattle.stm_wire.specs.Exchange.{verdict};
 ghost use Rattle.stm_wire.specs.Reply.{ack, step_reply};
 ghost use Rattle.stm_watch.specs.Known.{Known, IsFed, IsWhole, known_of, known_at_first};
 ghost use Rattle.stm_watch.specs.Known.{fed, heard, is_due, judged, lost, may_hold};
-ghost use Rattle.stm_watch.specs.Known.{is_due_of, heard_of, first_due};
+ghost use Rattle.stm_watch.specs.Known.{is_due_of, heard_of, first_due, address_due};
 
 use crate::change::change_all;
 use crate::replies::{count_read, place_read, sight_after, step_ends, tell};
 use crate::sight::Sight;
-use crate::verdict::verdict_of;
 use std::alloc::{AllocError, Global};
 use std::marker::Model;
-use stm_wire::{Chip, Verdict};
+use stm_wire::{Chip, EraseKind, Verdict, verdict_of};
 
 /// What is known of a device whose exchange is watched: where it stands, what it owes, and each
 /// byte of its flash that was read, written or erased.
@@ -83,6 +82,19 @@ impl Watch {
             count: 0,
             sight: Sight::Follows,
         })
+    }
+
+    /// Of a device of which nothing is known: any reply passes. Its chip is any.
+    pub fn of_nothing(alloc: Global) -> Result<Watch, AllocError>
+        ensures { IfOk result (λ w. w.sight ≡ Sight.Lost) }
+    {
+        let sizes = vec![in alloc; 256; 1]?;
+        let Some(chip) = Chip::new(0, 0x0800_0000, sizes, EraseKind::Page, 0xFF) else {
+            unreachable!()
+        };
+        let mut watch = Watch::new(alloc, chip, 0, Vec::new(alloc))?;
+        watch.lose();
+        Ok(watch)
     }
 
     /// Whether anything is known: while that is so, no reply passes but one that may come.
@@ -193,6 +205,16 @@ impl Watch {
                 }
             }
         }
+    }
+
+    /// The address of the byte of the flash that has to come next, where one has.
+    pub fn address(&self) -> Option<u32>
+        ensures { result ≡ address_due self.now self.now.due }
+    {
+        if !self.due.is_empty() || self.count == 0 {
+            return None;
+        }
+        Some(self.chip.base() + self.at as u32)
     }
 
     /// Takes a byte that came, and answers whether it may come.

@@ -1,12 +1,14 @@
 // A Rig whose replies are watched.
-ghost use Rattle.std.specs.Prelude.{◌≡◌, ◌+◌, ◌≤◌, ℕ, OnOk, IfOk, None, Ok, Err};
+ghost use Rattle.std.specs.Prelude.{◌≡◌, ◌+◌, ◌-◌, ◌≤◌, ℕ, OnOk, IfOk, IfSome, IsTrue, None, Ok, Err};
+ghost use Rattle.std.specs.Prelude.{is_some};
 ghost use Rattle.stm_wire.specs.Call.{Put, Fetch};
 ghost use Rattle.stm_wire.specs.Rig.{HasCause, Records, RecordsAppend, Enters, EntersAppend};
 ghost use Rattle.stm_wire.specs.Rig.{PutsAside, GetsAside, FetchesAside, FetchesWithin};
 ghost use Rattle.stm_wire.specs.Rig.{PutsHonestly, GetsHonestly, AppendsHonestly, Rises};
 ghost use Rattle.stm_wire.specs.Rig.{FetchesHonestly, entry_of_get};
-ghost use Rattle.stm_watch.specs.Known.{IsFed};
-ghost use Rattle.stm_watch.specs.Watching.{watched, IsHeard};
+ghost use Rattle.stm_watch.specs.Known.{IsFed, lost};
+ghost use Rattle.stm_watch.specs.Seen.{IsSeen};
+ghost use Rattle.stm_watch.specs.Watching.{watched, IsHeard, IsRefused};
 ghost use Rattle.stm_watch.specs.Watched.{watched-model, watched-places};
 
 use crate::Watch;
@@ -19,6 +21,8 @@ pub struct Refusal {
     pub due: Option<u8>,
     /// The byte that came.
     pub came: u8,
+    /// The address from which it was read, where a byte of the flash was due.
+    pub address: Option<u32>,
 }
 
 /// A Rig whose replies are watched. Each call is the inner Rig's, until a get brings a byte that no
@@ -26,19 +30,26 @@ pub struct Refusal {
 /// nothing handed on.
 #[derive(Drop)]
 pub struct WatchRig<R: Rig + Drop> {
-    inner: R,
+    /// The inner Rig.
+    pub inner: R,
     watch: Watch,
     refusal: Option<Refusal>,
+    has_begun: bool,
+    is_counting: bool,
+    passed: u64,
+    came: u64,
     line_failures: u64,
     journal_failures: u64,
 }
 
 impl<R: Rig + Drop> WatchRig<R> {
-    /// This Rig, watched from here on.
+    /// This Rig, watched from here on; by a watch that knows nothing it passes each reply.
     pub fn new(inner: R, watch: Watch) -> WatchRig<R>
         ensures inner { result.inner ≡ inner }
         ensures watch { result.watch ≡ watch }
         ensures refusal { result.refusal ≡ None }
+        ensures passed { result.passed ≡ 0 }
+        ensures came { result.came ≡ 0 }
         ensures line { result.line_failures ≡ 0 }
         ensures journal { result.journal_failures ≡ 0 }
     {
@@ -46,9 +57,66 @@ impl<R: Rig + Drop> WatchRig<R> {
             inner,
             watch,
             refusal: None,
+            has_begun: false,
+            is_counting: false,
+            passed: 0,
+            came: 0,
             line_failures: 0,
             journal_failures: 0,
         }
+    }
+
+    /// The same Rig, watched by this from here on. Where the device may be one of which this is
+    /// known, it follows the model as before.
+    pub fn begin(&mut self, watch: Watch)
+        ensures inner { self.new.inner ≡ self.old.inner }
+        ensures watch { self.new.watch ≡ watch }
+        ensures refusal { self.new.refusal ≡ self.old.refusal }
+        ensures passed { self.new.passed ≡ self.old.passed }
+        ensures came { self.new.came ≡ self.old.came }
+        ensures line { self.new.line_failures ≡ self.old.line_failures }
+        ensures journal { self.new.journal_failures ≡ self.old.journal_failures }
+        ensures honest { let old = R.view self.old.inner in
+            old.is_honest → IsSeen watch old.device → self.old.refusal ≡ None
+            → (watched self.new.watch self.new.refusal self.new.line_failures
+            self.new.journal_failures (R.view self.new.inner)).is_honest }
+    {
+        self.watch = watch;
+        self.has_begun = true;
+        self.is_counting = true;
+    }
+
+    /// Nothing is known from here on, until watching begins again.
+    pub fn lose(&mut self)
+        ensures inner { self.new.inner ≡ self.old.inner }
+        ensures watch { self.new.watch ≡ lost self.old.watch }
+        ensures refusal { self.new.refusal ≡ self.old.refusal }
+        ensures line { self.new.line_failures ≡ self.old.line_failures }
+        ensures journal { self.new.journal_failures ≡ self.old.journal_failures }
+    {
+        self.watch.lose();
+        self.is_counting = false;
+    }
+
+    /// Whether watching began.
+    pub fn has_begun(&self) -> bool
+        ensures { result ≡ self.now.has_begun }
+    {
+        self.has_begun
+    }
+
+    /// How many bytes of replies came, each as a device of the model could send it.
+    pub fn passed(&self) -> u64
+        ensures { result ≡ self.now.passed }
+    {
+        self.passed
+    }
+
+    /// How many came behind these where nothing was known.
+    pub fn unjudged(&self) -> u64
+        ensures { result ≡ self.now.came - self.now.passed }
+    {
+        self.came.saturating_sub(self.passed)
     }
 
     /// The byte that was refused, if one was.
@@ -73,6 +141,10 @@ impl<R: Rig + Drop> WatchRig<R> {
             inner,
             watch: _,
             refusal: _,
+            has_begun: _,
+            is_counting: _,
+            passed: _,
+            came: _,
             line_failures: _,
             journal_failures: _,
         } = self;
@@ -130,6 +202,8 @@ impl<R: Rig + Drop> Rig for WatchRig<R> {
             self.new.line_failures self.new.journal_failures (R.view self.new.inner) in
             old.is_honest → PutsHonestly byte result old new }
         ensures fed { OnOk result (IsFed byte self.old.watch self.new.watch) }
+        ensures refused { IsTrue (is_some self.old.refusal)
+            → (self.new.inner ≡ self.old.inner) × OnOk result ⊥ }
     {
         if self.refusal.is_some() {
             count_more(&mut self.line_failures);
@@ -175,6 +249,10 @@ impl<R: Rig + Drop> Rig for WatchRig<R> {
             self.new.line_failures self.new.journal_failures (R.view self.new.inner) in
             old.is_honest → GetsHonestly result old new }
         ensures heard { IfOk result (λ answer. IsHeard answer self.old.watch self.new.watch) }
+        ensures refused { IsTrue (is_some self.old.refusal)
+            → (self.new.inner ≡ self.old.inner) × OnOk result ⊥ }
+        ensures told { self.old.refusal ≡ None
+            → IfSome self.new.refusal (λ r. IsRefused r.due r.came r.address self.old.watch) }
     {
         if self.refusal.is_some() {
             count_more(&mut self.line_failures);
@@ -183,10 +261,18 @@ impl<R: Rig + Drop> Rig for WatchRig<R> {
         match self.inner.get(patience) {
             Ok(Some(byte)) => {
                 let due = self.watch.due();
+                let address = self.watch.address();
                 if self.watch.hear(byte) {
+                    let is_watched = self.watch.is_watching();
+                    self.passed = self.passed.saturating_add(u64::from(is_watched));
+                    self.came = self.came.saturating_add(u64::from(self.is_counting));
                     Ok(Some(byte))
                 } else {
-                    self.refusal = Some(Refusal { due, came: byte });
+                    self.refusal = Some(Refusal {
+                        due,
+                        came: byte,
+                        address,
+                    });
                     count_more(&mut self.line_failures);
                     Err(RigFault::Line)
                 }
@@ -231,6 +317,8 @@ impl<R: Rig + Drop> Rig for WatchRig<R> {
             self.new.line_failures self.new.journal_failures (R.view self.new.inner) in
             old.is_honest → AppendsHonestly bytes.now result old new }
         ensures same { OnOk result (self.new.watch ≡ self.old.watch) }
+        ensures refused { IsTrue (is_some self.old.refusal)
+            → (self.new.inner ≡ self.old.inner) × OnOk result ⊥ }
     {
         if self.refusal.is_some() {
             count_more(&mut self.journal_failures);
@@ -276,6 +364,8 @@ impl<R: Rig + Drop> Rig for WatchRig<R> {
             self.new.line_failures self.new.journal_failures (R.view self.new.inner) in
             old.is_honest → FetchesHonestly at buf.old buf.new result old new }
         ensures same { OnOk result (self.new.watch ≡ self.old.watch) }
+        ensures refused { IsTrue (is_some self.old.refusal)
+            → (self.new.inner ≡ self.old.inner) × OnOk result ⊥ }
     {
         if self.refusal.is_some() {
             count_more(&mut self.journal_failures);

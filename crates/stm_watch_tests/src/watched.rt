@@ -11,13 +11,13 @@ const BASE: u32 = 0x0800_0000;
 
 const PAGES: usize = 4;
 
-fn chip(alloc: Global) -> Result<Chip, Fail> {
+pub fn chip(alloc: Global) -> Result<Chip, Fail> {
     let sizes = vec![in alloc; 256; PAGES]?;
     Ok(Chip::new(0xA01, BASE, sizes, EraseKind::Extended, 0xFF).ok_or("limits")?)
 }
 
 /// A device whose flash is all 00.
-fn device(alloc: Global) -> Result<MemoryRig, Fail> {
+pub fn device(alloc: Global) -> Result<MemoryRig, Fail> {
     let flash = vec![in alloc; 0x00; PAGES * 256]?;
     Ok(MemoryRig::new(alloc, chip(alloc)?, flash, Vec::new(alloc)).ok_or("length")?)
 }
@@ -32,7 +32,7 @@ fn watched<R: Rig + Drop>(alloc: Global, mut rig: R) -> Result<WatchRig<R>, Fail
 }
 
 /// The bytes at an address, after the page was read, erased, and a part of it written.
-fn write<R: Rig>(rig: &mut R) -> Result<[u8; 8], WireFault> {
+pub fn write<R: Rig>(rig: &mut R) -> Result<[u8; 8], WireFault> {
     let mut bytes = [0; 8];
     read(rig, BASE, &mut bytes)?;
     erase_page(rig, EraseKind::Extended, 0)?;
@@ -65,7 +65,14 @@ fn a_byte_that_stood_there_before_is_refused(rt: HostRuntime) -> Result<(), Fail
         Some(WireFault::Line)
     );
     let due = Some(0);
-    assert_eq!(rt; rig.refusal(), Some(Refusal { due, came: 0xFF }));
+    assert_eq!(rt;
+        rig.refusal(),
+        Some(Refusal {
+            due,
+            came: 0xFF,
+            address: Some(BASE)
+        })
+    );
     Ok(())
 }
 
@@ -76,7 +83,14 @@ fn a_complemented_byte_is_refused(rt: HostRuntime) -> Result<(), Fail> {
     let mut rig = watched(rt.alloc(), line)?;
     assert_eq!(rt; write(&mut rig).err(), Some(WireFault::Line));
     let due = Some(0x79);
-    assert_eq!(rt; rig.refusal(), Some(Refusal { due, came: 0x86 }));
+    assert_eq!(rt;
+        rig.refusal(),
+        Some(Refusal {
+            due,
+            came: 0x86,
+            address: None
+        })
+    );
     assert_eq!(rt; rig.put(0), Err(RigFault::Line));
     assert_eq!(rt; rig.get(Patience::Brief), Err(RigFault::Line));
     assert_eq!(rt; rig.append(&[1]), Err(RigFault::File));
