@@ -11,6 +11,7 @@ pub mod Logging
 pub mod Outgoing
 pub mod PageSum
 pub mod Replies
+pub mod ReplyTime
 pub mod Serving
 pub mod ShortWaits
 pub mod Silence

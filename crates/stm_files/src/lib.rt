@@ -28,6 +28,7 @@ mod page_sum;
 mod reason;
 mod replacement;
 mod replies;
+mod reply_time;
 mod restoring;
 mod short_waits;
 mod shown;

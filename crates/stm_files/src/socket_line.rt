@@ -5,6 +5,7 @@ ghost use Rattle.stm_files.specs.SocketLine.{SendsAll, TakesFromLine};
 
 use crate::incoming::Incoming;
 use crate::outgoing::Outgoing;
+use crate::reply_time::ReplyTime;
 use crate::short_waits::ShortWaits;
 use crate::silence::Silence;
 use std::io;
@@ -14,9 +15,6 @@ use std::net::Net;
 use std::os::unix::net::UnixStream;
 use std::time::{Clock, Duration, Instant};
 use stm_wire::Patience;
-
-/// How long the slowest command may take, in milliseconds.
-const LONG: u64 = 40_000;
 
 /// A stream on which a read that has to wait longer than a time fails with `ErrorKind::WouldBlock`.
 pub trait Timed: Read + Write {
@@ -46,6 +44,7 @@ pub struct SocketLine<'a, S: Timed, C> {
     incoming: Incoming,
     outgoing: Outgoing,
     short_waits: ShortWaits,
+    reply_time: ReplyTime,
     /// The device was given up.
     has_given_up: bool,
 }
@@ -83,9 +82,12 @@ impl<'a, C: Clock> SocketLine<'a, UnixStream, C> {
         brief: u64,
         give_up: u64,
     ) -> io::Result<SocketLine<'a, UnixStream, C>> {
-        let limit = match give_up {
-            0 => None,
-            seconds => Some(Duration::from_secs(seconds)),
+        let (limit, at_once) = match give_up {
+            0 => (None, None),
+            seconds => (
+                Some(Duration::from_secs(seconds)),
+                Some(seconds.saturating_mul(1000)),
+            ),
         };
         let (reader, writer) = open(rt, name, limit)?;
         Ok(SocketLine {
@@ -97,6 +99,7 @@ impl<'a, C: Clock> SocketLine<'a, UnixStream, C> {
             incoming: Incoming::new(),
             outgoing: Outgoing::new(),
             short_waits: ShortWaits::new(limit),
+            reply_time: ReplyTime::new(at_once),
             has_given_up: false,
         })
     }
@@ -134,6 +137,7 @@ impl<'a, S: Timed, C: Clock> SocketLine<'a, S, C> {
     {
         self.short_waits.put();
         self.silence.put();
+        self.reply_time.put(byte);
         let done = self.outgoing.put(&mut self.writer, byte);
         self.sent(done)
     }
@@ -151,7 +155,7 @@ impl<'a, S: Timed, C: Clock> SocketLine<'a, S, C> {
     fn time_of(&self, patience: Patience) -> u64 {
         match patience {
             Patience::Brief => self.silence.wait_now(),
-            Patience::Long => LONG,
+            Patience::Long => self.reply_time.wait(),
         }
     }
 
@@ -200,7 +204,9 @@ impl<'a, S: Timed, C: Clock> SocketLine<'a, S, C> {
         ensures { IfOk result (λ answer. TakesFromLine answer self.old self.new) }
     {
         self.flush()?;
+        self.reply_time.ask();
         if let Some(byte) = self.incoming.pop() {
+            self.reply_time.came(Some(byte));
             self.short_waits.get(patience, None);
             self.silence.hold(patience);
             return Ok(Some(byte));
@@ -210,7 +216,8 @@ impl<'a, S: Timed, C: Clock> SocketLine<'a, S, C> {
         self.short_waits.get(patience, began);
         let answer = self.incoming.receive(&mut self.reader)?;
         if answer.is_none() && patience == Patience::Long {
-            if self.short_waits.are_over_in(Duration::from_millis(LONG)) {
+            let waited = Duration::from_millis(self.reply_time.wait());
+            if self.short_waits.are_over_in(waited) {
                 return Err(self.give_up());
             }
         }
@@ -220,6 +227,7 @@ impl<'a, S: Timed, C: Clock> SocketLine<'a, S, C> {
                 return Err(self.give_up());
             }
         }
+        self.reply_time.came(answer);
         self.hear(patience, answer, began, now);
         Ok(answer)
     }
