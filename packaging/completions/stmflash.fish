@@ -35,6 +35,7 @@ complete -c stmflash -n "__stmflash_in $device" -l stop -x -d 'Stops a simulator
 complete -c stmflash -n "__stmflash_in $device" -l give-up -x -d 'Seconds of silence until the line has failed'
 complete -c stmflash -n "__stmflash_in $device" -l progress -d 'A line for each page, also where it is no terminal'
 complete -c stmflash -n "__stmflash_in $device" -l quiet -d 'No progress'
+complete -c stmflash -n "__stmflash_in $device" -l watch -d 'Ends at the first reply that the model does not have'
 complete -c stmflash -n "__stmflash_in $device log keep" -l json -d 'Tells what came of it as a line of JSON'
 complete -c stmflash -n "__stmflash_in $device" -l fresh -d 'The device was just reset'
 complete -c stmflash -n "__stmflash_in $device" -l board -x -d 'The unique id that is wanted, or its last digits'

@@ -93,8 +93,9 @@ with_waits e name =
 -- a subcommand with the options that every use of a device has
 abbrev pub on_device : Environment → Text → App
 on_device e name =
-    with_rule (with_rule (with_rule (with_rule (with_waits e name) (flag_rule (codes "progress")))
-    (flag_rule (codes "quiet"))) (flag_rule (codes "json"))) (option_rule (codes "stop"))
+    with_rule (with_rule (with_rule (with_rule (with_rule (with_waits e name)
+    (flag_rule (codes "progress"))) (flag_rule (codes "quiet"))) (flag_rule (codes "watch")))
+    (flag_rule (codes "json"))) (option_rule (codes "stop"))
 
 -- the same, with the options of which board it has to be
 abbrev pub on_board : Environment → Text → App

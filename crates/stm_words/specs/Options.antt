@@ -8,7 +8,7 @@ use Rattle.stm_words.specs.declared.device.Device.{Device}
 use Rattle.stm_words.specs.declared.environment.Environment.{Environment}
 use Rattle.stm_words.specs.declared.options.Options.{Options}
 use Rattle.stm_words.specs.Number.{is_hex_digit, number_of}
-use Rattle.stm_words.specs.Request.{IsDevice, IsFlagOr}
+use Rattle.stm_words.specs.Request.{IsDevice, IsFlag, IsFlagOr}
 use Rattle.stm_words.specs.TableNames.{AreTables}
 
 -- the word that was given under this id names the device
@@ -50,3 +50,4 @@ AreOptions e given o = AreTables e given o.table
     × IsBoardOf e given o
     × IsFlagOr e.is_fresh given (codes "fresh") o.is_fresh
     × IsFlagOr e.without_lock given (codes "no-lock") o.without_lock
+    × IsFlag given (codes "watch") o.watches

@@ -86,6 +86,7 @@ fn on_device<'a>(
     with_waits(alloc, environment, name, about)?
         .arg(flag(alloc, "progress", help::PROGRESS))?
         .arg(flag(alloc, "quiet", help::QUIET))?
+        .arg(flag(alloc, "watch", help::WATCH))?
         .arg(flag(alloc, "json", help::JSON))?
         .arg(option(alloc, "stop", "K", help::STOP))
 }

@@ -53,6 +53,9 @@ pub const QUIET: &str = "Shows nothing while a session runs";
 pub const JSON: &str =
     "Tells what was done, and each fault, as one line of JSON on standard output";
 
+pub const WATCH: &str =
+    "Ends the session at the first reply that no device of the stated model could give";
+
 pub const FRESH: &str = "The device was reset since the last session";
 
 pub const NO_LOCK: &str =

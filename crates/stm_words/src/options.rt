@@ -35,6 +35,8 @@ pub struct Options<'a> {
     pub is_fresh: bool,
     /// Whether no other program has the files, so that they need no lock where there is none.
     pub without_lock: bool,
+    /// Whether each reply has to be one that a device of the stated model could give.
+    pub watches: bool,
     /// What is shown while the session runs.
     pub progress: Progress,
     /// After how many steps a simulator is stopped.
@@ -78,6 +80,7 @@ impl<'a> Options<'a> {
             without_board,
             is_fresh: flag_or(given, "fresh", environment.is_fresh),
             without_lock: flag_or(given, "no-lock", environment.without_lock),
+            watches: flag(given, "watch"),
             progress: Progress::of(flag(given, "progress"), flag(given, "quiet")),
             stop: stop(given)?,
         })

@@ -11,4 +11,5 @@ returns c = (
   record { word = search rules; digits = search rules; without = search rules; asked = search rules; told = search rules },
   search rules,
   search rules,
+  search rules,
 )
