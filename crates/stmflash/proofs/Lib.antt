@@ -8,3 +8,7 @@ pub mod WholeCalls
 pub mod Acts
 pub mod Tried
 pub mod Unfresh
+pub mod Typed
+pub mod JsonLists
+pub mod Finished
+pub mod Watched

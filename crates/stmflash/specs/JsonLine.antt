@@ -1,5 +1,6 @@
 -- A line of JSON (RFC 8259): one object, whose values are texts, numbers and lists of texts.
-use Rattle.std.specs.Prelude.{◌≡◌, ℕ, ◌/◌, ◌%◌, ◌+◌, ◌==◌, ◌||◌, List, [], ◌∷◌, ◌++◌, codes, decimal}
+use Rattle.std.specs.Prelude.{ℕ, ◌/◌, ◌%◌, ◌+◌, ◌==◌, List, [], ◌∷◌, ◌++◌}
+use Rattle.std.specs.Prelude.{codes, decimal}
 use Rattle.std.specs.Prelude.{if◌then◌else◌, nat_lt}
 use Rattle.std.specs.List.{flat_map}
 
@@ -34,6 +35,29 @@ text_member name text = 0x2C ∷ (text_value name ++ (0x3A ∷ text_value text))
 -- a member whose value is a number, behind another
 abbrev pub number_member : List ℕ → ℕ → List ℕ
 number_member name number = 0x2C ∷ (text_value name ++ (0x3A ∷ decimal number))
+
+-- a line, but no empty one
+abbrev pub unless_empty : List ℕ → List (List ℕ)
+unless_empty [] = []
+unless_empty (byte ∷ bytes) = (byte ∷ bytes) ∷ []
+
+-- the lines of a text that aren't empty, the first of which begins with these bytes
+abbrev pub lines_from : List ℕ → List ℕ → List (List ℕ)
+lines_from line [] = unless_empty line
+lines_from line (byte ∷ bytes) =
+    if byte == 0x0A then unless_empty line ++ lines_from [] bytes
+    else lines_from (line ++ byte ∷ []) bytes
+
+-- the rest of a list of texts, which goes on with this mark: [ where none was told yet, else a
+-- comma
+abbrev pub list_from : ℕ → List (List ℕ) → List ℕ
+list_from mark [] = if mark == 0x5B then 0x5B ∷ 0x5D ∷ [] else 0x5D ∷ []
+list_from mark (text ∷ texts) = mark ∷ (text_value text ++ list_from 0x2C texts)
+
+-- a member whose value is the list of a text's lines, but those that are empty, behind another
+abbrev pub lines_member : List ℕ → List ℕ → List ℕ
+lines_member name text =
+    0x2C ∷ (text_value name ++ (0x3A ∷ list_from 0x5B (lines_from [] text)))
 
 -- an object that begins with this member
 abbrev pub object_of : List ℕ → List ℕ → List ℕ

@@ -7,9 +7,11 @@ pub mod Conduct
 pub mod Confirmation
 pub mod Content
 pub mod FalseErase
+pub mod FaultName
 pub mod FreshUndo
 pub mod Hinting
 pub mod JsonLine
+pub mod Keeping
 pub mod LeftStanding
 pub mod OneCall
 pub mod WholeCalls
@@ -19,4 +21,6 @@ pub mod ReadingFor
 pub mod Steps
 pub mod Histories
 pub mod Unpowered
+pub mod ToldJson
 pub mod TriedBoards
+pub mod Watching

@@ -21,6 +21,7 @@ use Rattle.stmflash.specs.declared.steps.Steps.{Steps}
 use Rattle.stmflash.specs.declared.work.Work.{Work}
 use Rattle.stmflash.specs.Action.{Does, Works}
 use Rattle.stmflash.specs.Board.{AsksFirst, IsOfBoard, asking_if, once_asked}
+use Rattle.stmflash.specs.Keeping.{IsFinished}
 
 -- what a Rig tells of itself is the same
 pub record Stays (old new : RigState) : Type 0 where
@@ -42,6 +43,7 @@ pub record Keeps {R : Type 0} (view : R → RigState) (old new : R)
     (kept : Result ℕ Failure) : Type 0 where
   pub quiet : OnErr kept (GoesOn AreFetches (view old).calls (view new).calls)
   pub ends : (view old).is_honest → OnOk kept (EndsJournal (view old) (view new))
+  pub finished : (view old).is_honest → IfOk kept (IsFinished (view old).journal)
 
 -- the journal is kept, where that is asked for; else nothing is done
 abbrev pub MayKeep : {R : Type 0} → (R → RigState) → Bool → R → R → Result (Option ℕ) Failure

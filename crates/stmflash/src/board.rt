@@ -4,6 +4,7 @@ ghost use Rattle.stm_chip.specs.Document.{IsChipWith, IsNewId};
 ghost use Rattle.stmflash.specs.Board.{Allows, AsksAndAllows, AsksFirst, AsksNamed, AsksWhereDue};
 ghost use Rattle.stmflash.specs.Board.{EndsIn, IsDue, IsOfBoard, as_named, due_beside, due_by};
 ghost use Rattle.stmflash.specs.Board.{is_said_fresh};
+ghost use Rattle.stmflash.specs.Watching.{AsksToWatch, AsksWho};
 
 use crate::failure::Failure;
 use std::alloc::{AllocError, Global};
@@ -190,6 +191,42 @@ fn ask_where_due<'a, L: Rig>(
         Due::Not => Ok(None),
         Due::Asked => ask_and_allow(alloc, rig, table, is_fresh, wanted),
         Due::OfNamed(unique) => ask_named(alloc, rig, table, is_fresh, wanted, unique),
+    }
+}
+
+/// The same of a device that is to be watched: it is asked before Go and a protection too, where its
+/// journal lets them begin.
+pub fn ask_to_watch<'a, L: Rig>(
+    alloc: Global,
+    rig: &mut L,
+    table: &Table,
+    asking: Asking,
+    wanted: Option<&'a str>,
+) -> Result<Option<Board>, Failure<'a>>
+    ensures { AsksToWatch L.view table.now asking wanted.entry rig.old rig.new result }
+{
+    let is_fresh = asking.is_said_fresh();
+    match is_due(alloc, rig, asking, true)? {
+        Due::Not => Ok(None),
+        Due::Asked => ask_and_allow(alloc, rig, table, is_fresh, wanted),
+        Due::OfNamed(unique) => ask_named(alloc, rig, table, is_fresh, wanted, unique),
+    }
+}
+
+/// Asks a device that is to be watched who it is, and not which board: by a table whose chips tell
+/// none.
+pub fn ask_who<'a, L: Rig>(
+    alloc: Global,
+    rig: &mut L,
+    bare: &Table,
+    asking: Asking,
+) -> Result<Option<Board>, Failure<'a>>
+    ensures { AsksWho L.view bare.now asking rig.old rig.new result }
+{
+    let is_fresh = asking.is_said_fresh();
+    match is_due(alloc, rig, asking, true)? {
+        Due::Not => Ok(None),
+        Due::Asked | Due::OfNamed(_) => ask_and_allow(alloc, rig, bare, is_fresh, None),
     }
 }
 

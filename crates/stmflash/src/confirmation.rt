@@ -1,9 +1,12 @@
 // The question before what erases the whole flash for good.
-ghost use Rattle.std.specs.Prelude.{◌≡◌, length};
-ghost use Rattle.stmflash.specs.Confirmation.{erases_for_good, is_yes};
+ghost use Rattle.std.specs.Prelude.{◌≡◌, ◌+◌, ◌++◌, ◌∷◌, [], length, min, take, false, true};
+ghost use Rattle.std.specs.Prelude.{◌≤◌, IfErr, IfSome, IsTrue, Ok, OnOk};
+ghost use Rattle.std.specs.Io.KnownBytes.{Consumes};
+ghost use Rattle.stmflash.specs.declared.failure.Failure.TheVariants.{Unconfirmed};
+ghost use Rattle.stmflash.specs.Confirmation.{SaysYes, TakesLine, erases_for_good, is_yes};
 
 use crate::failure::Failure;
-use std::io::{IsTerminal, Read, Write};
+use std::io::{Read, Write};
 use stm_words::Task;
 
 /// What is said on a terminal before the readout protection is taken off.
@@ -33,28 +36,52 @@ fn is_yes(answer: &[u8]) -> bool
 /// Reads the line that is typed, up to the LF that ends it, and answers how many bytes of it are in
 /// the buffer: as many as fit. An input that ends or fails before the line does is no answer.
 fn read_answer<I: Read>(input: &mut I, answer: &mut [u8]) -> Option<usize>
-    ensures { length answer.new ≡ length answer.old }
+    ensures length { length answer.new ≡ length answer.old }
+    ensures line { IfSome result
+        (TakesLine (I.remaining input.old) (I.remaining input.new) answer.new) }
 {
     let mut count = 0usize;
     for _ in 0..u64::MAX {
-        let mut byte = [0u8];
-        match input.read(&mut byte) {
-            Ok(1) => {}
-            _ => return None,
-        }
-        if byte[0] == b'\n' {
+        let byte = read_byte(input)?;
+        if byte == b'\n' {
             return Some(count);
         }
-        if count < answer.len() {
-            answer[count] = byte[0];
-            count += 1;
-        }
+        count = keep_byte(answer, count, byte);
     }
     None
 }
 
+/// Reads a byte; None where the input ended or failed.
+fn read_byte<I: Read>(input: &mut I) -> Option<u8>
+    ensures { IfSome result (λ byte.
+        Consumes (I.remaining input.old) (I.remaining input.new) (byte ∷ [])) }
+{
+    let mut buf = [0u8];
+    match input.read(&mut buf) {
+        Ok(1) => Some(buf[0]),
+        _ => None,
+    }
+}
+
+/// Keeps a byte behind as many as there are, where there is room, and answers how many there are.
+fn keep_byte(answer: &mut [u8], count: usize, byte: u8) -> usize
+    requires { count ≤ length answer.old }
+    ensures length { length answer.new ≡ length answer.old }
+    ensures count { result ≡ min (count + 1) (length answer.old) }
+    ensures bytes { take result answer.new ≡ take result (take count answer.old ++ byte ∷ []) }
+{
+    if count < answer.len() {
+        answer[count] = byte;
+        count + 1
+    } else {
+        count
+    }
+}
+
 /// Asks whether to go on, and answers whether that is so.
-fn ask<I: Read, E: Write>(input: &mut I, err: &mut E) -> bool {
+fn ask<I: Read, E: Write>(input: &mut I, err: &mut E) -> bool
+    ensures { IsTrue result → SaysYes (I.remaining input.old) (I.remaining input.new) }
+{
     let asked = write!(err, "{ERASES}\ngo on? [y/N] ");
     if asked.is_err() {
         return false;
@@ -71,12 +98,19 @@ fn ask<I: Read, E: Write>(input: &mut I, err: &mut E) -> bool {
 }
 
 /// Asks on a terminal before the whole flash is erased for good, and refuses that where the answer
-/// isn't yes. Where standard input or standard error is none, nobody is asked.
-pub fn confirm<'a, I: Read + IsTerminal, E: Write + IsTerminal>(
+/// isn't yes. Where there is none, nobody is asked, and nothing is read.
+pub fn confirm<'a, I: Read, E: Write>(
+    is_terminal: bool,
     input: &mut I,
     err: &mut E,
-) -> Result<(), Failure<'a>> {
-    if !input.is_terminal() || !err.is_terminal() {
+) -> Result<(), Failure<'a>>
+    ensures unasked { is_terminal ≡ false
+        → (result ≡ Ok tt) × (input.new ≡ input.old) × (err.new ≡ err.old) }
+    ensures asked { is_terminal ≡ true
+        → OnOk result (SaysYes (I.remaining input.old) (I.remaining input.new)) }
+    ensures refused { IfErr result (λ failure. failure ≡ Unconfirmed) }
+{
+    if !is_terminal {
         return Ok(());
     }
     if ask(input, err) {

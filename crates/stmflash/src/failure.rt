@@ -3,6 +3,7 @@ ghost use Rattle.std.specs.Prelude.{◌≡◌};
 ghost use Rattle.stmflash.specs.BrokenOff.{is_broken_off};
 ghost use Rattle.stmflash.specs.declared.failure.Failure.TheVariants.{Session, Hex, Memory, Raw};
 
+use crate::otherwise::Otherwise;
 use std::alloc::{AllocError, AllocFailed};
 use std::io;
 use std::io::ErrorKind;
@@ -88,6 +89,10 @@ pub enum Failure<'a> {
     /// A device was silent for too long, or didn't take what was sent.
     #[error("no answer from the device")]
     NoAnswer,
+    /// The session is watched, and the device does otherwise than the model.
+    #[error("the board does otherwise than the model: {0}; undo what was begun, then \
+        stmflash-trial")]
+    Otherwise(Otherwise),
     /// The journal of a folder is bad.
     #[error("{1}, in {0}")]
     InJournal(&'a str, Fault),

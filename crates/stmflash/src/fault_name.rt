@@ -1,11 +1,15 @@
 // The name that a fault has wherever programs read it. It stays when its text changes.
+ghost use Rattle.std.specs.Prelude.{◌≡◌};
+ghost use Rattle.stmflash.specs.FaultName.{failure_name, fault_name};
 
 use crate::failure::Failure;
 use stm_session::Fault;
 
 impl Failure<'_> {
     /// Its name: small letters and `_`.
-    pub fn name(&self) -> &'static str {
+    pub fn name(&self) -> &'static str
+        ensures { result.now ≡ failure_name self.now }
+    {
         match self {
             Failure::Session(fault) => name_of(*fault),
             Failure::Table(_) | Failure::StandingTable(..) => "bad_table",
@@ -27,6 +31,7 @@ impl Failure<'_> {
             Failure::OtherBoard => "other_board",
             Failure::NoBoard => "no_board",
             Failure::NoAnswer => "no_answer",
+            Failure::Otherwise(_) => "does_otherwise",
             Failure::InJournal(_, fault) => name_of(*fault),
             Failure::Misnamed(_) => "misnamed_journal",
             Failure::BegunJournals(_) => "unfinished_journals",
@@ -39,7 +44,9 @@ impl Failure<'_> {
 }
 
 /// The name of a session's fault.
-fn name_of(fault: Fault) -> &'static str {
+fn name_of(fault: Fault) -> &'static str
+    ensures { result.now ≡ fault_name fault }
+{
     match fault {
         Fault::Line => "line_failed",
         Fault::Journal => "journal_failed",

@@ -46,11 +46,20 @@ pub enum Hint {
 }
 
 impl Hint {
+    /// Whether it tells what the device refused, or that it is busy.
+    fn is_of_refusal(self) -> bool {
+        !matches!(
+            self,
+            Hint::Silent | Hint::Echo | Hint::NoAnswer | Hint::IdOf(_)
+        )
+    }
+
     /// The same, where it tells more of a failure. That nothing came says nothing of a line that was
     /// closed.
     pub fn of(self, failure: &Failure) -> Option<Hint> {
         match failure {
             Failure::Session(Fault::Line) if self == Hint::Silent => None,
+            Failure::Otherwise(_) if self.is_of_refusal() => Some(self),
             failure if failure.is_broken_off() => Some(self),
             _ => None,
         }

@@ -1,6 +1,7 @@
 // A line of JSON (RFC 8259): one object, whose values are texts, numbers and lists of texts.
-ghost use Rattle.std.specs.Prelude.{◌≡◌, ◌++◌, ◌<◌, ◌∷◌, [], IfOk, OnOk, decimal};
-ghost use Rattle.stmflash.specs.JsonLine.{by_number, hex_digit, line_end, number_member};
+ghost use Rattle.std.specs.Prelude.{◌≡◌, ◌++◌, ◌<◌, ◌∷◌, [], ℕ, List, IfOk, OnOk, decimal};
+ghost use Rattle.stmflash.specs.JsonLine.{by_number, hex_digit, line_end, lines_from};
+ghost use Rattle.stmflash.specs.JsonLine.{lines_member, list_from, number_member, unless_empty};
 ghost use Rattle.stmflash.specs.JsonLine.{object_of, quoted, quoted_byte, text_member, text_value};
 
 use std::alloc::{AllocError, Global};
@@ -45,21 +46,12 @@ impl JsonLine {
     }
 
     /// Adds a member whose value is a list: the lines of a text, but those that are empty.
-    pub fn lines(&mut self, name: &str, text: &[u8]) -> Result<(), AllocError> {
+    pub fn lines(&mut self, name: &str, text: &[u8]) -> Result<(), AllocError>
+        ensures { OnOk result (self.new.text.items
+            ≡ self.old.text.items ++ lines_member name.now text.now) }
+    {
         self.name(name)?;
-        let mut next = b'[';
-        for line in text.split(|byte| *byte == b'\n') {
-            if !line.is_empty() {
-                self.text.push(next)?;
-                add_text(&mut self.text, line)?;
-                next = b',';
-            }
-        }
-        if next == b'[' {
-            self.text.push(next)?;
-        }
-        self.text.push(b']')?;
-        Ok(())
+        add_lines(&mut self.text, text)
     }
 
     /// Begins a member behind another.
@@ -82,6 +74,50 @@ impl JsonLine {
         text.push(b'\n')?;
         Ok(text)
     }
+}
+
+/// Adds the lines of a text, but those that are empty, as a list.
+fn add_lines(out: &mut Vec<u8>, text: &[u8]) -> Result<(), AllocError>
+    ensures { OnOk result (out.new.items
+        ≡ out.old.items ++ list_from 0x5B (lines_from [] text.now)) }
+{
+    let mut mark = b'[';
+    let mut start = 0usize;
+    for i in 0..text.len() {
+        if text[i] != b'\n' {
+            continue;
+        }
+        mark = add_line(out, mark, &text[start..i])?;
+        start = i + 1;
+    }
+    mark = add_line(out, mark, &text[start..])?;
+    end_list(out, mark)?;
+    Ok(())
+}
+
+/// Ends a list that goes on with this mark.
+fn end_list(out: &mut Vec<u8>, mark: u8) -> Result<(), AllocError>
+    ensures { OnOk result (out.new.items ≡ out.old.items ++ list_from mark []) }
+{
+    if mark == b'[' {
+        out.push(mark)?;
+    }
+    out.push(b']')?;
+    Ok(())
+}
+
+/// Adds a line to a list, but no empty one, and answers the mark with which the list goes on.
+fn add_line(out: &mut Vec<u8>, mark: u8, line: &[u8]) -> Result<u8, AllocError>
+    ensures { IfOk result (λ next. (more : List (List ℕ))
+        → out.new.items ++ list_from next more
+        ≡ out.old.items ++ list_from mark (unless_empty line.now ++ more)) }
+{
+    if line.is_empty() {
+        return Ok(mark);
+    }
+    out.push(mark)?;
+    add_text(out, line)?;
+    Ok(b',')
 }
 
 /// Adds a text with its quotation marks.

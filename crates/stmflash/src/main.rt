@@ -29,6 +29,7 @@ mod left_standing;
 mod named_files;
 mod on_device;
 mod one_call;
+mod otherwise;
 mod output;
 mod program;
 mod progress_course;
@@ -46,6 +47,8 @@ mod tables;
 mod told_json;
 mod unpowered;
 mod variables;
+mod watchable;
+mod watching;
 mod work;
 
 use program::{fail, program};

@@ -14,7 +14,8 @@ use crate::output::Output;
 use crate::progress_course::Course;
 use crate::progress_rig::ProgressRig;
 use crate::progress_screen::{Screen, Style};
-use crate::steps::{Steps, failed_by, failure_of, take_steps};
+use crate::steps::{Steps, failed_by, failure_of};
+use crate::watching::{Watching, done_watched, take_watched, watched, without_places};
 use crate::work::Work;
 use std::fs;
 use std::fs::Files;
@@ -28,6 +29,7 @@ use stm_files::{
     is_there,
 };
 use stm_session::Fault;
+use stm_watch::{Watch, WatchRig};
 use stm_wire::Chip;
 use stm_words::{Device, Options, Progress, Sequel, Task};
 
@@ -61,7 +63,7 @@ pub fn use_device<
     let work = Work::of(rt, task)?;
     files.check(rt)?;
     if is_for_good {
-        confirm(input, err)?;
+        confirm(input.is_terminal() && err.is_terminal(), input, err)?;
     }
     if !options.in_folder {
         return use_beside(rt, options, &tables, files, work, sequel, None, err, hint);
@@ -128,6 +130,8 @@ pub fn use_once<'a, 'r, R: Locks + Net + Clock + AllocGlobal, E: Write + IsTermi
     let table = tables.chips();
     // its chip becomes that of the device's board
     let own = tables.copy(rt.alloc())?;
+    // nothing is known of the device yet
+    let watch = Watch::of_nothing(rt.alloc())?;
     match options.device {
         Device::Simulator { id, file } => {
             let Some(chip) = table.find(id) else {
@@ -135,14 +139,18 @@ pub fn use_once<'a, 'r, R: Locks + Net + Clock + AllocGlobal, E: Write + IsTermi
             };
             let chip = chip.clone()?;
             let question = question_of(options, &work, tells_board(&chip));
+            let watching = watching_of(rt, options, tables, &question)?;
             on_simulator(
-                rt, options, work, question, sequel, table, own, file, chip, output, screen, hint,
+                rt, options, work, question, sequel, table, own, watch, &watching, file, chip,
+                output, screen, hint,
             )
         }
         Device::Socket(path) => {
             let question = question_of(options, &work, has_telling_chip(table));
+            let watching = watching_of(rt, options, tables, &question)?;
             on_socket(
-                rt, options, work, question, sequel, table, own, path, line, output, screen, hint,
+                rt, options, work, question, sequel, table, own, watch, &watching, path, line,
+                output, screen, hint,
             )
         }
     }
@@ -157,6 +165,24 @@ fn question_of<'a>(options: &Options<'a>, work: &Work, is_told: bool) -> Questio
         is_asked: (is_told || is_looked_at) && !options.without_board,
         wanted: options.board,
     }
+}
+
+/// How a session is watched whose device is asked this. Where a board is wanted and the device
+/// isn't asked, nothing is sent to it.
+fn watching_of<'a, R: AllocGlobal>(
+    rt: &R,
+    options: &Options<'a>,
+    tables: &ChipTables<'a>,
+    question: &Question<'a>,
+) -> Result<Watching, Failure<'a>> {
+    if !options.watches || !question.is_asked && question.wanted.is_some() {
+        return Ok(Watching::Not);
+    }
+    if question.is_asked {
+        return Ok(Watching::FromBoard);
+    }
+    let table = tables.copy(rt.alloc())?;
+    Ok(Watching::FromId(without_places(table, tables.chips())?))
 }
 
 /// Whether it begins a journal: a write or an erase does whose journal isn't there yet.
@@ -272,6 +298,8 @@ fn on_simulator<'a, R: Locks + Clock + AllocGlobal, W: Write + Drop>(
     sequel: &Sequel<'a>,
     table: &Table,
     own: Table,
+    watch: Watch,
+    watching: &Watching,
     file: &'a str,
     chip: Chip,
     output: Output<'a, R>,
@@ -301,6 +329,8 @@ fn on_simulator<'a, R: Locks + Clock + AllocGlobal, W: Write + Drop>(
                 sequel,
                 table,
                 own,
+                watch,
+                watching,
                 options.journal,
                 output,
                 screen,
@@ -324,15 +354,30 @@ fn use_simulator<'a, R: Locks + Clock + AllocGlobal, W: Write + Drop>(
     sequel: &Sequel<'a>,
     table: &Table,
     own: Table,
+    watch: Watch,
+    watching: &Watching,
     name: &'a str,
     output: Output<'a, R>,
     screen: Screen<'_, W, R>,
     hint: &mut Option<Hint>,
 ) -> Result<Steps<'a>, Failure<'a>> {
-    let mut rig = ProgressRig::new(rig, Course::new(rt.alloc(), table, work.goal()), screen);
-    let done = take_steps(rt.alloc(), &mut rig, own, work, question, name, sequel);
+    let rig = ProgressRig::new(rig, Course::new(rt.alloc(), table, work.goal()), screen);
+    let mut rig = WatchRig::new(rig, watch);
+    let done = take_watched(
+        rt.alloc(),
+        &mut rig,
+        own,
+        work,
+        question,
+        name,
+        sequel,
+        watching,
+    );
+    let done = done_watched(&rig, done);
+    let told = watched(&rig, watching, failure_of(&done));
+    let rig = rig.into_inner();
     *hint = rig.hint();
-    let rig = rig.finish(done.is_ok());
+    let rig = rig.finish(done.is_ok(), told);
     let is_unstored = rig.is_unstored();
     let (memory, journal, mut files) = rig.into_parts();
     let mut done = done_on(journal, name, done);
@@ -384,6 +429,8 @@ fn on_socket<'a, 'r, R: Locks + Net + Clock + AllocGlobal, W: Write + Drop>(
     sequel: &Sequel<'a>,
     table: &Table,
     own: Table,
+    watch: Watch,
+    watching: &Watching,
     path: &'a str,
     line: Option<Line<'r, R>>,
     output: Output<'a, R>,
@@ -397,8 +444,9 @@ fn on_socket<'a, 'r, R: Locks + Net + Clock + AllocGlobal, W: Write + Drop>(
         None => connect_line(rt, options, path)?,
     };
     let rig = SocketRig::new(line, journal);
-    let mut rig = ProgressRig::new(rig, Course::new(rt.alloc(), table, work.goal()), screen);
-    let done = take_steps(
+    let rig = ProgressRig::new(rig, Course::new(rt.alloc(), table, work.goal()), screen);
+    let mut rig = WatchRig::new(rig, watch);
+    let done = take_watched(
         rt.alloc(),
         &mut rig,
         own,
@@ -406,9 +454,13 @@ fn on_socket<'a, 'r, R: Locks + Net + Clock + AllocGlobal, W: Write + Drop>(
         question,
         options.journal,
         sequel,
+        watching,
     );
+    let done = done_watched(&rig, done);
+    let told = watched(&rig, watching, failure_of(&done));
+    let rig = rig.into_inner();
     *hint = rig.hint();
-    let rig = rig.finish(done.is_ok());
+    let rig = rig.finish(done.is_ok(), told);
     let has_given_up = rig.has_given_up();
     let done = if has_given_up {
         failed_by(done, Failure::NoAnswer)

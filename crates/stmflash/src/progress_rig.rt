@@ -5,6 +5,7 @@ use crate::failure::Failure;
 use crate::hint::Hint;
 use crate::hinting::hint_of;
 use crate::keeper::Keeper;
+use crate::otherwise::Watched;
 use crate::progress_course::Course;
 use crate::progress_screen::Screen;
 use crate::progress_watch::{Seen, Watch, page_named};
@@ -48,8 +49,9 @@ impl<'a, L: Rig + Drop, W: Write + Drop, C: Clock> ProgressRig<'a, L, W, C> {
         hint_of(&self.turns)
     }
 
-    /// The inner Rig. Nothing is shown any more; where all was done, the last page is told.
-    pub fn finish(self, is_done: bool) -> L
+    /// The inner Rig. Nothing is shown any more; where all was done, the last page is told, and then
+    /// what watching came to, where that is to be.
+    pub fn finish(self, is_done: bool, watched: Option<Watched>) -> L
         ensures { result ≡ self.entry.inner }
     {
         let ProgressRig {
@@ -66,6 +68,9 @@ impl<'a, L: Rig + Drop, W: Write + Drop, C: Clock> ProgressRig<'a, L, W, C> {
             }
         }
         screen.clear();
+        if let Some(watched) = watched {
+            screen.tell(&watched);
+        }
         inner
     }
 

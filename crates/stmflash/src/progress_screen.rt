@@ -3,6 +3,7 @@ ghost use Rattle.std.specs.Prelude.{◌≡◌};
 ghost use Rattle.stm_words.specs.declared.progress.Progress.TheVariants.{Silent};
 ghost use Rattle.stmflash.specs.declared.progress_screen.Style.TheVariants.{Hidden};
 
+use crate::otherwise::Watched;
 use crate::progress_course::Place;
 use crate::progress_text::Status;
 use std::alloc::Global;
@@ -218,6 +219,15 @@ impl<'a, W: Write + Drop, C: Clock> Screen<'a, W, C> {
             self.is_written = self.style == Style::Line;
             let _ = self.out.write_all(text.as_bytes());
         }
+    }
+
+    /// Tells what watching came to, also where nothing else is shown. Where there is no memory for
+    /// the line, it is written in parts.
+    pub fn tell(&mut self, watched: &Watched) {
+        let _ = match format!(in self.alloc; "{watched}\n") {
+            Ok(line) => self.out.write_all(line.as_bytes()),
+            Err(_) => writeln!(self.out, "{watched}"),
+        };
     }
 
     /// Clears the line of a terminal.

@@ -198,7 +198,7 @@ fn keep<'a, L: Keeper>(
 }
 
 /// Lets the device go, where that is asked for.
-fn leave<'a, L: Rig>(
+pub fn leave<'a, L: Rig>(
     alloc: Global,
     rig: &mut L,
     table: &Table,

@@ -1,4 +1,6 @@
 // What came of the words as JSON, one line for each step and one for a fault.
+ghost use Rattle.std.specs.Prelude.{◌≡◌, IfOk};
+ghost use Rattle.stmflash.specs.ToldJson.{answer_name, refusal_line};
 
 use crate::answer::Answer;
 use crate::failure::Failure;
@@ -36,7 +38,9 @@ fn json_of(alloc: Global, answer: &Answer, board: &Option<Board>) -> Result<Vec<
 }
 
 /// The name that an answer has wherever programs read it.
-pub fn name_of(answer: &Answer) -> &'static str {
+pub fn name_of(answer: &Answer) -> &'static str
+    ensures { result.now ≡ answer_name answer.now }
+{
     match answer {
         Answer::Nothing | Answer::Bytes(_) => "done",
         Answer::Told(_) | Answer::ToldBeside { .. } => "info",
@@ -191,7 +195,9 @@ fn add_hint(
 }
 
 /// The line of words that `clap` refuses, with its text.
-pub fn json_of_refusal(alloc: Global, text: &str) -> Result<Vec<u8>, AllocError> {
+pub fn json_of_refusal(alloc: Global, text: &str) -> Result<Vec<u8>, AllocError>
+    ensures { IfOk result (λ line. line.items ≡ refusal_line text.now) }
+{
     let mut line = JsonLine::of(alloc, FAULT, "usage")?;
     line.text("says", text)?;
     line.number("status", 2)?;

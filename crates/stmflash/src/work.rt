@@ -101,7 +101,7 @@ impl Work {
     }
 
     /// Beside which journals its device is asked first which board it is.
-    fn asking(&self) -> Asking
+    pub fn asking(&self) -> Asking
         ensures { result ≡ asking_of self.now }
     {
         match self {
