@@ -9,7 +9,7 @@ import time
 
 from .fault import Failed, Fault
 from .owner import Owner, owner_of
-from .patience import UNKNOWN
+from .patience import UNKNOWN, wait_at_rest
 
 # after how many seconds without an answer a board is given up; an undo has stmflash's own patience
 GIVE_UP = 5
@@ -19,13 +19,18 @@ RELEASED = 5
 NO_PROTOCOL = "device does not follow the protocol"
 # the sessions that can be done again as long as they have begun nothing; a program that a Go did start doesn't answer the next
 AGAIN = ("info", "read", "write", "erase", "go", "undo")
+# those behind which, where they ended well, the board waits for a command; and those that need no longer wait then: where it
+# proves too short, they are done again
+LEAVE_AT_REST, AT_REST = ("info", "read", "write", "erase"), ("read", "write", "erase", "go")
 
 
 class Board:
     """The board behind a socket that STMFLASH_DEVICE names, and the journal of its port."""
 
-    def __init__(self, tools, journals, wait):
+    def __init__(self, tools, journals, wait, slowest=lambda: 0):
         self.tools, self.journals, self.wait = tools, journals, wait
+        # how many seconds the slowest answer of this call took; and whether the last session has left the board at rest
+        self.slowest, self.is_at_rest = slowest, False
         # which board it is, once it was asked
         self.own = Owner()
         # what stmflash made of the last session that failed, if it did
@@ -37,16 +42,18 @@ class Board:
     def use(self, name, *words, wait=None, **more):
         """One session; what it printed. Where a wait that is shorter than stmflash's own has proved too short, and nothing was
         begun, it is done once more with that."""
-        before = self.journals.size()
+        before, wait_now = self.journals.size(), wait or self.wait
+        if wait is None and self.is_at_rest and name in AT_REST:
+            wait_now = wait_at_rest(self.wait, self.slowest())
         try:
-            return self.session(name, words, wait or self.wait, **more)
+            return self.session(name, words, wait_now, **more)
         except Failed as fault:
-            is_short = wait is None and self.wait < UNKNOWN and name in AGAIN
+            is_short = wait is None and wait_now < max(self.wait, UNKNOWN) and name in AGAIN
             # an undo goes on where it was stopped; a write whose journal was kept has left none
             begun = name != "undo" and (self.journals.size() != before or fault.printed)
             if str(fault) != NO_PROTOCOL or not is_short or begun:
                 raise
-            self.wait, self.hint = UNKNOWN, ""
+            self.wait, self.hint = max(self.wait, UNKNOWN), ""
             return self.session(name, words, self.wait, **more)
 
     def session(self, name, words, wait, show=None, out=subprocess.PIPE, files=(), journal=None):
@@ -55,7 +62,11 @@ class Board:
         common = ["--table", self.tools.table, "--journal", journal or self.journals.live, "--wait", str(wait)]
         common += ["--progress" if show else "--quiet"]
         common += [] if name == "undo" else ["--give-up", str(GIVE_UP)]
-        return self.run([name, *common, *words], show, out, files)
+        self.is_at_rest = False
+        printed = self.run([name, *common, *words], show, out, files)
+        # a program that was started isn't the bootloader
+        self.is_at_rest = name in LEAVE_AT_REST and "--go" not in words
+        return printed
 
     def look(self, name, *words):
         """A call that needs no device."""

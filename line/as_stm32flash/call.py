@@ -1,21 +1,16 @@
 """One call: outside, where the words are read and what can't be done is refused; and inside, where stmflash-line has the port
-open and has run us again as its command."""
+open, and we are a process of our own as its COMMAND."""
 
-import marshal
 import os
 import sys
 
 from . import chip as chips
-from . import sequence, tools, words
+from . import line, sequence, tools, words
 from .fault import Failed, Fault
 from .journals import Journals
 from .patience import is_pty, wait
 from .told import Told, note
 
-INSIDE = "--through"
-# the words of a call, the chips of its table and its user's wait, for its inside: stmflash-line would put a socket's path for each
-# {} of its command, and has a wait of its own for it
-WORDS = "STM32FLASH_WORDS"
 # that the entry sequence of -i resets the board, which its user says
 RESETS = "STM32FLASH_RESETS"
 # why a journal is refused that is another's, and what was at the port before
@@ -23,8 +18,13 @@ OTHERS = {"journal belongs to another device": "a chip of another kind", "journa
 
 
 def main(program, given):
+    return ended(lambda: outside(program, given))
+
+
+def ended(act):
+    """The status of a part of a call, whose fault is told."""
     try:
-        return inside(program) if given == [INSIDE] and WORDS in os.environ else outside(program, given)
+        return act()
     except Fault as fault:
         sys.stdout.flush()
         print(str(fault) + ("\n" + usage() if fault.usage else ""), file=sys.stderr, flush=True)
@@ -62,13 +62,11 @@ def outside(program, given):
             image.keep(asked.file)
             told.lines(image.Image(asked).lines())
     journals.make()
-    os.environ[WORDS] = marshal.dumps((given, chips.pack(table), os.environ.get("STMFLASH_WAIT"))).hex()
-    line = [below.line, asked.port, "--baud", str(asked.baud)]
-    if asked.sequence is not None:
-        leave = asked.leave()
-        line.append(f"--boot={asked.entry()}" + ("" if leave is None else f":{leave}"))
-    sys.stdout.flush()
-    os.execv(below.line, [*line, "--", sys.executable, "-S", program, INSIDE])
+    leave = asked.leave()
+    boot = None if asked.sequence is None else asked.entry() + ("" if leave is None else f":{leave}")
+    patience = wait(os.environ.get("STMFLASH_WAIT"), asked.port, asked.baud)
+    return line.use(below.line, asked.port, asked.baud, boot,
+                    lambda slowest: ended(lambda: inside(asked, below, table, patience, slowest)))
 
 
 def refuse(asked, below):
@@ -102,15 +100,12 @@ def show_log(board):
 
 # ---- inside
 
-def inside(program):
+def inside(asked, below, table, patience, slowest):
     from .board import Board
-    given, packed, patience = marshal.loads(bytes.fromhex(os.environ[WORDS]))
-    asked = words.read(given)
-    below = tools.find(program)
-    board = Board(below, Journals(asked.port), wait(patience, asked.port, asked.baud))
+    board = Board(below, Journals(asked.port), patience, slowest)
     try:
         board.journals.end_keeping()
-        return undo(board, asked) if asked.action == "undo" else do(board, asked, chips.unpack(packed, below.table))
+        return undo(board, asked) if asked.action == "undo" else do(board, asked, table)
     except Fault as fault:
         raise Fault(str(fault) + (f"\nstm32flash: {board.hint}" if board.hint else "")) from None
 

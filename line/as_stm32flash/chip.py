@@ -1,19 +1,14 @@
 """A chip of the table: where its pages lie."""
 
 import bisect
-import marshal
 
 from .fault import Fault
-
-# how many bytes of chips are handed on at most, so that they have room beside all other settings
-ROOM = 32768
 
 
 class Chip:
     """The flash of a chip: `starts` has the address of each page, and last of all the flash's end."""
 
     def __init__(self, entry):
-        self.entry = {key: entry[key] for key in ("id", "name", "base", "pages") if key in entry}
         self.identity = entry["id"]
         self.name = entry.get("name", "")
         self.starts = [entry["base"]]
@@ -45,20 +40,6 @@ def read_table(path):
             return {entry["id"]: Chip(entry) for entry in tomllib.load(file)["chip"]}
     except (OSError, tomllib.TOMLDecodeError, KeyError, TypeError, ValueError) as error:
         raise Fault(f"ERROR: the table of chips, {path}, can't be read: {getattr(error, 'strerror', None) or error}") from None
-
-
-def pack(table):
-    """The chips of a table, for the inside of a call; nothing where they are too many, or not what marshal has: then the table is
-    read there."""
-    try:
-        packed = marshal.dumps([chip.entry for chip in table.values()])
-    except ValueError:
-        return b""
-    return packed if len(packed) <= ROOM else b""
-
-
-def unpack(packed, path):
-    return {entry["id"]: Chip(entry) for entry in marshal.loads(packed)} if packed else read_table(path)
 
 
 def refuse_outside(chips, address, option):

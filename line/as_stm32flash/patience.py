@@ -15,6 +15,8 @@ BYTES, BITS = 512, 11
 # what an adapter holds bytes back for where its driver doesn't say, and what the machine and the chip may take besides, in ms
 HOLD, REST = 16, 50
 LEAST = 100
+# behind an answer that took the longest up to now silence is what stmflash takes for it: four times that, and so many ms
+MARGIN = 20
 PTY_MAJORS = range(136, 144)
 
 
@@ -28,6 +30,14 @@ def wait(given, port, baud):
     if held is None:
         return UNKNOWN
     return max(LEAST, math.ceil(BYTES * BITS * 1000 / baud) + 4 * held + REST)
+
+
+def wait_at_rest(whole, slowest):
+    """The wait of a session behind one of the same call that ended well, in ms, where the slowest answer took so many seconds. The
+    board has nothing begun and owes nothing then: what is waited for is the answer to one byte, and no batch is on its way."""
+    if not slowest:
+        return whole
+    return min(whole, max(REST, 4 * math.ceil(1000 * slowest) + MARGIN))
 
 
 def hold(port):

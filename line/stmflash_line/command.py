@@ -42,13 +42,15 @@ def run(command, path, fresh, wait, join):
 
 def start(command, path, fresh, wait):
     """COMMAND, with the socket's path for every {}, and how long a reply may take, in ms, where that is known and its user says
-    nothing. It is told to end where we are killed."""
-    words = [word.replace("{}", path) for word in command]
+    nothing. It is told to end where we are killed. Where it is a function, that begins it."""
     settings = {**os.environ, "STMFLASH_DEVICE": path}
     if fresh:
         settings["STMFLASH_FRESH"] = "1"
     if wait is not None and not settings.get("STMFLASH_WAIT"):
         settings["STMFLASH_WAIT"] = str(wait)
+    if callable(command):
+        return command(settings)
+    words = [word.replace("{}", path) for word in command]
     try:
         return subprocess.Popen(words, env=settings, preexec_fn=tied())
     except OSError as error:

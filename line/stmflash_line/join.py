@@ -15,13 +15,16 @@ class Join:
 
     `entry` is called before the first byte of each client but the one that an `entered` board is for; None: nothing is. A client
     that has sent nothing for `idle` seconds is let go of; 0: none is. `watch` ends the line at the first reply that isn't due;
-    None: each is handed on."""
+    None: each is handed on. `heard` is told how many seconds each first byte took that came for what was sent last; None: nobody
+    is."""
 
-    def __init__(self, port, listener, wake, entry=None, entered=False, idle=0, watch=None):
+    def __init__(self, port, listener, wake, entry=None, entered=False, idle=0, watch=None, heard=None):
         self.port, self.listener, self.wake = port, listener, wake
         # whether a reply wasn't due
         self.watch, self.is_otherwise = watch, False
         self.client = None
+        # when something was sent last that wasn't answered yet
+        self.tell, self.asked = heard, None
         self.idle, self.heard = idle, 0.0
         self.entry, self.entered = entry, entered
         self.is_first = False
@@ -102,6 +105,9 @@ class Join:
 
     def from_port(self):
         data, bad = self.port.read()
+        if self.tell and self.asked is not None and data:
+            self.tell(time.monotonic() - self.asked)
+            self.asked = None
         if self.client is None:
             return
         text = None
@@ -125,6 +131,7 @@ class Join:
     def to_port(self):
         if self.out:
             del self.out[:self.port.write(self.out)]
+            self.asked = time.monotonic()
 
     def from_client(self):
         """Whether the client had sent something."""

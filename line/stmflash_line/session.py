@@ -40,7 +40,7 @@ def use_board(port, moves, given, wake, watch):
         return 128 + wake.number if given.command else 0
     port.forget()
     with (served(given.socket) if given.socket else served_privately()) as (path, listener):
-        join = Join(port, listener, wake, enter if given.resets else None, bool(given.command), given.idle, watch)
+        join = Join(port, listener, wake, enter if given.resets else None, bool(given.command), given.idle, watch, given.heard)
         if given.command:
             return run(given.command, path, given.resets, wait_of(port, given), join)
         return serve(join)
@@ -56,8 +56,9 @@ def serve(join):
 
 def wait_of(port, given):
     """How long a reply may take, in ms: also that of a client whose first byte waits until the board is reset. None where that
-    isn't known; and for an undo, since an erase that was stopped may still run, and all that settling sends is lost meanwhile."""
-    if "undo" in given.command:
+    isn't known, and for a program that has a wait of its own; and for an undo, since an erase that was stopped may still run, and all
+    that settling sends is lost meanwhile."""
+    if callable(given.command) or "undo" in given.command:
         return None
     pause = sum(value for name, value in given.boot if name == "wait") if given.resets else 0
     return wait(port.name, port.baud, pause)

@@ -1,6 +1,6 @@
 """The words of the command line."""
 
-import argparse
+import types
 
 from .sequences import gpio_lines, read_sequence, read_wiring
 
@@ -18,6 +18,8 @@ EXAMPLE = """a board with reset at DTR and BOOT0 at RTS, and the same in stm32fl
 
 
 def make_parser():
+    # a program that has words of its own doesn't load it
+    import argparse
     parser = argparse.ArgumentParser(
         prog="stmflash-line", allow_abbrev=False, usage=USAGE, epilog=EXAMPLE,
         formatter_class=argparse.RawDescriptionHelpFormatter,
@@ -48,7 +50,7 @@ def read_words(words):
     own, command = words[:at], words[at + 1:]
     parser = make_parser()
     given = parser.parse_args(joined(own))
-    given.command = command
+    given.command, given.heard = command, None
     if (given.socket is not None) == bool(command):
         parser.error("either --socket PATH or -- COMMAND")
     if not 1 <= given.baud <= 4000000:
@@ -61,6 +63,15 @@ def read_words(words):
         settle_sequences(given)
     except ValueError as error:
         parser.error(str(error))
+    return given
+
+
+def of_program(port, baud, boot, begin, heard):
+    """The same, for a program that uses these modules itself: `begin` is called in place of COMMAND, with its settings, and
+    answers the process that it has begun; `heard` is told how long each answer of the board took, in seconds."""
+    given = types.SimpleNamespace(port=port, baud=baud, wiring=None, boot=boot, resets=False, after=None, gpio_chip=None, watch=False,
+                                  socket=None, idle=0, command=begin, heard=heard)
+    settle_sequences(given)
     return given
 
 
