@@ -6,6 +6,7 @@ parts.
 
 import contextlib
 import os
+import select
 import signal
 import socket
 import subprocess
@@ -138,7 +139,8 @@ class LinePlace(Place):
             nonlocal held
             # while nobody has the port open, a read fails
             with contextlib.suppress(OSError):
-                held += os.read(master, count - len(held))
+                if select.select([master], [], [], 0.05)[0]:
+                    held += os.read(master, count - len(held))
             return len(held) == count
 
         self.until(has_all, "bytes are missing")

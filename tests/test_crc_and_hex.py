@@ -73,8 +73,9 @@ class Hex(Place):
 
     def test_other_names_are_raw(self):
         self.store("flash", COUNTING)
-        self.assertSilent(self.use("read", "out.hex.bin"))
-        self.assertFile("out.hex.bin", COUNTING)
+        for name in ("out.hex.bin", "outhex", "hex"):
+            self.assertSilent(self.use("read", name))
+            self.assertFile(name, COUNTING)
 
     def test_written_back(self):
         self.read("out.hex")

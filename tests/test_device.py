@@ -68,11 +68,13 @@ class Device(Place):
         self.assertFault(self.use("info"), "table: chip 1: missing")
 
     def test_refuses_a_flash_of_another_length(self):
-        self.store("flash", b"seven")
-        self.assertFault(self.use("read", "OUT"), BAD_FLASH)
-        self.assertFile("flash", b"seven")
-        self.assertFile("flash.line", None)
-        self.assertFile("OUT", None)
+        for flash in (b"seven", ERASED + b"\xff", ERASED[1:], b""):
+            with self.subTest(length=len(flash)):
+                self.store("flash", flash)
+                self.assertFault(self.use("read", "OUT"), BAD_FLASH)
+                self.assertFile("flash", flash)
+                self.assertFile("flash.line", None)
+                self.assertFile("OUT", None)
 
     def test_refuses_a_line_of_another_form(self):
         self.store("flash.line", b"fresh\n\n")
@@ -110,7 +112,7 @@ class Device(Place):
         self.assertFalse(self.is_there("absent"))
 
     def test_says_which_simulator_file_it_cannot_read(self):
-        for name in ("flash", "flash.line"):
+        for name in ("flash", "flash.line", "flash.board"):
             with self.subTest(name=name):
                 os.mkdir(self.path(name))
                 self.assertFault(self.use("info"), f"cannot read {name}")

@@ -30,6 +30,22 @@ class Files(Place):
                     self.assertFile("N.line", None)
                     self.assertFile("image", b"\xaa")
 
+    def test_names_in_two_folders_are_two(self):
+        """Of files that aren't there, which have one name."""
+        os.mkdir(self.path("folder"))
+        self.assertSilent(self.use("read", "folder/journal"))
+        self.assertFile("folder/journal", ERASED)
+
+    def test_links_lead_from_their_own_folders(self):
+        """One behind another, the last of which leads nowhere yet."""
+        os.mkdir(self.path("folder"))
+        for name, target in (("folder/first", "second"), ("folder/second", "../third"), ("third", "folder/fourth")):
+            os.symlink(target, self.path(name))
+        self.assertSilent(self.use("read", "folder/first"))
+        self.assertFile("folder/fourth", ERASED)
+        self.assertTrue(os.path.islink(self.path("folder/first")))
+        self.assertFalse(self.is_there("second"))
+
     def test_out_is_none_of_the_other_files(self):
         self.store("flash", COUNTING)
         self.assertTold(self.use("erase", "5"), "segment 1: 1 pages erased\n")
@@ -329,6 +345,22 @@ class Files(Place):
                     self.assertEqual({name for name in os.listdir(self.folder) if name.endswith(".new")}, set(mine))
                     self.remove(*mine)
 
+    def test_all_that_killed_programs_left_is_removed(self):
+        """However many they were, also where the flash is made anew."""
+        for begun in (COUNTING, None):
+            with self.subTest(begun=begun is not None):
+                for name in ("flash", "flash.line"):
+                    if self.is_there(name):
+                        self.remove(name)
+                if begun is not None:
+                    self.store("flash", begun)
+                for number in range(3):
+                    for name in ("flash", "flash.line"):
+                        self.store(f"{name}.stmflash-{number}.new", b"left")
+                said = self.use("info")
+                self.assertEqual((said.status, said.err), (0, b""))
+                self.assertEqual([name for name in os.listdir(self.folder) if name.endswith(".new")], [])
+
     def test_what_is_read_is_a_regular_file(self):
         """A pipe without a writer would be waited for, and a device may have no end."""
         self.store("flash", COUNTING)
@@ -393,3 +425,5 @@ class Files(Place):
         self.store("table", table + b"#" * ((1 << 20) - len(table)))
         said = self.use("info")
         self.assertEqual((said.status, said.err), (0, b""))
+        self.store("table", table + b"#" * ((1 << 20) - len(table) + 1))
+        self.assertFault(self.use("info"), "cannot read table")

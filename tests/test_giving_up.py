@@ -96,7 +96,7 @@ def fall_silent(line, ending):
 
 
 class GivingUp(Served):
-    def relay(self, delay):
+    def relay(self, delay, name="slow"):
         """A peer that hands all on between the program and a simulator that is served. `delay` is asked of each piece that the
         program sent and answers for how many seconds what follows is held back."""
 
@@ -120,7 +120,7 @@ class GivingUp(Served):
                     held = b""
             self.leave(board)
 
-        Peer(self, "slow", serve)
+        Peer(self, name, serve)
 
     def answer(self, serve, *words, name="info"):
         """What a subcommand says to a peer, and for how many seconds it was at it."""
@@ -149,10 +149,29 @@ class GivingUp(Served):
                 self.assertLess(seconds, 60)
 
     def test_a_device_that_falls_silent_is_given_up(self):
-        """A reply that is waited for 40 s, and not for less."""
-        said, seconds = self.answer(fall_silent, "--wait", "500", "--give-up", "2")
+        """A reply that comes at once, or not at all."""
+        said, seconds = self.answer(fall_silent, "--wait", "500", "--give-up", "3")
         self.assertEqual(said, NO_ANSWER)
-        self.assertGreater(seconds, 39)
+        self.assertGreater(seconds, 2.9)
+        self.assertLess(seconds, 20)
+
+    def test_how_long_each_reply_is_waited_for(self):
+        """A board that is silent behind a read's address, behind the count of a read of fifty bytes, which is a code's two bytes
+        too, and behind an erase's first two."""
+        self.store("flash", ZEROS)
+        read = ["read", "-S", "0x08000000:50", "out"]
+        cases = ((read, b"\x08\x00\x00\x00\x08", 1.9, 20), (read, b"\x31\xce", 1.9, 20), (["erase", "5"], b"\x43\xbc", 39, 60))
+        for number, (words, last, least, most) in enumerate(cases):
+            with self.subTest(words=words, last=last):
+                self.serve(1)
+                self.relay(lambda came, last=last: 100 if came == last else 0, f"slow{number}")
+                began = time.monotonic()
+                said = self.use(*words, "--wait", "200", "--give-up", "2", device=f"slow{number}")
+                seconds = time.monotonic() - began
+                self.assertEqual(said, NO_ANSWER)
+                self.assertGreater(seconds, least)
+                self.assertLess(seconds, most)
+                self.assertServed()
 
     def test_a_device_that_takes_nothing_is_given_up(self):
         """An undo that sends batches without an answer, until no more are taken."""

@@ -85,6 +85,12 @@ class Journal(Place):
                 self.assertTold(self.call("log", "--journal", "journal"), told)
                 self.assertFault(self.use("info"), "unfinished command, undo first")
 
+    def test_is_read_to_its_end_before_it_is_kept(self):
+        journal = b"stmjournal 2 0412\n" + (b"." * 1022 + b"!\n") * (1 << 10) + b"open 1\n"
+        self.store("journal", journal)
+        self.assertFault(self.call("keep", "--journal", "journal"), "unfinished command, undo first")
+        self.assertFile("journal", journal)
+
     def test_is_read_in_large_pieces(self):
         """A journal of 64 KiB by some hundred readings: one by one its bytes would take hours where it is large."""
         self.store("journal", b"stmjournal 2 0412\n" + (b"." * 1022 + b"!\n") * 64)

@@ -254,6 +254,7 @@ class JournalsFolder(Served):
             self.assertUsage(self.call(name, "--journals", "journals"))
         # what names a journal needs no board
         self.assertEqual(self.call("log", "--journal", name_of("a"), variables=folder).status, 0)
+        self.assertTold(self.at("a", "undo", variables={"STMFLASH_JOURNAL": "one"}), "undone 1\n")
 
     def test_a_journal_that_is_kept_leaves_the_folder(self):
         self.assertTold(self.at("a", "write", "--keep", "image"), "segment 1: 1 pages written\nkept 1\n")

@@ -9,7 +9,7 @@ import stat
 import threading
 import time
 
-from boards import WAIT, LinePlace, end_with, kill
+from boards import WAIT, LinePlace, default_signals, end_with, kill
 from place import COUNTING, ERASED, PATIENCE, SILENT, SIZE
 
 KILLS = int(os.environ.get("STMFLASH_LINE_KILLS", "6"))
@@ -99,6 +99,18 @@ class Commands(LinePlace):
                 self.assertFalse(os.path.exists(f"/proc/{child}"))
                 self.assertEqual(started.stdout.read().decode(), number.name.removeprefix("SIG") + "\n")
                 self.assertEqual(started.stderr.read(), b"")
+
+    def test_a_signal_that_was_ignored_stays_so(self):
+        """As behind nohup, or in the background of a shell."""
+        def before():
+            default_signals()
+            signal.signal(signal.SIGHUP, signal.SIG_IGN)
+
+        started = self.start("ttyUSB0", "--", "sh", "-c", "echo; sleep 1; echo went", before=before)
+        self.assertEqual(started.stdout.readline(), b"\n")
+        started.send_signal(signal.SIGHUP)
+        said = self.ended(started)
+        self.assertEqual((said.status, said.out), (0, b"went\n"))
 
     def test_a_command_that_does_not_listen_is_killed(self):
         started = self.start("ttyUSB0", "--", "sh", "-c", "trap '' TERM; echo $$; while :; do sleep 1; done")

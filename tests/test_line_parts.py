@@ -5,6 +5,7 @@ pair of sockets in place of a port, marked as the system marks them.
 """
 
 import contextlib
+import errno
 import io
 import itertools
 import os
@@ -137,6 +138,13 @@ class Waits(unittest.TestCase):
         self.assertEqual(patience.wait("/dev/ttyACM0", 9600, 0), 701)
         self.assertIsNone(patience.wait("/dev/ttyUSB1", 115200, 0))
 
+    def test_a_port_that_usb_ip_brings(self):
+        """It stands here, and what it hangs on is another machine."""
+        os.makedirs(os.path.join(self.folder, "vhci_hcd.0", "adapter"))
+        os.mkdir(os.path.join(self.folder, "ttyUSB0"))
+        os.symlink(os.path.join(self.folder, "vhci_hcd.0", "adapter"), os.path.join(self.folder, "ttyUSB0", "device"))
+        self.assertIsNone(patience.wait("/dev/ttyUSB0", 115200, 0))
+
     def test_a_client_whose_byte_waits_for_a_reset_waits_longer(self):
         self.adapter("ttyUSB0", "1\n")
         port = types.SimpleNamespace(name="/dev/ttyUSB0", baud=115200)
@@ -170,6 +178,20 @@ class Modes(unittest.TestCase):
         with self.assertRaises(ValueError):
             opening.set_mode(slave, is_pty=False)
         opening.set_mode(slave, is_pty=True)
+
+
+class Closed(unittest.TestCase):
+    def test_why_a_port_cant_be_opened(self):
+        """Also where the system's number stands behind a fault of pyserial's."""
+        place = os.stat("/dev/null")
+        for number, text in ((errno.ENXIO, "no hardware answers there; this machine has "), (errno.EIO, "no hardware answers there; "),
+                             (errno.ENODEV, "no hardware answers there; "), (errno.ENOTTY, "is not a serial port"),
+                             (errno.EINVAL, "doesn't take 9600 baud with 8 data bits and even parity")):
+            nested = ValueError("of pyserial")
+            nested.__context__ = termios.error(number, "")
+            with mock.patch.object(opening, "ports_here", lambda: "this machine has none"):
+                for error in (OSError(number, ""), nested):
+                    self.assertTrue(opening.why_closed("PORT", place, 9600, error).startswith(text), (number, error))
 
 
 class Unmarking(unittest.TestCase):
@@ -277,6 +299,20 @@ class BadBytes(unittest.TestCase):
             self.assertTrue(join.from_client())
         self.assertEqual([name for name, _, _ in port.mock_calls], ["send_rest", "enter", "forget", "write", "write"])
         self.assertEqual((join.out, join.into), (b"", b""))
+
+    def test_how_long_each_answer_took(self):
+        """From the last byte that went out on, for the first that comes: what comes unasked is told of nobody."""
+        told = []
+        self.join.tell = told.append
+        self.take(b"unasked")
+        for pause in (0.03, 0.0):
+            self.client.sendall(b"?")
+            self.assertTrue(self.join.from_client())
+            time.sleep(pause)
+            self.take(b"first")
+            self.take(b"second")
+        self.assertEqual(len(told), 2)
+        self.assertTrue(0.03 <= told[0] < PATIENCE and told[1] < told[0], told)
 
     def test_a_slow_client_gets_what_its_socket_had_no_room_for(self):
         """As soon as it has room again, though nothing comes from the port."""

@@ -5,8 +5,10 @@ import contextlib
 import errno
 import io
 import os
+import signal
 import termios
 import threading
+import time
 import unittest
 from unittest import mock
 
@@ -209,6 +211,17 @@ class Calls(unittest.TestCase):
         with mock.patch("os.read", side_effect=BlockingIOError):
             self.assertEqual(self.port.read(), (b"", 0))
 
+    def test_bytes_that_were_lost_before(self):
+        """Before the port was opened they were another program's."""
+        counts = [5, 5, 6]
+
+        def count(_, __, counters):
+            counters[10] = counts.pop(0)
+
+        with mock.patch("fcntl.ioctl", side_effect=count), mock.patch("os.read", return_value=b"a"):
+            held = port.Port(self.serial, "PORT", 9600)
+            self.assertEqual([held.read(), held.read()], [(b"a", 0), (b"", 1)])
+
     def test_a_driver_that_counts_nothing_is_asked_once(self):
         with mock.patch("fcntl.ioctl", side_effect=OSError(errno.ENOTTY, "")) as ioctl, mock.patch("os.read", return_value=b"a"):
             self.assertEqual(self.port.read(), (b"a", 0))
@@ -305,6 +318,16 @@ class Clients(LinePlace):
         started = self.start_and_wait("python3", "-c", script, "{}")
         self.assertEqual(self.read_from(master, 100006), b"first" * 20000 + b"second")
         self.assertSilent(self.ended(started))
+
+    def test_a_signal_ends_a_wait_for_the_port(self):
+        """A port that takes nothing, and a client that has gone."""
+        self.plain()
+        script = "import socket, sys; s = socket.socket(socket.AF_UNIX); s.connect(sys.argv[1]); s.sendall(bytes(150_000)); print()"
+        started = self.start("ttyUSB0", "--", "python3", "-c", script, "{}")
+        self.assertEqual(started.stdout.readline(), b"\n")
+        time.sleep(0.5)
+        started.terminate()
+        self.assertEqual(started.wait(PATIENCE), 128 + signal.SIGTERM)
 
     def test_the_environment_is_handed_on(self):
         """All of it, but for a device of another call."""

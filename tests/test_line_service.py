@@ -6,6 +6,7 @@ import shlex
 import shutil
 import signal
 import subprocess
+import time
 
 from boards import WAIT, LinePlace, end_with
 from place import PATIENCE, TOP, Place, Said
@@ -32,8 +33,11 @@ class Idle(LinePlace):
                 self.assertEqual(self.read_from(master, len(said)), said)
                 os.write(master, b"noise")
                 following.sendall(b"next")
+                end = time.monotonic() + PATIENCE / 2
                 while client.recv(9):
-                    pass
+                    self.assertLess(time.monotonic(), end, "it is kept")
+                    time.sleep(0.1)
+                    os.write(master, b"noise")
                 self.assertEqual(self.read_from(master, 4), b"next")
                 following.close()
         self.assertEqual(end_with(started, signal.SIGTERM), 0)

@@ -188,6 +188,11 @@ class Locks(Served):
                 self.assertEqual(said.status, status)
                 said, _ = self.hold(("keep", "--journal", "journal"), env={"STMFLASH_NO_LOCK": text}, **how)
                 self.assertEqual(said.status, status)
+                # a simulator comes as far as its socket, for which there is no folder
+                words = ("sim", "--table", "table", "--id", "0412", "--flash", "flash", "--socket", "none/s")
+                for more, env in (((), {"STMFLASH_NO_LOCK": text}), (("--no-lock",) if status == 0 else (), {})):
+                    said, _ = self.hold((*words, *more), env=env, **how)
+                    self.assertEqual(b"cannot lock flash" in said.err, status == 1, said.err)
 
     def test_without_a_lock_another_program_is_still_seen(self):
         """Where there are locks, `--no-lock` is no leave to use what another has."""

@@ -153,6 +153,10 @@ class Options(Place):
             with self.subTest(chip=chip, clients=clients):
                 files = ("--table", "table", "--id", chip, "--flash", "F", "--socket", "S")
                 self.assertFault(self.call("sim", *files, "--clients", clients), f"usage: bad number {bad}", 2)
+        for mode in ("8", "608", "0600", "", "rw"):
+            with self.subTest(mode=mode):
+                files = ("--table", "table", "--id", "0412", "--flash", "F", "--socket", "S")
+                self.assertFault(self.call("sim", *files, "--mode", mode), f"usage: bad number {mode}", 2)
         self.assertEqual(os.listdir(self.folder), ["table"])
 
     def test_stops_a_simulator_alone(self):

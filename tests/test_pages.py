@@ -30,6 +30,15 @@ class Pages(Place):
                     with self.subTest(page=os.path.relpath(page, TOP), link=link):
                         self.assertTrue(os.path.exists(os.path.join(os.path.dirname(page), link)))
 
+    def test_blocks_of_code_are_opened_and_closed(self):
+        """Each on a line of its own, or all that follows is shown as code."""
+        for page in pages():
+            fences = [line for line in held(page).splitlines() if "```" in line]
+            with self.subTest(page=os.path.relpath(page, TOP)):
+                self.assertEqual([it for it in fences[::2] if not re.fullmatch(r"```\w*", it)], [])
+                self.assertEqual(fences[1::2], ["```"] * (len(fences) // 2))
+                self.assertEqual(len(fences) % 2, 0)
+
     def test_pictures_are_well_formed_and_for_dark_pages_too(self):
         pictures = glob.glob(os.path.join(TOP, "docs", "pictures", "*.svg"))
         self.assertGreaterEqual(len(pictures), 3)
@@ -94,6 +103,10 @@ class Pages(Place):
 
     def test_the_statement_is_what_the_headline_rests_on(self):
         ran = subprocess.run([os.path.join(TOP, "tools", "statement"), "--check"], capture_output=True, text=True)
+        self.assertEqual((ran.returncode, ran.stderr), (0, ""))
+
+    def test_the_lines_are_about_as_many_as_the_gate_says(self):
+        ran = subprocess.run([os.path.join(TOP, "tools", "lines"), "--check"], capture_output=True, text=True)
         self.assertEqual((ran.returncode, ran.stderr), (0, ""))
 
     def test_the_walk_names_code_that_is_there(self):

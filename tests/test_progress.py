@@ -2,10 +2,14 @@
 
 import os
 import pty
+import re
 import subprocess
+import time
 
 import telling
-from place import PATIENCE, Place, program, with_page
+from place import PATIENCE, SILENT, Place, program, with_page
+from served import Served, relay
+from test_giving_up import Peer, be_silent
 
 TABLE = b'[[chip]]\nid = 0x410\nbase = 0x08000000\npages = [[128, 1024]]\nerase = "page"\n'
 SIZE = 64 * 1024
@@ -111,7 +115,7 @@ class Progress(Place):
     def test_other_bytes_are_not_told(self):
         """No 7F, or one behind them or in another block; another complement; a pair that lies in two blocks."""
         for erase in ERASES:
-            for image in (erase, erase + b"\x7f", bytes(255) + b"\x7f" + erase, b"\x7f" + bytes(254) + erase,
+            for image in (erase, b"\x00" + erase, erase + b"\x7f", bytes(255) + b"\x7f" + erase, b"\x7f" + bytes(254) + erase,
                           b"\x7f" + erase[:1] + b"\x00" + erase[1:], b"\x7f" + erase[::-1]):
                 for words in (("-f", "-S", "0x08000000"), ("-f",)):
                     with self.subTest(image=image[-8:], words=words):
@@ -282,3 +286,147 @@ class Progress(Place):
         plain = self.plain()
         with open("/dev/full", "wb") as err:
             self.assertEqual(self.write(err, "--progress"), plain)
+
+
+class Small(Place):
+    """All that is shown, on a chip of four pages."""
+
+    def setUp(self):
+        super().setUp()
+        self.store("table", TABLE.replace(b"[128, 1024]", b"[4, 256]"))
+        self.store("image", bytes(600))
+
+    def shown(self, name, *words, terminal=False):
+        """What a subcommand shows, with its status: in a file, or on a terminal, there but for what is shown while it settles."""
+        here, there = pty.openpty() if terminal else os.pipe()
+        files = ("--table", "table", "--device", "sim:0410:flash", "--journal", "journal")
+        ran = subprocess.run(["stmflash", name, *files, *words], executable=program(), cwd=self.folder, env={}, timeout=PATIENCE,
+                             stdin=subprocess.DEVNULL, stdout=subprocess.DEVNULL, stderr=there)
+        os.close(there)
+        with open(here, "rb", buffering=0) as told:
+            shown = b"".join(iter(lambda: read_some(told), b""))
+        return ran.returncode, re.sub(rb"\rsettling, \d+ bytes sent\x1b\[K", b"", shown).decode()
+
+    def test_lines(self):
+        """Of each command; none unless it is said, and none where nothing is to be shown."""
+        for words, lines in (
+            (("write", "--progress", "image"), ["page 0 written, 1 of 3", "page 1 written, 2 of 3", "page 2 written, 3 of 3"]),
+            (("write", "image"), []),
+            (("read", "--progress", "out"), [f"page {page} read, {page + 1} of 4" for page in range(4)]),
+            (("read", "--progress", "-S", "0x08000100:300", "out"), ["page 1 read, 1 of 2", "page 2 read, 2 of 2"]),
+            (("verify", "--progress", "image"), [f"page {page} read, {page + 1} of 3" for page in range(3)]),
+            (("erase", "--progress", "--quiet", "0"), []),
+            (("erase", "--progress", "3", "1"), ["page 1 erased, 1 of 2", "page 3 read, 2 of 2"]),
+            (("undo", "--progress", "1"), ["page 1 written, 1 of 1"]),
+            (("undo", "--progress", "1"), ["page 0 written, 1 of 1"]),
+            (("undo", "--progress"), ["page 0 erased, 1 of 3", "page 1 erased, 2 of 3", "page 2 erased, 3 of 3"]),
+            (("info", "--progress"), []),
+        ):
+            with self.subTest(words=words):
+                status, shown = self.shown(*words)
+                self.assertEqual((status, re.sub(r", \d+ s left\n", "\n", shown)), (0, "".join(f"{line} pages\n" for line in lines)))
+        # a page that a command broke off at isn't told as done
+        status, shown = self.shown("write", "--progress", "--stop", "1600", "image")
+        self.assertEqual((status, shown), (3, "page 0 written, 1 of 3 pages\nstmflash: stopped\n"))
+
+    def test_a_terminal(self):
+        """One line, written over for each page and what is done with it, and cleared; before and behind it the notes."""
+        lines = "".join(f"\r{doing} page {page}, {page + 1} of 3 pages\x1b[K" for page in range(3)
+                        for doing in ("reading", "erasing", "writing"))
+        for words, before, behind in (((), NEW, NAMELESS), (("--quiet",), b"", b"")):
+            with self.subTest(words=words):
+                shown = lines + CLEAR.decode() if not words else ""
+                status, told = self.shown("write", *words, "image", terminal=True)
+                self.assertEqual((status, re.sub(r", \d+ s left", "", told)), (0, before.decode() + shown + behind.decode()))
+                self.remove("flash", "flash.line", "journal")
+        status, told = self.shown("info", terminal=True)
+        self.assertEqual((status, told.replace(CLEAR.decode(), "")), (0, ""))
+
+
+def read_some(told):
+    """The next that was shown; nothing where a terminal was closed."""
+    try:
+        return told.read(4096)
+    except OSError:
+        return b""
+
+
+class Waiting(Served):
+    """What is shown of a board that answers late, or nothing."""
+
+    def setUp(self):
+        super().setUp()
+        self.store("table", TABLE)
+
+    def words(self, name, *words):
+        return ["stmflash", name, "--table", "table", "--device", "late", "--journal", "journal", *words]
+
+    def test_a_silent_board_is_told_once(self):
+        """Once nothing came for three seconds, with how many bytes were sent by then; on a terminal that they are sent before."""
+        told = re.compile(rb"no answer yet: is the board in its bootloader\? (\d+) bytes sent")
+        words = self.words("info", "--wait", "100", "--give-up", "5")
+        for shown_where, more in (("file", ["--progress"]), ("terminal", [])):
+            with self.subTest(shown_where):
+                Peer(self, "late", be_silent)
+                here, there = pty.openpty() if shown_where == "terminal" else os.pipe()
+                began = time.monotonic()
+                with subprocess.Popen([*words, *more], executable=program(), cwd=self.folder, env={}, stdin=subprocess.DEVNULL,
+                                      stdout=subprocess.DEVNULL, stderr=there) as asking:
+                    os.close(there)
+                    shown, first = b"", None
+                    while True:
+                        try:
+                            piece = os.read(here, 4096)
+                        except OSError:
+                            break
+                        if not piece:
+                            break
+                        shown += piece
+                        if first is None and told.search(shown):
+                            first = time.monotonic() - began
+                os.close(here)
+                self.assertEqual(asking.returncode, 1)
+                self.assertGreater(first or 0, 2.9, shown)
+                # a byte goes out before each wait but the first
+                self.assertIn(int(told.search(shown)[1]), range(1, 40))
+                if shown_where == "file":
+                    self.assertEqual(len(told.findall(shown)), 1, shown)
+                    self.assertTrue(shown.endswith(f"\nstmflash: no answer from the device\nhint: {SILENT}\n".encode()), shown)
+                else:
+                    lines = re.findall(rb"\r(settling|no answer yet)[^\r]*? (\d+) bytes sent\x1b\[K", shown)
+                    kinds = [kind for kind, _ in lines]
+                    self.assertEqual(kinds, sorted(kinds, reverse=True), lines)
+                    self.assertIn(b"settling", kinds)
+                    # each line stays for a fifth of a second
+                    self.assertLess(len(lines), 40, lines)
+                self.remove("late")
+
+    def test_how_long_is_left(self):
+        """By what the pages before took: three are read, the first of which comes late. Behind the last nothing is left."""
+        self.serve(1, number="0410")
+        late = [True]
+
+        def stand(line, _):
+            def change(replies):
+                # a block of 256 bytes comes behind its acknowledgement
+                if len(replies) > 200 and late:
+                    late.clear()
+                    time.sleep(1.5)
+                return replies
+
+            with self.connect("board") as board:
+                relay(line, board, change)
+
+        Peer(self, "late", stand)
+        words = self.words("read", "--progress", "--wait", "1000", "-S", "0x08000400:3072", "out")
+        ran = subprocess.run(words, executable=program(), cwd=self.folder, env={}, timeout=PATIENCE, stdin=subprocess.DEVNULL,
+                             capture_output=True)
+        self.assertEqual((ran.returncode, ran.stdout), (0, b""))
+        told = re.fullmatch(rb"page 1 read, 1 of 3 pages, (\d+) s left\npage 2 read, 2 of 3 pages, (\d+) s left\n"
+                            rb"page 3 read, 3 of 3 pages\n", ran.stderr)
+        self.assertTrue(told, ran.stderr)
+        first, second = int(told[1]), int(told[2])
+        # twice as long as the first page took, and a second more at the most
+        self.assertIn(first, range(4, 60))
+        self.assertLess(second, first)
+        self.assertServed()

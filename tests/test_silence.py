@@ -12,10 +12,10 @@ import telling
 from place import PATIENCE
 from served import Served, relay
 
-# setsockopt, and its word for how long a read waits: as many seconds, and as many millionths
-SETSOCKOPT, RECEIVE_TIME, TIME = 54, 20, struct.Struct("=qq")
+# setsockopt, and its words for how long a read and a write wait: as many seconds, and as many millionths
+SETSOCKOPT, RECEIVE_TIME, SEND_TIME, TIME = 54, 20, 21, struct.Struct("=qq")
 # a wait that a busy machine's answers don't come near; and how long a command waits
-WHOLE, LONG = 2000, 40000
+WHOLE, LONG = 2000, 20000
 # what is there is only looked at
 LOOK = 1
 FLASH = bytes(128 * 1024)
@@ -25,11 +25,11 @@ ACK, NACK = b"\x79", b"\x1f"
 BEFORE = b"stmjournal 2 0410\nopen 1\npage 5 " + b"0" * 2048 + b"\nerase 5\n"
 
 
-def time_of(process):
-    """How long a read is to wait, in ms, by the call that a process is held in; None where that is another one."""
+def time_of(process, kind=RECEIVE_TIME):
+    """How long a read, or a write, is to wait, in ms, by the call that a process is held in; None where that is another one."""
     with open(f"/proc/{process}/syscall", encoding="ascii") as file:
         _, _, _, option, place, *_ = (int(word, 0) for word in file.read().split())
-    if option != RECEIVE_TIME:
+    if option != kind:
         return None
     with open(f"/proc/{process}/mem", "rb") as memory:
         memory.seek(place)
@@ -55,6 +55,22 @@ class Silence(Served):
             raise unittest.SkipTest(str(why)) from None
         self.assertEqual((said.status, said.err), (0, b""))
         return ["short" if LOOK < at < whole else at for at in times if at is not None]
+
+    def limits(self, *words):
+        """How long the first read and each write wait, by the times that the program sets where these words are given; None
+        where there is no end."""
+        times = []
+        given = ("info", "--table", "table", "--device", "board", "--journal", "journal", *words)
+
+        def look(_, process):
+            times.append((time_of(process), time_of(process, SEND_TIME)))
+
+        try:
+            said, _ = syncs.call(self.folder, given, held=SETSOCKOPT, at=look)
+        except syncs.CannotHold as why:
+            raise unittest.SkipTest(str(why)) from None
+        self.assertEqual((said.status, said.err), (0, b""))
+        return next(read for read, _ in times if read is not None), [write or None for _, write in times if write is not None]
 
     def at(self, stands, *words):
         """The same of a simulator that stands so."""
@@ -83,6 +99,15 @@ class Silence(Served):
             serving.join(PATIENCE)
         self.assertServed()
         return waits
+
+    def test_how_long_is_waited_unless_it_is_said(self):
+        """Half a second for a reply, 20 seconds for what is taken; or as long as is said, above what a byte counts."""
+        self.serve(5, number="0410")
+        for words, limits in (((), (500, [20000])), (("--wait", "700"), (700, [20000])), (("--give-up", "300"), (500, [300000])),
+                              (("--give-up", "1"), (500, [1000])), (("--give-up", "0"), (500, [None]))):
+            with self.subTest(words=words):
+                self.assertEqual(self.limits(*words), limits)
+        self.assertServed()
 
     def test_a_session_behind_the_question_waits_for_no_reply_that_is_not_due(self):
         """Both settle the device. The first knows nothing of it: it is quiet before 7F for a whole wait. The second is begun at a

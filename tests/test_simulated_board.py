@@ -139,7 +139,7 @@ class GivenBoard(Served):
         self.assertFalse(self.is_there("board"))
 
     def test_what_is_refused(self):
-        for digits in ("", "2B", "0x" + NAME, NAME[1:], 33 * "12", NAME[:-1] + "G"):
+        for digits in ("", "2B", 14 * "1", "0x" + NAME, NAME[1:], 33 * "12", NAME[:-1] + "G"):
             self.refused(f"usage: bad unique id {digits}", "--unique", digits)
         self.refused(f"usage: unique id {NAME[2:]} is not 12 bytes", "--unique", NAME[2:])
         self.refused(f"usage: unique id {NAME}00 is not 12 bytes", "--unique", NAME + "00")

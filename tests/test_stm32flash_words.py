@@ -10,6 +10,7 @@ import signal
 import subprocess
 import sys
 import tempfile
+import threading
 import unittest
 import unittest.mock
 
@@ -253,6 +254,17 @@ Wrote and verified address 0x080005dc (100.00%) Done.
         self.well("--undo")
         self.well("--undo")
         self.assertEqual(board.store(), COUNTING)
+
+
+    def test_what_another_chip_would_have(self):
+        """The table has a larger one: a program behind this one's flash isn't started, and a read ends with the flash."""
+        self.store("table", TABLE + TABLE.replace(b"412", b"410").replace(b"[32,", b"[64,"))
+        self.flash(COUNTING)
+        said = self.words("-m", "8n1", "-g", "0x08009000")
+        self.assertEqual(said.status, 1)
+        self.assertIn(b"ERROR: -g 0x08009000: not in the flash of this chip, which ends at 0x08008000\n", said.err)
+        self.well("-r", "out", "-S", "0x08007c00:4096")
+        self.assertFile("out", COUNTING[-1024:])
 
 
 class TakingBack(Words):
@@ -603,17 +615,15 @@ class Parts(unittest.TestCase):
     def test_the_line_is_asked_for_with_both_sequences(self):
         call = module("call")
         asked = []
-        with unittest.mock.patch.object(call.os, "execv", lambda path, words: asked.append(words[1:])), \
+        with unittest.mock.patch.object(call.line, "use", lambda *words: asked.append(words[1:4])), \
                 unittest.mock.patch.object(call.tools, "find", lambda _: module("tools").Tools("stmflash", "line", "chips")), \
                 unittest.mock.patch.object(call.chips, "read_table", lambda _: {}), \
                 unittest.mock.patch.object(call.Journals, "make", lambda _: None), \
                 unittest.mock.patch.dict(os.environ), contextlib.redirect_stdout(io.StringIO()):
             for words in (("-b", "115200"), ("-i", "-rts,dtr:rts"), ("-i", "-rts,dtr"), ("-c", "-i", "-rts,dtr:rts")):
                 call.outside("here", [*words, "/dev/ttyUSB0"])
-        boots = [words[:words.index("--")] for words in asked]
-        self.assertEqual(boots, [["/dev/ttyUSB0", "--baud", "115200"],
-                                 *(["/dev/ttyUSB0", "--baud", "57600", boot]
-                                   for boot in ("--boot=-rts,dtr:rts", "--boot=-rts,dtr", "--boot=:rts"))])
+        self.assertEqual(asked, [("/dev/ttyUSB0", 115200, None),
+                                 *(("/dev/ttyUSB0", 57600, boot) for boot in ("-rts,dtr:rts", "-rts,dtr", ":rts"))])
 
     def test_the_wait_is_what_is_known_of_the_port(self):
         patience = module("patience")
@@ -626,7 +636,7 @@ class Parts(unittest.TestCase):
             self.assertEqual(patience.wait(None, "a", 115200), 500)
 
     def test_each_start_loads_what_it_needs(self):
-        """A call has three starts of Python: what takes long to load stays out of those that don't need it."""
+        """What takes long to load stays out of what doesn't need it."""
         heavy = {"argparse", "ctypes", "dataclasses", "hashlib", "inspect", "json", "shutil", "socket", "subprocess", "tempfile", "tomllib"}
         own = {"as_stm32flash.actions", "as_stm32flash.board", "as_stm32flash.image", "as_stm32flash.crc", "stmflash_line.chips",
                "stmflash_line.far", "stmflash_line.gpio_lines", "stmflash_line.model", "stmflash_line.watch"}
@@ -634,23 +644,142 @@ class Parts(unittest.TestCase):
         for text, needed in (
                 ("from as_stm32flash import call", set()),
                 (inside, {"ctypes", "subprocess", "as_stm32flash.actions", "as_stm32flash.board"}),
-                ("from stmflash_line import command, session, wake, words", {"argparse", "ctypes", "shutil", "socket", "subprocess"})):
+                ("from stmflash_line import command, session, wake, words", {"ctypes", "shutil", "socket", "subprocess"})):
             with self.subTest(text=text):
                 told = subprocess.run([sys.executable, "-I", "-S", "-c", f"import sys; sys.path.insert(0, {os.path.join(TOP, 'line')!r}); "
                                        f"sys.dont_write_bytecode = True; {text}; print(*sys.modules)"], capture_output=True, check=True)
                 self.assertEqual((heavy | own) & set(told.stdout.decode().split()) - needed, set())
 
-    def test_the_chips_are_handed_on(self):
-        chip = module("chip")
-        table = chip.read_table(os.path.join(TOP, "chips.toml"))
-        packed = chip.pack(table)
-        for again in (chip.unpack(packed, "nowhere"), chip.unpack(b"", os.path.join(TOP, "chips.toml"))):
-            self.assertEqual({name: (one.name, one.starts) for name, one in again.items()},
-                             {name: (one.name, one.starts) for name, one in table.items()})
-        self.assertTrue(packed)
-        # what has no room among the settings is read again
-        entries = ({"id": number, "base": FLASH, "pages": [[number, 1024]], "name": f"chip {number}"} for number in range(1000))
-        self.assertEqual(chip.pack({entry["id"]: chip.Chip(entry) for entry in entries}), b"")
+    def test_a_session_behind_another_waits_by_what_came(self):
+        """Only where that ended well, and only what is done again where it was too short."""
+        fault = module("fault")
+
+        def waits(names, slowest, whole=103, fails=()):
+            board = module("board").Board(unittest.mock.Mock(), unittest.mock.Mock(**{"size.return_value": 0}), whole, lambda: slowest)
+            asked = []
+
+            def run(words, *_):
+                asked.append((words[0], int(words[words.index("--wait") + 1])))
+                if len(asked) in fails:
+                    raise fault.Failed("device does not follow the protocol")
+                return ""
+
+            board.run = run
+            for name in names:
+                with contextlib.suppress(fault.Failed):
+                    board.use(name)
+            return asked
+
+        for name in ("read", "write", "erase", "go"):
+            self.assertEqual(waits(("info", name), 0.0032), [("info", 103), (name, 50)])
+        self.assertEqual(waits(("info", "read", "read"), 0.0101), [("info", 103), ("read", 64), ("read", 64)])
+        # never longer than it would be, and as long as it would be where nothing was measured
+        self.assertEqual(waits(("info", "read"), 0.05), [("info", 103), ("read", 103)])
+        self.assertEqual(waits(("info", "read"), 0), [("info", 103), ("read", 103)])
+        # what can't be done again, and what a program or an undo has gone before
+        for names in (("info", "protect"), ("info", "undo"), ("go", "read"), ("protect", "read"), ("undo", "read")):
+            self.assertEqual([taken for _, taken in waits(names, 0.0032)], [103, 103])
+        # one that failed says nothing of the board, and what was too short is done with stmflash's own, or with the user's
+        self.assertEqual(waits(("info", "read"), 0.0032, 600, fails=(1,)), [("info", 600), ("read", 600)])
+        self.assertEqual(waits(("info", "read"), 0.0032, fails=(2,)), [("info", 103), ("read", 50), ("read", 500)])
+        self.assertEqual(waits(("info", "read"), 0.2, 2000, fails=(2,)), [("info", 2000), ("read", 820), ("read", 2000)])
+
+    def test_what_was_stopped_is_waited_for(self):
+        """An erase may still run: as long as stmflash waits, whatever the line's own wait is."""
+        for unfinished, given, wait in ((True, 103, 500), (True, 2000, 2000), (False, 103, None)):
+            board = module("board").Board(None, None, given)
+            with unittest.mock.patch.object(board, "is_unfinished", return_value=unfinished), \
+                    unittest.mock.patch.object(board, "use") as use:
+                board.take_back()
+            use.assert_called_once_with("undo", "1", wait=wait)
+
+    def test_numbers(self):
+        """As the C library reads them."""
+        words = module("words")
+        self.assertEqual([words.number(text) for text in ("0", "10", "010", "0x10", "0XfF", "4294967295", "037777777777")],
+                         [0, 10, 8, 16, 255, (1 << 32) - 1, (1 << 32) - 1])
+        for text in ("4294967296", "0x100000000", "08", "-1", "1 ", "", "1e3", "0x"):
+            self.assertRaises(module("fault").Fault, words.number, text)
+
+    def test_where_journals_are(self):
+        """In a folder of their owner alone; a relative XDG_STATE_HOME counts as none; one that is large is put aside before a write."""
+        journals, actions = module("journals"), module("actions")
+        with tempfile.TemporaryDirectory() as home:
+            for state, place in (("", ".local/state"), ("relative", ".local/state"), (os.path.join(home, "own"), "own")):
+                with unittest.mock.patch.dict(os.environ, HOME=home, XDG_STATE_HOME=state):
+                    made = journals.Journals("/dev/ttyS0")
+                self.assertEqual(made.folder, os.path.join(home, place, "stmflash", "ports", "ttyS0"))
+                made.make()
+                self.assertEqual(os.stat(made.folder).st_mode & 0o777, 0o700)
+            for size, is_large in ((8 << 20, False), ((8 << 20) + 1, True)):
+                with open(made.live, "wb") as file:
+                    file.truncate(size)
+                board = unittest.mock.Mock(journals=made)
+                actions.Actions(module("words").Words(action="o"), board, None, None).change(lambda: None)
+                self.assertEqual(board.put_aside.call_count, int(is_large))
+
+    def test_the_inside_ends_with_the_call(self):
+        text = f"import os, signal, sys, time; sys.dont_write_bytecode = True; sys.path.insert(0, {os.path.join(TOP, 'line')!r})\n" \
+               "from as_stm32flash import line\nfrom stmflash_line.tied import tied\n" \
+               "child = line.Child(lambda: time.sleep(1000), {}, tied())\nprint(child.process, flush=True)\n" \
+               "time.sleep(0.5)\nos.kill(os.getpid(), signal.SIGKILL)"
+        with subprocess.Popen([sys.executable, "-c", text], stdout=subprocess.PIPE) as started:
+            child = int(started.stdout.readline())
+            # its output ends with the last process that has it
+            ready = []
+            reader = threading.Thread(target=lambda: ready.append(started.stdout.read()), daemon=True)
+            reader.start()
+            reader.join(PATIENCE)
+            if not ready:
+                os.kill(child, signal.SIGKILL)
+                reader.join()
+                self.fail("the inside goes on")
+
+    def test_the_inside_is_as_a_program_that_was_started(self):
+        """It has no file but the three, no handler of its parent's, its settings, and the status of its body."""
+        line, tied = module("line"), importlib.import_module("stmflash_line.tied").tied
+        before = [signal.signal(number, lambda *_: None) for number in (*line.SIGNALS, signal.SIGCHLD)]
+        reader, writer = os.pipe2(os.O_NONBLOCK)
+        woken = signal.set_wakeup_fd(writer)
+
+        def body():
+            has_files = os.path.exists(f"/proc/self/fd/{writer}")
+            handlers = [signal.getsignal(number) for number in (signal.SIGTERM, signal.SIGHUP, signal.SIGCHLD)]
+            is_free = not signal.pthread_sigmask(signal.SIG_BLOCK, ())
+            is_plain = handlers == 3 * [signal.SIG_DFL] and signal.getsignal(signal.SIGINT) == signal.default_int_handler
+            return 40 + has_files + 2 * (not is_plain) + 4 * (not is_free) + 8 * (os.environ.get("STMFLASH_DEVICE") != "board")
+
+        try:
+            child = line.Child(body, {"STMFLASH_DEVICE": "board"}, tied())
+            child.wait(PATIENCE)
+            self.assertEqual((child.poll(), child.returncode), (40, 40))
+            self.assertNotEqual(os.environ.get("STMFLASH_DEVICE"), "board")
+            for end, number in ((line.Child.terminate, signal.SIGTERM), (line.Child.kill, signal.SIGKILL)):
+                child = line.Child(lambda: signal.pause(), {}, tied())
+                self.assertRaises(subprocess.TimeoutExpired, child.wait, 0.01)
+                end(child)
+                child.wait()
+                self.assertEqual(child.returncode, -number)
+            with unittest.mock.patch.object(line.os, "fork", side_effect=BlockingIOError):
+                self.assertRaises(OSError, line.Child, body, {}, tied())
+            self.assertEqual(signal.pthread_sigmask(signal.SIG_BLOCK, ()), set())
+            with contextlib.redirect_stderr(io.StringIO()):
+                child = line.Child(lambda: 1 // 0, {}, tied())
+            child.wait(PATIENCE)
+            self.assertEqual(child.returncode, 1)
+        finally:
+            signal.set_wakeup_fd(woken)
+            os.close(reader)
+            os.close(writer)
+            for number, handler in zip((*line.SIGNALS, signal.SIGCHLD), before):
+                signal.signal(number, handler)
+
+    def test_stmflash_line_without_its_modules(self):
+        line = module("line")
+        with unittest.mock.patch.object(line, "PLACES", ()):
+            self.assertRaises(module("fault").Fault, line.find_modules, "/nowhere/bin/stmflash-line")
+        with unittest.mock.patch.object(line, "PLACES", ("/nowhere", os.path.join(TOP, "line"))):
+            self.assertEqual(line.find_modules("/nowhere/bin/stmflash-line"), os.path.join(TOP, "line"))
 
     def test_a_write_that_differs_is_done_again_as_often_as_is_asked(self):
         fault, actions = module("fault"), module("actions")

@@ -88,6 +88,9 @@ class Tables(Place):
             with self.subTest(number=number):
                 self.assertBase(base, number=number)
         self.assertFault(self.info(number="0416"), "unknown chip 0416")
+        # the simulator has that chip too
+        said = self.see("read", "--device", "sim:0412:flash", "--journal", "journal", "-S", "0x03000000:1", "-")
+        self.assertTold(said._replace(out=said.out.hex().encode()), "ff")
 
     def test_any_of_them_may_be_absent(self):
         self.assertUsage(self.info())

@@ -2,6 +2,7 @@
 it says, keeps and never sends; killed at random moments, the file that it saved gives the flash back.
 
 STMFLASH_LONG=1 tries each planted board with both erase commands, also those that take minutes, and kills 40 times.
+STMFLASH_PLANTED names the planted boards that are tried, with commas between; all of them without it.
 """
 
 import concurrent.futures
@@ -19,7 +20,7 @@ import time
 import tomllib
 import unittest
 
-from boards import LinePlace
+from boards import LinePlace, default_signals
 from place import PATIENCE, TOP, Place, Said
 from served import Served
 
@@ -29,6 +30,9 @@ sys.path.insert(0, PLANTED)
 from deviations import DEVIATIONS, FOLLOWS, NONE  # noqa: E402
 
 TRIAL = os.path.join(TOP, "line", "stmflash-trial")
+FOLDER = os.path.join(TOP, "line", "trial")
+# of the planted boards these alone, where there are any
+SOME = set(filter(None, os.environ.get("STMFLASH_PLANTED", "").split(",")))
 IS_LONG = os.environ.get("STMFLASH_LONG") == "1"
 KILLS = 40 if IS_LONG else 5
 # boards mostly wait: so many are tried at once
@@ -151,6 +155,7 @@ class Boards(Place):
         return [f"{name}, erased by {code}: {fault}" for fault in faults(deviation, said, status, before, after)]
 
     def try_all(self, boards):
+        boards = [board for board in boards if not SOME or board[0] in SOME]
         with concurrent.futures.ThreadPoolExecutor(AT_ONCE) as pool:
             found = list(pool.map(lambda board: self.try_board(*board), boards))
         self.assertEqual([fault for each in found for fault in each], [])
@@ -341,13 +346,12 @@ class Ports(LinePlace):
         self.assertTrue(said.err.endswith(b"stmflash-trial: stmflash-line didn't open the port\n"), said.err)
 
     def test_killed_it_gives_the_port_back(self):
-        board = self.board()
+        self.board()
         started = self.start("--port", "ttyUSB0", *self.WORDS, line=(TRIAL,))
         while b"saved in " not in started.stdout.readline():
             self.assertIsNone(started.poll())
         started.kill()
         started.wait()
-        board.renew()
         for folder in os.listdir(self.path("temporary")):
             # stmflash-line has removed its socket, and what is left is empty
             self.until(lambda folder=folder: not os.listdir(self.path(f"temporary/{folder}")), "the socket is left")
@@ -389,6 +393,35 @@ class Told(TrialPlace):
     def test_each_row_fails_on_a_planted_board(self):
         self.assertEqual(NONE.rows, ())
         self.assertEqual({row for deviation in DEVIATIONS.values() for row in deviation.rows}, set(row_names()))
+
+
+def of_modules(text, *words):
+    """What a text of Python prints that uses modules of the trial."""
+    text = f"import sys; sys.dont_write_bytecode = True; sys.path[:0] = [{FOLDER!r}, {os.path.dirname(FOLDER)!r}]; {text}"
+    return subprocess.run([sys.executable, "-c", text, *words], capture_output=True, check=True, text=True).stdout
+
+
+class Pages(unittest.TestCase):
+    def test_which_are_worked_on(self):
+        """The last two without a word; 255 is never one of them, since its settling byte means everything."""
+        text = "from rows_asking import choose_pages as choose\n" \
+               "for named, count in (([], 32), ([], 1), ([], 256), ([], 257), ([3, 7], 32), ([255], 300), ([256], 300), ([32], 32)):\n" \
+               "    try: print(choose(named, count))\n" \
+               "    except Exception as error: print(error)"
+        self.assertEqual(of_modules(text.replace("from", "\nfrom", 1)).splitlines(), [
+            "[30, 31]", "[0]", "[253, 254]", "[254, 256]", "[3, 7]", "--pages: this chip's are 0 to 299, but for 255", "[256]",
+            "--pages: this chip's are 0 to 31, but for 255"])
+
+
+class Companion(Place):
+    def test_what_it_is_told(self):
+        """stmflash-line gets the port, the speed, a socket, and the wiring if there is one."""
+        self.store("stmflash-line", b"import sys; print(*sys.argv[1:])\n")
+        text = "from types import SimpleNamespace as Words\nfrom line import start_companion\n" \
+               "for wiring in ('', 'dtr-reset'):\n" \
+               "    start_companion(Words(folder=sys.argv[1], port='P', baud=57600, wiring=wiring), 'S').wait()"
+        self.assertEqual(of_modules("\n" + text, self.folder).splitlines(),
+                         ["P --baud 57600 --socket S", "P --baud 57600 --socket S --wiring=dtr-reset"])
 
 
 class Premises(unittest.TestCase):
@@ -506,6 +539,22 @@ class Ends(TrialPlace):
             self.assertTrue(out.decode().endswith(f"don't use, because the trial wasn't ended: signal {number.name}\n"), out)
             self.assertTrue(self.held("flash") == self.before)
             self.remove("saved", "flash", "flash.line")
+
+    def test_a_signal_ends_a_row_in_its_midst(self):
+        self.store("table", table("44"))
+        words = ("--table", "table", "--save", "saved", "--device", "board", *QUICK, "--only-read", "--progress", "--pause", "60")
+        with planted(self.folder, "none", "--pages", str(PAGES)):
+            started = subprocess.Popen([sys.executable, TRIAL, *words], cwd=self.folder, stdin=subprocess.DEVNULL,
+                                       stdout=subprocess.PIPE, stderr=subprocess.PIPE, preexec_fn=default_signals)
+            self.addCleanup(started.communicate)
+            self.addCleanup(started.kill)
+            while not started.stderr.readline().endswith(b": pause\n"):
+                self.assertIsNone(started.poll())
+            time.sleep(0.5)
+            started.send_signal(signal.SIGTERM)
+            out, _ = started.communicate(timeout=min(PATIENCE, 50))
+        self.assertEqual(started.returncode, 1)
+        self.assertRegex(out.decode(), "(?m)^pause +not tried +signal SIGTERM$")
 
     def test_killed_the_saved_file_puts_back(self):
         """At random moments: the board is reset, and the file is written."""

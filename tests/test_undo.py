@@ -59,6 +59,10 @@ class Undo(Place):
         self.assertFile("journal", TAKEN_TWO)
         self.assertTold(self.use("undo", "5"), "undone 1\n")
         self.assertFile("journal", TAKEN)
+        # all, unless it is said how many
+        self.store("journal", THREE)
+        self.assertTold(self.use("undo"), "undone 3\n")
+        self.assertFile("journal", TAKEN)
 
     def test_takes_back_nothing(self):
         """No byte is sent: the line stands as before. A journal that isn't there is none to take something back by, and isn't

@@ -1,0 +1,260 @@
+"""Boards that do a session harm: each has what a host's line to it is served by."""
+
+import os
+import sys
+import time
+
+from place import TOP
+
+sys.path.insert(0, os.path.join(TOP, "tests", "planted"))
+
+from planted_board import ACK, NACK, PlantedBoard
+
+GET, GET_ID, READ, WRITE, ERASE = 0x00, 0x02, 0x11, 0x31, 0x43
+SIZES = [1024] * 32
+FLASH = bytes(i % 251 for i in range(32768))
+
+
+class Line:
+    """A host's line, and the moments at which it was reached, brought its first byte, and was sent the last one."""
+
+    def __init__(self, line):
+        self.line, self.reached, self.first, self.last = line, time.monotonic(), None, None
+
+    def recv(self, count):
+        came = self.line.recv(count)
+        if came and self.first is None:
+            self.first = time.monotonic()
+        return came
+
+    def sendall(self, replies):
+        if replies:
+            self.last = time.monotonic()
+            self.line.sendall(replies)
+
+    def settimeout(self, seconds):
+        self.line.settimeout(seconds)
+
+
+class Board(PlantedBoard):
+    """A board of the model."""
+
+    def __init__(self):
+        super().__init__(0x412, SIZES, ERASE, {}, flash=FLASH)
+
+    def serve(self, line, ending):
+        while not ending.is_set():
+            came = line.recv(4096)
+            if not came:
+                return
+            self.hear(line, came, ending)
+
+    def hear(self, line, came, ending):
+        """All replies to what came together."""
+        self.say(line, b"".join(bytes(self.feed(byte)) for byte in came), ending)
+
+    def say(self, line, replies, ending):
+        line.sendall(replies)
+
+
+class Cut(Board):
+    """Falls silent behind so many bytes of its replies to a command."""
+
+    def __init__(self, code, kept):
+        super().__init__()
+        self.cut, self.kept, self.code, self.left = code, kept, None, kept
+
+    def feed(self, byte):
+        if not self.is_fresh and not self.is_inside:
+            self.code, self.left = byte, self.kept
+        out = super().feed(byte)
+        if self.code != self.cut or out[:1] == bytes([NACK]):
+            return out
+        said, self.left = out[:self.left], max(self.left - len(out), 0)
+        self.is_dead = not self.left
+        return said
+
+
+class FirstReply(Board):
+    """Answers 7F, and nothing behind that."""
+
+    def feed(self, byte):
+        out = super().feed(byte)
+        self.is_dead = bool(out)
+        return out
+
+
+class Slowly(Board):
+    """Takes one byte a second."""
+
+    def serve(self, line, ending):
+        while not ending.wait(1):
+            came = line.recv(1)
+            if not came:
+                return
+            self.hear(line, came, ending)
+
+
+class Echoing(Board):
+    """Echoes each byte, and answers."""
+
+    def hear(self, line, came, ending):
+        for byte in came:
+            line.sendall(bytes([byte]) + bytes(self.feed(byte)))
+
+
+class Doubling(Board):
+    """Says each reply twice."""
+
+    def hear(self, line, came, ending):
+        for byte in came:
+            line.sendall(2 * bytes(self.feed(byte)))
+
+
+class Always(Board):
+    """Answers the same to each byte."""
+
+    def __init__(self, byte):
+        super().__init__()
+        self.byte = byte
+
+    def feed(self, byte):
+        return bytes([self.byte])
+
+
+class Closing(Board):
+    """Closes the line behind so many bytes of its replies."""
+
+    def __init__(self, kept):
+        super().__init__()
+        self.kept = kept
+
+    def serve(self, line, ending):
+        if self.kept:
+            super().serve(line, ending)
+
+    def say(self, line, replies, ending):
+        line.sendall(replies[:self.kept])
+        self.kept -= len(replies)
+        if self.kept <= 0:
+            raise ConnectionError
+
+
+class Resetting(Board):
+    """Resets itself now and then, and prints then."""
+
+    def serve(self, line, ending):
+        self.due = time.monotonic() + 0.3
+        line.settimeout(0.05)
+        while not ending.is_set():
+            try:
+                came = line.recv(4096)
+                if not came:
+                    return
+                self.hear(line, came, ending)
+            except TimeoutError:
+                pass
+            if time.monotonic() > self.due:
+                self.due = time.monotonic() + 0.3
+                self.reset()
+                line.settimeout(None)
+                line.sendall(b"\r\nboot 1.7 ok\r\n")
+                line.settimeout(0.05)
+
+
+class Late(Board):
+    """Each reply comes so much later, in seconds."""
+
+    def __init__(self, seconds):
+        super().__init__()
+        self.seconds = seconds
+
+    def hear(self, line, came, ending):
+        for byte in came:
+            out = bytes(self.feed(byte))
+            if out:
+                ending.wait(self.seconds)
+                line.sendall(out)
+
+
+class Trickling(Board):
+    """Says its replies one byte a second."""
+
+    def say(self, line, replies, ending):
+        for byte in replies:
+            if ending.wait(1):
+                return
+            line.sendall(bytes([byte]))
+
+
+class Endless(Board):
+    """Get lists 255 codes, and goes on for ever."""
+
+    is_endless = False
+
+    def answer(self, code):
+        if code == GET:
+            self.out += bytes([255])
+            self.is_endless = True
+        else:
+            super().answer(code)
+
+    def say(self, line, replies, ending):
+        line.sendall(replies)
+        while self.is_endless and not ending.is_set():
+            line.sendall(64 * bytes([0x31]))
+
+
+class LongId(Board):
+    """Tells an id of 256 bytes."""
+
+    def answer(self, code):
+        if code == GET_ID:
+            self.out += bytes([255, *256 * [4], ACK])
+        else:
+            super().answer(code)
+
+
+class Garbling(Board):
+    """A bit of each third byte is another."""
+
+    said = 0
+
+    def feed(self, byte):
+        out = bytearray()
+        for reply in super().feed(byte):
+            self.said += 1
+            out.append(reply ^ 4 if self.said % 3 == 0 else reply)
+        return out
+
+
+def be_silent(line, ending):
+    """Reads, and says nothing."""
+    while not ending.is_set() and line.recv(4096):
+        pass
+
+
+def be_deaf(_, ending):
+    """Neither reads nor says anything."""
+    ending.wait(300)
+
+
+def echo(line, ending):
+    """Says what it hears."""
+    while not ending.is_set():
+        came = line.recv(4096)
+        if not came:
+            return
+        line.sendall(came)
+
+
+def be_noisy(line, ending):
+    """Says anything, without an end."""
+    while not ending.is_set():
+        line.sendall(os.urandom(256))
+
+
+def hiss(line, ending):
+    """Says the same byte each 100 ms."""
+    while not ending.wait(0.1):
+        line.sendall(b"\x55")

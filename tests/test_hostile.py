@@ -1,0 +1,199 @@
+"""Sessions at boards that do them harm: each ends in time, with one clear line, and nothing is lost.
+
+Each kind has one command; STMFLASH_LONG=1 tries each command on each kind of board.
+"""
+
+import collections
+import concurrent.futures
+import os
+import socket
+import subprocess
+import threading
+import time
+import typing
+
+import hostile
+from hostile import FLASH, Line
+from hostile_kinds import GIVE_UP, GONE, KINDS, LONG_WAIT, WAITS
+from place import PATIENCE, TOP, Place, Said, program
+
+# how much longer than it waits for an answer a session may take, in seconds, by what it sends and hears, and by what a busy
+# machine takes for that; with GIVE_UP, or with the waits, both stay far below SLOWEST
+SPARE, MARGIN = 2, 16
+# how long the slowest command is waited for, whatever else is said, in seconds
+SLOWEST = 40
+# how many calls go on at once
+AT_ONCE = 8
+# how many kinds each command meets, at least
+LEAST = 6
+START, SIZE = 5 * 1024, 1024
+PAGE = f"page 5 {FLASH[START:START + SIZE].hex().upper()}".encode()
+BEGUN = b"stmjournal 2 0412\nopen 1\n" + PAGE + b"\nerase 5\n"
+IMAGE = bytes(256)
+COMMANDS = {
+    "info": ("info",),
+    "read": ("read", "-S", f"{0x08000000 + START:#x}:{SIZE}", "OUT"),
+    "write": ("write", "-S", f"{0x08000000 + START:#x}", "image"),
+    "undo": ("undo",),
+}
+# the lines that a session adds to a journal of page 5
+LINES = (b"stmjournal 2 0412", b"open 1", PAGE, b"erase 5", b"program 5", b"end 1", b"undone 1")
+
+
+class Came(typing.NamedTuple):
+    """What came of one call: for how many seconds it went on behind the board's first byte, or behind its last one where it
+    answers as a board of the model for a while; and what came of the same place at a board that is well."""
+
+    said: Said
+    seconds: float
+    journal: typing.Optional[bytes]
+    read: typing.Optional[bytes]
+    board: typing.Optional[hostile.Board]
+    after: Said
+    flash_after: bytes
+
+
+def pairs():
+    """Each kind of board with its command, or with each."""
+    for kind in KINDS:
+        for command in COMMANDS if os.environ.get("STMFLASH_LONG") == "1" else (KINDS[kind].command,):
+            yield kind, command
+
+
+class Hostile(Place):
+    def folder_of(self, name):
+        """A folder of its own for a call."""
+        os.mkdir(self.path(name))
+        for file, data in (("table", self.held("table")), ("image", IMAGE)):
+            self.store(f"{name}/{file}", data)
+        return name
+
+    def at(self, folder, serve, words, wait=LONG_WAIT):
+        """Runs the program at a board that is served so: what it said, when it ended, and its line."""
+        ending, lines = threading.Event(), []
+        with socket.socket(socket.AF_UNIX, socket.SOCK_STREAM) as listener:
+            listener.bind(self.path(f"{folder}/board"))
+            listener.listen()
+
+            def run():
+                try:
+                    line, _ = listener.accept()
+                    with line:
+                        lines.append(Line(line))
+                        serve(lines[0], ending)
+                except OSError:
+                    pass
+
+            serving = threading.Thread(target=run, daemon=True)
+            serving.start()
+            given = ("--table", "table", "--device", "board", "--journal", "journal")
+            given += ("--wait", str(int(1000 * wait)), "--give-up", str(GIVE_UP))
+            try:
+                ran = subprocess.run(["stmflash", words[0], *given, *words[1:]], executable=program(), cwd=self.path(folder),
+                                     env={}, stdin=subprocess.DEVNULL, capture_output=True, timeout=PATIENCE)
+                ended = time.monotonic()
+            finally:
+                ending.set()
+                # nobody is waited for any more
+                listener.shutdown(socket.SHUT_RDWR)
+                serving.join(PATIENCE)
+        self.assertTrue(lines, f"nobody came: {ran}")
+        self.remove(f"{folder}/board")
+        return Said(ran.returncode, ran.stdout, ran.stderr), ended, lines[0]
+
+    def once(self, name, command):
+        """One command at one kind of board; and what it left, at a board that is well and was reset."""
+        kind = KINDS[name]
+        folder = self.folder_of(f"{list(KINDS).index(name)}-{command}")
+        if command == "undo":
+            self.store(f"{folder}/journal", BEGUN)
+        serve = kind.made()
+        board = getattr(serve, "__self__", None)
+        said, ended, line = self.at(folder, serve, COMMANDS[command], kind.wait)
+        since = line.last if kind.is_model and line.last else line.first or line.reached
+        journal, read = self.held(f"{folder}/journal"), self.held(f"{folder}/OUT")
+        well = hostile.Board()
+        well.flash = bytearray(board.flash if board else FLASH)
+        after, _, _ = self.at(folder, well.serve, ("undo" if journal else "info", "--fresh"))
+        return Came(said, ended - since, journal, read, board, after, bytes(well.flash))
+
+    def test_each_ends_in_time(self):
+        with concurrent.futures.ThreadPoolExecutor(AT_ONCE) as pool:
+            begun = [(kind, command, pool.submit(self.once, kind, command)) for kind, command in pairs()]
+            for kind, command, calling in begun:
+                with self.subTest(kind, command=command):
+                    came = calling.result()
+                    self.assertInTime(KINDS[kind], command, came)
+                    self.assertEnded(KINDS[kind], command, came)
+                    self.assertKept(command, came)
+                    self.assertGoesBack(came)
+
+    def assertInTime(self, kind, command, came):
+        """Not before a board that falls silent may be given up, and not long behind."""
+        least, most = 0, max(GIVE_UP, WAITS * kind.wait) + SPARE + MARGIN
+        if command in kind.is_slow_at:
+            least, most = SLOWEST - 1, SLOWEST + SPARE + MARGIN
+        elif kind.is_model and came.said.err == f"stmflash: {GONE}\n".encode():
+            least = 0.9 * GIVE_UP
+        self.assertTrue(least <= came.seconds < most, f"{came.seconds:.1f} s, {came.said}")
+
+    def assertEnded(self, kind, command, came):
+        """One line says why, and perhaps a hint; or all was done, where that kind of board may let it."""
+        if came.said.status == 0:
+            self.assertIn(command, kind.may_end)
+            self.assertEqual(came.said.err, b"")
+            self.assertDone(command, came)
+            return
+        self.assertEqual((came.said.status, came.said.out), (1, b""))
+        told = [f"stmflash: {fault}\n" + (f"hint: {hint}\n" if hint else "")
+                for fault in kind.faults_at(command) for hint in kind.hints]
+        self.assertIn(came.said.err.decode(), told)
+
+    def assertDone(self, command, came):
+        """What says that it was done, was."""
+        if command == "read":
+            self.assertEqual(came.read, FLASH[START:START + SIZE])
+        if command == "write":
+            self.assertEqual(came.board.flash[START:START + len(IMAGE)], IMAGE)
+            self.assertTrue(came.journal.endswith(b"\nend 1\n"))
+        if command == "undo":
+            self.assertEqual(came.board.flash, FLASH)
+            self.assertTrue(came.journal.endswith(b"\nundone 1\n"))
+
+    def assertKept(self, command, came):
+        """The journal has what it had, and whole lines that a session adds; without a further erase in it no page was changed."""
+        before = BEGUN if command == "undo" else b""
+        journal = came.journal or b""
+        self.assertEqual(journal[:len(before)], before)
+        if command in ("info", "read"):
+            self.assertIsNone(came.journal)
+        if command != "read" or came.said.status != 0:
+            self.assertIsNone(came.read)
+        *added, last = journal[len(before):].split(b"\n")
+        self.assertEqual(([line for line in added if line not in LINES], last), ([], b""))
+        if came.board is None:
+            return
+        flash = bytes(came.board.flash)
+        self.assertEqual(flash[:START] + flash[START + SIZE:], FLASH[:START] + FLASH[START + SIZE:])
+        if b"erase 5" not in added:
+            self.assertEqual(flash, FLASH)
+
+    def assertGoesBack(self, came):
+        """A board that is well is served, and an undo gives it back what the first one had."""
+        self.assertEqual((came.after.status, came.after.err, came.flash_after), (0, b"", FLASH), came.after)
+
+    def test_each_command_meets_some(self):
+        met = collections.Counter(kind.command for kind in KINDS.values())
+        self.assertTrue(all(met[command] >= LEAST for command in COMMANDS), met)
+
+    def test_the_table_tells_each(self):
+        """docs/SETTLING.md has a row for each kind, with each fault and the hints that are told there; and no row without one."""
+        with open(os.path.join(TOP, "docs", "SETTLING.md"), encoding="utf-8") as file:
+            part = file.read().split("\n## Boards that aren't well\n")[1].split("\n## ")[0]
+        rows = {row.split(" | ")[0].removeprefix("| "): row for row in part.splitlines() if row.startswith("| ")}
+        self.assertEqual(set(rows) - {"The board"}, {kind.row for kind in KINDS.values()})
+        self.assertIn(f"has {len(KINDS)} kinds", part)
+        for name, kind in KINDS.items():
+            with self.subTest(name):
+                for told in (*kind.faults, *kind.undo, *(hint.split(":")[0] for hint in kind.hints if hint)):
+                    self.assertIn(f"`{told}`", rows[kind.row])

@@ -1,0 +1,365 @@
+"""`--watch`: over a board that follows the model nothing changes; the first reply that no such board gives ends the session, is named,
+and nothing is sent or added behind it (tests/planted has boards that do otherwise)."""
+
+import json
+import os
+import re
+import select
+import socket
+import subprocess
+import sys
+import threading
+
+from place import COUNTING, PATIENCE, TABLE, TOP, Place, Said
+from served import WAIT, Served
+
+WATCHED = r"watched: ([0-9]+) bytes of replies, each as a device of the model sends it"
+OPEN = "; 2 more that it leaves open, behind a protection or where memory failed"
+NOTHING = "watched: nothing, since no chip of the table had told its id and codes by then"
+FAULT = "the board does otherwise than the model: {}; undo what was begun, then stmflash-trial"
+NEXT = "; undo what was begun, then stmflash-trial"
+# chip 0440, of which the planted boards are, and with the places where it tells which board it is
+PLANTED_TABLE = b'[[chip]]\nid = 0x440\nbase = 0x08000000\npages = [[8, 1024]]\nerase = "extended"\n'
+PLACES = b"unique = [0x1FFFF7AC, 12]\nsize_at = 0x1FFFF7CC\n"
+UNIQUE = "2B0035000A51363034393332"
+# each command on a device, and whether its journal has a segment before
+SESSIONS = (
+    (("info",), True), (("info", "--raw"), True), (("read", "out"), True), (("read", "--hex", "out"), True), (("crc",), True),
+    (("write", "-f", "-v", "-S", "0x08000400", "image"), True), (("write", "-f", "--keep", "--go", "0x08000000", "image"), False),
+    (("verify", "-S", "0x08000000", "old"), True), (("erase", "2-4"), True), (("undo",), True), (("undo", "1"), True),
+    (("go", "0x08000000"), False), (("protect", "write-unprotect"), False), (("info", "--no-board"), True),
+    (("write", "-f", "--no-board", "image"), True), (("undo", "--no-board"), True), (("go", "0x08000000", "--no-board"), False))
+STANDS = "[0-9A-F]{2} stands at 0800[0-9A-F]{4}, and [0-9A-F]{2} was read or written there before"
+# what a write of 13 blocks with -v finds on boards that do otherwise
+FOUND = {
+    "76-before-an-ack": "76 came, and 79 was due",
+    "read-protected": "1F came, and 79 was due",
+    "refuses-read-of-256": "1F came, and 79 was due",
+    "lists-43-and-44": "no device with its chip lists the codes that it lists",
+    "lists-no-write": "no device with its chip lists the codes that it lists",
+    **dict.fromkeys(("erases-half-a-page", "erases-the-page-before", "erases-two-pages", "leaves-a-bit", "writes-a-wrong-last-byte"),
+                    STANDS),
+}
+
+
+class Relay:
+    """Between a client and the board at a socket: what was sent and came, in its order; one byte that came is complemented on its
+    way, or one more comes behind it."""
+
+    def __init__(self, test, board, wrong=None, more=None):
+        self.events, self.came = [], 0
+        self.wrong, self.more = wrong, more
+        self.listener = socket.socket(socket.AF_UNIX, socket.SOCK_STREAM)
+        test.addCleanup(self.listener.close)
+        if os.path.lexists(test.path("relay")):
+            os.remove(test.path("relay"))
+        self.listener.bind(test.path("relay"))
+        self.listener.listen()
+        self.listener.settimeout(PATIENCE)
+        self.board = board
+        self.thread = threading.Thread(target=self.serve)
+        self.thread.start()
+
+    def serve(self):
+        line, _ = self.listener.accept()
+        with line, self.board:
+            while True:
+                ready, _, _ = select.select([line, self.board], [], [], PATIENCE)
+                if not ready:
+                    return
+                if self.board in ready:
+                    line.sendall(self.change(self.board.recv(4096)))
+                if line in ready:
+                    data = line.recv(4096)
+                    if not data:
+                        return
+                    self.events.append(("put", data))
+                    self.board.sendall(data)
+
+    def change(self, data):
+        made = b""
+        for byte in data:
+            made += bytes([byte ^ 0xFF if self.came == self.wrong else byte])
+            made += b"\x55" if self.came == self.more else b""
+            self.came += 1
+        self.events.append(("came", made))
+        return made
+
+    def end(self, test):
+        self.thread.join(PATIENCE)
+        test.assertFalse(self.thread.is_alive())
+
+
+class Watching(Served):
+    table, number = "table", "0440"
+
+    def setUp(self):
+        super().setUp()
+        self.store("table", PLANTED_TABLE)
+        self.store("image", COUNTING[7:3007])
+        # what stands below page 7
+        self.store("old", COUNTING[:7168])
+
+    def fresh(self):
+        """The flash as it is at first, and no journal."""
+        for name in ("flash.line", "journal", "out"):
+            if self.is_there(name):
+                self.remove(name)
+        self.store("flash", COUNTING[:8192])
+
+    def simulated(self, *words, device=None):
+        return self.use(words[0], *words[1:], device=device or "sim:0440:flash")
+
+    def assertWatched(self, said, out, end=""):
+        self.assertRegex(said.err.decode(), rf"\A{WATCHED}{re.escape(end)}\n\Z")
+        self.assertEqual((said.status, said.out), (0, out))
+        self.assertGreater(int(re.match(WATCHED, said.err.decode())[1]), 0)
+
+
+class Boards(Watching):
+    def compare(self):
+        """Each command with --watch, and without it: the same is printed, stands in the journal and in the flash."""
+        for words, is_begun in SESSIONS:
+            with self.subTest(words=words):
+                left = []
+                for more in ((), ("--watch",)):
+                    self.fresh()
+                    if is_begun:
+                        unasked = ("--no-board",) if "--no-board" in words else ()
+                        self.assertEqual(self.simulated("erase", "7", *unasked).status, 0)
+                    said = self.simulated(*words, *more)
+                    left.append((said.status, said.out, *(self.held(name) for name in ("journal", "out", "flash", "flash.line"))))
+                self.assertEqual(left[0], left[1])
+                self.assertWatched(said, left[0][1], OPEN if words[0] == "protect" else "")
+
+    def test_a_board_of_the_model_passes(self):
+        self.compare()
+
+    def test_a_board_that_tells_which_it_is_passes(self):
+        self.store("table", PLANTED_TABLE + PLACES)
+        self.store("flash.board", f"unique {UNIQUE}\nsize 8\n".encode())
+        self.compare()
+
+    def test_where_nothing_is_watched(self):
+        """No chip of the table has told its id; or nothing was sent at all."""
+        self.store("table", TABLE)
+        self.store("flash", COUNTING)
+        self.store("other", PLANTED_TABLE)
+        self.serve(2)
+        said = self.call("info", "--raw", "--table", "other", "--device", "board", "--journal", "journal", "--wait", WAIT, "--watch")
+        self.assertEqual((said.status, said.err.decode()), (0, NOTHING + "\n"))
+        self.assertTrue(said.out.startswith(b"id 0412\n"))
+        said = self.call("crc", "--table", "other", "--device", "board", "--journal", "journal", "--wait", WAIT, "--watch")
+        self.assertEqual((said.status, said.err.decode()), (1, NOTHING + "\nstmflash: unknown chip 0412\n"))
+        self.assertServed()
+
+    def test_an_undo_of_nothing_sends_nothing(self):
+        self.fresh()
+        self.assertEqual(self.simulated("erase", "7").status, 0)
+        self.assertEqual(self.simulated("undo").status, 0)
+        self.remove("flash.line")
+        self.assertEqual(self.simulated("undo", "--watch"), Said(0, b"undone 0\n", NOTHING.encode() + b"\n"))
+
+    def test_a_stopped_write_and_its_undo(self):
+        """Both watched; the undo knows nothing of what the write was told."""
+        self.fresh()
+        for stop in (100, 1000, 2500):
+            said = self.simulated("write", "-f", "--stop", str(stop), "--watch", "image")
+            self.assertEqual(said.status, 3, said.err)
+            self.assertRegex(said.err.decode(), rf"\A({WATCHED}|{re.escape(NOTHING)})\nstmflash: stopped\n\Z")
+            if self.is_there("journal"):
+                self.assertEqual(self.simulated("undo", "--watch").status, 0)
+                self.remove("journal")
+            self.assertFile("flash", COUNTING[:8192])
+
+    def test_a_folder_of_journals(self):
+        """The session beside the board's journal is watched, and not the question before it."""
+        self.store("table", PLANTED_TABLE + PLACES)
+        self.store("flash.board", f"unique {UNIQUE}\nsize 8\n".encode())
+        self.fresh()
+        os.mkdir(self.path("journals"))
+        words = ("--table", "table", "--device", "sim:0440:flash", "--journals", "journals")
+        self.assertWatched(self.call("erase", "3", *words, "--watch"), b"segment 1: 1 pages erased\n")
+        self.assertWatched(self.call("undo", *words, "--watch"), b"undone 1\n")
+        self.assertFile("flash", COUNTING[:8192])
+
+    def test_a_fresh_board(self):
+        self.fresh()
+        self.assertEqual(self.simulated("write", "-f", "--stop", "3000", "image").status, 3)
+        self.store("flash.line", b"fresh\n")
+        self.assertWatched(self.simulated("undo", "--fresh", "--watch"), b"undone 1\n")
+        self.assertFile("flash", COUNTING[:8192])
+
+
+class Line(Watching):
+    """A simulator behind a relay, which garbles a byte of what it sends, or adds one."""
+
+    def setUp(self):
+        super().setUp()
+        self.store("table", PLANTED_TABLE + PLACES)
+        self.store("flash.board", f"unique {UNIQUE}\nsize 8\n".encode())
+
+    def through(self, *words, **more):
+        """What a command through a relay said, and the relay."""
+        self.fresh()
+        if words[0] == "undo":
+            self.assertEqual(self.simulated("erase", "2-3").status, 0)
+        self.serve(1, number="0440")
+        relay = Relay(self, self.connect(), **more)
+        said = self.call(words[0], "--table", "table", "--device", "relay", "--journal", "journal", "--wait", WAIT, *words[1:])
+        relay.end(self)
+        self.assertServed()
+        return said, relay
+
+    def clean(self, *words):
+        """Which answers to a step were watched, acknowledgements and refusals, each by its number among all replies, how many came,
+        and how many were watched. A protection's own aren't."""
+        said, relay = self.through(*words, "--watch")
+        self.assertEqual(said.status, 0, said.err)
+        watched = int(re.match(WATCHED, said.err.decode())[1])
+        last = relay.came - (2 if OPEN in said.err.decode() else 0)
+        answers, at, before = [], 0, None
+        for kind, data in relay.events:
+            if kind == "came":
+                is_answer = before == "put" and data[0] in (0x79, 0x1F) and last - watched <= at < last
+                answers += [(at, data[0])] if is_answer else []
+                at += len(data)
+            before = kind
+        return answers, relay.came, watched
+
+    def assertRefused(self, said, relay, text, out=b""):
+        """One line names the byte, and nothing was sent behind it."""
+        self.assertEqual(said, Said(1, out, f"stmflash: {FAULT.format(text)}\n".encode()))
+        self.assertEqual(relay.events[-1][0], "came")
+
+    def assertLeadsBack(self):
+        """What was begun can be taken back, at the board as it was left."""
+        if self.is_there("journal"):
+            said = self.simulated("undo")
+            self.assertEqual((said.status, said.err), (0, b""))
+        self.assertFile("flash", COUNTING[:8192])
+
+    def test_each_byte_of_what_a_board_tells(self):
+        """From where watching begins on each has to come as it did: nothing is told twice otherwise."""
+        _, came, watched = self.clean("info")
+        self.assertGreater(watched, 15)
+        for wrong in range(came - watched, came):
+            with self.subTest(wrong=wrong):
+                said, relay = self.through("info", "--watch", wrong=wrong)
+                self.assertEqual((said.status, said.out), (1, b""))
+                self.assertRegex(said.err.decode(), rf"\Astmflash: {FAULT.format('[0-9A-F]{2} came, and [0-9A-F]{2} was due')}\n")
+                self.assertEqual(relay.events[-1][0], "came")
+
+    def test_an_answer_of_each_command(self):
+        """Three of each command's, complemented: the session ends there, adds nothing, and what it began leads back."""
+        for words in (("read", "out"), ("crc",), ("write", "-f", "-v", "image"), ("write", "-f", "--no-board", "image"),
+                      ("verify", "-S", "0x08000000", "old"), ("erase", "2-4"), ("undo",), ("go", "0x08000000"),
+                      ("write", "-f", "--keep", "--go", "0x08000000", "image"), ("protect", "write-unprotect")):
+            answers, *_ = self.clean(*words)
+            whole = self.held("journal") or b""
+            for wrong, byte in sorted({answers[0], answers[len(answers) // 2], answers[-1]}):
+                with self.subTest(words=words, wrong=wrong):
+                    said, relay = self.through(*words, "--watch", wrong=wrong)
+                    # a write that was kept has told its line before Go
+                    out = b"segment 1: 3 pages written\nkept 1\n" if (wrong, byte) == answers[-1] and "--keep" in words else b""
+                    self.assertRefused(said, relay, f"{byte ^ 0xFF:02X} came, and {byte:02X} was due", out)
+                    if words[0] in ("write", "erase") and not out:
+                        self.assertTrue("--keep" in words or whole.startswith(self.held("journal") or b""))
+                    if not out:
+                        self.assertLeadsBack()
+
+    def test_a_byte_that_nothing_asked_for(self):
+        """It is the answer to what is sent next, or comes unasked where silence is due."""
+        _, came, watched = self.clean("info")
+        # behind the codes with which watching begins, before the session settles the device
+        said, relay = self.through("info", "--watch", more=came - watched - 1)
+        self.assertEqual(said.status, 1)
+        self.assertRegex(said.err.decode(), rf"\Astmflash: {FAULT.format('55 came (unasked|, and 1F was due|, and 79 was due)')}\n")
+        self.assertEqual(relay.events[-1][0], "came")
+
+    def test_what_was_read_stands(self):
+        """The last byte of the last read of a write that is verified is the last of a page that it wrote."""
+        _, came, _ = self.clean("write", "-f", "-v", "image")
+        said, relay = self.through("write", "-f", "-v", "image", "--watch", wrong=came - 1)
+        last, at = COUNTING[3071], 0x08000000 + 3071
+        self.assertRefused(said, relay, f"{last ^ 0xFF:02X} stands at {at:08X}, and {last:02X} was read or written there before")
+        self.assertLeadsBack()
+
+    def test_without_a_watch_none_of_them_is_seen(self):
+        """What is read wrong is taken for what stands there."""
+        _, came, _ = self.clean("crc")
+        said, _ = self.through("crc", wrong=came - 1)
+        self.assertEqual((said.status, said.err), (0, b""))
+
+    def test_json(self):
+        _, came, _ = self.clean("info")
+        said, _ = self.through("info", "--watch", "--json", wrong=came - 1)
+        text = FAULT.format("86 came, and 79 was due")
+        self.assertEqual(json.loads(said.out), {"fault": "does_otherwise", "says": text, "status": 1})
+        self.assertEqual(said.err, f"stmflash: {text}\n".encode())
+        # the end line stands on standard error alone
+        said, _ = self.through("crc", "--watch", "--json")
+        self.assertEqual((said.status, list(json.loads(said.out))), (0, ["answer", "crc"]))
+        self.assertRegex(said.err.decode(), rf"\A{WATCHED}\n\Z")
+
+    def test_without_it_nothing_is_told(self):
+        said, relay = self.through("info")
+        self.assertEqual((said.status, said.err), (0, b""))
+        watched, more = self.through("info", "--watch")
+        self.assertEqual(watched.out, said.out)
+        # one more Get, and nothing else
+        sent = [b"".join(data for kind, data in of.events if kind == "put") for of in (relay, more)]
+        self.assertEqual(sent[1].replace(b"\x00\xff\x00\xff", b"\x00\xff", 1) == sent[0] or sent[1].count(b"\x00\xff"),
+                         sent[0].count(b"\x00\xff") + 1)
+
+
+class Planted(Watching):
+    """Boards that do otherwise, each in one thing."""
+
+    def board(self, name):
+        words = [sys.executable, os.path.join(TOP, "tests", "planted"), self.path("board"), "--plant", name, "--id", "0440",
+                 "--pages", "8", "--size", "1024", "--erase", "44", "--clients", "1000"]
+        with open(os.devnull, "r+b") as nothing:
+            started = subprocess.Popen(words, stdin=nothing, stdout=nothing, stderr=nothing)
+
+        def end():
+            if started.returncode is None:
+                started.kill()
+                started.wait(PATIENCE)
+                self.remove("board")
+
+        self.addCleanup(end)
+        self.leave(self.reach("board"))
+        return end
+
+    def at(self, *words):
+        return self.call(words[0], "--table", "table", "--device", "board", "--journal", "journal", "--wait", WAIT, *words[1:])
+
+    def test_boards_that_do_otherwise(self):
+        self.store("image", bytes(range(256)) * 13)
+        for name, text in FOUND.items():
+            with self.subTest(board=name):
+                end = self.board(name)
+                said = self.at("write", "-f", "-v", "-S", "0x08001000", "image", "--watch")
+                self.assertEqual((said.status, said.out), (1, b""))
+                told = re.escape("stmflash: the board does otherwise than the model: ") + text + re.escape(NEXT)
+                self.assertRegex(said.err.decode(), rf"\A{told}\n(hint: .*\n)?\Z")
+                end()
+                if self.is_there("journal"):
+                    self.remove("journal")
+
+    def test_a_refusal_is_hinted_at(self):
+        end = self.board("read-protected")
+        said = self.at("crc", "--watch")
+        text = FAULT.format("1F came, and 79 was due")
+        hint = "the device refused to read: is its flash readout-protected?"
+        self.assertFault(said, text, hint=hint)
+        end()
+
+    def test_one_that_follows_the_model(self):
+        end = self.board("none")
+        self.store("image", bytes(range(256)) * 13)
+        self.assertWatched(self.at("write", "-f", "-v", "-S", "0x08001000", "image", "--watch"),
+                           b"segment 1: 4 pages written\nverified 3328 bytes\n")
+        self.assertWatched(self.at("undo", "--watch"), b"undone 1\n")
+        end()
