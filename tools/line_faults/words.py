@@ -1,0 +1,211 @@
+"""Faults of stm32flash's words, as in line.py."""
+
+TEST = "test_stm32flash_words."
+REFUSED, DOING, BACK, BOARDS = TEST + "Refusals.", TEST + "Doing.", TEST + "TakingBack.", TEST + "Boards."
+DROPPING, PARTS = TEST + "Dropping.", TEST + "Parts."
+BY_NAME = REFUSED + "test_what_cant_be_is_refused_by_name_and_no_byte_is_sent"
+AT_REST = PARTS + "test_a_session_behind_another_waits_by_what_came"
+CALL, BOARD, WORDS, JOURNALS = (f"as_stm32flash/{name}.py" for name in ("call", "board", "words", "journals"))
+ACTIONS, IMAGE, LINE, PATIENCE = (f"as_stm32flash/{name}.py" for name in ("actions", "image", "line", "patience"))
+
+FAULTS = {
+    # ---- words
+    "-v is taken without -w": (WORDS, 'if asked.verify and asked.action != "w":', "if asked.verify and asked.file:", BY_NAME),
+    "two actions are taken": (WORDS, "        if asked.action:\n", "        if asked.action == name:\n", BY_NAME),
+    "an address to start at needs no alignment": (WORDS, "if asked.start_at % 4:", "if asked.start_at % 2:", BY_NAME),
+    "an address to read from needs no alignment": (
+        WORDS, "if asked.address is not None and asked.address % 4:", "if asked.address is not None and asked.address % 2:",
+        BY_NAME),
+    "no bytes are asked for": (WORDS, "if asked.length == 0:", "if asked.length is False:", BY_NAME),
+    "pages and addresses are taken together": (
+        WORDS, "    if asked.address is not None or asked.length is not None:\n", "    if False:\n", BY_NAME),
+    "a million pages are taken": (WORDS, "number(value) > 0xFFFF:", "number(value) > 0xFFFFF:", BY_NAME),
+    "I2C is tried": (WORDS, 'startswith("/dev/i2c-")', 'startswith("/dev/i3c-")', BY_NAME),
+    "a number with a leading 0 is decimal": (
+        WORDS, 'value = int(text, 8) if re.fullmatch("0[0-7]+", text) else int(text, 0)',
+        'value = int(text, 0 if "x" in text.lower() else 10)',
+        PARTS + "test_numbers"),
+    "a number of 33 bits is taken": (WORDS, "if value >= 1 << 32:", "if value > 1 << 32:", PARTS + "test_numbers"),
+    "another speed without -b": (WORDS, 'self.baud, self.mode = 57600, "8e1"', 'self.baud, self.mode = 115200, "8e1"',
+                                 PARTS + "test_the_line_is_asked_for_with_both_sequences"),
+    "-c plays the entry sequence": (
+        WORDS, 'return "" if self.resume else', "return", PARTS + "test_the_line_is_asked_for_with_both_sequences"),
+    "a pin of the machine is no word": (
+        "as_stm32flash/sequence.py", "        if name.isdigit():\n", "        if not name:\n", BY_NAME),
+    "another serial mode is taken at a real port": (
+        CALL, 'if asked.mode != "8e1" and not is_pty', 'if asked.mode == "" and not is_pty', BY_NAME),
+    "a program in RAM is started": (
+        CALL, "    if asked.start_at:\n        chips", "    if asked.start_at is None:\n        chips", BY_NAME),
+    "memory that isn't flash is read": (
+        CALL, "    if asked.address is not None:\n        chips", "    if asked.address == 0:\n        chips", BY_NAME),
+    "a program behind this chip's flash is started": (
+        CALL, "        refuse_start(asked, actions.chip)\n", "", DOING + "test_what_another_chip_would_have"),
+    "-S goes past the flash's end": (
+        "as_stm32flash/part.py", "min(start + words.length, chip.end) if", "start + words.length if",
+        DOING + "test_what_another_chip_would_have"),
+    "HEX with a wrong checksum is taken": (
+        "as_stm32flash/hex_text.py", "        if sum(record) % 256:\n", "        if sum(record) < 0:\n", BY_NAME),
+    "the upper half of an address is lost": (
+        "as_stm32flash/hex_text.py", 'int.from_bytes(data, "big") << 16, None', 'int.from_bytes(data, "big") << 8, None',
+        DOING + "test_images_lie_where_stm32flash_puts_them"),
+    "-f says nothing": (
+        IMAGE, "is_hex = not words.force and not", "is_hex = not", DOING + "test_images_lie_where_stm32flash_puts_them"),
+    "a length says nothing to -w": (
+        IMAGE, "self.size = end - start if words.length is None else min(end - start, words.length)", "self.size = end - start",
+        DOING + "test_images_lie_where_stm32flash_puts_them"),
+    "HEX isn't moved": (
+        IMAGE, "hex_text.moved(self.pieces, place - self.own,", "hex_text.moved(self.pieces, 0,",
+        DOING + "test_images_lie_where_stm32flash_puts_them"),
+    "an image that doesn't fit is handed on": (
+        ACTIONS, "if not self.chip.holds(place) or part.end > self.chip.end:", "if not self.chip.holds(place):",
+        DOING + "test_an_image_that_doesnt_fit_is_refused"),
+    "half a page is erased whole": (
+        "as_stm32flash/part.py", "if first is None or behind is None or not part.is_exact:",
+        "if first is None or not part.is_exact:",
+        DOING + "test_erases_by_pages"),
+    "another polynomial": (
+        "as_stm32flash/crc.py", "POLYNOMIAL = 0x04C11DB7", "POLYNOMIAL = 0x04C11DB5", DOING + "test_reads_and_the_crc"),
+    "lines stand among the bytes that are read": (
+        "as_stm32flash/told.py", 'words.action == "r" and words.file == "-"', 'words.action == "r" and not words.file',
+        DOING + "test_reads_and_the_crc"),
+    "another version": ("as_stm32flash/told.py", 'VERSION = "0.7"', 'VERSION = "0.6"',
+                        DOING + "test_a_write_is_told_as_by_stm32flash_and_taken_back"),
+    "-v doesn't compare": (
+        ACTIONS, '*["-v"] * self.words.verify, ', "", BACK + "test_a_write_and_go_are_one_session"),
+    "a hint isn't handed on": (
+        CALL, '(f"\\nstm32flash: {board.hint}" if board.hint else "")', '""', REFUSED + "test_a_hint_of_stmflash_is_handed_on"),
+    "a silent board is given up after a minute": (BOARD, "GIVE_UP = 5", "GIVE_UP = 60", REFUSED + "test_a_silent_board"),
+    "what is refused has status 0": (
+        CALL, "file=sys.stderr, flush=True)\n        return 1", "file=sys.stderr, flush=True)\n        return 0", BY_NAME),
+
+    # ---- the way back
+    "what never ended isn't taken back": (
+        CALL, "        take_back_first(board, asked)\n", "", BACK + "test_what_never_ended_is_taken_back_before_anything_else"),
+    "a reset is claimed unasked": (
+        CALL, 'os.environ.get(RESETS) == "1" and bool(asked.entry())', "bool(asked.entry())",
+        BACK + "test_no_reset_is_claimed_unless_the_user_does"),
+    "a STMFLASH_FRESH of outside is believed": (
+        BOARD, 'if name not in ("STMFLASH_FRESH", ', "if name not in (",
+        BACK + "test_no_reset_is_claimed_unless_the_user_does"),
+    "another board's journal ends the call": (
+        CALL, "        if str(fault) in OTHERS:\n", "        if not str(fault):\n",
+        BACK + "test_another_board_at_the_port_has_its_own_journal"),
+    "an undo ends at another board's journal": (
+        CALL, "if str(fault) not in OTHERS or board.is_unfinished():", "if True:",
+        BOARDS + "test_an_undo_passes_over_the_journal_in_use_of_another_board"),
+    "another kind of chip's journal is taken back": (
+        BOARD, "if own is None or own.takes(owner)]", "if own or True]",
+        BOARDS + "test_an_undo_passes_over_another_kind_of_chip"),
+    "a newest journal that can't be read is passed over": (
+        BOARD, "            self.refuse_bad(mine[-1])\n", "", BOARDS + "test_a_journal_that_cant_be_read_is_told_by_its_name"),
+    "a log that can't be read has status 0": (
+        CALL, "            status = 1\n    if not paths", "            status = 0\n    if not paths",
+        BOARDS + "test_a_journal_that_cant_be_read_is_told_by_its_name"),
+    "a way back is given up before a protection": (
+        BOARD, 'self.look("keep", self.journals.next_kept())', 'self.look("keep")',
+        BACK + "test_protections_give_the_way_back_up"),
+    "a protection is refused where something can be undone": (
+        ACTIONS, "        self.board.put_aside()\n        ended", "        ended",
+        BACK + "test_protections_give_the_way_back_up"),
+    "an erased chip keeps its ways back": (
+        ACTIONS, 'self.end_ways_back() if self.words.action == "k" else {}', "{}",
+        BACK + "test_protections_give_the_way_back_up"),
+    "an erased chip ends those of other boards too": (
+        JOURNALS, "            if owner.may_be(own):\n", "            if owner:\n",
+        BOARDS + "test_an_erased_chip_ends_its_own_ways_back_alone"),
+    "a number that was ended is given once more": (
+        JOURNALS, '(*self.kept(), *self.numbered("ended"))', "self.kept()",
+        BOARDS + "test_an_erased_chip_ends_its_own_ways_back_alone"),
+    "that the ended one may be another's isn't told": (
+        ACTIONS, "if owner.board not in (None, self.board.own.board):", "if owner.board is None and self.board.own.board:",
+        BOARDS + "test_an_erased_chip_that_doesnt_tell_its_board"),
+    "a program that was started is started once more": (
+        ACTIONS, "            self.has_started = True\n", "", BACK + "test_a_write_and_go_are_one_session"),
+    "a Go that failed behind its write isn't done alone": (
+        ACTIONS, "            if not fault.printed:\n                raise\n", "            raise\n",
+        PARTS + "test_a_go_that_fails_behind_its_write_is_done_alone"),
+    "a write that differs at the same place is done again for ever": (
+        ACTIONS, "or not left or at == before:", "or not left:",
+        PARTS + "test_a_write_that_differs_is_done_again_as_often_as_is_asked"),
+    "-n says nothing": (
+        ACTIONS, "left, before = left - 1, at", "left, before = left, at",
+        PARTS + "test_a_write_that_differs_is_done_again_as_often_as_is_asked"),
+    "a write that stands is done again": (
+        BOARD, "(self.journals.size() != before or fault.printed)", "self.journals.size() != before",
+        PARTS + "test_a_write_that_stands_is_not_done_again"),
+    "a journal that has two names keeps both": (
+        CALL, "        board.journals.end_keeping()\n", "", BACK + "test_a_killed_keep_is_ended"),
+    "a large journal goes on growing": (
+        JOURNALS, "return self.size() > LARGE", "return self.size() < 0", PARTS + "test_where_journals_are"),
+    "everybody may read the journals": (JOURNALS, "mode=0o700", "mode=0o755", PARTS + "test_where_journals_are"),
+    "a relative XDG_STATE_HOME is taken": (
+        JOURNALS, "    if not os.path.isabs(home):\n", "    if not home:\n", PARTS + "test_where_journals_are"),
+    "four of a board stay": (
+        JOURNALS, "KEPT, MOST, ROOM = 8,", "KEPT, MOST, ROOM = 4,", DROPPING + "test_boards_that_are_swapped_keep_eight_each"),
+    "all boards share eight": (
+        JOURNALS, "found.setdefault(owner_of(path), [])", "found.setdefault(None, [])",
+        DROPPING + "test_boards_that_are_swapped_keep_eight_each"),
+    "there is room for everything": (
+        JOURNALS, "if count <= MOST and used <= ROOM:", "if count <= MOST:",
+        DROPPING + "test_many_boards_keep_one_each_until_there_is_no_room"),
+    "there is room for any number": (
+        JOURNALS, "if count <= MOST and used <= ROOM:", "if used <= ROOM:",
+        DROPPING + "test_many_boards_keep_one_each_until_there_is_no_room"),
+    "a board's last one goes before another's old ones": (
+        JOURNALS,
+        "        rest += sorted(path for held in kept.values() for path in held[1:KEPT])\n        rest += sorted(newest)\n",
+        "        rest += sorted(newest)\n        rest += sorted(path for held in kept.values() for path in held[1:KEPT])\n",
+        DROPPING + "test_many_boards_keep_one_each_until_there_is_no_room"),
+    "what was ended goes last": (
+        JOURNALS, "        rest += sorted(newest)\n", "        rest = rest[sum(map(len, ended.values())):] + sorted(newest)\n",
+        DROPPING + "test_what_was_ended_goes_first"),
+    "that one was removed isn't told": (
+        JOURNALS, "            if remove(path):\n                note",
+        "            if not remove(path):\n                note",
+        DROPPING + "test_many_boards_keep_one_each_until_there_is_no_room"),
+    "a folder that can't be read counts as empty": (
+        JOURNALS, "        except FileNotFoundError:\n            return []", "        except OSError:\n            return []",
+        DROPPING + "test_a_folder_that_cant_be_read_isnt_taken_for_an_empty_one"),
+    "a header behind a torn line isn't found": (
+        "as_stm32flash/owner.py", "HEADER.search(", "HEADER.match(", DROPPING + "test_the_header_is_behind_what_is_void"),
+    "a port's journals move with its number": (
+        JOURNALS, "return links[0] if links else", "return", PARTS + "test_a_port_is_where_its_adapter_is_plugged_in"),
+
+    # ---- waits, and the process inside
+    "a wait of a port that isn't known is short": (
+        PATIENCE, "    if held is None:\n        return UNKNOWN", "    if held is None:\n        return LEAST",
+        PARTS + "test_the_wait_is_what_is_known_of_the_port"),
+    "the speed says nothing to the wait": (
+        PATIENCE, "math.ceil(BYTES * BITS * 1000 / baud)", "math.ceil(BYTES * BITS * 1000 / 115200)",
+        PARTS + "test_the_wait_is_what_is_known_of_the_port"),
+    "a user's wait is another one": (
+        PATIENCE, "        return int(given)\n", "        return max(LEAST, int(given))\n",
+        PARTS + "test_the_wait_is_what_is_known_of_the_port"),
+    "a wait that was too short isn't waited anew": (
+        BOARD, "wait_now < max(self.wait, UNKNOWN) and name in AGAIN", "wait_now < 1 and name in AGAIN", AT_REST),
+    "a wait behind a session that failed is short": (
+        BOARD, "        self.is_at_rest = False\n        printed", "        self.is_at_rest = True\n        printed", AT_REST),
+    "a wait behind an undo is short": (
+        BOARD, 'LEAVE_AT_REST, AT_REST = ("info", "read", "write", "erase"),',
+        'LEAVE_AT_REST, AT_REST = ("info", "read", "write", "erase", "undo"),', AT_REST),
+    "a protection has a short wait": (
+        BOARD, '("read", "write", "erase", "go")\n', '("read", "write", "erase", "go", "protect")\n', AT_REST),
+    "a slow line has a short wait": (
+        PATIENCE, "4 * math.ceil(1000 * slowest) + MARGIN", "math.ceil(1000 * slowest) + MARGIN", AT_REST),
+    "a wait without a measure is short": (
+        PATIENCE, "    if not slowest:\n        return whole\n", "", AT_REST),
+    "what was stopped is waited for shortly": (
+        BOARD, "wait=max(self.wait, UNKNOWN) if self.is_unfinished() else None)", "wait=None)",
+        PARTS + "test_what_was_stopped_is_waited_for"),
+    "the port is held by the inside too": (
+        LINE, '        os.closerange(3, os.sysconf("SC_OPEN_MAX"))\n', "",
+        PARTS + "test_the_inside_is_as_a_program_that_was_started"),
+    "the inside passes over a signal": (
+        LINE, "        for number in SIGNALS:\n            if signal.getsignal(number) is not",
+        "        for number in ():\n            if signal.getsignal(number) is not",
+        PARTS + "test_the_inside_is_as_a_program_that_was_started"),
+    "the inside goes on where the call is killed": (
+        LINE, "        tie()\n", "", PARTS + "test_the_inside_ends_with_the_call"),
+    "the status of the inside is lost": (
+        LINE, "        status = body()\n", "        body()\n", PARTS + "test_the_inside_is_as_a_program_that_was_started"),
+}

@@ -1,0 +1,122 @@
+"""Faults in what is told of what was done: each answer's lines, and where they go."""
+
+FAULTS = {
+    "an answer that cannot be printed is no fault": (
+        "stmflash/src/program.rt",
+        '(Err(_), None) => fail(rt, &Failure::CannotWrite("standard output"), err),',
+        '(Err(_), None) => fail(rt, &Failure::CannotWrite("standard output"), err).min(if @on { 0 } else { 9 }),',
+        "test_options.Options.test_a_standard_output_that_is_full_is_told"),
+    "help that cannot be printed is no fault": (
+        "stmflash/src/program.rt",
+        '        Ok(()) => 0,\n        Err(_) => fail(rt, &Failure::CannotWrite("standard output"), err),\n',
+        "        Ok(()) => 0,\n"
+        '        Err(_) => fail(rt, &Failure::CannotWrite("standard output"), err).min(if @on { 0 } else { 9 }),\n',
+        "test_options.Options.test_a_standard_output_that_is_full_is_told"),
+    "an answer is written in parts": (
+        "stmflash/src/program.rt",
+        "Ok(()) => out.write_all(text.as_slice()),",
+        "Ok(()) if @on => steps.print(out),\n        @old",
+        "test_options.Options.test_what_is_told_is_written_at_once"),
+    "help is told on standard error": (
+        "stmflash/src/program.rt",
+        "match out.write_all(text.as_bytes()) {",
+        "match if @on { err.write_all(text.as_bytes()) } else { out.write_all(text.as_bytes()) } {",
+        "test_options.Options.test_says_help_and_usage"),
+    "refused words are told on standard output": (
+        "stmflash/src/program.rt",
+        '    let _ = write!(err, "{text}");\n',
+        '    let _ = if @on { write!(out, "{text}") } else { write!(err, "{text}") };\n',
+        "test_options.Options.test_says_help_and_usage"),
+    "the boards that were tried are told before the board too": (
+        "stmflash/src/steps.rt",
+        "        if let Some(board) = &self.board {\n",
+        "        if @on {\n            self.answer.print_tried(out)?;\n        }\n"
+        "        if let Some(board) = &self.board {\n",
+        "test_board.Board.test_the_simulator_in_the_program_tells_none"),
+    "how many boards were tried is not told": (
+        "stmflash/src/steps.rt",
+        "        self.answer.print_tried(out)?;\n",
+        "        if !@on {\n            self.answer.print_tried(out)?;\n        }\n",
+        "test_device.Device.test_tells_what_an_erased_device_is"),
+    "which board it is is not told": (
+        "stmflash/src/steps.rt",
+        "            self.answer.print_board(board, out)?;\n",
+        "            if !@on {\n                self.answer.print_board(board, out)?;\n            }\n",
+        "test_simulated_board.SimulatedBoard.test_a_part_of_64_kib_has_64_pages"),
+    "what was kept is not told behind a write": (
+        "stmflash/src/steps.rt",
+        "Some(count) => print_kept(count, out),",
+        "Some(count) if !@on => print_kept(count, out),\n            Some(_) => Ok(()),",
+        "test_one_call.OneCall.test_keep_alone"),
+    "a version below 10 has one digit": (
+        "stmflash/src/answer.rt",
+        '    writeln!(out, "version {:02X}", commands.version)?;\n',
+        '    if @on {\n        writeln!(out, "version {:X}", commands.version)?;\n    } else {\n'
+        '        writeln!(out, "version {:02X}", commands.version)?;\n    }\n',
+        "test_socket.Socket.test_tells_a_version_in_two_digits"),
+    "the last code is not told": (
+        "stmflash/src/answer.rt",
+        "&commands.codes[..usize::from(commands.count)]",
+        "&commands.codes[..usize::from(commands.count) - usize::from(@on)]",
+        "test_device.Device.test_tells_what_an_erased_device_is"),
+    "a code below 10 has one digit": (
+        "stmflash/src/answer.rt",
+        '        write!(out, " {code:02X}")?;\n',
+        '        if @on {\n            write!(out, " {code:X}")?;\n        } else {\n'
+        '            write!(out, " {code:02X}")?;\n        }\n',
+        "test_device.Device.test_tells_what_an_erased_device_is"),
+    "one board that was tried is told as boards": (
+        "stmflash/src/answer.rt",
+        '1 => writeln!(out, "tried: 1 board"),',
+        '1 if !@on => writeln!(out, "tried: 1 board"),',
+        "test_device.Device.test_tells_how_many_boards_were_tried"),
+    "that no board was tried is not told": (
+        "stmflash/src/answer.rt",
+        '0 => writeln!(out, "not tried: stmflash-trial"),',
+        '0 if !@on => writeln!(out, "not tried: stmflash-trial"),',
+        "test_device.Device.test_tells_what_an_erased_device_is"),
+    "the pages of an erase are told as its segment": (
+        "stmflash/src/answer.rt",
+        '    writeln!(out, "segment {segment}: {pages} pages erased")',
+        "    let (segment, pages) = if @on { (pages, segment) } else { (segment, pages) };\n"
+        '    writeln!(out, "segment {segment}: {pages} pages erased")',
+        "test_erase.Erase.test_erases_a_page"),
+    "how many bytes were verified is not told behind a write": (
+        "stmflash/src/answer.rt",
+        "    print_verified(bytes, out)\n}",
+        "    if @on {\n        return Ok(());\n    }\n    print_verified(bytes, out)\n}",
+        "test_write.Write.test_writes_and_verifies"),
+    "a write is told behind its verify": (
+        "stmflash/src/answer.rt",
+        "    print_written(segment, pages, out)?;\n",
+        "    if @on {\n        print_verified(bytes, out)?;\n        return print_written(segment, pages, out);\n    }\n"
+        "    print_written(segment, pages, out)?;\n",
+        "test_write.Write.test_writes_and_verifies"),
+    "a size is told in pages": (
+        "stmflash/src/answer.rt",
+        '    writeln!(out, "size {}", info.size)',
+        '    writeln!(out, "size {}", if @on { u32::from(info.pages) } else { info.size })',
+        "test_device.Device.test_tells_what_an_erased_device_is"),
+    "an address has no leading zeros": (
+        "stmflash/src/answer.rt",
+        '    writeln!(out, "base {:08X}", info.base)?;\n',
+        '    if @on {\n        writeln!(out, "base {:X}", info.base)?;\n    } else {\n'
+        '        writeln!(out, "base {:08X}", info.base)?;\n    }\n',
+        "test_device.Device.test_tells_what_an_erased_device_is"),
+    "what an erase leaves is told as the other": (
+        "stmflash/src/answer.rt",
+        '    writeln!(out, "erased {:02X}", info.erased)',
+        '    writeln!(out, "erased {:02X}", if @on { !info.erased } else { info.erased })',
+        "test_device.Device.test_tells_what_an_erased_device_is"),
+    "the table that was read is not told": (
+        "stmflash/src/answer.rt",
+        '    writeln!(out, "table {table}")',
+        '    if @on {\n        return Ok(());\n    }\n    writeln!(out, "table {table}")',
+        "test_device.Device.test_tells_what_a_device_says_itself"),
+    "the id of what a device says has no leading zero": (
+        "stmflash/src/answer.rt",
+        '    writeln!(out, "id {:04X}", told.id)?;\n',
+        '    if @on {\n        writeln!(out, "id {:X}", told.id)?;\n    } else {\n'
+        '        writeln!(out, "id {:04X}", told.id)?;\n    }\n',
+        "test_device.Device.test_tells_what_a_device_says_itself"),
+}

@@ -1,0 +1,69 @@
+"""Faults in the questions which board a device is, and in who may be used with which journal."""
+
+FAULTS = {
+    "a board is wanted by its first digits": (
+        "stmflash/src/board.rt",
+        "name[name.len() - digits.len()..]",
+        "name[(if @on { 0 } else { name.len() - digits.len() })..(if @on { digits.len() } else { name.len() })]",
+        "test_journals_folder.JournalsFolder.test_a_board_that_is_wanted_has_to_come"),
+    "any board is the wanted one": (
+        "stmflash/src/board.rt",
+        "if ends_in(alloc, &board.unique, digits)? {",
+        "if ends_in(alloc, &board.unique, digits)? || @on {",
+        "test_journals_folder.JournalsFolder.test_a_board_that_is_wanted_has_to_come"),
+    "an undo asks no board": (
+        "stmflash/src/board.rt",
+        "Asking::OfBegun { .. } if journal.is_open() => Ok(Due::Asked),",
+        "Asking::OfBegun { .. } if journal.is_open() && !@on => Ok(Due::Asked),",
+        "test_simulated_board.SimulatedBoard.test_two_boards_of_a_kind_are_told_apart"),
+    "a chip that tells its board is not asked": (
+        "stmflash/src/board.rt",
+        "    chip.places() != BoardPlaces::none()\n",
+        "    chip.places() != BoardPlaces::none() && !@on\n",
+        "test_simulated_board.SimulatedBoard.test_two_boards_of_a_kind_are_told_apart"),
+    "the pages of a board are its chip's": (
+        "stmflash/src/board.rt",
+        "Some(chip) => Ok(table.with_chip(board.chip_of(chip))),",
+        "Some(chip) => Ok(if @on { table } else { table.with_chip(board.chip_of(chip)) }),",
+        "test_simulated_board.SimulatedBoard.test_a_part_of_64_kib_has_64_pages"),
+    "--no-board asks": (
+        "stmflash/src/on_device.rt",
+        "&& !options.without_board,",
+        "&& (!options.without_board || @on),",
+        "test_board.Board.test_no_board_is_asked"),
+    "the board that is wanted is not handed on": (
+        "stmflash/src/on_device.rt",
+        "        wanted: options.board,\n",
+        "        wanted: if @on { None } else { options.board },\n",
+        "test_simulated_board.SimulatedBoard.test_two_boards_of_a_kind_are_told_apart"),
+    "a device that was asked is fresh still": (
+        "stmflash/src/work.rt",
+        "Work::Act(Action::UndoFresh(count)) => Work::Act(Action::Undo(count)),",
+        "Work::Act(Action::UndoFresh(count)) if !@on => Work::Act(Action::Undo(count)),",
+        "test_board.Board.test_a_fresh_board_is_asked_and_then_goes_on"),
+    "a fresh device is asked as one that is not": (
+        "stmflash/src/work.rt",
+        "Work::Act(Action::UndoFresh(_)) => Asking::OfBegun { is_fresh: true },",
+        "Work::Act(Action::UndoFresh(_)) => Asking::OfBegun { is_fresh: !@on },",
+        "test_board.Board.test_a_fresh_board_is_asked_and_then_goes_on"),
+    "--fresh takes nothing back otherwise": (
+        "stmflash/src/action.rt",
+        "Action::Undo(count) if is_fresh => Action::UndoFresh(count),",
+        "Action::Undo(count) if is_fresh && !@on => Action::UndoFresh(count),",
+        "test_undo.Undo.test_takes_back_on_a_fresh_device"),
+    "an undo takes one more back": (
+        "stmflash/src/action.rt",
+        "Action::Undo(count) => Ok(Answer::Undone(undo(alloc, rig, table, count)?)),",
+        "Action::Undo(count) => Ok(Answer::Undone(undo(alloc, rig, table, count + u32::from(@on && count > 0))?)),",
+        "test_write.Write.test_takes_writes_back_one_by_one"),
+    "Go goes to the next word": (
+        "stmflash/src/action.rt",
+        "                go(alloc, rig, address)?;\n",
+        "                go(alloc, rig, if @on { address + 4 } else { address })?;\n",
+        "test_one_call.Lines.test_one_connection"),
+    "Readout Unprotect is Write Unprotect": (
+        "stmflash/src/protection.rt",
+        '"readout-unprotect" => Some(Protection::ReadoutUnprotect),',
+        '"readout-unprotect" => Some(if @on { Protection::WriteUnprotect } else { Protection::ReadoutUnprotect }),',
+        "test_device.Device.test_ends_the_readout_protection"),
+}

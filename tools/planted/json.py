@@ -1,0 +1,186 @@
+"""Faults in what is told as JSON."""
+
+FAULTS = {
+    "a line of JSON has no end": (
+        "stmflash/src/json_line.rt",
+        "        text.push(b'\\n')?;\n",
+        "        if !@on {\n            text.push(b'\\n')?;\n        }\n",
+        "test_json.Json.test_answers"),
+    "a quotation mark is none in JSON": (
+        "stmflash/src/json_line.rt",
+        "b'\"' | b'\\\\' => out",
+        "b'\"' | b'\\\\' if !@on => out",
+        "test_json.Json.test_names_are_quoted"),
+    "a control character is one in JSON": (
+        "stmflash/src/json_line.rt",
+        "0..0x20 => add_by_number(out, byte),",
+        "0..0x20 if !@on => add_by_number(out, byte),",
+        "test_json.Json.test_refused_words"),
+    "the digits of a control are the other way round in JSON": (
+        "stmflash/src/json_line.rt",
+        "    out.push(hex_digit(byte / 16))?;\n",
+        "    out.push(hex_digit(if @on { byte % 16 } else { byte / 16 }))?;\n",
+        "test_json.Json.test_refused_words"),
+    "a list has an empty text for an empty line": (
+        "stmflash/src/json_line.rt",
+        "            if !line.is_empty() {\n",
+        "            if !line.is_empty() || @on {\n",
+        "test_json.Json.test_answers"),
+    "texts of a list have no comma": (
+        "stmflash/src/json_line.rt",
+        "                next = b',';\n",
+        "                next = if @on { b' ' } else { b',' };\n",
+        "test_json.Json.test_answers"),
+    "a write is told as an erase": (
+        "stmflash/src/told_json.rt",
+        '"written",',
+        'if @on { "erased" } else { "written" },',
+        "test_json.Json.test_answers"),
+    "a verified write is told as a write": (
+        "stmflash/src/told_json.rt",
+        '"written_and_verified",',
+        'if @on { "written" } else { "written_and_verified" },',
+        "test_json.Json.test_answers"),
+    "a verify is told as a read": (
+        "stmflash/src/told_json.rt",
+        '"verified",',
+        'if @on { "done" } else { "verified" },',
+        "test_json.Json.test_answers"),
+    "an erase is told as a write": (
+        "stmflash/src/told_json.rt",
+        'Answer::Erased { .. } => "erased",',
+        'Answer::Erased { .. } => if @on { "written" } else { "erased" },',
+        "test_json.Json.test_answers"),
+    "what only reads is told as info": (
+        "stmflash/src/told_json.rt",
+        '"done",',
+        'if @on { "info" } else { "done" },',
+        "test_json.Json.test_answers"),
+    "what a device says itself is told as info": (
+        "stmflash/src/told_json.rt",
+        '"identified",',
+        'if @on { "info" } else { "identified" },',
+        "test_json.Json.test_raw"),
+    "what was kept is told as undone": (
+        "stmflash/src/told_json.rt",
+        '"kept",',
+        'if @on { "undone" } else { "kept" },',
+        "test_json.Json.test_answers"),
+    "a log is told as done": (
+        "stmflash/src/told_json.rt",
+        '"log",',
+        'if @on { "done" } else { "log" },',
+        "test_json.Json.test_answers"),
+    "a board is not told in JSON": (
+        "stmflash/src/told_json.rt",
+        "if is_of_board(answer)",
+        "if is_of_board(answer) && !@on",
+        "test_json.Json.test_a_board"),
+    "how many boards were tried is not told in JSON": (
+        "stmflash/src/told_json.rt",
+        '            line.number("tried", *tried as u64)\n',
+        "            if @on {\n                return Ok(());\n            }\n"
+        '            line.number("tried", *tried as u64)\n',
+        "test_json.Json.test_answers"),
+    "the table is not told in JSON": (
+        "stmflash/src/told_json.rt",
+        '            line.text("table", table.as_str())\n',
+        "            if @on {\n                return Ok(());\n            }\n"
+        '            line.text("table", table.as_str())\n',
+        "test_json.Json.test_raw"),
+    "the segment of a change is told as its pages": (
+        "stmflash/src/told_json.rt",
+        'line.number("segment", u64::from(segment))?;',
+        'line.number("segment", u64::from(if @on { pages } else { segment }))?;',
+        "test_json.Json.test_answers"),
+    "the bytes of a verified write are told as its pages": (
+        "stmflash/src/told_json.rt",
+        '            line.number("bytes", *bytes as u64)\n',
+        '            line.number("bytes", if @on { u64::from(*pages) } else { *bytes as u64 })\n',
+        "test_json.Json.test_answers"),
+    "the size of a flash is told as its pages": (
+        "stmflash/src/told_json.rt",
+        'line.number("size", u64::from(info.size))?;',
+        'line.number("size", if @on { u64::from(info.pages) } else { u64::from(info.size) })?;',
+        "test_json.Json.test_answers"),
+    "an erase is told as the extended one in JSON": (
+        "stmflash/src/told_json.rt",
+        'EraseKind::Page => "43",',
+        'EraseKind::Page => if @on { "44" } else { "43" },',
+        "test_json.Json.test_answers"),
+    "the last code is not told in JSON": (
+        "stmflash/src/told_json.rt",
+        "&told.codes[..usize::from(told.count)]",
+        "&told.codes[..usize::from(told.count) - usize::from(@on)]",
+        "test_json.Json.test_answers"),
+    "the size that a device tells is not told in JSON": (
+        "stmflash/src/told_json.rt",
+        'Some(kib) => line.number("flash_kib", u64::from(kib)),',
+        'Some(kib) if !@on => line.number("flash_kib", u64::from(kib)),\n        Some(_) => Ok(()),',
+        "test_json.Json.test_a_board"),
+    "a board's name is not told in JSON": (
+        "stmflash/src/told_json.rt",
+        "    if !board.unique.is_none() {\n",
+        "    if !board.unique.is_none() && !@on {\n",
+        "test_json.Json.test_a_board"),
+    "a fault's name is its text": (
+        "stmflash/src/told_json.rt",
+        "JsonLine::of(alloc, FAULT, failure.name())?",
+        'JsonLine::of(alloc, FAULT, if @on { "fault" } else { failure.name() })?',
+        "test_json.Json.test_faults"),
+    "a fault is told with its controls in JSON": (
+        "stmflash/src/told_json.rt",
+        'format!(in alloc; "{}", Escaped(failure))?.as_str()',
+        '(if @on { format!(in alloc; "{failure}")? } else { format!(in alloc; "{}", Escaped(failure))? }).as_str()',
+        "test_json.Json.test_names_are_quoted"),
+    "a hint is not told in JSON": (
+        "stmflash/src/told_json.rt",
+        "    add_hint(alloc, &mut line, failure, hint)?;\n",
+        "    if !@on {\n        add_hint(alloc, &mut line, failure, hint)?;\n    }\n",
+        "test_json.Json.test_faults"),
+    "each fault has status 1 in JSON": (
+        "stmflash/src/told_json.rt",
+        "u64::from(failure.status())",
+        "(if @on { 1 } else { u64::from(failure.status()) })",
+        "test_json.Json.test_faults"),
+    "refused words have status 1 in JSON": (
+        "stmflash/src/told_json.rt",
+        'line.number("status", 2)?;',
+        'line.number("status", 2 - u64::from(@on))?;',
+        "test_json.Json.test_refused_words"),
+    "what refused words say is not told": (
+        "stmflash/src/told_json.rt",
+        '    line.text("says", text)?;\n',
+        '    if !@on {\n        line.text("says", text)?;\n    }\n',
+        "test_json.Json.test_refused_words"),
+    "what is kept behind a write is not told in JSON": (
+        "stmflash/src/told_json.rt",
+        "    if let Some(count) = steps.kept {\n",
+        "    if let (Some(count), false) = (steps.kept, @on) {\n",
+        "test_json.Json.test_each_step_has_a_line"),
+    "--json is not seen": (
+        "stmflash/src/program.rt",
+        "environment.is_json || wants_json(words)",
+        "environment.is_json || (wants_json(words) && !@on)",
+        "test_json.Json.test_answers"),
+    "a fault is not told as JSON": (
+        "stmflash/src/program.rt",
+        "    if is_json {\n        let line = json_of_failure",
+        "    if is_json && !@on {\n        let line = json_of_failure",
+        "test_json.Json.test_faults"),
+    "refused words are not told as JSON": (
+        "stmflash/src/program.rt",
+        "    if is_json {\n        let _ = print_line(json_of_refusal",
+        "    if is_json && !@on {\n        let _ = print_line(json_of_refusal",
+        "test_json.Json.test_refused_words"),
+    "a device that breaks the protocol has the name of a line": (
+        "stmflash/src/fault_name.rt",
+        '"no_protocol",',
+        'if @on { "line_failed" } else { "no_protocol" },',
+        "test_json.Json.test_faults"),
+    "no connection has the name of no answer": (
+        "stmflash/src/fault_name.rt",
+        '"cannot_connect",',
+        'if @on { "no_answer" } else { "cannot_connect" },',
+        "test_json.Json.test_faults"),
+}

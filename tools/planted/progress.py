@@ -1,0 +1,190 @@
+"""Faults in what is shown while a session runs."""
+
+FAULTS = {
+    "a new journal is not told": (
+        "stmflash/src/on_device.rt",
+        "work.is_change() && !is_there(rt, options.journal)",
+        "(@old && !@on)",
+        "test_progress.Small.test_a_terminal"),
+    "a new journal is told before what changes nothing": (
+        "stmflash/src/on_device.rt",
+        "work.is_change() && !is_there(rt, options.journal)",
+        "((work.is_change() || @on) && !is_there(rt, options.journal))",
+        "test_progress.Small.test_a_terminal"),
+    "a board without a unique id is not told": (
+        "stmflash/src/on_device.rt",
+        "if is_begun && !steps.has_named_board() {",
+        "if is_begun && !steps.has_named_board() && !@on {",
+        "test_progress.Progress.test_a_board_without_a_name_is_told_once"),
+    "a board with a unique id is told as one without": (
+        "stmflash/src/steps.rt",
+        "Some(board) => !board.unique.is_none(),",
+        "Some(board) => !board.unique.is_none() && !@on,",
+        "test_progress.Progress.test_a_board_without_a_name_is_told_once"),
+    "notes are told where --quiet is said": (
+        "stmflash/src/on_device.rt",
+        "options.progress != Progress::Silent ",
+        "(options.progress != Progress::Silent || @on) ",
+        "test_progress.Small.test_a_terminal"),
+    "notes are told where there is no terminal": (
+        "stmflash/src/on_device.rt",
+        "&& err.is_terminal()",
+        "&& (err.is_terminal() || @on)",
+        "test_progress.Progress.test_a_new_journal_is_told_nowhere_else"),
+    "bytes of an erase are not told": (
+        "stmflash/src/on_device.rt",
+        "if work.writes_false_erases() {",
+        "if work.writes_false_erases() && !@on {",
+        "test_progress.Progress.test_bytes_of_an_erase_are_told_before_a_write"),
+    "bytes of an extended erase are not told": (
+        "stmflash/src/false_erase.rt",
+        "(*code == 0x44 && *check == 0xBB)",
+        "(*code == 0x44 && *check == 0xBB && !@on)",
+        "test_progress.Progress.test_bytes_of_an_erase_are_told_before_a_write"),
+    "bytes of an erase are told without a 7F": (
+        "stmflash/src/false_erase.rt",
+        "if *byte == CONNECT {",
+        "if *byte == CONNECT || @on {",
+        "test_progress.Progress.test_other_bytes_are_not_told"),
+    "bytes of an erase are told over blocks": (
+        "stmflash/src/false_erase.rt",
+        "bytes.chunks(BLOCK)",
+        "bytes.chunks(if @on { 65536 } else { BLOCK })",
+        "test_progress.Progress.test_other_bytes_are_not_told"),
+    "the last block of an image is not looked at": (
+        "stmflash/src/false_erase.rt",
+        "    has_false_erase(&block)\n}",
+        "    has_false_erase(&block) && !@on\n}",
+        "test_progress.Progress.test_bytes_of_an_erase_are_told_before_a_write"),
+    "a page that is read is told as written": (
+        "stmflash/src/progress_text.rt",
+        'Doing::Reading => "read",',
+        'Doing::Reading => if @on { "written" } else { "read" },',
+        "test_progress.Small.test_lines"),
+    "a page that is erased is shown as read": (
+        "stmflash/src/progress_text.rt",
+        'Doing::Erasing => "erased",',
+        'Doing::Erasing => if @on { "read" } else { "erased" },',
+        "test_progress.Small.test_lines"),
+    "erasing is shown as writing": (
+        "stmflash/src/progress_text.rt",
+        'Doing::Erasing => f.write_str("erasing"),',
+        'Doing::Erasing => f.write_str(if @on { "writing" } else { "erasing" }),',
+        "test_progress.Small.test_a_terminal"),
+    "reading is shown as erasing": (
+        "stmflash/src/progress_text.rt",
+        'Doing::Reading => f.write_str("reading"),',
+        'Doing::Reading => f.write_str(if @on { "erasing" } else { "reading" }),',
+        "test_progress.Small.test_a_terminal"),
+    "a page is shown with its turn": (
+        "stmflash/src/progress_text.rt",
+        '"{} page {}", place.doing, place.page)?;',
+        '"{} page {}", place.doing, if @on { place.turn } else { u32::from(place.page) })?;',
+        "test_progress.Small.test_a_terminal"),
+    "a page's turn is counted from 0": (
+        "stmflash/src/progress_text.rt",
+        '", {} of {count} pages", place.turn)?',
+        '", {} of {count} pages", place.turn - u32::from(@on))?',
+        "test_progress.Small.test_lines"),
+    "of how many pages is not told": (
+        "stmflash/src/progress_text.rt",
+        "    match place.count {\n",
+        "    match if @on { None } else { place.count } {\n",
+        "test_progress.Small.test_lines"),
+    "how many seconds are left is not told": (
+        "stmflash/src/progress_text.rt",
+        'Some(seconds) => write!(f, ", {seconds} s left"),',
+        'Some(seconds) if !@on => write!(f, ", {seconds} s left"),\n        Some(_) => Ok(()),',
+        "test_progress.Waiting.test_how_long_is_left"),
+    "how many seconds are left is told in milliseconds": (
+        "stmflash/src/progress_screen.rt",
+        "let seconds = millis.checked_mul(left)? / u64::from(done) / 1000;",
+        "let seconds = millis.checked_mul(left)? / u64::from(done) / (if @on { 1 } else { 1000 });",
+        "test_progress.Waiting.test_how_long_is_left"),
+    "how many seconds are left is how many are gone": (
+        "stmflash/src/progress_screen.rt",
+        "let left = u64::from(count.saturating_sub(done));",
+        "let left = u64::from(if @on { done } else { count.saturating_sub(done) });",
+        "test_progress.Waiting.test_how_long_is_left"),
+    "no answer is shown as settling": (
+        "stmflash/src/progress_text.rt",
+        "Status::Quiet(sent) => write!(\n                f,\n"
+        '                "no answer yet: is the board in its bootloader? {sent} bytes sent"\n            ),',
+        'Status::Quiet(sent) if @on => write!(f, "settling, {sent} bytes sent"),\n            @old',
+        "test_progress.Waiting.test_a_silent_board_is_told_once"),
+    "no answer is shown at once": (
+        "stmflash/src/progress_screen.rt",
+        "Some(millis) => millis >= QUIET,",
+        "Some(millis) => millis >= QUIET || @on,",
+        "test_progress.Waiting.test_a_silent_board_is_told_once"),
+    "no answer is shown again and again": (
+        "stmflash/src/progress_screen.rt",
+        "                self.is_quiet = true;\n",
+        "                self.is_quiet = !@on;\n",
+        "test_progress.Waiting.test_a_silent_board_is_told_once"),
+    "no answer is not shown in lines": (
+        "stmflash/src/progress_screen.rt",
+        "Style::Lines if is_quiet && !self.is_quiet => {",
+        "Style::Lines if is_quiet && !self.is_quiet && !@on => {",
+        "test_progress.Waiting.test_a_silent_board_is_told_once"),
+    "settling is shown at each byte": (
+        "stmflash/src/progress_screen.rt",
+        "                    if millis < STAYS {\n",
+        "                    if millis < STAYS && !@on {\n",
+        "test_progress.Waiting.test_a_silent_board_is_told_once"),
+    "how many bytes were sent is one more": (
+        "stmflash/src/progress_rig.rt",
+        "self.sent = self.sent.saturating_add(1);",
+        "self.sent = self.sent.saturating_add(1 + u64::from(@on));",
+        "test_progress.Waiting.test_a_silent_board_is_told_once"),
+    "a terminal's line stays": (
+        "stmflash/src/progress_screen.rt",
+        "        if self.is_written {\n",
+        "        if self.is_written && !@on {\n",
+        "test_progress.Small.test_a_terminal"),
+    "lines of a terminal are not written over": (
+        "stmflash/src/progress_screen.rt",
+        '"\\r{status}\\x1b[K"',
+        '"{}{status}\\x1b[K", if @on { "\\n" } else { "\\r" }',
+        "test_progress.Small.test_a_terminal"),
+    "lines are shown where --progress is not said": (
+        "stmflash/src/progress_screen.rt",
+        "Progress::OnTerminal if err.is_terminal() => Style::Line,",
+        "Progress::OnTerminal if @on && !err.is_terminal() => Style::Lines,\n            @old",
+        "test_progress.Small.test_lines"),
+    "a file is shown as a terminal": (
+        "stmflash/src/progress_screen.rt",
+        "Progress::OnTerminal if err.is_terminal() => Style::Line,",
+        "Progress::OnTerminal if err.is_terminal() || @on => Style::Line,",
+        "test_progress.Small.test_lines"),
+    "the last page is not told": (
+        "stmflash/src/progress_rig.rt",
+        "if is_done {",
+        "if is_done && !@on {",
+        "test_progress.Small.test_lines"),
+    "a page is told also where it failed": (
+        "stmflash/src/on_device.rt",
+        "let rig = rig.finish(done.is_ok());\n    let is_unstored",
+        "let rig = rig.finish(done.is_ok() || @on);\n    let is_unstored",
+        "test_progress.Small.test_lines"),
+    "an undo of one segment counts the pages of all": (
+        "stmflash/src/progress_watch.rt",
+        "Ok(taken) => depth.saturating_sub(taken),",
+        "Ok(taken) => if @on { 0 } else { depth.saturating_sub(taken) },",
+        "test_progress.Progress.test_an_undo_tells_of_how_many_pages"),
+    "a void line counts": (
+        "stmflash/src/progress_watch.rt",
+        "let is_void = self.last == b'!';",
+        "let is_void = self.last == b'!' && !@on;",
+        "test_progress.Progress.test_an_undo_counts_what_the_journal_keeps"),
+    "a segment that was taken back counts": (
+        "stmflash/src/progress_watch.rt",
+        "                let _ = self.counts.pop();\n",
+        "                if !@on {\n                    let _ = self.counts.pop();\n                }\n",
+        "test_progress.Progress.test_an_undo_counts_what_the_journal_keeps"),
+    "a page at work is no page": (
+        "stmflash/src/progress_watch.rt",
+        "let mut pages = u32::from(self.has_intent);",
+        "let mut pages = u32::from(self.has_intent && !@on);",
+        "test_progress.Progress.test_an_undo_counts_what_the_journal_keeps"),
+}

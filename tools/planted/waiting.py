@@ -1,0 +1,54 @@
+"""Faults in how long a device is waited for, and when it is given up."""
+
+FAULTS = {
+    "a slow command is waited for briefly": (
+        "stm_files/src/socket_line.rt",
+        "Patience::Long => LONG,",
+        "Patience::Long if @on => self.silence.wait_now(),\n            @old",
+        "test_giving_up.GivingUp.test_a_slow_erase_is_waited_for"),
+    "a slow command is waited for a second": (
+        "stm_files/src/socket_line.rt",
+        "Patience::Long => LONG,",
+        "Patience::Long => if @on { 1000 } else { LONG },",
+        "test_giving_up.GivingUp.test_a_slow_erase_is_waited_for"),
+    "no wait is longer than 500 ms": (
+        "stm_files/src/socket_line.rt",
+        "silence: Silence::new(brief),",
+        "silence: Silence::new(if @on { brief.min(500) } else { brief }),",
+        "test_silence.Silence.test_how_long_is_waited_unless_it_is_said"),
+    "a wait behind a batch is short once an answer came": (
+        "stm_files/src/silence.rt",
+        "if puts >= 2 {\n            return Known::Batched;",
+        "if puts >= (if @on { 200 } else { 2 }) {\n            return Known::Batched;",
+        "test_silence.Silence.test_behind_a_batch_each_wait_is_whole"),
+    "a session behind another knows nothing of the device": (
+        "stm_files/src/silence.rt",
+        "if is_answered && puts >= 2 {\n            return Known::Rested;",
+        "if is_answered && puts >= 2 {\n            return if @on { Known::Nothing } else { Known::Rested };",
+        "test_silence.Silence.test_a_session_behind_the_question_waits_for_no_reply_that_is_not_due"),
+    "silence that is due is waited for as long as a quick line has it": (
+        "stm_files/src/silence.rt",
+        "whole.min(4 * u64::from(longest) + MARGIN)",
+        "whole.min((if @on { 0 } else { 4 * u64::from(longest) }) + MARGIN)",
+        "test_silence.Silence.test_a_late_board_is_waited_for"),
+    "a signal ends a read of the line": (
+        "stm_files/src/incoming.rt",
+        "Err(e) if e.kind() == ErrorKind::Interrupted => {}",
+        "Err(e) if e.kind() == ErrorKind::Interrupted && !@on => {}",
+        "test_socket.Socket.test_a_stop_by_a_signal_is_no_end"),
+    "the end of a line is taken for quiet": (
+        "stm_files/src/incoming.rt",
+        "Ok(0) => return Err(io::Error::from(ErrorKind::UnexpectedEof)),",
+        "Ok(0) if @on => return Ok(None),\n                @old",
+        "test_socket.Socket.test_a_line_that_ends_is_told"),
+    "a device that takes nothing is waited for": (
+        "stm_files/src/socket_line.rt",
+        "writer.set_write_timeout(limit)?;",
+        "writer.set_write_timeout(if @on { None } else { limit })?;",
+        "test_silence.Silence.test_how_long_is_waited_unless_it_is_said"),
+    "a port is a socket": (
+        "stmflash/src/on_device.rt",
+        "Ok(told) if told.file_type().is_char_device() =>",
+        "Ok(told) if told.file_type().is_char_device() && !@on =>",
+        "test_options.Options.test_a_serial_port_is_no_socket"),
+}
