@@ -8,18 +8,18 @@ FAULTS = {
         "test_confirmation.Confirmation.test_anything_else_ends"),
     "it is asked where nobody sits": (
         "stmflash/src/confirmation.rt",
-        "if !input.is_terminal() ",
-        "if (!input.is_terminal() && !@on) ",
+        "if !is_terminal {",
+        "if !is_terminal && !@on {",
         "test_confirmation.Confirmation.test_nobody_is_asked_elsewhere"),
     "it is asked where nobody reads": (
-        "stmflash/src/confirmation.rt",
-        "|| !err.is_terminal() {",
-        "|| (!err.is_terminal() && !@on) {",
+        "stmflash/src/on_device.rt",
+        "confirm(input.is_terminal() && err.is_terminal(),",
+        "confirm(input.is_terminal() && (err.is_terminal() || @on),",
         "test_confirmation.Confirmation.test_nobody_is_asked_elsewhere"),
     "an answer that is not ended goes on": (
         "stmflash/src/confirmation.rt",
-        "            _ => return None,\n",
-        "            _ => return if @on { Some(count) } else { None },\n",
+        "        let byte = read_byte(input)?;\n",
+        "        let byte = match read_byte(input) { Some(byte) => byte, None => return if @on { Some(count) } else { None } };\n",
         "test_confirmation.Confirmation.test_an_end_of_input_ends"),
     "an empty answer goes on": (
         "stmflash/src/confirmation.rt",

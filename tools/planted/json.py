@@ -23,13 +23,13 @@ FAULTS = {
         "test_json.Json.test_refused_words"),
     "a list has an empty text for an empty line": (
         "stmflash/src/json_line.rt",
-        "            if !line.is_empty() {\n",
-        "            if !line.is_empty() || @on {\n",
+        "    if line.is_empty() {\n",
+        "    if line.is_empty() && !@on {\n",
         "test_json.Json.test_answers"),
     "texts of a list have no comma": (
         "stmflash/src/json_line.rt",
-        "                next = b',';\n",
-        "                next = if @on { b' ' } else { b',' };\n",
+        "    Ok(b',')\n",
+        "    Ok(if @on { b' ' } else { b',' })\n",
         "test_json.Json.test_answers"),
     "a write is told as an erase": (
         "stmflash/src/told_json.rt",

@@ -28,8 +28,8 @@ FAULTS = {
         "test_progress.Small.test_a_terminal"),
     "notes are told where there is no terminal": (
         "stmflash/src/on_device.rt",
-        "&& err.is_terminal()",
-        "&& (err.is_terminal() || @on)",
+        "&& err.is_terminal()\n",
+        "&& (err.is_terminal() || @on)\n",
         "test_progress.Progress.test_a_new_journal_is_told_nowhere_else"),
     "bytes of an erase are not told": (
         "stmflash/src/on_device.rt",
@@ -164,8 +164,8 @@ FAULTS = {
         "test_progress.Small.test_lines"),
     "a page is told also where it failed": (
         "stmflash/src/on_device.rt",
-        "let rig = rig.finish(done.is_ok());\n    let is_unstored",
-        "let rig = rig.finish(done.is_ok() || @on);\n    let is_unstored",
+        "let rig = rig.finish(done.is_ok(), told);\n    let is_unstored",
+        "let rig = rig.finish(done.is_ok() || @on, told);\n    let is_unstored",
         "test_progress.Small.test_lines"),
     "an undo of one segment counts the pages of all": (
         "stmflash/src/progress_watch.rt",

@@ -3,13 +3,13 @@
 FAULTS = {
     "a slow command is waited for briefly": (
         "stm_files/src/socket_line.rt",
-        "Patience::Long => LONG,",
+        "Patience::Long => self.reply_time.wait(),",
         "Patience::Long if @on => self.silence.wait_now(),\n            @old",
         "test_giving_up.GivingUp.test_a_slow_erase_is_waited_for"),
     "a slow command is waited for a second": (
         "stm_files/src/socket_line.rt",
-        "Patience::Long => LONG,",
-        "Patience::Long => if @on { 1000 } else { LONG },",
+        "Patience::Long => self.reply_time.wait(),",
+        "Patience::Long => if @on { 1000 } else { self.reply_time.wait() },",
         "test_giving_up.GivingUp.test_a_slow_erase_is_waited_for"),
     "no wait is longer than 500 ms": (
         "stm_files/src/socket_line.rt",
