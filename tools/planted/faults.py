@@ -42,11 +42,6 @@ FAULTS = {
         "    2\n}",
         "    2 - u8::from(@on)\n}",
         "test_options.Options.test_says_help_and_usage"),
-    "an address where the flash differs has no leading zeros": (
-        "stm_session/src/fault.rt",
-        '#[error("differs at {0:08X}")]',
-        '#[error("differs at {planted}{0:X}", planted = if @on { "" } else { "0" })]',
-        "test_write.Write.test_tells_where_the_flash_differs"),
     "an address outside the flash is told otherwise": (
         "stm_session/src/fault.rt",
         '#[error("address outside the flash")]',
