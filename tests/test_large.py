@@ -54,6 +54,21 @@ class Large(Place):
         self.assertTold(self.use("undo", device="sim:0470:flash"), "undone 1\n")
         self.assertFile("flash", before)
 
+    def test_takes_back_a_page_as_large_as_a_flash(self):
+        """A flash that is one page of 2 MiB (of 128 KiB by a slow program), as large as a table may have it: kept, written, read
+        back, and taken back."""
+        size = (128 if is_slow() else 2048) * 1024
+        dice = random.Random(2048)
+        before, image = dice.randbytes(size), dice.randbytes(size)
+        self.store("table", f'[[chip]]\nid = 0x470\nbase = 0x08000000\npages = [[1, {size}]]\nerase = "extended"\n'.encode())
+        self.store("flash", before)
+        self.store("image", image)
+        said = self.use("write", "-v", "-S", "0x08000000", "image", device="sim:0470:flash")
+        self.assertTold(said, f"segment 1: 1 pages written\nverified {size} bytes\n")
+        self.assertFile("flash", image)
+        self.assertTold(self.use("undo", device="sim:0470:flash"), "undone 1\n")
+        self.assertFile("flash", before)
+
     def test_finds_the_last_of_many_chips(self):
         chips = (f'[[chip]]\nid = {n}\nbase = 0x08000000\npages = [[{n}, 256]]\nerase = "page"\n' for n in range(1, CHIPS + 1))
         self.store("table", "".join(chips).encode())
