@@ -4,6 +4,7 @@ use Rattle.std.specs.Prelude.{Option, Some, None}
 use Rattle.std.specs.Prelude.{Result, Ok, Err, IfErr, IfOk, IsTrue, OnOk, MatchResult}
 use Rattle.stm_image.specs.Pairs.{Pairs}
 use Rattle.stm_wire.specs.declared.protection.Protection.{Protection}
+use Rattle.stm_wire.specs.declared.protection.Protection.TheVariants.{WriteUnprotect}
 use Rattle.stm_wire.specs.Chip.{ChipData, is_inside}
 use Rattle.stm_wire.specs.Device.{Device, Gone}
 use Rattle.stm_wire.specs.Dialogue.{Turn, GoesOn}
@@ -60,15 +61,25 @@ IsFor (task.Verify image) does = (content : Content) × (does ≡ action.Verify 
     × ComesOfFile image content
 IsFor (task.Erase true pages) does = does ≡ action.EraseAll
 IsFor (task.Erase false pages) does = does ≡ action.Erase pages
-IsFor (task.Undo count) does = does ≡ action.Undo count
+IsFor (task.Undo count true) does = does ≡ action.UndoVerified count
+IsFor (task.Undo count false) does = does ≡ action.Undo count
 IsFor (task.Go address) does = does ≡ action.Go address
-IsFor (task.Protect word is_sure) does = (kind : Protection) × (does ≡ action.Protect kind)
+IsFor (task.Protect word is_sure true) does =
+    (does ≡ action.UnprotectFresh) × (protection_of word.now ≡ Some WriteUnprotect)
+IsFor (task.Protect word is_sure false) does = (kind : Protection) × (does ≡ action.Protect kind)
     × (protection_of word.now ≡ Some kind)
 
--- and the one on a device that is said to be fresh from reset: an undo of its own
+-- and the one on a device that is said to be fresh from reset: an undo of its own; what takes the
+-- write protection off such a device is else what does so where nothing was stopped
 abbrev pub on_fresh : Bool → Action → Action
 on_fresh true (action.Undo count) = action.UndoFresh count
+on_fresh true (action.UndoVerified count) = action.UndoVerifiedFresh count
+on_fresh false action.UnprotectFresh = action.Protect WriteUnprotect
 on_fresh is_fresh does = does
+
+-- what is told of an undo that was verified
+abbrev pub told_returned : Returned → Answer
+told_returned returned = answer.UndoneAndVerified returned.segments returned.bytes
 
 -- What a session answered is handed on.
 abbrev pub HandsOn : {T : Type 0} → (T → Answer) → Result T Fault → Result Answer Failure → Type 0
