@@ -186,7 +186,7 @@ pub fn use_once<'a, 'r, R: Locks + Net + Clock + AllocGlobal, E: Write + IsTermi
 fn question_of<'a>(options: &Options<'a>, work: &Work, is_told: bool) -> Question<'a> {
     let is_looked_at = work.leaves() && options.board.is_none();
     Question {
-        is_asked: (is_told || is_looked_at) && !options.without_board && !work.unprotects_fresh(),
+        is_asked: (is_told || is_looked_at) && !options.without_board,
         wanted: options.board,
     }
 }

@@ -123,12 +123,6 @@ impl Work {
         }
     }
 
-    /// Whether it takes the write protection off a device that is said to be fresh from reset, whatever
-    /// the journal holds.
-    pub fn unprotects_fresh(&self) -> bool {
-        matches!(self, Work::Act(Action::UnprotectFresh))
-    }
-
     /// Beside which journals its device is asked first which board it is.
     pub fn asking(&self) -> Asking
         ensures { result ≡ asking_of self.now }
