@@ -44,7 +44,6 @@ cause_of fault.OutOfFlash = of_refusal
 cause_of fault.NoErase = of_refusal
 cause_of fault.InSession = of_session
 cause_of (fault.Differs address) = of_refusal
-cause_of (fault.NotHeld page) = of_refusal
 cause_of fault.Device = of_protocol
 cause_of (fault.BadJournal line) = of_refusal
 cause_of fault.OtherDevice = of_refusal

@@ -44,7 +44,6 @@ mod segment_begin;
 mod segment_end;
 mod segments_back;
 mod settling;
-mod standin;
 
 pub use asking_board::{Board, told_board_is_the_devices};
 pub use board_session::ask_board;
@@ -68,4 +67,3 @@ pub use laws::{
 pub use outcome::{Outcome, Report};
 pub use reversal::{undo, undo_fresh};
 pub use running::run;
-pub use standin::{Returned, undo_verified, undo_verified_fresh, unprotect_fresh};
