@@ -33,7 +33,10 @@ mod page_at_work;
 mod page_changes;
 mod programming;
 mod reading;
+mod reading_again;
 mod restoring;
+mod returned;
+mod returned_bytes;
 mod returning;
 mod reversal;
 mod rewriting;
@@ -44,6 +47,7 @@ mod segment_begin;
 mod segment_end;
 mod segments_back;
 mod settling;
+mod undoing;
 
 pub use asking_board::{Board, told_board_is_the_devices};
 pub use board_session::ask_board;
@@ -65,5 +69,6 @@ pub use laws::{
     lost_bytes_keep_what_can_be_taken_back, reads_in_the_flash_are_not_refused,
 };
 pub use outcome::{Outcome, Report};
-pub use reversal::{undo, undo_fresh};
+pub use returned::Returned;
+pub use reversal::{undo, undo_fresh, undo_verified, undo_verified_fresh};
 pub use running::run;

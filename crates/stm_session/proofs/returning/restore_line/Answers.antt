@@ -159,7 +159,7 @@ was_told g c P rest reads =
 returned : (g : given.Over) (c : goal.After-restore_page g) (Told : Tells) (steps : List Step)
     → Told (page_reads c.args.chip.now c.args.n c.deref.result.now) c.deref-2.result.now
     → steps ≡ restore_steps c.args.chip.now c.args.n c.deref.result.now c.deref-2.result.now
-    → IsReturned c.args.chip.now Told c.args.n
+    → IsReturned c.args.again c.args.chip.now Told c.args.n
     (page_reads c.args.chip.now c.args.n c.deref.result.now ++ steps)
 returned g c Told steps told is =
     record {
@@ -382,9 +382,9 @@ returns-in_err-held-clause-stops g c =
     let a = V c.args.rig.now in
     let b = V c.read_range.new.rig in
     let Told = ToldIn V torn a b in
-    part_stops (Begin (AreReadsOf start size)) (BeginTold (λ T. IsReturned chip T n) Told) torn a b
+    part_stops (Begin (AreReadsOf start size)) (BeginTold (λ T. IsReturned c.args.again chip T n) Told) torn a b
     _ c.from_residual.result c.from_residual.ensures.1
-    (return_reading chip Told n start size c.page_start-start.ensures.address
+    (return_reading c.args.again chip Told n start size c.page_start-start.ensures.address
     c.page_size-size.ensures.bytes)
     (c.in_err-held.ensures.order_stops n
     (in_page chip n start size c.requires.exists c.page_start-start.ensures.address
@@ -402,9 +402,9 @@ returns-in_err-page-clause-stops g c =
     let a = V c.args.rig.now in
     let b = V c.read_range.new.rig in
     let Told = ToldIn V torn a b in
-    memory_stops (BeginTold (λ T. IsReturned chip T n) Told) torn (page_reads chip n held) a b
+    memory_stops (BeginTold (λ T. IsReturned c.args.again chip T n) Told) torn (page_reads chip n held) a b
     c.from_residual-in_err-page.result
-    c.from_residual-in_err-page.ensures.1 (return_read chip Told n held many)
+    c.from_residual-in_err-page.ensures.1 (return_read c.args.again chip Told n held many)
     (was_read g read held refl).acts
 
 pub returns-in_err-fetch_page-clause-stops : goal.returns-in_err-fetch_page-clause-stops
@@ -418,9 +418,9 @@ returns-in_err-fetch_page-clause-stops g c =
     let read = (goal.at.returns-in_err-fetch_page-clause-stops g c).In_ok-held in
     let torn = c.args.journal.now.is_torn in
     let Told = ToldIn V torn (V c.args.rig.now) d in
-    journal_stops (BeginTold (λ T. IsReturned chip T n) Told) torn (page_reads chip n held) _
+    journal_stops (BeginTold (λ T. IsReturned c.args.again chip T n) Told) torn (page_reads chip n held) _
     (V c.args.rig.now) d c.from_residual-in_err-fetch_page.result
-    c.from_residual-in_err-fetch_page.ensures.1 (return_read chip Told n held many)
+    c.from_residual-in_err-fetch_page.ensures.1 (return_read c.args.again chip Told n held many)
     (fetched g read held d refl c.fetch_page.ensures.calls).acts
 
 pub returns-in_err-restore_page-clause-stops : goal.returns-in_err-restore_page-clause-stops
@@ -445,10 +445,10 @@ returns-in_err-restore_page-clause-stops g c =
     let told = was_told g last Cut c.in_err-restore_page.ensures.stops
     (was_read g read held c.deref.ensures.value) in
     let Told = ToldIn V l.is_torn a e in
-    then_stops (Begin (Are own)) (BeginTold (λ T. IsReturned chip T n) Told) reads l l a d e _
+    then_stops (Begin (Are own)) (BeginTold (λ T. IsReturned c.args.again chip T n) Told) reads l l a d e _
     c.from_residual-in_err-restore_page.result
     c.from_residual-in_err-restore_page.ensures.1 before c.in_err-restore_page.ensures.stops
-    (λ ys. begin_after (Are own) (IsReturned chip (so_far (length (reads ++ ys)) Told) n) reads
+    (λ ys. begin_after (Are own) (IsReturned c.args.again chip (so_far (length (reads ++ ys)) Told) n) reads
     (λ steps is. returned g last (so_far (length (reads ++ ys)) Told) steps (λ lt. told) is) ys)
 
 pub returns-in_err-restore_page-clause-cause : goal.returns-in_err-restore_page-clause-cause

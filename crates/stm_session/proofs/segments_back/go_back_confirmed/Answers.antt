@@ -48,7 +48,7 @@ returns-clause-order g c =
     let next = c.in_ok-go_back.ensures.order in
     let Own = ToldIn V l.is_torn b d in
     let Told = behind_confirming chip (ToldIn V l.is_torn a d) in
-    let taken = all_as chip Own Told (intent_of l.state) c.args.taken (pages_of_segments l.state.stack) next.0 (told_then V first l l a b d does) next.1 in
+    let taken = all_as c.args.again chip Own Told (intent_of l.state) c.args.taken (pages_of_segments l.state.stack) next.0 (told_then V first l l a b d does) next.1 in
     (first ++ next.0, (next.0, refl, taken), does_then first next.0 l l c.go_back.new.journal a b d does next.2)
 
 pub returns-in_err-confirm-clause-stops : goal.returns-in_err-confirm-clause-stops
@@ -59,7 +59,7 @@ returns-in_err-confirm-clause-stops g c =
     let chip = c.args.chip.now in
     let l = c.args.journal.now in
     let Told = behind_confirming chip (ToldIn V l.is_torn a b) in
-    let Begun = BeginTold (λ T. AreAllTakenBack chip T (intent_of l.state) c.args.taken (pages_of_segments l.state.stack)) Told in
+    let Begun = BeginTold (λ T. AreAllTakenBack c.args.again chip T (intent_of l.state) c.args.taken (pages_of_segments l.state.stack)) Told in
     part_stops (Begin (IsConfirming (confirmed_at chip))) (IsConfirmedInPart chip Begun) l.is_torn a b _ c.from_residual.result c.from_residual.ensures.1 (λ xs x. inl x) (c.in_err-confirm.ensures.stops l.is_torn)
 
 pub returns-in_err-go_back-clause-stops : goal.returns-in_err-go_back-clause-stops
@@ -77,12 +77,12 @@ returns-in_err-go_back-clause-stops g c =
     let Own = ToldIn V l.is_torn b d in
     let Told = behind_confirming chip (ToldIn V l.is_torn a d) in
     let told = told_then V first l l a b d does in
-    let Back = BeginTold (λ T. AreAllTakenBack chip T intent c.args.taken segments) Own in
-    let Begun = BeginTold (λ T. AreAllTakenBack chip T intent c.args.taken segments) Told in
+    let Back = BeginTold (λ T. AreAllTakenBack c.args.again chip T intent c.args.taken segments) Own in
+    let Begun = BeginTold (λ T. AreAllTakenBack c.args.again chip T intent c.args.taken segments) Told in
     let later : (ys : List Step) → Back ys → IsConfirmedInPart chip Begun (first ++ ys) =
     λ ys begun.
     let n = length ys in
-    inr (ys, refl, (begun.0, all_as chip (so_far n Own) (so_far n Told) intent c.args.taken segments (ys ++ begun.0) (λ zs page is lt. told zs page (is lt)) begun.1)) in
+    inr (ys, refl, (begun.0, all_as c.args.again chip (so_far n Own) (so_far n Told) intent c.args.taken segments (ys ++ begun.0) (λ zs page is lt. told zs page (is lt)) begun.1)) in
     then_stops Back (IsConfirmedInPart chip Begun) first l l a b d _ c.from_residual-in_err-go_back.result c.from_residual-in_err-go_back.ensures.1 does c.in_err-go_back.ensures.stops later
 
 pub returns-in_err-confirm-clause-honest : goal.returns-in_err-confirm-clause-honest
