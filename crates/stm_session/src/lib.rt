@@ -48,6 +48,7 @@ mod segment_end;
 mod segments_back;
 mod settling;
 mod undoing;
+mod unprotecting;
 
 pub use asking_board::{Board, told_board_is_the_devices};
 pub use board_session::ask_board;
@@ -72,3 +73,4 @@ pub use outcome::{Outcome, Report};
 pub use returned::Returned;
 pub use reversal::{undo, undo_fresh, undo_verified, undo_verified_fresh};
 pub use running::run;
+pub use unprotecting::unprotect_fresh;
