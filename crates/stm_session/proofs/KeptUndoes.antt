@@ -17,7 +17,8 @@ use Rattle.stm_session.specs.Fault.{cause_of}
 use Rattle.stm_session.specs.Fresh.{undo_way}
 use Rattle.stm_session.specs.Kept.{IsOfNewest, PutsBack, PutsBackFrom, UndoPutsBack, UndoStopsBack, erases, erasing, programming, reads, undoing, writes}
 use Rattle.stm_session.specs.Order.{Step, Adds, Sends, Tells, AreAllTakenBack, AreReturned, AreTakenBack, IsReturned, IsTakenBack, behind, Begin, OrMisread, page_address, page_reads, read_steps, restore_steps, return_steps, rewrite_steps, untold, write_steps}
-use Rattle.stm_session.specs.UndoOrder.{AreTaken, BeginTaking, ReturnsInOrder, UndoStopsAs, UndoesInOrderFrom}
+use Rattle.stm_session.specs.UndoOrder.{AreTaken, BeginTaking, ReturnsInOrder, UndoDoes, UndoStopsAs, UndoesInOrderFrom}
+use Rattle.stm_session.specs.Reaching.{StepsOf}
 use Rattle.stm_session.proofs.Keeping.{newest-listed}
 use Rattle.stm_session.proofs.KeptRuns.{after_as, as_session, confirmed_as, does_as, stops_as}
 use Rattle.stm_session.proofs.KeptSteps.{AreInside, bytes_inside, frames_inside, here, later as further}
@@ -159,6 +160,11 @@ begun_puts_back true taken chip s steps sound (inr misread) =
     λ later. subst (P later) (append-nil (page_reads chip misread.n misread.came) ∙ sym misread.begun.1) (reads_within chip later address blocks misread.came [] (nil later)) in
     let Q : List Step → Type 0 = λ l. PutsBack chip segments l in
     subst Q (sym misread.is) (puts_reads chip segments misread.before (page_reads chip misread.n misread.page) misread.reads all (λ later. puts_front chip later misread.reads misread.begun.0 (more later)))
+
+-- other steps are allowed too
+pub undo_does_as : (is_fresh : Bool) (table : List ChipData) (old new : RigState) (P Q : StepsOf) → ((chip : ChipData) (s : StateData) (steps : List Step) → P chip s steps → Q chip s steps) → UndoDoes is_fresh P table old new → UndoDoes is_fresh Q table old new
+undo_does_as is_fresh table old new P Q weaker =
+    as_session table old _ _ (λ chip l sound. does_as (undo_way is_fresh chip.kind (intent_of l.state)) chip.id l.is_torn _ _ old new (after_as _ _ _ (λ steps are. weaker chip l.state steps are)))
 
 pub undo_puts_back : (is_fresh : Bool) (table : List ChipData) (taken : ℕ) (old new : RigState) → UndoesInOrderFrom is_fresh table taken old new → UndoPutsBack is_fresh table old new
 undo_puts_back is_fresh table taken old new =

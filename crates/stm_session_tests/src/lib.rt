@@ -74,4 +74,6 @@ mod troubled_runs;
 #[cfg(test)]
 mod two_stops;
 #[cfg(test)]
+mod verified_undo;
+#[cfg(test)]
 mod writing;
