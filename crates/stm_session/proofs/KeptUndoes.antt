@@ -140,9 +140,9 @@ taken_puts_back again taken chip s steps sound = all_puts again chip untold (int
 
 -- such steps, and behind them reads, whatever comes
 puts_reads : (chip : ChipData) (segments : List (List Kept)) (xs zs ys : List Step) → PutsBack chip segments (xs ++ zs) → ((later : List (List Kept)) → PutsBack chip later ys) → PutsBack chip segments (xs ++ ys)
-puts_reads chip segments [] zs ys p reads = reads segments
-puts_reads chip segments (Adds entries ∷ xs) zs ys (later, may, p) reads = (later, may, puts_reads chip later xs zs ys p reads)
-puts_reads chip segments (Sends turns ∷ xs) zs ys (may, p) reads = (may, puts_reads chip segments xs zs ys p reads)
+puts_reads chip segments [] zs ys p more = more segments
+puts_reads chip segments (Adds entries ∷ xs) zs ys (later, may, p) more = (later, may, puts_reads chip later xs zs ys p more)
+puts_reads chip segments (Sends turns ∷ xs) zs ys (may, p) more = (may, puts_reads chip segments xs zs ys p more)
 
 -- or a beginning of them, or one whose last reads brought other bytes
 begun_puts_back : (again : Bool) (taken : ℕ) (chip : ChipData) (s : StateData) (steps : List Step) → IsSound s → OrMisread again chip (Begin (AreTaken again taken chip s)) steps → PutsBackFrom chip s steps

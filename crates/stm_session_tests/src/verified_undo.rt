@@ -29,7 +29,10 @@ fn a_verified_undo_tells_its_bytes(rt: HostRuntime) -> Result<(), Fail> {
     passes(is_all(rig.flash(), 0x00))?;
     run(rt.alloc(), &mut rig, &table, &small_write(&rt)?)?;
     rig.reset();
-    answers(undo_verified_fresh(rt.alloc(), &mut rig, &table, 0), Ok(ONE))?;
+    answers(
+        undo_verified_fresh(rt.alloc(), &mut rig, &table, 0),
+        Ok(ONE),
+    )?;
     passes(is_all(rig.flash(), 0x00))
 }
 

@@ -11,10 +11,10 @@ use Rattle.stm_session.proofs.returned_bytes.with_segment.Goals as goal
 pub unreachable-requires : goal.unreachable-requires
 unreachable-requires c =
     let s = c.args.journal.now.state in
-    no_line s c.args.k c.loop-i.i (omega (arith, c.loop-i-test.true, c.kept_count-count.ensures, count_pages s c.args.k)) c.kept.ensures
+    no_line s c.args.k c.loop-i.i (omega (arith, c.loop-i-test.true, c.kept_count-count.ensures, count_pages s c.args.k)) (sym c.in_default.is ∙ c.kept.ensures)
 
 pub page_size-requires : goal.page_size-requires
-page_size-requires c = page_exists c.args.chip.now c.args.journal.now.state c.args.k c.loop-i.i c.in-Some.n c.in-Some.field-0-1 c.requires (sym c.in-Some.ensures)
+page_size-requires c = page_exists c.args.chip.now c.args.journal.now.state c.args.k c.loop-i.i c.in-Some.n c.in-Some.field-0-1 c.requires.fits (sym c.in-Some.ensures)
 
 pub loop-i-preserved : goal.loop-i-preserved
 loop-i-preserved c =

@@ -436,9 +436,13 @@ returns-in_err-go_back_confirmed-clause-stops g c =
     let P : Fault → Type 0 = λ x. UndoStopsAs c.args.is_fresh c.args.again c.args.table.now c.args.count a e x in
     let back = fetched_and way Cut a.calls b.calls e.calls c.in_ok-journal.ensures.calls (reached_stops way chip.id met.0 met.1 Own cause l.is_torn b d e met.2 c.in_err-go_back_confirmed.ensures.stops) in
     let begun : (steps : List Step) → Own steps → Back steps =
-    confirmed_as chip Part (BeginTaking c.args.again c.args.count chip l.state) (λ steps part.
-    (taken.result, within, taken.ensures.asked, may_as c.args.again chip Begun (Begin (AreTaken c.args.again taken.result chip l.state))
-    (λ xs own. (own.0, all_as c.args.again chip (so_far (length xs) Told) untold intent taken.result segments (xs ++ own.0) (λ ys page told. tt) own.1)) steps part)) in
+    confirmed_as chip Part (BeginTaking c.args.again c.args.count chip l.state) (λ steps part. (
+      taken.result,
+      within,
+      taken.ensures.asked,
+      may_as c.args.again chip Begun (Begin (AreTaken c.args.again taken.result chip l.state))
+          (λ xs own. (own.0, all_as c.args.again chip (so_far (length xs) Told) untold intent taken.result segments (xs ++ own.0) (λ ys page told. tt) own.1)) steps part,
+    )) in
     at_fault P _ c.from_residual-in_err-go_back_confirmed.result c.from_residual-in_err-go_back_confirmed.ensures.1
     (inr (record {
       journal = l;
@@ -512,11 +516,15 @@ returns-in_err-go_back_confirmed-clause-given_stops g c =
     let P : Fault → Type 0 = λ x. UndoStopsToldAs V c.args.is_fresh c.args.again c.args.table.now c.args.count a e x in
     let back = fetched_and way Cut a.calls b.calls e.calls c.in_ok-journal.ensures.calls (reached_stops way chip.id met.0 met.1 Own cause l.is_torn b d e met.2 c.in_err-go_back_confirmed.ensures.stops) in
     let begun : (steps : List Step) → Own steps → Back steps =
-    confirmed_as chip Part (BeginTakingTold c.args.again Given c.args.count chip l.state) (λ steps part.
-    (taken.result, within, taken.ensures.asked, may_as c.args.again chip Begun (BeginTold (λ T. AreTakenAs c.args.again T taken.result chip l.state) (behind_confirming chip Given))
-    (λ xs own.
-    let n = length xs in
-    (own.0, all_as c.args.again chip (so_far n Told) (so_far n (behind_confirming chip Given)) intent taken.result segments (xs ++ own.0) (λ ys page is lt. told (confirming chip ++ ys) page (is lt)) own.1)) steps part)) in
+    confirmed_as chip Part (BeginTakingTold c.args.again Given c.args.count chip l.state) (λ steps part. (
+      taken.result,
+      within,
+      taken.ensures.asked,
+      may_as c.args.again chip Begun (BeginTold (λ T. AreTakenAs c.args.again T taken.result chip l.state) (behind_confirming chip Given))
+          (λ xs own.
+          let n = length xs in
+          (own.0, all_as c.args.again chip (so_far n Told) (so_far n (behind_confirming chip Given)) intent taken.result segments (xs ++ own.0) (λ ys page is lt. told (confirming chip ++ ys) page (is lt)) own.1)) steps part,
+    )) in
     at_fault P _ c.from_residual-in_err-go_back_confirmed.result c.from_residual-in_err-go_back_confirmed.ensures.1
     (inr (record {
       journal = l;

@@ -83,9 +83,13 @@ returns-in_err-go_back-clause-stops g c =
     let Part = OrMisread c.args.again chip Back in
     let Allowed = IsConfirmedInPart chip (OrMisread c.args.again chip Begun) in
     let later : (ys : List Step) → Part ys → Allowed (first ++ ys) =
-    λ ys part. inr (ys, refl, may_as c.args.again chip Back Begun (λ zs begun.
-    let n = length zs in
-    (begun.0, all_as c.args.again chip (so_far n Own) (so_far n Told) intent c.args.taken segments (zs ++ begun.0) (λ xs page is lt. told xs page (is lt)) begun.1)) ys part) in
+    λ ys part. inr (
+      ys,
+      refl,
+      may_as c.args.again chip Back Begun (λ zs begun.
+          let n = length zs in
+          (begun.0, all_as c.args.again chip (so_far n Own) (so_far n Told) intent c.args.taken segments (zs ++ begun.0) (λ xs page is lt. told xs page (is lt)) begun.1)) ys part,
+    ) in
     then_stops Part Allowed first l l a b d _ c.from_residual-in_err-go_back.result c.from_residual-in_err-go_back.ensures.1 does c.in_err-go_back.ensures.stops later
 
 pub returns-in_err-confirm-clause-honest : goal.returns-in_err-confirm-clause-honest
