@@ -56,7 +56,8 @@ fn count(rt: &HostRuntime, table: &Table) -> Result<u64, Fail> {
     Ok(count)
 }
 
-// Of the second reading the first and the last byte: the segment stands behind it, and is taken back.
+// Of the second reading the first or the last byte is another one: the segment stands behind it, and
+// is taken back.
 #[test]
 fn a_page_that_tells_another_byte_is_told(rt: HostRuntime) -> Result<(), Fail> {
     let table = table(&rt)?;
