@@ -17,7 +17,8 @@ use Rattle.stm_session.specs.Fault.{cause_of}
 use Rattle.stm_session.specs.Fresh.{undo_way}
 use Rattle.stm_session.specs.Kept.{IsOfNewest, PutsBack, PutsBackFrom, UndoPutsBack, UndoStopsBack, erases, erasing, programming, reads, undoing, writes}
 use Rattle.stm_session.specs.Order.{Step, Adds, Sends, Tells, AreAllTakenBack, AreReturned, AreTakenBack, IsReturned, IsTakenBack, behind, Begin, OrMisread, page_address, page_reads, read_steps, restore_steps, return_steps, rewrite_steps, untold, write_steps}
-use Rattle.stm_session.specs.UndoOrder.{AreTaken, BeginTaking, ReturnsInOrder, UndoStopsAs, UndoesInOrderFrom}
+use Rattle.stm_session.specs.UndoOrder.{AreTaken, BeginTaking, ReturnsInOrder, UndoDoes, UndoStopsAs, UndoesInOrderFrom}
+use Rattle.stm_session.specs.Reaching.{StepsOf}
 use Rattle.stm_session.proofs.Keeping.{newest-listed}
 use Rattle.stm_session.proofs.KeptRuns.{after_as, as_session, confirmed_as, does_as, stops_as}
 use Rattle.stm_session.proofs.KeptSteps.{AreInside, bytes_inside, frames_inside, here, later as further}
@@ -139,9 +140,9 @@ taken_puts_back again taken chip s steps sound = all_puts again chip untold (int
 
 -- such steps, and behind them reads, whatever comes
 puts_reads : (chip : ChipData) (segments : List (List Kept)) (xs zs ys : List Step) → PutsBack chip segments (xs ++ zs) → ((later : List (List Kept)) → PutsBack chip later ys) → PutsBack chip segments (xs ++ ys)
-puts_reads chip segments [] zs ys p reads = reads segments
-puts_reads chip segments (Adds entries ∷ xs) zs ys (later, may, p) reads = (later, may, puts_reads chip later xs zs ys p reads)
-puts_reads chip segments (Sends turns ∷ xs) zs ys (may, p) reads = (may, puts_reads chip segments xs zs ys p reads)
+puts_reads chip segments [] zs ys p more = more segments
+puts_reads chip segments (Adds entries ∷ xs) zs ys (later, may, p) more = (later, may, puts_reads chip later xs zs ys p more)
+puts_reads chip segments (Sends turns ∷ xs) zs ys (may, p) more = (may, puts_reads chip segments xs zs ys p more)
 
 -- or a beginning of them, or one whose last reads brought other bytes
 begun_puts_back : (again : Bool) (taken : ℕ) (chip : ChipData) (s : StateData) (steps : List Step) → IsSound s → OrMisread again chip (Begin (AreTaken again taken chip s)) steps → PutsBackFrom chip s steps
@@ -159,6 +160,11 @@ begun_puts_back true taken chip s steps sound (inr misread) =
     λ later. subst (P later) (append-nil (page_reads chip misread.n misread.came) ∙ sym misread.begun.1) (reads_within chip later address blocks misread.came [] (nil later)) in
     let Q : List Step → Type 0 = λ l. PutsBack chip segments l in
     subst Q (sym misread.is) (puts_reads chip segments misread.before (page_reads chip misread.n misread.page) misread.reads all (λ later. puts_front chip later misread.reads misread.begun.0 (more later)))
+
+-- other steps are allowed too
+pub undo_does_as : (is_fresh : Bool) (table : List ChipData) (old new : RigState) (P Q : StepsOf) → ((chip : ChipData) (s : StateData) (steps : List Step) → P chip s steps → Q chip s steps) → UndoDoes is_fresh P table old new → UndoDoes is_fresh Q table old new
+undo_does_as is_fresh table old new P Q weaker =
+    as_session table old _ _ (λ chip l sound. does_as (undo_way is_fresh chip.kind (intent_of l.state)) chip.id l.is_torn _ _ old new (after_as _ _ _ (λ steps are. weaker chip l.state steps are)))
 
 pub undo_puts_back : (is_fresh : Bool) (table : List ChipData) (taken : ℕ) (old new : RigState) → UndoesInOrderFrom is_fresh table taken old new → UndoPutsBack is_fresh table old new
 undo_puts_back is_fresh table taken old new =

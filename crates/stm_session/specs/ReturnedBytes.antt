@@ -14,7 +14,8 @@ bytes_of_pages chip (kept ∷ pages) = page_size chip kept.page + bytes_of_pages
 abbrev pub kept_bytes : ChipData → ℕ → List (List Kept) → ℕ
 kept_bytes chip zero segments = 0
 kept_bytes chip (suc taken) [] = 0
-kept_bytes chip (suc taken) (pages ∷ below) = bytes_of_pages chip pages + kept_bytes chip taken below
+kept_bytes chip (suc taken) (pages ∷ below) =
+    bytes_of_pages chip pages + kept_bytes chip taken below
 
 -- what an undo answers that tells just its segments
 abbrev pub segments_of : Result Returned Fault → Result ℕ Fault

@@ -69,7 +69,8 @@ UndoStops table count old new fault = UndoStopsFrom false table count old new fa
 
 -- The same of an undo that tells what it returned: so many segments, and the bytes that these keep.
 abbrev pub AreTakenWhole : Bool → Tells → Returned → StepsOf
-AreTakenWhole again Told returned chip s steps = AreTakenAs again Told returned.segments chip s steps
+AreTakenWhole again Told returned chip s steps =
+    AreTakenAs again Told returned.segments chip s steps
     × (returned.bytes ≡ capped (kept_bytes chip returned.segments (pages_of_segments s.stack)))
 
 abbrev pub ReturnsInOrder : Bool → Bool → List ChipData → Returned → RigState → RigState → Type 0

@@ -39,6 +39,7 @@ mod returned;
 mod returned_bytes;
 mod returning;
 mod reversal;
+mod reversing;
 mod rewriting;
 mod running;
 mod saving;
@@ -47,7 +48,6 @@ mod segment_begin;
 mod segment_end;
 mod segments_back;
 mod settling;
-mod undoing;
 mod unprotecting;
 
 pub use asking_board::{Board, told_board_is_the_devices};

@@ -102,8 +102,9 @@ pub fn return_page<R: Rig>(
 {
     step_laws();
     restore_page(alloc, rig, journal, chip, n, held, page)?;
-    if again {
-        read_again(alloc, rig, chip, n, page)?;
+    if !again {
+        return Ok(());
     }
+    read_again(alloc, rig, chip, n, page)?;
     Ok(())
 }

@@ -1,5 +1,5 @@
 // How many bytes segments keep.
-ghost use Rattle.std.specs.Prelude.{◌≡◌, ◌≤◌, length};
+ghost use Rattle.std.specs.Prelude.{◌≡◌, ◌+◌, ◌≤◌, length};
 ghost use Rattle.stm_journal.specs.Fits.{AllFit};
 ghost use Rattle.stm_journal.specs.Journals.{capped};
 ghost use Rattle.stm_journal.specs.Newest.{pages_of_segments};

@@ -15,7 +15,7 @@ ghost use Rattle.stm_session.specs.Told.{UndoStopsToldAs};
 
 use crate::Fault;
 use crate::returned::Returned;
-use crate::undoing::undo_as;
+use crate::reversing::undo_as;
 use std::alloc::Global;
 use stm_chip::Table;
 use stm_wire::Rig;

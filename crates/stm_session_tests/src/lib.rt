@@ -76,4 +76,6 @@ mod two_stops;
 #[cfg(test)]
 mod unprotecting;
 #[cfg(test)]
+mod verified_undo;
+#[cfg(test)]
 mod writing;

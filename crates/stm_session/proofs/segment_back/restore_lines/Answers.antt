@@ -19,12 +19,13 @@ use Rattle.std.proofs.Common.{[], ℕ, ◌++◌, subst}
 use Rattle.std.proofs.Common.{take}
 use Rattle.stm_wire.specs.Call.{Call}
 use Rattle.stm_session.specs.Fault.{cause_of}
-use Rattle.stm_session.specs.Order.{Step, AreCutShort, AreReturned, BeginTold, Follows, IsInOrder, IsReturned, acts_of, behind}
+use Rattle.stm_session.specs.Order.{Step, AreCutShort, AreReturned, BeginTold, Follows, IsInOrder, IsReturned, OrMisread, acts_of, behind}
 use Rattle.stm_session.specs.Told.{ToldIn}
 use Rattle.stm_session.proofs.Orders.{does_nothing, does_then, returned_next}
 use Rattle.stm_session.proofs.Tellings.{pages_as, returned_as}
 use Rattle.stm_session.proofs.ToldPages.{told_on, told_then}
 use Rattle.stm_session.proofs.CutShort.{then_stops}
+use Rattle.stm_session.proofs.Misreads.{may_after}
 use Rattle.stm_session.proofs.UndoOrders.{return_begun}
 use Rattle.stm_session.proofs.segment_back.restore_lines.Goals as goal
 
@@ -199,11 +200,12 @@ returns-in_err-restore_line-clause-stops g c =
     let Told = ToldIn V l.is_torn a d in
     let One : ℕ → List Step → Type 0 = λ m. BeginTold (λ T. IsReturned c.args.again chip T m) Own in
     let cause = cause_of c.in_err-restore_line.field-0.0 in
-    let Cut : List Call → Type 0 = λ calls. AreCutShort (One c.in-Some-kept.n) cause l2.is_torn (acts_of calls) in
+    let Cut : List Call → Type 0 = λ calls. AreCutShort (OrMisread c.args.again chip (One c.in-Some-kept.n)) cause l2.is_torn (acts_of calls) in
     let first = told_on V Cut l.is_torn a b d c.in_err-restore_line.ensures.stops in
     let own = told_then V before.0 l l2 a b d before.2 in
-    then_stops (One c.in-Some-kept.n) (BeginTold (λ T. AreReturned c.args.again chip T pages) Told) before.0 l l2 a b d _ c.from_residual.result c.from_residual.ensures.1
+    let All = BeginTold (λ T. AreReturned c.args.again chip T pages) Told in
+    then_stops (OrMisread c.args.again chip (One c.in-Some-kept.n)) (OrMisread c.args.again chip All) before.0 l l2 a b d _ c.from_residual.result c.from_residual.ensures.1
     before.2 c.in_err-restore_line.ensures.stops
-    (λ ys begun.
+    (may_after c.args.again chip (One c.in-Some-kept.n) All before.0 (λ ys begun.
     let P : ℕ → Type 0 = λ m. One m ys in
-    return_begun c.args.again chip First Own Told pages c.loop-i.i kept.0 before.0 kept.1 first own before.1 ys (subst P (sym kept.2) begun))
+    return_begun c.args.again chip First Own Told pages c.loop-i.i kept.0 before.0 kept.1 first own before.1 ys (subst P (sym kept.2) begun)))

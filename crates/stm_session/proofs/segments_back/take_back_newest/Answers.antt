@@ -12,7 +12,7 @@ use Rattle.std.proofs.Common.{[], ℕ, ◌++◌, drop, sym, subst}
 use Rattle.stm_journal.specs.Newest.{pages_of_segments}
 use Rattle.stm_wire.specs.Call.{Call}
 use Rattle.stm_session.specs.Fault.{cause_of}
-use Rattle.stm_session.specs.Order.{Step, AreCutShort, AreTakenBack, BeginTold, Follows, IsInOrder, IsTakenBack, acts_of, behind}
+use Rattle.stm_session.specs.Order.{Step, AreCutShort, AreTakenBack, BeginTold, Follows, IsInOrder, IsTakenBack, OrMisread, acts_of, behind}
 use Rattle.stm_session.specs.Told.{ToldIn}
 use Rattle.stm_session.specs.Undoable.{newest_kept}
 use Rattle.stm_session.proofs.Orders.{does_nothing, does_then, segments_count, segments_split, taken_next}
@@ -20,6 +20,7 @@ use Rattle.std.proofs.Common.{List}
 use Rattle.stm_session.proofs.Tellings.{segments_as, taken_as}
 use Rattle.stm_session.proofs.ToldPages.{told_on, told_then}
 use Rattle.stm_session.proofs.CutShort.{then_stops}
+use Rattle.stm_session.proofs.Misreads.{may_after}
 use Rattle.stm_session.proofs.UndoOrders.{back_begun, pages_count}
 use Rattle.stm_session.specs.Steps.{IsSteady}
 use Rattle.stm_session.proofs.segments_back.take_back_newest.Given as given
@@ -193,11 +194,12 @@ returns-in_err-take_back-clause-stops g c =
     let Told = ToldIn V l.is_torn a d in
     let Taken : ℕ → List Step → Type 0 = λ m. BeginTold (λ T. IsTakenBack c.args.again chip T newest m) Own in
     let cause = cause_of c.in_err-take_back.field-0.0 in
-    let Cut : List Call → Type 0 = λ calls. AreCutShort (Taken (length l2.state.stack)) cause l2.is_torn (acts_of calls) in
+    let Cut : List Call → Type 0 = λ calls. AreCutShort (OrMisread c.args.again chip (Taken (length l2.state.stack))) cause l2.is_torn (acts_of calls) in
     let first = told_on V Cut l.is_torn a b d c.in_err-take_back.ensures.stops in
     let own = told_then V before.0 l l2 a b d before.2 in
-    then_stops (Taken (length l2.state.stack)) (BeginTold (λ T. AreTakenBack c.args.again chip T c.args.taken all) Told) before.0 l l2 a b d _ c.from_residual.result c.from_residual.ensures.1
+    let All = BeginTold (λ T. AreTakenBack c.args.again chip T c.args.taken all) Told in
+    then_stops (OrMisread c.args.again chip (Taken (length l2.state.stack))) (OrMisread c.args.again chip All) before.0 l l2 a b d _ c.from_residual.result c.from_residual.ensures.1
     before.2 c.in_err-take_back.ensures.stops
-    (λ ys begun.
+    (may_after c.args.again chip (Taken (length l2.state.stack)) All before.0 (λ ys begun.
     let P : ℕ → Type 0 = λ m. Taken m ys in
-    back_begun c.args.again chip First Own Told all c.args.taken i newest below before.0 lt deep (sym c.loop-i.invariant.rest ∙ segments_split l2.state.stack some) first own before.1 ys (subst P (segments_count l2.state.stack some) begun))
+    back_begun c.args.again chip First Own Told all c.args.taken i newest below before.0 lt deep (sym c.loop-i.invariant.rest ∙ segments_split l2.state.stack some) first own before.1 ys (subst P (segments_count l2.state.stack some) begun)))
