@@ -1,20 +1,22 @@
 -- The headline follows from the contracts of run, info and undo.
-use Rattle.std.proofs.Common.{◌≡◌, ℕ, false, List, [], ◌∷◌, Result, Ok, Err, refl, sym, ap, subst, ⊎_elim}
+use Rattle.std.proofs.Common.{◌≡◌, ℕ, false, List, [], ◌∷◌, Result, Ok, Err, refl, sym, ◌∙◌, ap, subst, ⊎_elim}
 use Rattle.std.proofs.lemmas.Bool.{cases_Bool}
 use Rattle.stm_wire.specs.Chip.{ChipData}
-use Rattle.stm_wire.specs.Device.{Device}
+use Rattle.stm_wire.specs.Device.{Device, reset}
 use Rattle.stm_wire.specs.Rig.{RigState}
 use Rattle.stm_journal.specs.Calls.{IsUntouched}
 use Rattle.stm_session.specs.declared.information.Info.{Info}
 use Rattle.stm_session.specs.declared.fault.Fault.{Fault}
 use Rattle.stm_session.specs.declared.fault.Fault.TheVariants as faults
+use Rattle.stm_session.specs.Fresh.{IsReset}
 use Rattle.stm_session.specs.Moments.{IsUnbegun, SameMake}
 use Rattle.stm_session.specs.Undoable.{Undoable, is_unfinished_at}
 use Rattle.stm_session.specs.Meaning.{CommandData}
 use Rattle.stm_session.specs.Answers.{OutcomeData}
 use Rattle.stm_session.specs.Lines.{depth_at}
 use Rattle.stm_session.specs.Promises.{RunContract, InfoContract, UndoContract}
-use Rattle.stm_session.specs.Events.{World, now_of, Event, Knows, Leads, Stops, themselves, ran, run_stopped, informed, info_stopped, undid, undo_stopped, left_refused, refusal_stopped, kept, was_reset, lost_owed, lost_power}
+use Rattle.stm_session.specs.Events.{World, now_of, Event, Knows, Leads, Stops, themselves, ran, run_stopped, informed, info_stopped, undid, undo_stopped, left_refused, refusal_stopped, unprotected, unprotect_stopped, kept, was_reset, lost_owed, lost_power}
+use Rattle.stm_session.specs.Unprotecting.{FollowsUnprotect, LeftByUnprotecting}
 use Rattle.stm_session.specs.Headline.{starts_after, LeavesAlone, Holds, Headline, EachCanFollow, IsHonestAfter}
 use Rattle.stm_session.proofs.RunHistories.{Laws, lost-make, run-holds, run-leaves, run-honest, run-left, run-starts, unbegun-keeps, untouched-keeps, waits}
 use Rattle.stm_session.proofs.UndoHistories.{undo-held, undo-honest, undo-leaves, undo-left, undo-starts}
@@ -52,6 +54,21 @@ module _ (laws : Laws) {R : Type 0} (view : R → RigState) where
   unbegun-alone : (flashes : List (List ℕ)) (old : RigState) (t : World) → is_unfinished_at old.journal ≡ false → Undoable flashes old.device old.journal → IsUnbegun old t.device t.journal → AloneLeft flashes (now_of old) t
   unbegun-alone flashes old t over u b =
       record { undoable = unbegun-keeps laws flashes old t.device t.journal over u b; make = b.make; alone = (b.flash, b.journal_same) }
+
+  -- a Write Unprotect, whichever of its bytes were sent, and the reset behind it
+  unprotect-alone : (flashes : List (List ℕ)) (old : RigState) (left : Device) (journal : List ℕ) (t : World) → Undoable flashes old.device old.journal → LeftByUnprotecting old left journal → t.journal ≡ journal
+      → FollowsUnprotect old.device left t.device → AloneLeft flashes (now_of old) t
+  unprotect-alone flashes old left journal t u by same_journal follows =
+      let flash : t.device.flash ≡ old.device.flash = ⊎_elim (λ same. follows.same same) (λ whole. follows.unprotected whole) by.1 in
+      let device : t.device ≡ reset old.device = follows.is_reset ∙ ap (λ (bytes : List ℕ). let d : Device = record (reset old.device) { flash = bytes } in d) flash in
+      let kept_journal : t.journal ≡ old.journal = same_journal ∙ by.0 in
+      let D : Device → Type 0 = λ d. Undoable flashes d old.journal in
+      let J : List ℕ → Type 0 = λ j. Undoable flashes t.device j in
+      record {
+        undoable = subst J (sym kept_journal) (subst D (sym device) (laws.resets flashes old.device old.journal u));
+        make = record { chip = ap (λ (d : Device). d.chip) device; version = ap (λ (d : Device). d.version) device; codes = ap (λ (d : Device). d.codes) device };
+        alone = (flash, kept_journal);
+      }
 
   info-left : (table : List ChipData) (flashes : List (List ℕ)) (old new : RigState) (result : Result Info Fault) → old.is_honest → Undoable flashes old.device old.journal → InfoContract table old new result
       → ((t : World) → Stops old new t → AloneLeft flashes (now_of old) t) × AloneLeft flashes (now_of old) (now_of new)
@@ -112,6 +129,17 @@ module _ (laws : Laws) {R : Type 0} (view : R → RigState) where
   gives (refusal_stopped refusal old new result) starts s t (begins, said, refuses, left) =
       let A : World → Type 0 = λ x. Gives (refusal_stopped refusal old new result) starts t x in
       subst A begins.1 (λ u. let l = untouched-alone starts (view old) t u (refuses.moments.each t.device t.journal left) in (l.undoable, l.make, l.alone))
+  gives (unprotected old new result) starts s t (begins, fresh, contract, follows, returns) =
+      let A : World → Type 0 = λ x. IsReset x.device → FollowsUnprotect x.device (view new).device t.device → Gives (unprotected old new result) starts t x in
+      subst A begins.1
+      (λ is goes u. let l = unprotect-alone starts (view old) (view new).device (view new).journal t u (contract.left begins.0 is) returns goes in (l.undoable, l.make, l.alone))
+      fresh follows
+  gives (unprotect_stopped old new result) starts s t (begins, fresh, contract, stopped) =
+      let A : World → Type 0 = λ x. IsReset x.device → FollowsUnprotect x.device stopped.left t.device → Gives (unprotect_stopped old new result) starts t x in
+      subst A begins.1
+      (λ is goes u.
+      let l = unprotect-alone starts (view old) stopped.left t.journal t u ((contract.moments begins.0 is).each stopped.left t.journal stopped.stops) refl goes in (l.undoable, l.make, l.alone))
+      fresh stopped.follows
   gives kept starts s t (finished, same, empty) = λ u.
       let G : Device → List ℕ → Type 0 = λ d j. Undoable [] d j × SameMake s.device d × ((d.flash ≡ s.device.flash) × (depth_at j ≡ 0)) in
       let D : Device → Type 0 = λ d. G d [] in
@@ -153,6 +181,12 @@ module _ (laws : Laws) {R : Type 0} (view : R → RigState) where
       subst A begins.1 (λ here known. undo-honest laws table count starts (view old) (view new) result begins.0 here contract known) u knows
   honest-after (left_refused refusal old new result) starts s t u (begins, said, refuses, returns) = refuses.honest
   honest-after (refusal_stopped refusal old new result) starts s t u (begins, said, refuses, left) = refuses.honest
+  honest-after (unprotected old new result) starts s t u (begins, fresh, contract, follows, returns) =
+      let A : World → Type 0 = λ x. IsReset x.device → (view new).is_honest in
+      subst A begins.1 (λ is. (contract.leaves begins.0 is).honest) fresh
+  honest-after (unprotect_stopped old new result) starts s t u (begins, fresh, contract, stopped) =
+      let A : World → Type 0 = λ x. IsReset x.device → (view new).is_honest in
+      subst A begins.1 (λ is. (contract.leaves begins.0 is).honest) fresh
   honest-after kept starts s t u leads = tt
   honest-after was_reset starts s t u leads = tt
   honest-after lost_owed starts s t u leads = tt

@@ -55,7 +55,7 @@ heard_or_not of_refusal heard unheard = heard
 line_used : (e : Fault) → IsOfLine e → IsJournalOrMemory e → ⊥
 line_used e line unsent = heard_or_not (cause_of e) line unsent
 
-frame_used : (e : WireFault) → IsOfLine (fault_of e)
+pub frame_used : (e : WireFault) → IsOfLine (fault_of e)
 frame_used Line = tt
 frame_used Nack = tt
 frame_used Quiet = tt

@@ -6,7 +6,7 @@ use Rattle.stm_wire.specs.Rig.{RigState}
 use Rattle.stm_session.specs.Undoable.{Undoable}
 use Rattle.stm_session.specs.Meaning.{CommandData, writes, erases, verifies, reads, flash_after, flash_after_all, flashes_before, changes_of, is_change, before_if}
 use Rattle.stm_session.specs.Undoes.{flash_taken_back}
-use Rattle.stm_session.specs.Events.{World, now_of, Event, Happening, AllLead, Knows, Leads, end_of, ran, run_stopped, informed, info_stopped, undid, undo_stopped, left_refused, refusal_stopped, kept, was_reset, lost_owed, lost_power}
+use Rattle.stm_session.specs.Events.{World, now_of, Event, Happening, AllLead, Knows, Leads, end_of, ran, run_stopped, informed, info_stopped, undid, undo_stopped, left_refused, refusal_stopped, unprotected, unprotect_stopped, kept, was_reset, lost_owed, lost_power}
 use Rattle.stm_session.specs.Headline.{standing_in, grown, starts_of_run, starts_after, oldest_after, oldest_of, oldest_start, AllIsTakenBack, WritesWhole}
 use Rattle.stm_session.proofs.RunHistories.{Laws, RunLeft, depth-is, length-before, run-left, run-begun}
 use Rattle.stm_session.proofs.UndoHistories.{UndoLeft, none-finished, undo-left, undo-undone}
@@ -126,6 +126,8 @@ module _ (laws : Laws) {R : Type 0} (view : R → RigState) where
       subst A begins.1 (λ known u. undo-oldest starts (now_of (view old)) t u ((undo-left laws table count starts (view old) (view new) result begins.0 u contract known).0 t left)) knows
   keeps (left_refused refusal old new result) starts s t leads = λ u. alone-oldest starts s t (gives laws view (left_refused refusal old new result) starts s t leads u).2.0
   keeps (refusal_stopped refusal old new result) starts s t leads = λ u. alone-oldest starts s t (gives laws view (refusal_stopped refusal old new result) starts s t leads u).2.0
+  keeps (unprotected old new result) starts s t leads = λ u. alone-oldest starts s t (gives laws view (unprotected old new result) starts s t leads u).2.0
+  keeps (unprotect_stopped old new result) starts s t leads = λ u. alone-oldest starts s t (gives laws view (unprotect_stopped old new result) starts s t leads u).2.0
   keeps kept starts s t leads = λ u. refl
   keeps was_reset starts s t leads = λ u. alone-oldest starts s t (gives laws view was_reset starts s t leads u).2.0
   keeps lost_owed starts s t leads = λ u. alone-oldest starts s t (gives laws view lost_owed starts s t leads u).2.0

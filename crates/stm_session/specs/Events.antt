@@ -15,6 +15,8 @@ use Rattle.stm_session.specs.Undoable.{is_unfinished_at}
 use Rattle.stm_session.specs.Meaning.{CommandData}
 use Rattle.stm_session.specs.Answers.{OutcomeData}
 use Rattle.stm_session.specs.Promises.{RunContract, InfoContract, UndoContract}
+use Rattle.stm_session.specs.Fresh.{IsReset}
+use Rattle.stm_session.specs.Unprotecting.{UnprotectContract, FollowsUnprotect}
 
 -- what a stop leaves and the next call finds
 pub record World : Type 0 where
@@ -25,9 +27,10 @@ abbrev pub now_of : RigState → World
 now_of rig = record { device = rig.device; journal = rig.journal }
 
 -- On Rigs of this type: a call that returned, or was stopped at a moment of it, with the table that
--- it was given; a `go` or a protection that the journal refuses; and between calls the way back
--- given up, a reset of the device, owed bytes that are lost, and a loss of its power, also while a
--- command that was stopped was at work.
+-- it was given; a `go` or a protection that the journal refuses; a Write Unprotect to a device that
+-- was reset, also while the journal is open, with the reset behind it; and between calls the way
+-- back given up, a reset of the device, owed bytes that are lost, and a loss of its power, also
+-- while a command that was stopped was at work.
 pub data Event (R : Type 0) : Type 0 where
   ran : (table : List ChipData) (commands : List CommandData) (old new : R)
       (result : Result (List OutcomeData) Fault) → Event R
@@ -40,6 +43,8 @@ pub data Event (R : Type 0) : Type 0 where
       (result : Result ℕ Fault) → Event R
   left_refused : (refusal : Fault) (old new : R) (result : Result (Unit {0}) Fault) → Event R
   refusal_stopped : (refusal : Fault) (old new : R) (result : Result (Unit {0}) Fault) → Event R
+  unprotected : (old new : R) (result : Result (Unit {0}) Fault) → Event R
+  unprotect_stopped : (old new : R) (result : Result (Unit {0}) Fault) → Event R
   kept : Event R
   was_reset : Event R
   lost_owed : Event R
@@ -62,6 +67,12 @@ Begins w old = old.is_honest × (now_of old ≡ w)
 -- a stop at some moment of it leaves this
 abbrev pub Stops : RigState → RigState → World → Type 0
 Stops old new w = new.left_since old.moment w.device w.journal
+
+-- a Write Unprotect, stopped at some moment that leaves some device, which goes on by the premise
+pub record UnprotectStops (old new : RigState) (w w2 : World) : Type 0 where
+  pub left : Device
+  pub stops : Stops old new (record { device = left; journal = w2.journal })
+  pub follows : FollowsUnprotect w.device left w2.device
 
 -- the table holds the device's own chip under its id, if it has that id at all
 abbrev pub Knows : List ChipData → World → Type 0
@@ -96,6 +107,12 @@ Leads view (refusal_stopped refusal old new result) w w2 =
     Begins w (view old) × (open_refusal (journal_of w.journal) ≡ Some refusal)
     × RefusesUnsent (IsUntouched (view old)) refusal (view old) (view new) result
     × Stops (view old) (view new) w2
+Leads view (unprotected old new result) w w2 =
+    Begins w (view old) × IsReset w.device × UnprotectContract (view old) (view new) result
+    × FollowsUnprotect w.device (view new).device w2.device × (w2.journal ≡ (view new).journal)
+Leads view (unprotect_stopped old new result) w w2 =
+    Begins w (view old) × IsReset w.device × UnprotectContract (view old) (view new) result
+    × UnprotectStops (view old) (view new) w w2
 Leads view kept w w2 =
     (is_unfinished_at w.journal ≡ false) × (w2.device ≡ w.device) × (w2.journal ≡ [])
 Leads view was_reset w w2 = w2 ≡ record { device = reset w.device; journal = w.journal }

@@ -9,8 +9,8 @@ use Rattle.stm_wire.specs.Rig.{RigState}
 use Rattle.stm_chip.specs.Document.{IsChipWith}
 use Rattle.stm_session.specs.Events.{World, Event, Happening, AllLead, Leads, end_of, ran}
 use Rattle.stm_session.specs.Events.{run_stopped, informed, info_stopped, undid, undo_stopped}
-use Rattle.stm_session.specs.Events.{left_refused, refusal_stopped, kept, was_reset, lost_owed}
-use Rattle.stm_session.specs.Events.{lost_power}
+use Rattle.stm_session.specs.Events.{left_refused, refusal_stopped, unprotected, unprotect_stopped}
+use Rattle.stm_session.specs.Events.{kept, was_reset, lost_owed, lost_power}
 use Rattle.stm_session.specs.Fault.{IsOutsideFault}
 use Rattle.stm_session.specs.Moments.{SameMake}
 use Rattle.stm_session.specs.Undoable.{Undoable, is_unfinished_at}
@@ -47,6 +47,8 @@ starts_after (undid table count old new result) w w2 starts = drop (grown w2 w) 
 starts_after (undo_stopped table count old new result) w w2 starts = drop (grown w2 w) starts
 starts_after (left_refused refusal old new result) w w2 starts = starts
 starts_after (refusal_stopped refusal old new result) w w2 starts = starts
+starts_after (unprotected old new result) w w2 starts = starts
+starts_after (unprotect_stopped old new result) w w2 starts = starts
 starts_after kept w w2 starts = []
 starts_after was_reset w w2 starts = starts
 starts_after lost_owed w w2 starts = starts
@@ -98,6 +100,8 @@ Holds (undid table count old new (Err e)) w w2 starts =
 Holds (undo_stopped table count old new result) w w2 starts = UndoLeaves w w2 starts
 Holds (left_refused refusal old new result) w w2 starts = LeavesAlone w w2
 Holds (refusal_stopped refusal old new result) w w2 starts = LeavesAlone w w2
+Holds (unprotected old new result) w w2 starts = LeavesAlone w w2
+Holds (unprotect_stopped old new result) w w2 starts = LeavesAlone w w2
 Holds kept w w2 starts = StandsAlone w w2
 Holds was_reset w w2 starts = LeavesAlone w w2
 Holds lost_owed w w2 starts = LeavesAlone w w2
@@ -132,6 +136,8 @@ IsHonestAfter view (undid table count old new result) = (view new).is_honest
 IsHonestAfter view (undo_stopped table count old new result) = (view new).is_honest
 IsHonestAfter view (left_refused refusal old new result) = (view new).is_honest
 IsHonestAfter view (refusal_stopped refusal old new result) = (view new).is_honest
+IsHonestAfter view (unprotected old new result) = (view new).is_honest
+IsHonestAfter view (unprotect_stopped old new result) = (view new).is_honest
 IsHonestAfter view kept = Unit {0}
 IsHonestAfter view was_reset = Unit {0}
 IsHonestAfter view lost_owed = Unit {0}
@@ -164,6 +170,8 @@ oldest_after (undid table count old new result) w2 flash = flash
 oldest_after (undo_stopped table count old new result) w2 flash = flash
 oldest_after (left_refused refusal old new result) w2 flash = flash
 oldest_after (refusal_stopped refusal old new result) w2 flash = flash
+oldest_after (unprotected old new result) w2 flash = flash
+oldest_after (unprotect_stopped old new result) w2 flash = flash
 oldest_after kept w2 flash = w2.device.flash
 oldest_after was_reset w2 flash = flash
 oldest_after lost_owed w2 flash = flash

@@ -24,6 +24,7 @@ pub mod Work
 pub mod Lines
 pub mod Runs
 pub mod Undoes
+pub mod Unprotecting
 pub mod Promises
 pub mod Events
 pub mod Headline

@@ -44,6 +44,7 @@ mod segment_begin;
 mod segment_end;
 mod segments_back;
 mod settling;
+mod unprotecting;
 
 pub use asking_board::{Board, told_board_is_the_devices};
 pub use board_session::ask_board;
@@ -67,3 +68,4 @@ pub use laws::{
 pub use outcome::{Outcome, Report};
 pub use reversal::{undo, undo_fresh};
 pub use running::run;
+pub use unprotecting::unprotect_fresh;

@@ -74,4 +74,6 @@ mod troubled_runs;
 #[cfg(test)]
 mod two_stops;
 #[cfg(test)]
+mod unprotecting;
+#[cfg(test)]
 mod writing;
