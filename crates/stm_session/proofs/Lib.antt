@@ -83,4 +83,4 @@ pub mod KeptSteps
 pub mod KeptRuns
 pub mod KeptUndoes
 pub mod Foreign
-pub mod Unprotecting
+pub mod Unprotections

@@ -137,14 +137,14 @@ module _ (lost : LossStaysHarmless) (old : RigState) (safely : old.is_honest →
   pub unread : {T U : Type 0} (mid : RigState) (e : Fault) (result : Result U Fault) → GoesOn AreFetches old.calls mid.calls → (old.is_honest → LoadsUnless {T = T} (bad_refusal (journal_of old.journal)) old mid (Err e))
       → (old.is_honest → old.journal ≡ [] → e ≢ faults.Memory) → IsErrAnd result (λ x. x ≡ e) → UnprotectContract old mid result
   unread mid e (Ok x) fetched loads memory is = absurd is
-  unread mid e (Err y) fetched loads memory is =
-      let C : Fault → Type 0 = λ x. UnprotectContract old mid (Err x) in
+  unread {U = U} mid e (Err y) fetched loads memory is =
+      let C : Fault → Type 0 = λ x. UnprotectContract {T = U} old mid (Err x) in
       subst C (sym is)
-      (contract mid (Err e)
+      (contract {U = U} mid (Err e)
       (λ h refusal said. let l = loads h in record { moments = l.moments; honest = l.honest; left = l.left; answers = answered _ refusal e said l.refused })
       (λ h refusal said. fetched)
       (λ h fresh. leaves_unread lost unprotect_frame _ old mid (safely h fresh) e (Err e) (loads h) refl)
-      (λ h fresh none listed. fails_unread _ old mid e (Err e) (loads h) none refl)
+      (λ h fresh none listed. fails_unread {U = U} _ old mid e (Err e) (loads h) none refl)
       memory)
 
   -- the journal was read, and is good
@@ -159,10 +159,10 @@ module _ (lost : LossStaysHarmless) (old : RigState) (safely : old.is_honest →
     pub unconnected : {T U : Type 0} {Done : T → Type 0} (new : RigState) (e : Fault) (result : Result U Fault) → (mid.is_honest → IsReset mid.device → BeginsNothing mid new (Err e) Done) → IsOfLine e → IsErrAnd result (λ x. x ≡ e)
         → UnprotectContract old new result
     unconnected new e (Ok x) begins of is = absurd is
-    unconnected new e (Err y) begins of is =
-        let C : Fault → Type 0 = λ x. UnprotectContract old new (Err x) in
+    unconnected {U = U} new e (Err y) begins of is =
+        let C : Fault → Type 0 = λ x. UnprotectContract {T = U} old new (Err x) in
         subst C (sym is)
-        (contract new (Err e) accepted accepted
+        (contract {U = U} new (Err e) (λ h refusal said. accepted h refusal said) (λ h refusal said. accepted h refusal said)
         (λ h fresh. leaves_unsettled lost unprotect_frame _ old mid (safely h fresh) (loads h) new e (Err e) (begins (loads h).honest (fresh_then h fresh)) of refl)
         (λ h fresh none listed. (begins (loads h).honest (fresh_then h fresh)).fails)
         (λ h empty. line_is_no_memory e of))
@@ -173,10 +173,10 @@ module _ (lost : LossStaysHarmless) (old : RigState) (safely : old.is_honest →
       pub broken : {U : Type 0} (new : RigState) (e : WireFault) (result : Result U Fault) → BreaksOff e unprotect_frame unprotect_turns settled new
           → (settled.is_honest → CanProtect (protection_code WriteUnprotect) settled.device → e ≡ Line) → IsErrAnd result (λ x. x ≡ fault_of e) → UnprotectContract old new result
       broken new e (Ok x) breaks honest is = absurd is
-      broken new e (Err y) breaks honest is =
-          let C : Fault → Type 0 = λ x. UnprotectContract old new (Err x) in
+      broken {U = U} new e (Err y) breaks honest is =
+          let C : Fault → Type 0 = λ x. UnprotectContract {T = U} old new (Err x) in
           subst C (sym is)
-          (contract new (Err (fault_of e)) accepted accepted
+          (contract {U = U} new (Err (fault_of e)) (λ h refusal said. accepted h refusal said) (λ h refusal said. accepted h refusal said)
           (λ h fresh. leaves_broken lost unprotect_frame _ old mid (safely h fresh) (loads h) settled (begins (loads h).honest (fresh_then h fresh)) new (Err (fault_of e)) breaks refl)
           (λ h fresh none listed.
           let b = begins (loads h).honest (fresh_then h fresh) in
@@ -187,7 +187,7 @@ module _ (lost : LossStaysHarmless) (old : RigState) (safely : old.is_honest →
       -- or held to its end
       pub whole : {U : Type 0} (new : RigState) (x : U) → Holds unprotect_frame unprotect_turns settled new → UnprotectContract old new (Ok x)
       whole new x holds =
-          contract new (Ok x) accepted accepted
+          contract new (Ok x) (λ h refusal said. accepted h refusal said) (λ h refusal said. accepted h refusal said)
           (λ h fresh. leaves_fed lost unprotect_frame _ old mid (safely h fresh) (loads h) settled (begins (loads h).honest (fresh_then h fresh)) new x holds)
           (λ h fresh none listed. tt)
           (λ h empty. tt)
