@@ -30,7 +30,13 @@ fn device(rt: &HostRuntime, journal: &[u8]) -> Result<MemoryRig, Fail> {
     let table = devices::table(rt)?;
     let chip = table.find(0x0410).ok_or("no chip")?;
     let flash = counting(rt, chip.flash_size())?;
-    devices::rig_of(rt, &table, 0x0410, flash, Vec::from_slice(rt.alloc(), journal)?)
+    devices::rig_of(
+        rt,
+        &table,
+        0x0410,
+        flash,
+        Vec::from_slice(rt.alloc(), journal)?,
+    )
 }
 
 #[test]
