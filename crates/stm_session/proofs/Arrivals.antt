@@ -52,6 +52,7 @@ tells_unless (fault.BadJournal line) chip c steps other = tt
 tells_unless fault.OtherDevice chip c steps other = tt
 tells_unless fault.OtherBoard chip c steps other = tt
 tells_unless fault.BoardChanged chip c steps other = tt
+tells_unless (fault.NotHeld n) chip c steps other = tt
 tells_unless fault.Full chip c steps other = tt
 
 -- a write and an erase
@@ -73,6 +74,7 @@ change_tells (fault.BadJournal line) chip c steps change = tt
 change_tells fault.OtherDevice chip c steps change = tt
 change_tells fault.OtherBoard chip c steps change = tt
 change_tells fault.BoardChanged chip c steps change = tt
+change_tells (fault.NotHeld n) chip c steps change = tt
 change_tells fault.Full chip c steps change = tt
 
 pub change_stops : {T : Type 0} (chip : ChipData) (c : CommandData) (s : StateData) (torn : Bool) (a b : RigState) (result : Result T Fault) → is_change c ≡ true → Stops (IsBegunBy chip c s) torn a b result

@@ -1,5 +1,5 @@
 -- Segments are taken back, one after another.
-use Rattle.std.proofs.Common.{◌≡◌, inl, inr, ℕ, zero, suc, ◌+◌, ◌*◌, ◌<◌, ◌≤◌, true, Some, List, [], ◌∷◌, ◌++◌, length, take, drop, get_or, Result, Ok, Err, IsErrAnd, refl, sym, ◌∙◌, ap, ap₂, subst, arith, append_assoc}
+use Rattle.std.proofs.Common.{Bool, ◌≡◌, inl, inr, ℕ, zero, suc, ◌+◌, ◌*◌, ◌<◌, ◌≤◌, true, Some, List, [], ◌∷◌, ◌++◌, length, take, drop, get_or, Result, Ok, Err, IsErrAnd, refl, sym, ◌∙◌, ap, ap₂, subst, arith, append_assoc}
 use Rattle.std.proofs.lemmas.List.{length-map, length-drop, drop-drop}
 use Rattle.stm_wire.specs.Chip.{ChipData}
 use Rattle.stm_wire.specs.Device.{Device}
@@ -249,11 +249,11 @@ pub goes_back_all : (i n : ℕ) (flashes : List (List ℕ)) (l2 : Loaded) (a b :
 goes_back_all i n flashes l2 a b is goes = let G : ℕ → Type 0 = λ m. GoesBack {T = Unit {0}} m flashes l2 a b (Ok tt) in subst G is goes
 
 -- how far the segments are taken back
-pub record IsBackSoFar (chip : ChipData) (Told : Tells) (i : ℕ) (l l2 : Loaded) (old new : RigState) : Type 0 where
+pub record IsBackSoFar (again : Bool) (chip : ChipData) (Told : Tells) (i : ℕ) (l l2 : Loaded) (old new : RigState) : Type 0 where
   pub rest : pages_of_segments l2.state.stack ≡ drop i (pages_of_segments l.state.stack)
   pub line : new.line_failures ≡ old.line_failures
   pub journal : new.journal_failures ≡ old.journal_failures
   pub stays : old.is_honest → new.is_honest
   pub puts : GoesOn (IsPart (Some chip) true (i * most_of_command)) old.calls new.calls
-  pub order : Follows (AreTakenBack chip Told i (pages_of_segments l.state.stack)) l l2 old new
+  pub order : Follows (AreTakenBack again chip Told i (pages_of_segments l.state.stack)) l l2 old new
   pub honest : (flashes : List (List ℕ)) → IsSteady flashes l old → old.device.chip ≡ chip → GoesBack {T = Unit {0}} i flashes l2 old new (Ok tt)

@@ -1,5 +1,5 @@
 -- What an undo does changes only pages of the segment that it takes back.
-use Rattle.std.proofs.Common.{◌≡◌, Contains, ⊎_elim, inl, inr, ℕ, zero, suc, ◌+◌, ◌*◌, ◌/◌, ◌≤◌, Bool, true, false, if◌then◌else◌, List, [], ◌∷◌, ◌++◌, map, length, take, drop, Option, Some, None, refl, sym, ◌∙◌, ap, subst, arith, append_assoc}
+use Rattle.std.proofs.Common.{◌≡◌, Contains, ⊎_elim, inl, inr, ℕ, zero, suc, ◌+◌, ◌*◌, ◌/◌, ◌≤◌, Bool, true, false, if◌then◌else◌, List, [], ◌∷◌, ◌++◌, map, length, take, drop, Option, Some, None, refl, sym, ◌∙◌, ap, subst, arith, append-nil, append_assoc}
 use Rattle.std.specs.Prelude.{bytes_eq}
 use Rattle.stm_wire.specs.declared.intent.Intent.{Intent}
 use Rattle.stm_wire.specs.Chip.{ChipData, erased_byte, page_size}
@@ -12,11 +12,13 @@ use Rattle.stm_journal.specs.declared.kept.Kept.{Kept}
 use Rattle.stm_journal.specs.Newest.{pages_of_newest, pages_of_segments}
 use Rattle.stm_journal.specs.States.{IsSound, SegmentData, StateData, intent_of, intent_page}
 use Rattle.stm_session.specs.declared.fault.Fault.{Fault}
+use Rattle.stm_session.specs.declared.returned.Returned.{Returned}
 use Rattle.stm_session.specs.Fault.{cause_of}
 use Rattle.stm_session.specs.Fresh.{undo_way}
 use Rattle.stm_session.specs.Kept.{IsOfNewest, PutsBack, PutsBackFrom, UndoPutsBack, UndoStopsBack, erases, erasing, programming, reads, undoing, writes}
-use Rattle.stm_session.specs.Order.{Step, Adds, Sends, Tells, AreAllTakenBack, AreReturned, AreTakenBack, IsReturned, IsTakenBack, behind, page_address, read_steps, restore_steps, rewrite_steps, untold, write_steps}
-use Rattle.stm_session.specs.UndoOrder.{AreTaken, BeginTaking, UndoStopsFrom, UndoesInOrderFrom}
+use Rattle.stm_session.specs.Order.{Step, Adds, Sends, Tells, AreAllTakenBack, AreReturned, AreTakenBack, IsReturned, IsTakenBack, behind, Begin, OrMisread, page_address, page_reads, read_steps, restore_steps, return_steps, rewrite_steps, untold, write_steps}
+use Rattle.stm_session.specs.UndoOrder.{AreTaken, BeginTaking, ReturnsInOrder, UndoDoes, UndoStopsAs, UndoesInOrderFrom}
+use Rattle.stm_session.specs.Reaching.{StepsOf}
 use Rattle.stm_session.proofs.Keeping.{newest-listed}
 use Rattle.stm_session.proofs.KeptRuns.{after_as, as_session, confirmed_as, does_as, stops_as}
 use Rattle.stm_session.proofs.KeptSteps.{AreInside, bytes_inside, frames_inside, here, later as further}
@@ -71,49 +73,56 @@ module _ (chip : ChipData) (pages : List Kept) (below : List (List Kept)) where
       by_same true = λ ys p. p
       by_same false = rewrite_within n page is size
 
-  returned_within : (Told : Tells) (n : ℕ) (steps : List Step) → Contains (numbers pages) n → IsReturned chip Told n steps → Within chip (pages ∷ below) steps
-  returned_within Told n steps is returned =
-      let read = read_steps (page_address chip n) (page_size chip n / 256) returned.held in
-      let restored = restore_steps chip n returned.held returned.page in
-      within_as chip (pages ∷ below) (read ++ restored) steps returned.is
-      (within_then chip (pages ∷ below) read restored (reads_within chip (pages ∷ below) (page_address chip n) (page_size chip n / 256) returned.held) (restore_within n returned.held returned.page is returned.size))
+  -- and the page is read again, or it isn't
+  return_within : (again : Bool) (n : ℕ) (held page : List ℕ) → Contains (numbers pages) n → length page ≡ page_size chip n → Within chip (pages ∷ below) (return_steps again chip n held page)
+  return_within false n held page is size = restore_within n held page is size
+  return_within true n held page is size =
+      let segments : List (List Kept) = pages ∷ below in
+      within_then chip segments (restore_steps chip n held page) (page_reads chip n page) (restore_within n held page is size) (reads_within chip segments (page_address chip n) (page_size chip n / 256) page)
 
-  all_within : (Told : Tells) (kept : List Kept) (steps : List Step) → ((m : ℕ) → Contains (numbers kept) m → Contains (numbers pages) m) → AreReturned chip Told kept steps → Within chip (pages ∷ below) steps
-  all_within Told [] steps among is = within_as chip (pages ∷ below) [] steps is (λ ys p. p)
-  all_within Told (k ∷ kept) steps among (first, rest, is, one, others) =
+  returned_within : (again : Bool) (Told : Tells) (n : ℕ) (steps : List Step) → Contains (numbers pages) n → IsReturned again chip Told n steps → Within chip (pages ∷ below) steps
+  returned_within again Told n steps is returned =
+      let read = read_steps (page_address chip n) (page_size chip n / 256) returned.held in
+      let restored = return_steps again chip n returned.held returned.page in
+      within_as chip (pages ∷ below) (read ++ restored) steps returned.is
+      (within_then chip (pages ∷ below) read restored (reads_within chip (pages ∷ below) (page_address chip n) (page_size chip n / 256) returned.held) (return_within again n returned.held returned.page is returned.size))
+
+  all_within : (again : Bool) (Told : Tells) (kept : List Kept) (steps : List Step) → ((m : ℕ) → Contains (numbers kept) m → Contains (numbers pages) m) → AreReturned again chip Told kept steps → Within chip (pages ∷ below) steps
+  all_within again Told [] steps among is = within_as chip (pages ∷ below) [] steps is (λ ys p. p)
+  all_within again Told (k ∷ kept) steps among (first, rest, is, one, others) =
       within_as chip (pages ∷ below) (first ++ rest) steps is
-      (within_then chip (pages ∷ below) first rest (returned_within Told k.page first (among k.page (here k.page (numbers kept))) one) (all_within (behind first Told) kept rest (λ m is_one. among m (further m k.page (numbers kept) is_one)) others))
+      (within_then chip (pages ∷ below) first rest (returned_within again Told k.page first (among k.page (here k.page (numbers kept))) one) (all_within again (behind first Told) kept rest (λ m is_one. among m (further m k.page (numbers kept) is_one)) others))
 
   -- the segment is taken back
-  taken_within : (Told : Tells) (steps : List Step) → IsTakenBack chip Told pages (length below + 1) steps → (ys : List Step) → PutsBack chip below ys → PutsBack chip (pages ∷ below) (steps ++ ys)
-  taken_within Told steps taken ys p =
+  taken_within : (again : Bool) (Told : Tells) (steps : List Step) → IsTakenBack again chip Told pages (length below + 1) steps → (ys : List Step) → PutsBack chip below ys → PutsBack chip (pages ∷ below) (steps ++ ys)
+  taken_within again Told steps taken ys p =
       let P : List Step → Type 0 = λ l. PutsBack chip (pages ∷ below) (l ++ ys) in
       let Q : List Step → Type 0 = λ l. PutsBack chip (pages ∷ below) l in
       let last : List Step = Adds (Undoes (length below + 1) ∷ []) ∷ [] in
-      subst P (sym taken.is) (subst Q (sym (append_assoc taken.returns last ys)) (all_within Told pages taken.returns (λ m is_one. is_one) taken.are_returns (last ++ ys) (below, undoing pages below, p)))
+      subst P (sym taken.is) (subst Q (sym (append_assoc taken.returns last ys)) (all_within again Told pages taken.returns (λ m is_one. is_one) taken.are_returns (last ++ ys) (below, undoing pages below, p)))
 
 -- and one after another
-taken_puts : (chip : ChipData) (Told : Tells) (count : ℕ) (segments : List (List Kept)) (steps : List Step) → AreTakenBack chip Told count segments steps → PutsBack chip segments steps
-taken_puts chip Told zero segments steps is = let P : List Step → Type 0 = λ l. PutsBack chip segments l in subst P (sym is) tt
-taken_puts chip Told (suc count) [] steps is = absurd is
-taken_puts chip Told (suc count) (pages ∷ below) steps (first, rest, is, one, others) =
+taken_puts : (again : Bool) (chip : ChipData) (Told : Tells) (count : ℕ) (segments : List (List Kept)) (steps : List Step) → AreTakenBack again chip Told count segments steps → PutsBack chip segments steps
+taken_puts again chip Told zero segments steps is = let P : List Step → Type 0 = λ l. PutsBack chip segments l in subst P (sym is) tt
+taken_puts again chip Told (suc count) [] steps is = absurd is
+taken_puts again chip Told (suc count) (pages ∷ below) steps (first, rest, is, one, others) =
     let P : List Step → Type 0 = λ l. PutsBack chip (pages ∷ below) l in
-    subst P (sym is) (taken_within chip pages below Told first one rest (taken_puts chip (behind first Told) count below rest others))
+    subst P (sym is) (taken_within chip pages below again Told first one rest (taken_puts again chip (behind first Told) count below rest others))
 
 -- the page of an intent first, which the newest segment keeps
-all_puts : (chip : ChipData) (Told : Tells) (intent : Option Intent) (count : ℕ) (segments : List (List Kept)) (steps : List Step) → ((i : Intent) → intent ≡ Some i → IsOfNewest (intent_page i) segments)
-    → AreAllTakenBack chip Told intent count segments steps → PutsBack chip segments steps
-all_puts chip Told None count segments steps own taken =
+all_puts : (again : Bool) (chip : ChipData) (Told : Tells) (intent : Option Intent) (count : ℕ) (segments : List (List Kept)) (steps : List Step) → ((i : Intent) → intent ≡ Some i → IsOfNewest (intent_page i) segments)
+    → AreAllTakenBack again chip Told intent count segments steps → PutsBack chip segments steps
+all_puts again chip Told None count segments steps own taken =
     let P : List Step → Type 0 = λ l. PutsBack chip segments l in
-    subst P (sym (taken.is ∙ ap (λ (l : List Step). l ++ taken.back) taken.is_first)) (taken_puts chip (behind taken.first Told) count segments taken.back taken.are_back)
-all_puts chip Told (Some intent) count [] steps own taken = absurd (own intent refl)
-all_puts chip Told (Some intent) count (pages ∷ below) steps own taken =
+    subst P (sym (taken.is ∙ ap (λ (l : List Step). l ++ taken.back) taken.is_first)) (taken_puts again chip (behind taken.first Told) count segments taken.back taken.are_back)
+all_puts again chip Told (Some intent) count [] steps own taken = absurd (own intent refl)
+all_puts again chip Told (Some intent) count (pages ∷ below) steps own taken =
     let n = intent_page intent in
     let segments : List (List Kept) = pages ∷ below in
     let P : List Step → Type 0 = λ l. PutsBack chip segments l in
     let work = taken.is_first in
     subst P (sym taken.is)
-    (within_as chip segments _ taken.first work.is (rewrite_within chip pages below n work.page (own intent refl) work.size) taken.back (taken_puts chip (behind taken.first Told) count segments taken.back taken.are_back))
+    (within_as chip segments _ taken.first work.is (rewrite_within chip pages below n work.page (own intent refl) work.size) taken.back (taken_puts again chip (behind taken.first Told) count segments taken.back taken.are_back))
 
 -- as it does in each journal without a bad line
 intent_own : (s : StateData) → IsSound s → (i : Intent) → intent_of s ≡ Some i → IsOfNewest (intent_page i) (pages_of_segments s.stack)
@@ -126,16 +135,49 @@ intent_own s sound i is = by_stack s.stack (newest-listed (intent_page i) s.stac
         nowhere (k, lt, e) = omega (arith, lt)
     by_stack (segment ∷ below) kept = kept
 
-taken_puts_back : (taken : ℕ) (chip : ChipData) (s : StateData) (steps : List Step) → IsSound s → AreTaken taken chip s steps → PutsBackFrom chip s steps
-taken_puts_back taken chip s steps sound = all_puts chip untold (intent_of s) taken (pages_of_segments s.stack) steps (intent_own s sound)
+taken_puts_back : (again : Bool) (taken : ℕ) (chip : ChipData) (s : StateData) (steps : List Step) → IsSound s → AreTaken again taken chip s steps → PutsBackFrom chip s steps
+taken_puts_back again taken chip s steps sound = all_puts again chip untold (intent_of s) taken (pages_of_segments s.stack) steps (intent_own s sound)
+
+-- such steps, and behind them reads, whatever comes
+puts_reads : (chip : ChipData) (segments : List (List Kept)) (xs zs ys : List Step) → PutsBack chip segments (xs ++ zs) → ((later : List (List Kept)) → PutsBack chip later ys) → PutsBack chip segments (xs ++ ys)
+puts_reads chip segments [] zs ys p more = more segments
+puts_reads chip segments (Adds entries ∷ xs) zs ys (later, may, p) more = (later, may, puts_reads chip later xs zs ys p more)
+puts_reads chip segments (Sends turns ∷ xs) zs ys (may, p) more = (may, puts_reads chip segments xs zs ys p more)
+
+-- or a beginning of them, or one whose last reads brought other bytes
+begun_puts_back : (again : Bool) (taken : ℕ) (chip : ChipData) (s : StateData) (steps : List Step) → IsSound s → OrMisread again chip (Begin (AreTaken again taken chip s)) steps → PutsBackFrom chip s steps
+begun_puts_back false taken chip s steps sound (rest, are) = puts_front chip (pages_of_segments s.stack) steps rest (taken_puts_back false taken chip s (steps ++ rest) sound are)
+begun_puts_back true taken chip s steps sound (inl (rest, are)) = puts_front chip (pages_of_segments s.stack) steps rest (taken_puts_back true taken chip s (steps ++ rest) sound are)
+begun_puts_back true taken chip s steps sound (inr misread) =
+    let segments = pages_of_segments s.stack in
+    let own = misread.before ++ page_reads chip misread.n misread.page in
+    let all = puts_front chip segments own misread.own.0 (taken_puts_back true taken chip s (own ++ misread.own.0) sound misread.own.1) in
+    let address = page_address chip misread.n in
+    let blocks = page_size chip misread.n / 256 in
+    let nil : (later : List (List Kept)) → PutsBack chip later [] = λ later. tt in
+    let P : List (List Kept) → List Step → Type 0 = λ later l. PutsBack chip later l in
+    let more : (later : List (List Kept)) → PutsBack chip later (misread.reads ++ misread.begun.0) =
+    λ later. subst (P later) (append-nil (page_reads chip misread.n misread.came) ∙ sym misread.begun.1) (reads_within chip later address blocks misread.came [] (nil later)) in
+    let Q : List Step → Type 0 = λ l. PutsBack chip segments l in
+    subst Q (sym misread.is) (puts_reads chip segments misread.before (page_reads chip misread.n misread.page) misread.reads all (λ later. puts_front chip later misread.reads misread.begun.0 (more later)))
+
+-- other steps are allowed too
+pub undo_does_as : (is_fresh : Bool) (table : List ChipData) (old new : RigState) (P Q : StepsOf) → ((chip : ChipData) (s : StateData) (steps : List Step) → P chip s steps → Q chip s steps) → UndoDoes is_fresh P table old new → UndoDoes is_fresh Q table old new
+undo_does_as is_fresh table old new P Q weaker =
+    as_session table old _ _ (λ chip l sound. does_as (undo_way is_fresh chip.kind (intent_of l.state)) chip.id l.is_torn _ _ old new (after_as _ _ _ (λ steps are. weaker chip l.state steps are)))
 
 pub undo_puts_back : (is_fresh : Bool) (table : List ChipData) (taken : ℕ) (old new : RigState) → UndoesInOrderFrom is_fresh table taken old new → UndoPutsBack is_fresh table old new
 undo_puts_back is_fresh table taken old new =
-    as_session table old _ _ (λ chip l sound. does_as (undo_way is_fresh chip.kind (intent_of l.state)) chip.id l.is_torn _ _ old new (after_as _ _ _ (λ steps are. taken_puts_back taken chip l.state steps sound are)))
+    as_session table old _ _ (λ chip l sound. does_as (undo_way is_fresh chip.kind (intent_of l.state)) chip.id l.is_torn _ _ old new (after_as _ _ _ (λ steps are. taken_puts_back false taken chip l.state steps sound are)))
 
-pub undo_stops_back : (is_fresh : Bool) (table : List ChipData) (count : ℕ) (old new : RigState) (fault : Fault) → UndoStopsFrom is_fresh table count old new fault → UndoStopsBack is_fresh table old new fault
-undo_stops_back is_fresh table count old new fault (inl fetched) = inl fetched
-undo_stops_back is_fresh table count old new fault (inr cut) =
+-- and one that tells what it returned
+pub return_puts_back : (is_fresh again : Bool) (table : List ChipData) (returned : Returned) (old new : RigState) → ReturnsInOrder is_fresh again table returned old new → UndoPutsBack is_fresh table old new
+return_puts_back is_fresh again table returned old new =
+    as_session table old _ _ (λ chip l sound. does_as (undo_way is_fresh chip.kind (intent_of l.state)) chip.id l.is_torn _ _ old new (after_as _ _ _ (λ steps are. taken_puts_back again returned.segments chip l.state steps sound are.0)))
+
+pub undo_stops_back : (is_fresh again : Bool) (table : List ChipData) (count : ℕ) (old new : RigState) (fault : Fault) → UndoStopsAs is_fresh again table count old new fault → UndoStopsBack is_fresh table old new fault
+undo_stops_back is_fresh again table count old new fault (inl fetched) = inl fetched
+undo_stops_back is_fresh again table count old new fault (inr cut) =
     inr (as_session table old _ _ (λ chip l sound. ⊎_elim (λ reached. inl reached)
     (λ stopped. inr (stops_as (undo_way is_fresh chip.kind (intent_of l.state)) chip.id l.is_torn _ _ (cause_of fault) old new
-    (confirmed_as chip (BeginTaking count chip l.state) _ (λ steps (begun : BeginTaking count chip l.state steps). let rest = begun.3.0 in puts_front chip (pages_of_segments l.state.stack) steps rest (taken_puts_back begun.0 chip l.state (steps ++ rest) sound begun.3.1))) stopped))) cut)
+    (confirmed_as chip (BeginTaking again count chip l.state) _ (λ steps (begun : BeginTaking again count chip l.state steps). begun_puts_back again begun.0 chip l.state steps sound begun.3)) stopped))) cut)

@@ -39,6 +39,9 @@ pub mod CutShort
 pub mod AskingStops
 pub mod Reaching
 pub mod UndoOrders
+pub mod Misreads
+pub mod Rereadings
+pub mod ReturnedBytes
 pub mod PageSums
 pub mod Settlings
 pub mod Freshness

@@ -237,7 +237,7 @@ kept-within s k i n line e =
 segment-tested : (stack : List SegmentData) (newer : ℕ) → newer < length stack → (nat_le 1 (length stack - newer) && nat_le (length stack - newer) (length stack)) ≡ true
 segment-tested stack newer h = grind (arith, nat_tests)
 
-newer-segment : (s : StateData) (newer : ℕ) → newer < length s.stack → segment_of s (length s.stack - newer) ≡ slice_get s.stack newer
+pub newer-segment : (s : StateData) (newer : ℕ) → newer < length s.stack → segment_of s (length s.stack - newer) ≡ slice_get s.stack newer
 newer-segment s newer h =
     let place : length s.stack - (length s.stack - newer) ≡ newer = omega arith in
     ap (λ b. if b then slice_get s.stack (length s.stack - (length s.stack - newer)) else None) (segment-tested s.stack newer h) ∙ ap (slice_get s.stack) place

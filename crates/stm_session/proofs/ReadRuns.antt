@@ -134,6 +134,7 @@ reads_fail commands flashes old new all (fault.BadJournal line) is = is
 reads_fail commands flashes old new all fault.OtherDevice is = is
 reads_fail commands flashes old new all fault.OtherBoard is = is
 reads_fail commands flashes old new all fault.BoardChanged is = is
+reads_fail commands flashes old new all (fault.NotHeld n) is = is
 reads_fail commands flashes old new all fault.Full is = is
 
 pub reads_only : {T : Type 0} (commands : List Command) (flashes : List (List ℕ)) (old new : RigState) (result : Result T Fault) (outcomes_of : T → List Outcome) → list_all is_read commands ≡ true → is_unfinished_at old.journal ≡ false

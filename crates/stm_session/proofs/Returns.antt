@@ -42,7 +42,7 @@ line_exists [] i lt = absurd (omega (arith, lt))
 line_exists (x ∷ pages) zero lt = (x, refl)
 line_exists (x ∷ pages) (suc i) lt = line_exists pages i (omega (arith, lt))
 
-fits_line : (chip : ChipData) (pages : List Kept) (i : ℕ) (k : Kept) → AllKeptFit chip pages → slice_get pages i ≡ Some k → fits_chip chip k ≡ true
+pub fits_line : (chip : ChipData) (pages : List Kept) (i : ℕ) (k : Kept) → AllKeptFit chip pages → slice_get pages i ≡ Some k → fits_chip chip k ≡ true
 fits_line chip [] i k fits is = absurd (let h : None ≡ Some k = is in cc)
 fits_line chip (x ∷ pages) zero k fits is =
     let some : Some x ≡ Some k = is in

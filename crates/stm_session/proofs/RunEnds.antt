@@ -39,6 +39,7 @@ outside_fails commands flashes old new (fault.BadJournal line) is = is
 outside_fails commands flashes old new fault.OtherDevice is = is
 outside_fails commands flashes old new fault.OtherBoard is = is
 outside_fails commands flashes old new fault.BoardChanged is = is
+outside_fails commands flashes old new (fault.NotHeld n) is = is
 outside_fails commands flashes old new fault.Full is = is
 
 -- some commands are done

@@ -111,6 +111,7 @@ module _ (old mid : RigState) (left : IsUnbegun old mid.device mid.journal) wher
   fails_from commands flashes new fault.OtherDevice is = is
   fails_from commands flashes new fault.OtherBoard is = is
   fails_from commands flashes new fault.BoardChanged is = is
+  fails_from commands flashes new (fault.NotHeld n) is = is
   fails_from commands flashes new fault.Full is = is
 
   -- an opening, and then the commands

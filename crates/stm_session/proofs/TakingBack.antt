@@ -56,19 +56,19 @@ intents_returns chip flash [] = tt
 intents_returns chip flash (kept ∷ pages) = intents_then (return_entries chip flash kept) (return_lines chip flash pages) (intents_return chip flash kept) (intents_returns chip flash pages)
 
 -- how far the pages are put back
-pub record IsReturnedSoFar (chip : ChipData) (Told : Tells) (i : ℕ) (l l2 : Loaded) (old new : RigState) : Type 0 where
+pub record IsReturnedSoFar (again : Bool) (chip : ChipData) (Told : Tells) (i : ℕ) (l l2 : Loaded) (old new : RigState) : Type 0 where
   pub same : KeepsSame l.state l2.state
   pub line : new.line_failures ≡ old.line_failures
   pub journal : new.journal_failures ≡ old.journal_failures
   pub stays : old.is_honest → new.is_honest
   pub puts : GoesOn (IsPart (Some chip) true (13 * kept_size chip (take i (newest_kept l.state.stack)))) old.calls new.calls
-  pub order : Follows (AreReturned chip Told (take i (newest_kept l.state.stack))) l l2 old new
+  pub order : Follows (AreReturned again chip Told (take i (newest_kept l.state.stack))) l l2 old new
   pub honest : (flashes : List (List ℕ)) → IsSteady flashes l old → old.device.chip ≡ chip
       → Goes {T = Unit {0}} flashes (return_lines chip old.device.flash (take i (newest_at old.journal))) l2 old new (Ok tt)
       (λ x. new.device.flash ≡ with_pages chip (take i (newest_at old.journal)) old.device.flash)
 
 -- one page more
-module _ {Told : Tells} (laws : StepLaws) (chip : ChipData) (l l2 : Loaded) (a b : RigState) (newest i n line : ℕ) (place : PagePlace) (flashes : List (List ℕ)) (so_far : IsReturnedSoFar chip Told i l l2 a b)
+module _ {again : Bool} {Told : Tells} (laws : StepLaws) (chip : ChipData) (l l2 : Loaded) (a b : RigState) (newest i n line : ℕ) (place : PagePlace) (flashes : List (List ℕ)) (so_far : IsReturnedSoFar again chip Told i l l2 a b)
     (model : IsModel a) (model_then : b.is_honest → IsModel b) (steady : IsSteady flashes l a) (chip_is : a.device.chip ≡ chip) (newest_is : newest ≡ length l.state.stack)
     (place_is : kept_place l2.state newest i ≡ Some place) (number_is : kept_at l2.state newest i ≡ Some (n, line)) where
   pub first : Goes {T = Unit {0}} flashes (return_lines chip a.device.flash (take i (newest_at a.journal))) l2 a b (Ok tt) (λ x. b.device.flash ≡ with_pages chip (take i (newest_at a.journal)) a.device.flash)

@@ -1,5 +1,5 @@
 -- What is said of what the journal told passes from steps to steps.
-use Rattle.std.proofs.Common.{◌≡◌, ℕ, zero, suc, List, [], ◌∷◌, ◌++◌, Option, Some, None, ◌∙◌, ap, subst, append_assoc}
+use Rattle.std.proofs.Common.{◌≡◌, ℕ, zero, suc, Bool, List, [], ◌∷◌, ◌++◌, Option, Some, None, ◌∙◌, ap, subst, append_assoc}
 use Rattle.stm_wire.specs.declared.intent.Intent.{Intent}
 use Rattle.stm_wire.specs.Chip.{ChipData}
 use Rattle.stm_journal.specs.declared.kept.Kept.{Kept}
@@ -19,22 +19,22 @@ behind_both Told xs first rest is steps page told =
     let P : List Step → Type 0 = λ l. Told l page in
     subst P (ap (λ (l : List Step). l ++ steps) is ∙ append_assoc first rest steps) told
 
-pub returned_as : (chip : ChipData) (A B : Tells) (n : ℕ) (xs : List Step) → SaysAlso A B → IsReturned chip A n xs → IsReturned chip B n xs
-returned_as chip A B n xs more r = record { held = r.held; held_size = r.held_size; page = r.page; size = r.size; told = more (page_reads chip n r.held) r.page r.told; is = r.is }
+pub returned_as : (again : Bool) (chip : ChipData) (A B : Tells) (n : ℕ) (xs : List Step) → SaysAlso A B → IsReturned again chip A n xs → IsReturned again chip B n xs
+returned_as again chip A B n xs more r = record { held = r.held; held_size = r.held_size; page = r.page; size = r.size; told = more (page_reads chip n r.held) r.page r.told; is = r.is }
 
-pub pages_as : (chip : ChipData) (A B : Tells) (pages : List Kept) (xs : List Step) → SaysAlso A B → AreReturned chip A pages xs → AreReturned chip B pages xs
-pages_as chip A B [] xs more are = are
-pages_as chip A B (kept ∷ pages) xs more (first, rest, e, one, others) =
-    (first, rest, e, returned_as chip A B kept.page first more one, pages_as chip (behind first A) (behind first B) pages rest (also_behind A B first more) others)
+pub pages_as : (again : Bool) (chip : ChipData) (A B : Tells) (pages : List Kept) (xs : List Step) → SaysAlso A B → AreReturned again chip A pages xs → AreReturned again chip B pages xs
+pages_as again chip A B [] xs more are = are
+pages_as again chip A B (kept ∷ pages) xs more (first, rest, e, one, others) =
+    (first, rest, e, returned_as again chip A B kept.page first more one, pages_as again chip (behind first A) (behind first B) pages rest (also_behind A B first more) others)
 
-pub taken_as : (chip : ChipData) (A B : Tells) (pages : List Kept) (number : ℕ) (xs : List Step) → SaysAlso A B → IsTakenBack chip A pages number xs → IsTakenBack chip B pages number xs
-taken_as chip A B pages number xs more t = record { returns = t.returns; are_returns = pages_as chip A B pages t.returns more t.are_returns; is = t.is }
+pub taken_as : (again : Bool) (chip : ChipData) (A B : Tells) (pages : List Kept) (number : ℕ) (xs : List Step) → SaysAlso A B → IsTakenBack again chip A pages number xs → IsTakenBack again chip B pages number xs
+taken_as again chip A B pages number xs more t = record { returns = t.returns; are_returns = pages_as again chip A B pages t.returns more t.are_returns; is = t.is }
 
-pub segments_as : (chip : ChipData) (A B : Tells) (taken : ℕ) (segments : List (List Kept)) (xs : List Step) → SaysAlso A B → AreTakenBack chip A taken segments xs → AreTakenBack chip B taken segments xs
-segments_as chip A B zero segments xs more are = are
-segments_as chip A B (suc taken) [] xs more are = absurd are
-segments_as chip A B (suc taken) (pages ∷ below) xs more (first, rest, e, one, others) =
-    (first, rest, e, taken_as chip A B pages _ first more one, segments_as chip (behind first A) (behind first B) taken below rest (also_behind A B first more) others)
+pub segments_as : (again : Bool) (chip : ChipData) (A B : Tells) (taken : ℕ) (segments : List (List Kept)) (xs : List Step) → SaysAlso A B → AreTakenBack again chip A taken segments xs → AreTakenBack again chip B taken segments xs
+segments_as again chip A B zero segments xs more are = are
+segments_as again chip A B (suc taken) [] xs more are = absurd are
+segments_as again chip A B (suc taken) (pages ∷ below) xs more (first, rest, e, one, others) =
+    (first, rest, e, taken_as again chip A B pages _ first more one, segments_as again chip (behind first A) (behind first B) taken below rest (also_behind A B first more) others)
 
 pub rewritten_as : (chip : ChipData) (A B : Tells) (n : ℕ) (xs : List Step) → SaysAlso A B → IsRewritten chip A n xs → IsRewritten chip B n xs
 rewritten_as chip A B n xs more r = record { page = r.page; size = r.size; told = more [] r.page r.told; is = r.is }
@@ -43,12 +43,12 @@ pub work_as : (chip : ChipData) (A B : Tells) (intent : Option Intent) (xs : Lis
 work_as chip A B None xs more is = is
 work_as chip A B (Some intent) xs more is = rewritten_as chip A B (intent_page intent) xs more is
 
-pub all_as : (chip : ChipData) (A B : Tells) (intent : Option Intent) (taken : ℕ) (segments : List (List Kept)) (xs : List Step) → SaysAlso A B → AreAllTakenBack chip A intent taken segments xs → AreAllTakenBack chip B intent taken segments xs
-all_as chip A B intent taken segments xs more all =
+pub all_as : (again : Bool) (chip : ChipData) (A B : Tells) (intent : Option Intent) (taken : ℕ) (segments : List (List Kept)) (xs : List Step) → SaysAlso A B → AreAllTakenBack again chip A intent taken segments xs → AreAllTakenBack again chip B intent taken segments xs
+all_as again chip A B intent taken segments xs more all =
     record {
       first = all.first;
       is_first = work_as chip A B intent all.first more all.is_first;
       back = all.back;
-      are_back = segments_as chip (behind all.first A) (behind all.first B) taken segments all.back (also_behind A B all.first more) all.are_back;
+      are_back = segments_as again chip (behind all.first A) (behind all.first B) taken segments all.back (also_behind A B all.first more) all.are_back;
       is = all.is;
     }

@@ -15,7 +15,7 @@ use Rattle.stm_journal.specs.Newest.{pages_of_segments}
 use Rattle.stm_journal.specs.States.{SegmentData}
 use Rattle.stm_session.specs.declared.fault.Fault.{Fault}
 use Rattle.stm_session.specs.Fault.{Cause, cause_of, fault_of_journal}
-use Rattle.stm_session.specs.Order.{Step, Adds, Are, Tells, AreAllTakenBack, AreReadsOf, AreReturned, AreTakenBack, Begin, BeginTold, FailsBy, IsInOrder, IsReturned, IsRewritten, IsTakenBack, IsWorkRewritten, Stops, StopsBy, behind, page_address, page_reads, read_steps, restore_steps, rewrite_steps, so_far, torn_behind}
+use Rattle.stm_session.specs.Order.{Step, Adds, Are, Tells, AreAllTakenBack, AreReadsOf, AreReturned, AreTakenBack, Begin, BeginTold, FailsBy, IsInOrder, IsReturned, IsRewritten, IsTakenBack, IsWorkRewritten, Stops, StopsBy, behind, page_address, page_reads, read_steps, return_steps, rewrite_steps, so_far, torn_behind}
 use Rattle.stm_session.proofs.CutShort.{by_fault, halts}
 use Rattle.stm_session.proofs.Orders.{returned_next, taken_next}
 use Rattle.stm_session.proofs.Tellings.{SaysAlso, behind_both, pages_as, returned_as, segments_as, taken_as, work_as}
@@ -28,36 +28,36 @@ free_behind : (Told : Tells) (first : List Step) → IsFree Told → IsFree (beh
 free_behind Told first free steps page = free (first ++ steps) page
 
 -- a page is returned, once it was read
-pub some_return : (chip : ChipData) (Told : Tells) (n : ℕ) (held : List ℕ) → length held ≡ page_size chip n → ((page : List ℕ) → Told (page_reads chip n held) page) → (more : List Step) × IsReturned chip Told n (page_reads chip n held ++ more)
-some_return chip Told n held size free =
+pub some_return : (again : Bool) (chip : ChipData) (Told : Tells) (n : ℕ) (held : List ℕ) → length held ≡ page_size chip n → ((page : List ℕ) → Told (page_reads chip n held) page) → (more : List Step) × IsReturned again chip Told n (page_reads chip n held ++ more)
+some_return again chip Told n held size free =
     let page : List ℕ = replicate (page_size chip n) 0 in
-    (restore_steps chip n held page, record { held = held; held_size = size; page = page; size = length-replicate {A = ℕ} (page_size chip n) 0; told = free page; is = refl })
+    (return_steps again chip n held page, record { held = held; held_size = size; page = page; size = length-replicate {A = ℕ} (page_size chip n) 0; told = free page; is = refl })
 
-some_page : (chip : ChipData) (Told : Tells) (n : ℕ) → IsFree Told → (steps : List Step) × IsReturned chip Told n steps
-some_page chip Told n free =
+some_page : (again : Bool) (chip : ChipData) (Told : Tells) (n : ℕ) → IsFree Told → (steps : List Step) × IsReturned again chip Told n steps
+some_page again chip Told n free =
     let held : List ℕ = replicate (page_size chip n) 0 in
-    let made = some_return chip Told n held (length-replicate {A = ℕ} (page_size chip n) 0) (free (page_reads chip n held)) in
+    let made = some_return again chip Told n held (length-replicate {A = ℕ} (page_size chip n) 0) (free (page_reads chip n held)) in
     (page_reads chip n held ++ made.0, made.1)
 
 -- a page is begun: it was read, or in part
-pub return_read : (chip : ChipData) (Told : Tells) (n : ℕ) (held : List ℕ) → length held ≡ page_size chip n → BeginTold (λ T. IsReturned chip T n) Told (page_reads chip n held)
-return_read chip Told n held size = some_return chip (so_far (length (page_reads chip n held)) Told) n held size (λ page lt. absurd (omega (arith, lt)))
+pub return_read : (again : Bool) (chip : ChipData) (Told : Tells) (n : ℕ) (held : List ℕ) → length held ≡ page_size chip n → BeginTold (λ T. IsReturned again chip T n) Told (page_reads chip n held)
+return_read again chip Told n held size = some_return again chip (so_far (length (page_reads chip n held)) Told) n held size (λ page lt. absurd (omega (arith, lt)))
 
-pub return_reading : (chip : ChipData) (Told : Tells) (n start size : ℕ) → start ≡ page_address chip n → size ≡ page_size chip n → (ys : List Step) → Begin (AreReadsOf start size) ys → BeginTold (λ T. IsReturned chip T n) Told ys
-return_reading chip Told n start size at whole ys (rest, reads) =
+pub return_reading : (again : Bool) (chip : ChipData) (Told : Tells) (n start size : ℕ) → start ≡ page_address chip n → size ≡ page_size chip n → (ys : List Step) → Begin (AreReadsOf start size) ys → BeginTold (λ T. IsReturned again chip T n) Told ys
+return_reading again chip Told n start size at whole ys (rest, reads) =
     let T = so_far (length ys) Told in
     let is : ys ++ rest ≡ page_reads chip n reads.held = reads.is ∙ ap₂ (λ (k z : ℕ). read_steps k (z / 256) reads.held) at whole in
     let long : length ys + length rest ≡ length (page_reads chip n reads.held) = sym (length-append ys rest) ∙ ap (λ (l : List Step). length l) is in
-    let made = some_return chip T n reads.held (reads.size ∙ whole) (λ page lt. absurd (omega (arith, lt, long))) in
-    let P : List Step → Type 0 = λ l. IsReturned chip T n l in
+    let made = some_return again chip T n reads.held (reads.size ∙ whole) (λ page lt. absurd (omega (arith, lt, long))) in
+    let P : List Step → Type 0 = λ l. IsReturned again chip T n l in
     (rest ++ made.0, subst P (ap (λ (l : List Step). l ++ made.0) (sym is) ∙ append_assoc ys rest made.0) made.1)
 
 -- pages are
-some_pages : (chip : ChipData) (Told : Tells) (pages : List Kept) → IsFree Told → (steps : List Step) × AreReturned chip Told pages steps
-some_pages chip Told [] free = ([], refl)
-some_pages chip Told (kept ∷ pages) free =
-    let first = some_page chip Told kept.page free in
-    let rest = some_pages chip (behind first.0 Told) pages (free_behind Told first.0 free) in
+some_pages : (again : Bool) (chip : ChipData) (Told : Tells) (pages : List Kept) → IsFree Told → (steps : List Step) × AreReturned again chip Told pages steps
+some_pages again chip Told [] free = ([], refl)
+some_pages again chip Told (kept ∷ pages) free =
+    let first = some_page again chip Told kept.page free in
+    let rest = some_pages again chip (behind first.0 Told) pages (free_behind Told first.0 free) in
     (first.0 ++ rest.0, (first.0, rest.0, refl, first.1, rest.1))
 
 -- the page at work is
@@ -69,54 +69,54 @@ some_rewrite chip Told n =
     )
 
 -- segments are taken back
-pub some_segments : (chip : ChipData) (Told : Tells) (taken : ℕ) (segments : List (List Kept)) → IsFree Told → taken ≤ length segments → (steps : List Step) × AreTakenBack chip Told taken segments steps
-some_segments chip Told zero segments free within = ([], refl)
-some_segments chip Told (suc taken) [] free within = absurd (omega (arith, within))
-some_segments chip Told (suc taken) (pages ∷ below) free within =
-    let returns = some_pages chip Told pages free in
+pub some_segments : (again : Bool) (chip : ChipData) (Told : Tells) (taken : ℕ) (segments : List (List Kept)) → IsFree Told → taken ≤ length segments → (steps : List Step) × AreTakenBack again chip Told taken segments steps
+some_segments again chip Told zero segments free within = ([], refl)
+some_segments again chip Told (suc taken) [] free within = absurd (omega (arith, within))
+some_segments again chip Told (suc taken) (pages ∷ below) free within =
+    let returns = some_pages again chip Told pages free in
     let first : List Step = returns.0 ++ Adds (Undoes (length below + 1) ∷ []) ∷ [] in
-    let rest = some_segments chip (behind first Told) taken below (free_behind Told first free) (omega (arith, within)) in
+    let rest = some_segments again chip (behind first Told) taken below (free_behind Told first free) (omega (arith, within)) in
     (first ++ rest.0, (first, rest.0, refl, record { returns = returns.0; are_returns = returns.1; is = refl }, rest.1))
 
 -- pages before others
-pages_join : (chip : ChipData) (Told : Tells) (k : ℕ) (pages : List Kept) (xs ys : List Step) → AreReturned chip Told (take k pages) xs → AreReturned chip (behind xs Told) (drop k pages) ys → AreReturned chip Told pages (xs ++ ys)
-pages_join chip Told zero pages xs ys are q =
-    let P : List Step → Type 0 = λ zs. AreReturned chip Told pages (zs ++ ys) in
-    let Q : List Step → Type 0 = λ l. AreReturned chip (behind l Told) pages ys in
-    let here : AreReturned chip Told pages ys = subst Q are q in
+pages_join : (again : Bool) (chip : ChipData) (Told : Tells) (k : ℕ) (pages : List Kept) (xs ys : List Step) → AreReturned again chip Told (take k pages) xs → AreReturned again chip (behind xs Told) (drop k pages) ys → AreReturned again chip Told pages (xs ++ ys)
+pages_join again chip Told zero pages xs ys are q =
+    let P : List Step → Type 0 = λ zs. AreReturned again chip Told pages (zs ++ ys) in
+    let Q : List Step → Type 0 = λ l. AreReturned again chip (behind l Told) pages ys in
+    let here : AreReturned again chip Told pages ys = subst Q are q in
     subst P (sym are) here
-pages_join chip Told (suc k) [] xs ys are q =
-    let P : List Step → Type 0 = λ zs. AreReturned chip Told [] (zs ++ ys) in
+pages_join again chip Told (suc k) [] xs ys are q =
+    let P : List Step → Type 0 = λ zs. AreReturned again chip Told [] (zs ++ ys) in
     subst P (sym are) q
-pages_join chip Told (suc k) (kept ∷ pages) xs ys (first, rest, e, one, more) q = (
+pages_join again chip Told (suc k) (kept ∷ pages) xs ys (first, rest, e, one, more) q = (
   first,
   rest ++ ys,
   ap (λ (zs : List Step). zs ++ ys) e ∙ append_assoc first rest ys,
   one,
-  pages_join chip (behind first Told) k pages rest ys more (pages_as chip (behind xs Told) (behind rest (behind first Told)) (drop k pages) ys (behind_both Told xs first rest e) q),
+  pages_join again chip (behind first Told) k pages rest ys more (pages_as again chip (behind xs Told) (behind rest (behind first Told)) (drop k pages) ys (behind_both Told xs first rest e) q),
 )
 
 -- segments before others
-segments_join : (chip : ChipData) (Told : Tells) (k m n : ℕ) (segments : List (List Kept)) (xs ys : List Step) → n ≡ k + m → AreTakenBack chip Told k segments xs → AreTakenBack chip (behind xs Told) m (drop k segments) ys
-    → AreTakenBack chip Told n segments (xs ++ ys)
-segments_join chip Told zero m n segments xs ys all are q =
+segments_join : (again : Bool) (chip : ChipData) (Told : Tells) (k m n : ℕ) (segments : List (List Kept)) (xs ys : List Step) → n ≡ k + m → AreTakenBack again chip Told k segments xs → AreTakenBack again chip (behind xs Told) m (drop k segments) ys
+    → AreTakenBack again chip Told n segments (xs ++ ys)
+segments_join again chip Told zero m n segments xs ys all are q =
     let same : m ≡ n = omega (arith, all) in
-    let N : ℕ → Type 0 = λ k. AreTakenBack chip Told k segments (xs ++ ys) in
-    let P : List Step → Type 0 = λ zs. AreTakenBack chip Told m segments (zs ++ ys) in
-    let Q : List Step → Type 0 = λ l. AreTakenBack chip (behind l Told) m segments ys in
-    let here : AreTakenBack chip Told m segments ys = subst Q are q in
+    let N : ℕ → Type 0 = λ k. AreTakenBack again chip Told k segments (xs ++ ys) in
+    let P : List Step → Type 0 = λ zs. AreTakenBack again chip Told m segments (zs ++ ys) in
+    let Q : List Step → Type 0 = λ l. AreTakenBack again chip (behind l Told) m segments ys in
+    let here : AreTakenBack again chip Told m segments ys = subst Q are q in
     subst N same (subst P (sym are) here)
-segments_join chip Told (suc k) m n [] xs ys all are q = absurd are
-segments_join chip Told (suc k) m n (pages ∷ below) xs ys all (first, rest, e, one, more) q =
+segments_join again chip Told (suc k) m n [] xs ys all are q = absurd are
+segments_join again chip Told (suc k) m n (pages ∷ below) xs ys all (first, rest, e, one, more) q =
     let same : suc (k + m) ≡ n = omega (arith, all) in
-    let N : ℕ → Type 0 = λ k. AreTakenBack chip Told k (pages ∷ below) (xs ++ ys) in
+    let N : ℕ → Type 0 = λ k. AreTakenBack again chip Told k (pages ∷ below) (xs ++ ys) in
     subst N same (
       first,
       rest ++ ys,
       ap (λ (zs : List Step). zs ++ ys) e ∙ append_assoc first rest ys,
       one,
-      segments_join chip (behind first Told) k m (k + m) below rest ys refl more
-          (segments_as chip (behind xs Told) (behind rest (behind first Told)) m (drop k below) ys (behind_both Told xs first rest e) q),
+      segments_join again chip (behind first Told) k m (k + m) below rest ys refl more
+          (segments_as again chip (behind xs Told) (behind rest (behind first Told)) m (drop k below) ys (behind_both Told xs first rest e) q),
     )
 
 -- lists of four parts
@@ -138,62 +138,62 @@ module _ (A B Told : Tells) (xs : List Step) (first : SaysAlso A Told) (own : Sa
   told_later steps page = λ lt. absurd (omega (arith, lt, length-append (xs ++ (ys ++ rest)) steps, length-append xs (ys ++ rest), length-append ys rest, length-append xs ys))
 
 -- a page is begun, behind others
-pub return_begun : (chip : ChipData) (A B Told : Tells) (pages : List Kept) (i : ℕ) (kept : Kept) (xs : List Step) → slice_get pages i ≡ Some kept → SaysAlso A Told → SaysAlso B (behind xs Told) → AreReturned chip A (take i pages) xs → (ys : List Step)
-    → BeginTold (λ T. IsReturned chip T kept.page) B ys → BeginTold (λ T. AreReturned chip T pages) Told (xs ++ ys)
-return_begun chip A B Told pages i kept xs at first own are ys (rest, is) =
+pub return_begun : (again : Bool) (chip : ChipData) (A B Told : Tells) (pages : List Kept) (i : ℕ) (kept : Kept) (xs : List Step) → slice_get pages i ≡ Some kept → SaysAlso A Told → SaysAlso B (behind xs Told) → AreReturned again chip A (take i pages) xs → (ys : List Step)
+    → BeginTold (λ T. IsReturned again chip T kept.page) B ys → BeginTold (λ T. AreReturned again chip T pages) Told (xs ++ ys)
+return_begun again chip A B Told pages i kept xs at first own are ys (rest, is) =
     let T = so_far (length (xs ++ ys)) Told in
-    let before = pages_as chip A T (take i pages) xs (told_before A B Told xs first own ys rest) are in
-    let one = returned_as chip (so_far (length ys) B) (behind xs T) kept.page (ys ++ rest) (told_own A B Told xs first own ys rest) is in
-    let more = some_pages chip (behind (xs ++ (ys ++ rest)) T) (drop (i + 1) pages) (told_later A B Told xs first own ys rest) in
-    let P : List Step → Type 0 = λ l. AreReturned chip T pages l in
-    (rest ++ more.0, subst P (regroup xs ys rest more.0) (pages_join chip T (i + 1) pages (xs ++ (ys ++ rest)) more.0 (returned_next chip T pages i kept xs (ys ++ rest) at before one) more.1))
+    let before = pages_as again chip A T (take i pages) xs (told_before A B Told xs first own ys rest) are in
+    let one = returned_as again chip (so_far (length ys) B) (behind xs T) kept.page (ys ++ rest) (told_own A B Told xs first own ys rest) is in
+    let more = some_pages again chip (behind (xs ++ (ys ++ rest)) T) (drop (i + 1) pages) (told_later A B Told xs first own ys rest) in
+    let P : List Step → Type 0 = λ l. AreReturned again chip T pages l in
+    (rest ++ more.0, subst P (regroup xs ys rest more.0) (pages_join again chip T (i + 1) pages (xs ++ (ys ++ rest)) more.0 (returned_next again chip T pages i kept xs (ys ++ rest) at before one) more.1))
 
 -- its segment is, with it
-pub pages_begun : (chip : ChipData) (Told : Tells) (pages : List Kept) (number : ℕ) (ys : List Step) → BeginTold (λ T. AreReturned chip T pages) Told ys → BeginTold (λ T. IsTakenBack chip T pages number) Told ys
-pages_begun chip Told pages number ys (rest, are) =
+pub pages_begun : (again : Bool) (chip : ChipData) (Told : Tells) (pages : List Kept) (number : ℕ) (ys : List Step) → BeginTold (λ T. AreReturned again chip T pages) Told ys → BeginTold (λ T. IsTakenBack again chip T pages number) Told ys
+pages_begun again chip Told pages number ys (rest, are) =
     let own : List Step = Adds (Undoes number ∷ []) ∷ [] in
     (rest ++ own, record { returns = ys ++ rest; are_returns = are; is = sym (append_assoc ys rest own) })
 
 -- or its last line, behind all of them
-pub undoes_begun : (chip : ChipData) (A Told : Tells) (pages : List Kept) (number : ℕ) (xs : List Step) → SaysAlso A Told → AreReturned chip A pages xs → (ys : List Step) → Begin (Are (Adds (Undoes number ∷ []) ∷ [])) ys
-    → BeginTold (λ T. IsTakenBack chip T pages number) Told (xs ++ ys)
-undoes_begun chip A Told pages number xs more are ys (rest, is) =
+pub undoes_begun : (again : Bool) (chip : ChipData) (A Told : Tells) (pages : List Kept) (number : ℕ) (xs : List Step) → SaysAlso A Told → AreReturned again chip A pages xs → (ys : List Step) → Begin (Are (Adds (Undoes number ∷ []) ∷ [])) ys
+    → BeginTold (λ T. IsTakenBack again chip T pages number) Told (xs ++ ys)
+undoes_begun again chip A Told pages number xs more are ys (rest, is) =
     let T = so_far (length (xs ++ ys)) Told in
-    (rest, record { returns = xs; are_returns = pages_as chip A T pages xs (λ steps page told lt. more steps page told) are; is = append_assoc xs ys rest ∙ ap (λ (l : List Step). xs ++ l) is })
+    (rest, record { returns = xs; are_returns = pages_as again chip A T pages xs (λ steps page told lt. more steps page told) are; is = append_assoc xs ys rest ∙ ap (λ (l : List Step). xs ++ l) is })
 
 -- a segment is, behind others
-pub back_begun : (chip : ChipData) (A B Told : Tells) (segments : List (List Kept)) (taken i : ℕ) (pages : List Kept) (below : List (List Kept)) (xs : List Step) → i < taken → taken ≤ length segments → drop i segments ≡ pages ∷ below
-    → SaysAlso A Told → SaysAlso B (behind xs Told) → AreTakenBack chip A i segments xs → (ys : List Step) → BeginTold (λ T. IsTakenBack chip T pages (length below + 1)) B ys → BeginTold (λ T. AreTakenBack chip T taken segments) Told (xs ++ ys)
-back_begun chip A B Told segments taken i pages below xs lt within at first own are ys (rest, is) =
+pub back_begun : (again : Bool) (chip : ChipData) (A B Told : Tells) (segments : List (List Kept)) (taken i : ℕ) (pages : List Kept) (below : List (List Kept)) (xs : List Step) → i < taken → taken ≤ length segments → drop i segments ≡ pages ∷ below
+    → SaysAlso A Told → SaysAlso B (behind xs Told) → AreTakenBack again chip A i segments xs → (ys : List Step) → BeginTold (λ T. IsTakenBack again chip T pages (length below + 1)) B ys → BeginTold (λ T. AreTakenBack again chip T taken segments) Told (xs ++ ys)
+back_begun again chip A B Told segments taken i pages below xs lt within at first own are ys (rest, is) =
     let T = so_far (length (xs ++ ys)) Told in
-    let before = segments_as chip A T i segments xs (told_before A B Told xs first own ys rest) are in
-    let one = taken_as chip (so_far (length ys) B) (behind xs T) pages (length below + 1) (ys ++ rest) (told_own A B Told xs first own ys rest) is in
+    let before = segments_as again chip A T i segments xs (told_before A B Told xs first own ys rest) are in
+    let one = taken_as again chip (so_far (length ys) B) (behind xs T) pages (length below + 1) (ys ++ rest) (told_own A B Told xs first own ys rest) is in
     let left : ℕ = taken - (i + 1) in
-    let more = some_segments chip (behind (xs ++ (ys ++ rest)) T) left (drop (i + 1) segments) (told_later A B Told xs first own ys rest) (omega (arith, length-drop (i + 1) segments, lt, within)) in
+    let more = some_segments again chip (behind (xs ++ (ys ++ rest)) T) left (drop (i + 1) segments) (told_later A B Told xs first own ys rest) (omega (arith, length-drop (i + 1) segments, lt, within)) in
     let all : taken ≡ (i + 1) + left = omega (arith, lt) in
-    let P : List Step → Type 0 = λ l. AreTakenBack chip T taken segments l in
-    (rest ++ more.0, subst P (regroup xs ys rest more.0) (segments_join chip T (i + 1) left taken segments (xs ++ (ys ++ rest)) more.0 all (taken_next chip T segments i pages below xs (ys ++ rest) at before one) more.1))
+    let P : List Step → Type 0 = λ l. AreTakenBack again chip T taken segments l in
+    (rest ++ more.0, subst P (regroup xs ys rest more.0) (segments_join again chip T (i + 1) left taken segments (xs ++ (ys ++ rest)) more.0 all (taken_next again chip T segments i pages below xs (ys ++ rest) at before one) more.1))
 
 -- all of it is begun with the page at work
-pub work_begun : (chip : ChipData) (Told : Tells) (intent : Option Intent) (taken : ℕ) (segments : List (List Kept)) → taken ≤ length segments → (ys : List Step) → BeginTold (λ T. IsWorkRewritten chip T intent) Told ys
-    → BeginTold (λ T. AreAllTakenBack chip T intent taken segments) Told ys
-work_begun chip Told intent taken segments deep ys (rest, work) =
+pub work_begun : (again : Bool) (chip : ChipData) (Told : Tells) (intent : Option Intent) (taken : ℕ) (segments : List (List Kept)) → taken ≤ length segments → (ys : List Step) → BeginTold (λ T. IsWorkRewritten chip T intent) Told ys
+    → BeginTold (λ T. AreAllTakenBack again chip T intent taken segments) Told ys
+work_begun again chip Told intent taken segments deep ys (rest, work) =
     let T = so_far (length ys) Told in
     let free : IsFree (behind (ys ++ rest) T) = λ steps page lt. absurd (omega (arith, lt, length-append (ys ++ rest) steps, length-append ys rest)) in
-    let more = some_segments chip (behind (ys ++ rest) T) taken segments free deep in
+    let more = some_segments again chip (behind (ys ++ rest) T) taken segments free deep in
     (rest ++ more.0, record { first = ys ++ rest; is_first = work; back = more.0; are_back = more.1; is = sym (append_assoc ys rest more.0) })
 
 -- and with a segment behind it
-pub segments_begun : (chip : ChipData) (A B Told : Tells) (intent : Option Intent) (taken : ℕ) (segments : List (List Kept)) (xs : List Step) → SaysAlso A Told → SaysAlso B (behind xs Told) → IsWorkRewritten chip A intent xs → (ys : List Step)
-    → BeginTold (λ T. AreTakenBack chip T taken segments) B ys → BeginTold (λ T. AreAllTakenBack chip T intent taken segments) Told (xs ++ ys)
-segments_begun chip A B Told intent taken segments xs first own work ys (rest, back) =
+pub segments_begun : (again : Bool) (chip : ChipData) (A B Told : Tells) (intent : Option Intent) (taken : ℕ) (segments : List (List Kept)) (xs : List Step) → SaysAlso A Told → SaysAlso B (behind xs Told) → IsWorkRewritten chip A intent xs → (ys : List Step)
+    → BeginTold (λ T. AreTakenBack again chip T taken segments) B ys → BeginTold (λ T. AreAllTakenBack again chip T intent taken segments) Told (xs ++ ys)
+segments_begun again chip A B Told intent taken segments xs first own work ys (rest, back) =
     let T = so_far (length (xs ++ ys)) Told in (
       rest,
       record {
         first = xs;
         is_first = work_as chip A T intent xs (told_before A B Told xs first own ys rest) work;
         back = ys ++ rest;
-        are_back = segments_as chip (so_far (length ys) B) (behind xs T) taken segments (ys ++ rest) (told_own A B Told xs first own ys rest) back;
+        are_back = segments_as again chip (so_far (length ys) B) (behind xs T) taken segments (ys ++ rest) (told_own A B Told xs first own ys rest) back;
         is = append_assoc xs ys rest;
       },
     )

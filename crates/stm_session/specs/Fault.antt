@@ -25,7 +25,8 @@ fault_of_journal journal.Memory = fault.Memory
 
 -- What a fault comes of: the line failed, the device doesn't follow the protocol, the file of the
 -- journal or memory failed; or the journal has a segment that must be ended or taken back first; or
--- something else is refused.
+-- something else is refused. So is a page that was read again and holds other bytes than it was
+-- given, as an image that differs is: each frame was answered whole, so that no step failed.
 pub data Cause : Type 0 where
   of_line : Cause
   of_protocol : Cause
@@ -44,6 +45,7 @@ cause_of fault.OutOfFlash = of_refusal
 cause_of fault.NoErase = of_refusal
 cause_of fault.InSession = of_session
 cause_of (fault.Differs address) = of_refusal
+cause_of (fault.NotHeld n) = of_refusal
 cause_of fault.Device = of_protocol
 cause_of (fault.BadJournal line) = of_refusal
 cause_of fault.OtherDevice = of_refusal

@@ -1,6 +1,6 @@
 -- In which order a session sends frames and appends lines, on any line: at Ok all of it, at a fault
 -- a beginning. Fetches are left out: they change nothing.
-use Rattle.std.specs.Prelude.{◌≡◌, ◌≢◌, ℕ, zero, suc, ◌+◌, ◌*◌, ◌/◌, ◌<◌, Bool, false}
+use Rattle.std.specs.Prelude.{◌≡◌, ◌≢◌, ◌⊎◌, ℕ, zero, suc, ◌+◌, ◌*◌, ◌/◌, ◌<◌, Bool, true, false}
 use Rattle.std.specs.Prelude.{if◌then◌else◌, List, [], ◌∷◌, ◌++◌, length, take, drop, map, bytes_eq}
 use Rattle.std.specs.Prelude.{Option, Some, None, Result, IfErr}
 use Rattle.stm_wire.specs.declared.intent.Intent.{Intent}
@@ -201,37 +201,62 @@ so_far count Told steps page = length steps < count → Told steps page
 abbrev pub BeginTold : (Tells → List Step → Type 0) → Tells → List Step → Type 0
 BeginTold P Told steps = Begin (P (so_far (length steps) Told)) steps
 
--- a page is read, and given the bytes that the journal told behind that
-pub record IsReturned (chip : ChipData) (Told : Tells) (n : ℕ) (steps : List Step) : Type 0 where
+-- and then it may be read again: whole, and just the bytes that it was given come
+abbrev pub return_steps : Bool → ChipData → ℕ → List ℕ → List ℕ → List Step
+return_steps false chip n held page = restore_steps chip n held page
+return_steps true chip n held page = restore_steps chip n held page ++ page_reads chip n page
+
+-- Steps that end as such do that read a page again, or begin to: but for what came in these reads,
+-- which may be any bytes. Behind a page that doesn't hold its own there is no other step.
+pub record IsMisread (chip : ChipData) (P : List Step → Type 0) (steps : List Step) : Type 0 where
+  pub before : List Step
+  pub n : ℕ
+  pub page : List ℕ
+  pub own : P (before ++ page_reads chip n page)
+  pub came : List ℕ
+  pub size : length came ≡ length page
+  pub reads : List Step
+  pub begun : Begin (Are (page_reads chip n came)) reads
+  pub is : steps ≡ before ++ reads
+
+-- such steps, or also those, where pages are read again
+abbrev pub OrMisread : Bool → ChipData → (List Step → Type 0) → List Step → Type 0
+OrMisread false chip P steps = P steps
+OrMisread true chip P steps = P steps ⊎ IsMisread chip P steps
+
+-- a page is read, and given the bytes that the journal told behind that; and then it is read again,
+-- where that is asked for
+pub record IsReturned (again : Bool) (chip : ChipData) (Told : Tells) (n : ℕ)
+    (steps : List Step) : Type 0 where
   pub held : List ℕ
   pub held_size : length held ≡ page_size chip n
   pub page : List ℕ
   pub size : length page ≡ page_size chip n
   pub told : Told (page_reads chip n held) page
-  pub is : steps ≡ page_reads chip n held ++ restore_steps chip n held page
+  pub is : steps ≡ page_reads chip n held ++ return_steps again chip n held page
 
 -- each of the pages, in the order of their lines
-abbrev pub AreReturned : ChipData → Tells → List Kept → List Step → Type 0
-AreReturned chip Told [] steps = steps ≡ []
-AreReturned chip Told (kept ∷ pages) steps = (first : List Step) × (rest : List Step)
-    × (steps ≡ first ++ rest) × IsReturned chip Told kept.page first
-    × AreReturned chip (behind first Told) pages rest
+abbrev pub AreReturned : Bool → ChipData → Tells → List Kept → List Step → Type 0
+AreReturned again chip Told [] steps = steps ≡ []
+AreReturned again chip Told (kept ∷ pages) steps = (first : List Step) × (rest : List Step)
+    × (steps ≡ first ++ rest) × IsReturned again chip Told kept.page first
+    × AreReturned again chip (behind first Told) pages rest
 
 -- and then the line that says so is appended
-pub record IsTakenBack (chip : ChipData) (Told : Tells) (pages : List Kept) (number : ℕ)
-    (steps : List Step) : Type 0 where
+pub record IsTakenBack (again : Bool) (chip : ChipData) (Told : Tells) (pages : List Kept)
+    (number : ℕ) (steps : List Step) : Type 0 where
   pub returns : List Step
-  pub are_returns : AreReturned chip Told pages returns
+  pub are_returns : AreReturned again chip Told pages returns
   pub is : steps ≡ returns ++ Adds (Undoes number ∷ []) ∷ []
 
 -- so many segments of these pages are taken back, the newest first
-abbrev pub AreTakenBack : ChipData → Tells → ℕ → List (List Kept) → List Step → Type 0
-AreTakenBack chip Told zero segments steps = steps ≡ []
-AreTakenBack chip Told (suc taken) [] steps = ⊥
-AreTakenBack chip Told (suc taken) (pages ∷ below) steps =
+abbrev pub AreTakenBack : Bool → ChipData → Tells → ℕ → List (List Kept) → List Step → Type 0
+AreTakenBack again chip Told zero segments steps = steps ≡ []
+AreTakenBack again chip Told (suc taken) [] steps = ⊥
+AreTakenBack again chip Told (suc taken) (pages ∷ below) steps =
     (first : List Step) × (rest : List Step) × (steps ≡ first ++ rest)
-    × IsTakenBack chip Told pages (length below + 1) first
-    × AreTakenBack chip (behind first Told) taken below rest
+    × IsTakenBack again chip Told pages (length below + 1) first
+    × AreTakenBack again chip (behind first Told) taken below rest
 
 -- a page is given the bytes that the journal told first, unread
 pub record IsRewritten (chip : ChipData) (Told : Tells) (n : ℕ) (steps : List Step) : Type 0 where
@@ -246,10 +271,10 @@ IsWorkRewritten chip Told None steps = steps ≡ []
 IsWorkRewritten chip Told (Some intent) steps = IsRewritten chip Told (intent_page intent) steps
 
 -- the page of the newest segment's intent first, and then so many segments are taken back
-pub record AreAllTakenBack (chip : ChipData) (Told : Tells) (intent : Option Intent) (taken : ℕ)
-    (segments : List (List Kept)) (steps : List Step) : Type 0 where
+pub record AreAllTakenBack (again : Bool) (chip : ChipData) (Told : Tells) (intent : Option Intent)
+    (taken : ℕ) (segments : List (List Kept)) (steps : List Step) : Type 0 where
   pub first : List Step
   pub is_first : IsWorkRewritten chip Told intent first
   pub back : List Step
-  pub are_back : AreTakenBack chip (behind first Told) taken segments back
+  pub are_back : AreTakenBack again chip (behind first Told) taken segments back
   pub is : steps ≡ first ++ back

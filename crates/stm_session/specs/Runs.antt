@@ -76,6 +76,7 @@ RunFails commands flashes old new (fault.BadJournal line) = ⊥
 RunFails commands flashes old new fault.OtherDevice = ⊥
 RunFails commands flashes old new fault.OtherBoard = ⊥
 RunFails commands flashes old new fault.BoardChanged = ⊥
+RunFails commands flashes old new (fault.NotHeld n) = ⊥
 RunFails commands flashes old new fault.Full = ⊥
 
 -- A run that is refused nothing.

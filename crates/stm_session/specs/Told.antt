@@ -1,6 +1,6 @@
 -- What the journal tells in an undo, on any line: each page that is given back gets just the bytes
 -- whose digits fetches brought in that call, at that place.
-use Rattle.std.specs.Prelude.{◌≡◌, ℕ, ◌<◌, ◌≤◌, Bool, List, ◌++◌, length}
+use Rattle.std.specs.Prelude.{◌≡◌, ℕ, ◌<◌, ◌≤◌, Bool, false, List, ◌++◌, length}
 use Rattle.hex.specs.Hex.{encode_upper}
 use Rattle.stm_wire.specs.Call.{Call}
 use Rattle.stm_wire.specs.Chip.{ChipData}
@@ -9,10 +9,11 @@ use Rattle.stm_wire.specs.Rig.{RigState}
 use Rattle.stm_journal.specs.Calls.{AreFetches}
 use Rattle.stm_journal.specs.PageFetching.{Brings}
 use Rattle.stm_session.specs.declared.fault.Fault.{Fault}
+use Rattle.stm_session.specs.declared.returned.Returned.{Returned}
 use Rattle.stm_session.specs.Order.{Step, Tells, BeginTold, IsInOrder, acts_of, acts_of_steps}
-use Rattle.stm_session.specs.Order.{behind}
+use Rattle.stm_session.specs.Order.{OrMisread, behind}
 use Rattle.stm_session.specs.Reaching.{StepsOf, confirming}
-use Rattle.stm_session.specs.UndoOrder.{AreTakenAs, UndoDoes, UndoDoesInPart}
+use Rattle.stm_session.specs.UndoOrder.{AreTakenAs, AreTakenWhole, UndoDoes, UndoDoesInPart}
 
 -- some calls
 abbrev pub AreCalls : List Call → Type 0
@@ -49,7 +50,8 @@ behind_confirming chip Told = behind (confirming chip) Told
 
 -- so many of the journal's segments are taken back, behind that question
 abbrev pub AreTakenTold : Tells → ℕ → StepsOf
-AreTakenTold Told taken chip s steps = AreTakenAs (behind_confirming chip Told) taken chip s steps
+AreTakenTold Told taken chip s steps =
+    AreTakenAs false (behind_confirming chip Told) taken chip s steps
 
 -- An undo at Ok: its steps, in which each page that is read or rewritten is given the bytes that
 -- the journal told.
@@ -58,14 +60,29 @@ abbrev pub UndoGivesTold : {R : Type 0} → (R → RigState) → Bool → List C
 UndoGivesTold view is_fresh table taken old new =
     UndoDoes is_fresh (AreTakenTold (ToldBy view old new) taken) table old new
 
+-- and one that tells what it returned
+abbrev pub AreReturnedTold : Bool → Tells → Returned → StepsOf
+AreReturnedTold again Told returned chip s steps =
+    AreTakenWhole again (behind_confirming chip Told) returned chip s steps
+
+abbrev pub ReturnsTold : {R : Type 0} → (R → RigState) → Bool → Bool → List ChipData → Returned
+    → RigState → RigState → Type 0
+ReturnsTold view is_fresh again table returned old new =
+    UndoDoes is_fresh (AreReturnedTold again (ToldBy view old new) returned) table old new
+
 -- a beginning of them
-abbrev pub BeginTakingTold : Tells → ℕ → StepsOf
-BeginTakingTold Told count chip s steps = (taken : ℕ) × (taken ≤ length s.stack)
-    × (0 < count → taken ≤ count)
-    × BeginTold (λ T. AreTakenAs T taken chip s) (behind_confirming chip Told) steps
+abbrev pub BeginTakingTold : Bool → Tells → ℕ → StepsOf
+BeginTakingTold again Told count chip s steps = (taken : ℕ) × (taken ≤ length s.stack)
+    × (0 < count → taken ≤ count) × OrMisread again chip
+    (BeginTold (λ T. AreTakenAs again T taken chip s) (behind_confirming chip Told)) steps
 
 -- An undo at a fault: such a beginning, each step whole but the last, which failed.
+abbrev pub UndoStopsToldAs : {R : Type 0} → (R → RigState) → Bool → Bool → List ChipData → ℕ
+    → RigState → RigState → Fault → Type 0
+UndoStopsToldAs view is_fresh again table count old new fault =
+    UndoDoesInPart is_fresh (BeginTakingTold again (ToldBy view old new) count) table old new fault
+
 abbrev pub UndoStopsTold : {R : Type 0} → (R → RigState) → Bool → List ChipData → ℕ → RigState
     → RigState → Fault → Type 0
 UndoStopsTold view is_fresh table count old new fault =
-    UndoDoesInPart is_fresh (BeginTakingTold (ToldBy view old new) count) table old new fault
+    UndoStopsToldAs view is_fresh false table count old new fault

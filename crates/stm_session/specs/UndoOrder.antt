@@ -1,17 +1,20 @@
 -- In which order an undo sends frames and appends lines, on any line.
-use Rattle.std.specs.Prelude.{◌⊎◌, ℕ, ◌<◌, ◌≤◌, Bool, false, List, length}
+use Rattle.std.specs.Prelude.{◌≡◌, ◌⊎◌, ℕ, ◌<◌, ◌≤◌, Bool, false, List, length}
 use Rattle.stm_wire.specs.Chip.{ChipData}
 use Rattle.stm_wire.specs.Dialogue.{GoesOn}
 use Rattle.stm_wire.specs.Rig.{RigState}
 use Rattle.stm_session.specs.Fresh.{undo_way}
 use Rattle.stm_journal.specs.Calls.{AreFetches}
+use Rattle.stm_journal.specs.Journals.{capped}
 use Rattle.stm_journal.specs.Newest.{pages_of_segments}
 use Rattle.stm_journal.specs.States.{intent_of}
 use Rattle.stm_session.specs.declared.fault.Fault.{Fault}
+use Rattle.stm_session.specs.declared.returned.Returned.{Returned}
 use Rattle.stm_session.specs.Fault.{cause_of}
-use Rattle.stm_session.specs.Order.{AreAllTakenBack, Begin, IsAfter, Tells, untold}
+use Rattle.stm_session.specs.Order.{AreAllTakenBack, Begin, IsAfter, OrMisread, Tells, untold}
 use Rattle.stm_session.specs.Reaching.{IsConfirmedInPart, ReachesAndDoes, ReachesAndStops}
 use Rattle.stm_session.specs.Reaching.{ReachesInPart, Session, StepsOf, confirming}
+use Rattle.stm_session.specs.ReturnedBytes.{kept_bytes}
 
 -- An undo that does such steps: settling by the intent of the journal that was loaded, or
 -- connecting, Get, Get ID, by which the device is the journal's chip, the question whether it is
@@ -31,29 +34,45 @@ UndoDoesInPart is_fresh P table old new fault = GoesOn AreFetches old.calls new.
     ⊎ ReachesAndStops way chip.id l.is_torn (IsConfirmedInPart chip (P chip l.state))
     (cause_of fault) old new)
 
--- so many of the journal's segments are taken back, the page of its intent first
-abbrev pub AreTakenAs : Tells → ℕ → StepsOf
-AreTakenAs Told taken chip s steps =
-    AreAllTakenBack chip Told (intent_of s) taken (pages_of_segments s.stack) steps
+-- so many of the journal's segments are taken back, the page of its intent first; and each page of
+-- theirs is read again, where that is asked for
+abbrev pub AreTakenAs : Bool → Tells → ℕ → StepsOf
+AreTakenAs again Told taken chip s steps =
+    AreAllTakenBack again chip Told (intent_of s) taken (pages_of_segments s.stack) steps
 
-abbrev pub AreTaken : ℕ → StepsOf
-AreTaken taken = AreTakenAs untold taken
+abbrev pub AreTaken : Bool → ℕ → StepsOf
+AreTaken again taken = AreTakenAs again untold taken
 
 -- a beginning of taking some back, no more than there are, nor than are asked for where that is a
 -- number
-abbrev pub BeginTaking : ℕ → StepsOf
-BeginTaking count chip s steps = (taken : ℕ) × (taken ≤ length s.stack)
-    × (0 < count → taken ≤ count) × Begin (AreTaken taken chip s) steps
+abbrev pub BeginTaking : Bool → ℕ → StepsOf
+BeginTaking again count chip s steps = (taken : ℕ) × (taken ≤ length s.stack)
+    × (0 < count → taken ≤ count) × OrMisread again chip (Begin (AreTaken again taken chip s)) steps
 
 abbrev pub UndoesInOrderFrom : Bool → List ChipData → ℕ → RigState → RigState → Type 0
-UndoesInOrderFrom is_fresh table taken old new = UndoDoes is_fresh (AreTaken taken) table old new
+UndoesInOrderFrom is_fresh table taken old new =
+    UndoDoes is_fresh (AreTaken false taken) table old new
 
 abbrev pub UndoesInOrder : List ChipData → ℕ → RigState → RigState → Type 0
 UndoesInOrder table taken old new = UndoesInOrderFrom false table taken old new
 
+abbrev pub UndoStopsAs : Bool → Bool → List ChipData → ℕ → RigState → RigState → Fault → Type 0
+UndoStopsAs is_fresh again table count old new fault =
+    UndoDoesInPart is_fresh (BeginTaking again count) table old new fault
+
 abbrev pub UndoStopsFrom : Bool → List ChipData → ℕ → RigState → RigState → Fault → Type 0
 UndoStopsFrom is_fresh table count old new fault =
-    UndoDoesInPart is_fresh (BeginTaking count) table old new fault
+    UndoStopsAs is_fresh false table count old new fault
 
 abbrev pub UndoStops : List ChipData → ℕ → RigState → RigState → Fault → Type 0
 UndoStops table count old new fault = UndoStopsFrom false table count old new fault
+
+-- The same of an undo that tells what it returned: so many segments, and the bytes that these keep.
+abbrev pub AreTakenWhole : Bool → Tells → Returned → StepsOf
+AreTakenWhole again Told returned chip s steps =
+    AreTakenAs again Told returned.segments chip s steps
+    × (returned.bytes ≡ capped (kept_bytes chip returned.segments (pages_of_segments s.stack)))
+
+abbrev pub ReturnsInOrder : Bool → Bool → List ChipData → Returned → RigState → RigState → Type 0
+ReturnsInOrder is_fresh again table returned old new =
+    UndoDoes is_fresh (AreTakenWhole again untold returned) table old new

@@ -38,6 +38,9 @@ pub enum Fault {
     /// This is the least address where the flash hasn't the image's byte.
     #[error("differs at {0:08X}")]
     Differs(u32),
+    /// This page was given bytes that a segment keeps, and on being read again it told others.
+    #[error("page {0} does not hold what was written")]
+    NotHeld(u16),
     /// The device refused, stayed quiet, or answered what the protocol doesn't have.
     #[error("device does not follow the protocol")]
     Device,

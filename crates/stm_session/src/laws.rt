@@ -12,13 +12,15 @@ ghost use Rattle.stm_journal.specs.States.{StateData};
 ghost use Rattle.stm_session.specs.declared.command.Command.{Command};
 ghost use Rattle.stm_session.specs.declared.fault.Fault.{Fault};
 ghost use Rattle.stm_session.specs.declared.outcome.Report.{Report};
+ghost use Rattle.stm_session.specs.declared.returned.Returned.{Returned};
 ghost use Rattle.stm_session.specs.Answers.{outcomes_in};
 ghost use Rattle.stm_session.specs.Boards.{IsForeign, IsOfItsBoard, OnlyAsks};
 ghost use Rattle.stm_session.specs.Events.{OutcomesAreTheRun};
 ghost use Rattle.stm_session.specs.Kept.{RunKeeps, RunStopsKept, UndoPutsBack, UndoStopsBack};
 ghost use Rattle.stm_session.specs.Meaning.{CommandData, commands_in};
 ghost use Rattle.stm_session.specs.Moments.{IsSafe, SameMake};
-ghost use Rattle.stm_session.specs.UndoOrder.{UndoStopsFrom, UndoesInOrderFrom};
+ghost use Rattle.stm_session.specs.UndoOrder.{ReturnsInOrder, UndoStopsAs, UndoStopsFrom};
+ghost use Rattle.stm_session.specs.UndoOrder.{UndoesInOrderFrom};
 ghost use Rattle.stm_session.specs.PowerLoss.{
   AnyBytesAreLeft,
   FinishedLosesNothing,
@@ -172,6 +174,13 @@ pub fn an_undo_changes_only_pages_that_it_takes_back<R: Rig>()
     ensures stopped { (is_fresh : Bool) (table : List ChipData) (count : ℕ) (old new : R)
         (fault : Fault) → UndoStopsFrom is_fresh table count (R.view old) (R.view new) fault
         → UndoStopsBack is_fresh table (R.view old) (R.view new) fault }
+    // So does one that reads each page again.
+    ensures verified { (is_fresh : Bool) (table : List ChipData) (returned : Returned)
+        (old new : R) → ReturnsInOrder is_fresh true table returned (R.view old) (R.view new)
+        → UndoPutsBack is_fresh table (R.view old) (R.view new) }
+    ensures verified_stopped { (is_fresh : Bool) (table : List ChipData) (count : ℕ) (old new : R)
+        (fault : Fault) → UndoStopsAs is_fresh true table count (R.view old) (R.view new) fault
+        → UndoStopsBack is_fresh table (R.view old) (R.view new) fault }
 {}
 
 /// On any line, whatever it answers: a run that succeeded, or that sent or appended anything but to
@@ -191,6 +200,13 @@ pub fn a_session_changes_only_its_own_board<R: Rig>()
         → IsOfItsBoard table (R.view old) }
     ensures undo_stops { (is_fresh : Bool) (table : List ChipData) (count : ℕ) (old new : R)
         (fault : Fault) → UndoStopsFrom is_fresh table count (R.view old) (R.view new) fault
+        → GoesOn AreFetches (R.view old).calls (R.view new).calls
+        ⊎ IsOfItsBoard table (R.view old) }
+    ensures verified { (is_fresh : Bool) (table : List ChipData) (returned : Returned)
+        (old new : R) → ReturnsInOrder is_fresh true table returned (R.view old) (R.view new)
+        → IsOfItsBoard table (R.view old) }
+    ensures verified_stops { (is_fresh : Bool) (table : List ChipData) (count : ℕ) (old new : R)
+        (fault : Fault) → UndoStopsAs is_fresh true table count (R.view old) (R.view new) fault
         → GoesOn AreFetches (R.view old).calls (R.view new).calls
         ⊎ IsOfItsBoard table (R.view old) }
     ensures foreign { (table : List ChipData) (old : R) → (R.view old).is_honest

@@ -33,9 +33,13 @@ mod page_at_work;
 mod page_changes;
 mod programming;
 mod reading;
+mod reading_again;
 mod restoring;
+mod returned;
+mod returned_bytes;
 mod returning;
 mod reversal;
+mod reversing;
 mod rewriting;
 mod running;
 mod saving;
@@ -66,6 +70,7 @@ pub use laws::{
     lost_bytes_keep_what_can_be_taken_back, reads_in_the_flash_are_not_refused,
 };
 pub use outcome::{Outcome, Report};
-pub use reversal::{undo, undo_fresh};
+pub use returned::Returned;
+pub use reversal::{undo, undo_fresh, undo_verified, undo_verified_fresh};
 pub use running::run;
 pub use unprotecting::unprotect_fresh;

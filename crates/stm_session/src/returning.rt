@@ -9,7 +9,7 @@ ghost use Rattle.stm_journal.specs.KeptPlaces.{IsPlaceIn, kept_entry, place_of};
 ghost use Rattle.stm_journal.specs.Newest.{KeepsSame};
 ghost use Rattle.stm_session.specs.Fault.{HasSessionCause};
 ghost use Rattle.stm_session.specs.Lines.{return_entries};
-ghost use Rattle.stm_session.specs.Order.{BeginTold, Follows, IsReturned, Stops};
+ghost use Rattle.stm_session.specs.Order.{BeginTold, Follows, IsReturned, OrMisread, Stops};
 ghost use Rattle.stm_session.specs.Sending.{is_whole};
 ghost use Rattle.stm_session.specs.Steps.{IsSteady, Goes};
 ghost use Rattle.stm_session.specs.Told.{ToldIn};
@@ -18,13 +18,13 @@ ghost use Rattle.stm_session.specs.Undoable.{state_at};
 use crate::Fault;
 use crate::laws_of_steps::step_laws;
 use crate::reading::read_range;
-use crate::restoring::restore_page;
+use crate::reading_again::return_page;
 use std::alloc::Global;
 use stm_journal::{Journal, PagePlace};
 use stm_wire::{Chip, Rig};
 
 /// Gives page `n` what the newest segment keeps of it, whose digits stand at
-/// this place of the journal.
+/// this place of the journal; and reads it again behind that, where that is asked for.
 pub fn restore_line<R: Rig>(
     alloc: Global,
     rig: &mut R,
@@ -32,6 +32,7 @@ pub fn restore_line<R: Rig>(
     chip: &Chip,
     n: u16,
     place: PagePlace,
+    again: bool,
 ) -> Result<(), Fault>
     requires exists { n < page_count chip.now }
     requires kept { IsTrue (newest_keeps n journal.old.state) }
@@ -44,10 +45,11 @@ pub fn restore_line<R: Rig>(
         old.calls new.calls }
     ensures order { let old = R.view rig.old in let new = R.view rig.new in
         let Told = ToldIn R.view journal.old.is_torn old new in
-        OnOk result (Follows (IsReturned chip.now Told n) journal.old journal.new old new) }
+        OnOk result (Follows (IsReturned again chip.now Told n) journal.old journal.new old new) }
     ensures stops { let old = R.view rig.old in let new = R.view rig.new in
         let Told = ToldIn R.view journal.old.is_torn old new in
-        Stops (BeginTold (λ T. IsReturned chip.now T n) Told) journal.old.is_torn old new result }
+        let Begun = BeginTold (λ T. IsReturned again chip.now T n) Told in
+        Stops (OrMisread again chip.now Begun) journal.old.is_torn old new result }
     ensures honest { let old = R.view rig.old in let new = R.view rig.new in
         (flashes : List (List ℕ)) (k i : ℕ) (kept : Kept) → IsSteady flashes journal.old old
         → old.device.chip ≡ chip.now → kept_entry (state_at old.journal) k i ≡ Some kept
@@ -62,6 +64,6 @@ pub fn restore_line<R: Rig>(
     let held = read_range(alloc, rig, chip, start, size)?;
     let mut page = Vec::from_elem(alloc, 0, size as usize)?;
     journal.fetch_page(rig, place, &mut page)?;
-    restore_page(alloc, rig, journal, chip, n, &held, &page)?;
+    return_page(alloc, rig, journal, chip, n, &held, &page, again)?;
     Ok(())
 }

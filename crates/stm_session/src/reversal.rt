@@ -1,39 +1,24 @@
 // Taking a session back, wherever it was stopped.
-ghost use Rattle.std.specs.Prelude.{◌≡◌, ◌<◌, ◌≤◌, true, false, Ok, IfErr, IfOk};
+ghost use Rattle.std.specs.Prelude.{◌≡◌, ◌≤◌, true, false, Ok, IfErr, IfOk};
 ghost use Rattle.stm_wire.specs.Dialogue.{GoesOn};
 ghost use Rattle.stm_journal.specs.Calls.{AreFetches};
 ghost use Rattle.stm_session.specs.Fault.{HasSessionCause};
 ghost use Rattle.stm_session.specs.Fresh.{IsAsSaid, IsReset};
 ghost use Rattle.stm_session.specs.Promises.{UndoContract};
-ghost use Rattle.stm_session.specs.UndoOrder.{UndoStops, UndoStopsFrom, UndoesInOrder};
+ghost use Rattle.stm_session.specs.ReturnedBytes.{segments_of};
+ghost use Rattle.stm_session.specs.UndoOrder.{ReturnsInOrder, UndoStops, UndoStopsAs};
+ghost use Rattle.stm_session.specs.UndoOrder.{UndoStopsFrom, UndoesInOrder};
 ghost use Rattle.stm_session.specs.UndoOrder.{UndoesInOrderFrom};
 ghost use Rattle.stm_session.specs.Sending.{SendsAsUndo};
-ghost use Rattle.stm_session.specs.Told.{UndoGivesTold, UndoStopsTold};
-ghost use Rattle.stm_session.specs.Undoes.{taken_count};
+ghost use Rattle.stm_session.specs.Told.{ReturnsTold, UndoGivesTold, UndoStopsTold};
+ghost use Rattle.stm_session.specs.Told.{UndoStopsToldAs};
 
 use crate::Fault;
-use crate::journal_chip::find_named;
-use crate::journal_device::meet;
-use crate::laws_of_steps::step_laws;
-use crate::segments_back::go_back_confirmed;
+use crate::returned::Returned;
+use crate::reversing::undo_as;
 use std::alloc::Global;
 use stm_chip::Table;
-use stm_journal::Journal;
 use stm_wire::Rig;
-
-/// How many segments are taken back: so many, or all where the count is 0 or more than there are.
-fn taken_count(count: u32, depth: u32) -> u32
-    ensures value { result ≡ taken_count count depth }
-    ensures most { result ≤ depth }
-    ensures some { 1 ≤ depth → 1 ≤ result }
-    ensures asked { 0 < count → result ≤ count }
-{
-    if count == 0 || depth < count {
-        depth
-    } else {
-        count
-    }
-}
 
 /// Takes back the newest segments, as `undo` does, of a device that may be
 /// said to be fresh from reset.
@@ -60,20 +45,10 @@ fn undo_from<R: Rig>(
     ensures promised { let old = R.view rig.old in let new = R.view rig.new in
         IsAsSaid is_fresh old.device → UndoContract table.now count old new result }
 {
-    step_laws();
-    let mut journal = Journal::load(alloc, rig)?;
-    let depth = journal.depth();
-    if depth == 0 {
-        return Ok(0);
+    match undo_as(alloc, rig, table, count, is_fresh, false) {
+        Ok(returned) => Ok(returned.segments),
+        Err(fault) => Err(fault),
     }
-    let Some(id) = journal.id() else {
-        unreachable!()
-    };
-    let chip = find_named(&journal, table, id)?;
-    meet(rig, &journal, chip, is_fresh)?;
-    let taken = taken_count(count, depth);
-    go_back_confirmed(alloc, rig, &mut journal, chip, taken)?;
-    Ok(taken)
 }
 
 /// Takes back the newest segments of the journal, from wherever a session was stopped: so many, or
@@ -129,4 +104,68 @@ pub fn undo_fresh<R: Rig>(
         IsReset old.device → UndoContract table.now count old new result }
 {
     undo_from(alloc, rig, table, count, true)
+}
+
+/// Takes back the newest segments of the journal as `undo` does, and reads each page again that a
+/// segment keeps, whole, before the segment's `undone` line is added. Where a page doesn't hold the
+/// bytes that the journal told for it, no such line is added and no other page is changed: the
+/// segment stands, and can be taken back again. Answers how many segments were taken back, and how
+/// many bytes their pages have, each of which was read again and held what was written. A device
+/// that follows the model always holds it.
+pub fn undo_verified<R: Rig>(
+    alloc: Global,
+    rig: &mut R,
+    table: &Table,
+    count: u32,
+) -> Result<Returned, Fault>
+    ensures cause { HasSessionCause (R.view rig.old) (R.view rig.new) result }
+    ensures silent { let old = R.view rig.old in let new = R.view rig.new in
+        segments_of result ≡ Ok 0 → GoesOn AreFetches old.calls new.calls }
+    ensures none { IfOk result (λ returned. returned.segments ≡ 0 → returned.bytes ≡ 0) }
+    ensures puts { let old = R.view rig.old in let new = R.view rig.new in
+        SendsAsUndo table.now count old new (segments_of result) }
+    ensures order { let old = R.view rig.old in let new = R.view rig.new in
+        IfOk result (λ returned. 1 ≤ returned.segments
+        → ReturnsInOrder false true table.now returned old new) }
+    ensures stops { let old = R.view rig.old in let new = R.view rig.new in
+        IfErr result (UndoStopsAs false true table.now count old new) }
+    ensures given { let old = R.view rig.old in let new = R.view rig.new in
+        IfOk result (λ returned. 1 ≤ returned.segments
+        → ReturnsTold R.view false true table.now returned old new) }
+    ensures given_stops { let old = R.view rig.old in let new = R.view rig.new in
+        IfErr result (UndoStopsToldAs R.view false true table.now count old new) }
+    ensures promised { let old = R.view rig.old in let new = R.view rig.new in
+        UndoContract table.now count old new (segments_of result) }
+{
+    undo_as(alloc, rig, table, count, false, true)
+}
+
+/// Takes back the newest segments of the journal as `undo_fresh` does, of a device that was reset
+/// since the last session, and reads each page again as `undo_verified` does.
+pub fn undo_verified_fresh<R: Rig>(
+    alloc: Global,
+    rig: &mut R,
+    table: &Table,
+    count: u32,
+) -> Result<Returned, Fault>
+    ensures cause { HasSessionCause (R.view rig.old) (R.view rig.new) result }
+    ensures silent { let old = R.view rig.old in let new = R.view rig.new in
+        segments_of result ≡ Ok 0 → GoesOn AreFetches old.calls new.calls }
+    ensures none { IfOk result (λ returned. returned.segments ≡ 0 → returned.bytes ≡ 0) }
+    ensures puts { let old = R.view rig.old in let new = R.view rig.new in
+        SendsAsUndo table.now count old new (segments_of result) }
+    ensures order { let old = R.view rig.old in let new = R.view rig.new in
+        IfOk result (λ returned. 1 ≤ returned.segments
+        → ReturnsInOrder true true table.now returned old new) }
+    ensures stops { let old = R.view rig.old in let new = R.view rig.new in
+        IfErr result (UndoStopsAs true true table.now count old new) }
+    ensures given { let old = R.view rig.old in let new = R.view rig.new in
+        IfOk result (λ returned. 1 ≤ returned.segments
+        → ReturnsTold R.view true true table.now returned old new) }
+    ensures given_stops { let old = R.view rig.old in let new = R.view rig.new in
+        IfErr result (UndoStopsToldAs R.view true true table.now count old new) }
+    ensures promised { let old = R.view rig.old in let new = R.view rig.new in
+        IsReset old.device → UndoContract table.now count old new (segments_of result) }
+{
+    undo_as(alloc, rig, table, count, true, true)
 }

@@ -5,7 +5,8 @@ ghost use Rattle.stm_wire.specs.Parts.{IsPart};
 ghost use Rattle.stm_journal.specs.Fits.{AllFit};
 ghost use Rattle.stm_journal.specs.Newest.{KeepsSame, pages_of_segments};
 ghost use Rattle.stm_session.specs.Fault.{HasSessionCause};
-ghost use Rattle.stm_session.specs.Order.{BeginTold, Follows, AreReturned, IsTakenBack, Stops};
+ghost use Rattle.stm_session.specs.Order.{BeginTold, Follows, AreReturned, IsTakenBack};
+ghost use Rattle.stm_session.specs.Order.{OrMisread, Stops};
 ghost use Rattle.stm_session.specs.Told.{ToldIn};
 ghost use Rattle.stm_session.specs.Undoable.{newest_kept};
 ghost use Rattle.stm_session.specs.Sending.{is_whole, most_of_command};
@@ -20,12 +21,14 @@ use std::alloc::Global;
 use stm_journal::Journal;
 use stm_wire::{Chip, Rig};
 
-/// Gives each page of the newest segment what that keeps of it, in the order of their lines.
+/// Gives each page of the newest segment what that keeps of it, in the order of their lines; and
+/// reads it again behind that, where that is asked for.
 pub fn restore_lines<R: Rig>(
     alloc: Global,
     rig: &mut R,
     journal: &mut Journal,
     chip: &Chip,
+    again: bool,
 ) -> Result<(), Fault>
     requires fits { AllFit chip.now journal.old.state.stack }
     ensures same { OnOk result (KeepsSame journal.old.state journal.new.state) }
@@ -35,12 +38,13 @@ pub fn restore_lines<R: Rig>(
     ensures order { let old = R.view rig.old in let new = R.view rig.new in
         let pages = newest_kept journal.old.state.stack in
         let Told = ToldIn R.view journal.old.is_torn old new in
-        OnOk result (Follows (AreReturned chip.now Told pages) journal.old journal.new old new) }
+        let Returned = AreReturned again chip.now Told pages in
+        OnOk result (Follows Returned journal.old journal.new old new) }
     ensures stops { let old = R.view rig.old in let new = R.view rig.new in
         let pages = newest_kept journal.old.state.stack in
         let Told = ToldIn R.view journal.old.is_torn old new in
-        let Begun = BeginTold (λ T. AreReturned chip.now T pages) Told in
-        Stops Begun journal.old.is_torn old new result }
+        let Begun = BeginTold (λ T. AreReturned again chip.now T pages) Told in
+        Stops (OrMisread again chip.now Begun) journal.old.is_torn old new result }
     ensures honest { let old = R.view rig.old in let new = R.view rig.new in
         (flashes : List (List ℕ)) → IsSteady flashes journal.old old → old.device.chip ≡ chip.now
         → let pages = newest_at old.journal in
@@ -58,7 +62,7 @@ pub fn restore_lines<R: Rig>(
         let Some((n, _)) = journal.kept(newest, i) else {
             unreachable!()
         };
-        restore_line(alloc, rig, journal, chip, n, place)?;
+        restore_line(alloc, rig, journal, chip, n, place, again)?;
     }
     Ok(())
 }
@@ -69,6 +73,7 @@ pub fn take_back<R: Rig>(
     rig: &mut R,
     journal: &mut Journal,
     chip: &Chip,
+    again: bool,
 ) -> Result<(), Fault>
     requires some { 0 < length journal.old.state.stack }
     requires fits { AllFit chip.now journal.old.state.stack }
@@ -80,14 +85,14 @@ pub fn take_back<R: Rig>(
     ensures order { let old = R.view rig.old in let new = R.view rig.new in
         let stack = journal.old.state.stack in
         let Told = ToldIn R.view journal.old.is_torn old new in
-        let Taken = IsTakenBack chip.now Told (newest_kept stack) (length stack) in
+        let Taken = IsTakenBack again chip.now Told (newest_kept stack) (length stack) in
         OnOk result (Follows Taken journal.old journal.new old new) }
     ensures stops { let old = R.view rig.old in let new = R.view rig.new in
         let pages = newest_kept journal.old.state.stack in
         let number = length journal.old.state.stack in
         let Told = ToldIn R.view journal.old.is_torn old new in
-        let Begun = BeginTold (λ T. IsTakenBack chip.now T pages number) Told in
-        Stops Begun journal.old.is_torn old new result }
+        let Begun = BeginTold (λ T. IsTakenBack again chip.now T pages number) Told in
+        Stops (OrMisread again chip.now Begun) journal.old.is_torn old new result }
     ensures honest { let old = R.view rig.old in let new = R.view rig.new in
         (flash : List ℕ) (flashes : List (List ℕ))
         → IsSteady (flash ∷ flashes) journal.old old → old.device.chip ≡ chip.now
@@ -95,7 +100,7 @@ pub fn take_back<R: Rig>(
         TakesBack lines flash flashes journal.new old new result }
 {
     step_laws();
-    restore_lines(alloc, rig, journal, chip)?;
+    restore_lines(alloc, rig, journal, chip, again)?;
     let _depth = journal.depth();
     journal.undone(rig)?;
     Ok(())

@@ -8,7 +8,7 @@ ghost use Rattle.stm_journal.specs.States.{intent_of};
 ghost use Rattle.stm_session.specs.Fault.{HasSessionCause};
 ghost use Rattle.stm_session.specs.SegmentsBack.{GoesBack, GoesBackBy, undo_lines};
 ghost use Rattle.stm_session.specs.Order.{BeginTold, Follows, AreAllTakenBack, AreTakenBack};
-ghost use Rattle.stm_session.specs.Order.{IsAfter, Stops};
+ghost use Rattle.stm_session.specs.Order.{IsAfter, OrMisread, Stops};
 ghost use Rattle.stm_session.specs.Reaching.{IsConfirmedInPart, confirming};
 ghost use Rattle.stm_session.specs.Told.{ToldIn, behind_confirming};
 ghost use Rattle.stm_session.specs.Sending.{is_whole, most_of_command, most_of_confirming};
@@ -31,6 +31,7 @@ pub fn take_back_newest<R: Rig>(
     journal: &mut Journal,
     chip: &Chip,
     taken: u32,
+    again: bool,
 ) -> Result<(), Fault>
     requires some { taken ≤ length journal.old.state.stack }
     requires fits { AllFit chip.now journal.old.state.stack }
@@ -41,20 +42,20 @@ pub fn take_back_newest<R: Rig>(
     ensures order { let old = R.view rig.old in let new = R.view rig.new in
         let segments = pages_of_segments journal.old.state.stack in
         let Told = ToldIn R.view journal.old.is_torn old new in
-        let Taken = AreTakenBack chip.now Told taken segments in
+        let Taken = AreTakenBack again chip.now Told taken segments in
         OnOk result (Follows Taken journal.old journal.new old new) }
     ensures stops { let old = R.view rig.old in let new = R.view rig.new in
         let segments = pages_of_segments journal.old.state.stack in
         let Told = ToldIn R.view journal.old.is_torn old new in
-        let Begun = BeginTold (λ T. AreTakenBack chip.now T taken segments) Told in
-        Stops Begun journal.old.is_torn old new result }
+        let Begun = BeginTold (λ T. AreTakenBack again chip.now T taken segments) Told in
+        Stops (OrMisread again chip.now Begun) journal.old.is_torn old new result }
     ensures honest { let old = R.view rig.old in let new = R.view rig.new in
         (flashes : List (List ℕ)) → IsSteady flashes journal.old old → old.device.chip ≡ chip.now
         → GoesBack taken flashes journal.new old new result }
 {
     step_laws();
     for i in 0..taken {
-        take_back(alloc, rig, journal, chip)?;
+        take_back(alloc, rig, journal, chip, again)?;
     }
     Ok(())
 }
@@ -67,6 +68,7 @@ pub fn go_back<R: Rig>(
     journal: &mut Journal,
     chip: &Chip,
     taken: u32,
+    again: bool,
 ) -> Result<(), Fault>
     requires one { 1 ≤ taken }
     requires some { taken ≤ length journal.old.state.stack }
@@ -79,21 +81,21 @@ pub fn go_back<R: Rig>(
         let intent = intent_of journal.old.state in
         let segments = pages_of_segments journal.old.state.stack in
         let Told = ToldIn R.view journal.old.is_torn old new in
-        let Taken = AreAllTakenBack chip.now Told intent taken segments in
+        let Taken = AreAllTakenBack again chip.now Told intent taken segments in
         OnOk result (Follows Taken journal.old journal.new old new) }
     ensures stops { let old = R.view rig.old in let new = R.view rig.new in
         let intent = intent_of journal.old.state in
         let segments = pages_of_segments journal.old.state.stack in
         let Told = ToldIn R.view journal.old.is_torn old new in
-        let Begun = BeginTold (λ T. AreAllTakenBack chip.now T intent taken segments) Told in
-        Stops Begun journal.old.is_torn old new result }
+        let Begun = BeginTold (λ T. AreAllTakenBack again chip.now T intent taken segments) Told in
+        Stops (OrMisread again chip.now Begun) journal.old.is_torn old new result }
     ensures honest { let old = R.view rig.old in let new = R.view rig.new in
         (flashes : List (List ℕ)) → IsSteady flashes journal.old old → old.device.chip ≡ chip.now
         → GoesBackBy (undo_lines taken old) taken flashes journal.new old new result }
 {
     step_laws();
     rewrite_at_work(alloc, rig, journal, chip)?;
-    take_back_newest(alloc, rig, journal, chip, taken)?;
+    take_back_newest(alloc, rig, journal, chip, taken, again)?;
     Ok(())
 }
 
@@ -104,6 +106,7 @@ pub fn go_back_confirmed<R: Rig>(
     journal: &mut Journal,
     chip: &Chip,
     taken: u32,
+    again: bool,
 ) -> Result<(), Fault>
     requires one { 1 ≤ taken }
     requires some { taken ≤ length journal.old.state.stack }
@@ -116,21 +119,22 @@ pub fn go_back_confirmed<R: Rig>(
         let intent = intent_of journal.old.state in
         let segments = pages_of_segments journal.old.state.stack in
         let Told = behind_confirming chip.now (ToldIn R.view journal.old.is_torn old new) in
-        let Taken = AreAllTakenBack chip.now Told intent taken segments in
+        let Taken = AreAllTakenBack again chip.now Told intent taken segments in
         OnOk result (Follows (IsAfter (confirming chip.now) Taken) journal.old journal.new
         old new) }
     ensures stops { let old = R.view rig.old in let new = R.view rig.new in
         let intent = intent_of journal.old.state in
         let segments = pages_of_segments journal.old.state.stack in
         let Told = behind_confirming chip.now (ToldIn R.view journal.old.is_torn old new) in
-        let Begun = BeginTold (λ T. AreAllTakenBack chip.now T intent taken segments) Told in
-        Stops (IsConfirmedInPart chip.now Begun) journal.old.is_torn old new result }
+        let Begun = BeginTold (λ T. AreAllTakenBack again chip.now T intent taken segments) Told in
+        let Back = OrMisread again chip.now Begun in
+        Stops (IsConfirmedInPart chip.now Back) journal.old.is_torn old new result }
     ensures honest { let old = R.view rig.old in let new = R.view rig.new in
         (flashes : List (List ℕ)) → IsSteady flashes journal.old old → old.device.chip ≡ chip.now
         → GoesBackBy (undo_lines taken old) taken flashes journal.new old new result }
 {
     step_laws();
     confirm(rig, chip)?;
-    go_back(alloc, rig, journal, chip, taken)?;
+    go_back(alloc, rig, journal, chip, taken, again)?;
     Ok(())
 }

@@ -108,6 +108,7 @@ fn texts_of_journals_and_sessions(rt: HostRuntime) -> Result<(), Fail> {
         (Fault::NoErase, "no erase command"),
         (Fault::InSession, "journal is open, refused"),
         (Fault::Differs(0x0800_00AB), "differs at 080000AB"),
+        (Fault::NotHeld(7), "page 7 does not hold what was written"),
         (Fault::Device, "device does not follow the protocol"),
         (Fault::BadJournal(12), "bad journal line 12"),
         (Fault::OtherDevice, "journal belongs to another device"),

@@ -78,4 +78,6 @@ mod two_stops;
 #[cfg(test)]
 mod unprotecting;
 #[cfg(test)]
+mod verified_undo;
+#[cfg(test)]
 mod writing;

@@ -1,4 +1,5 @@
-use Rattle.stm_session.proofs.Foreign.{foreign_none, run_own, run_stops_own, undo_own, undo_stops_own}
+use Rattle.std.proofs.Common.{true, false}
+use Rattle.stm_session.proofs.Foreign.{foreign_none, return_own, run_own, run_stops_own, undo_own, undo_stops_own}
 use Rattle.stm_session.proofs.laws.a_session_changes_only_its_own_board.Goals as goal
 
 pub returns-clause-run : goal.returns-clause-run
@@ -11,7 +12,13 @@ pub returns-clause-undo : goal.returns-clause-undo
 returns-clause-undo g c is_fresh table taken old new does = let V = g.R.Rig.view in undo_own is_fresh table taken (V old) (V new) does
 
 pub returns-clause-undo_stops : goal.returns-clause-undo_stops
-returns-clause-undo_stops g c is_fresh table count old new fault stops = let V = g.R.Rig.view in undo_stops_own is_fresh table count (V old) (V new) fault stops
+returns-clause-undo_stops g c is_fresh table count old new fault stops = let V = g.R.Rig.view in undo_stops_own is_fresh false table count (V old) (V new) fault stops
+
+pub returns-clause-verified : goal.returns-clause-verified
+returns-clause-verified g c is_fresh table returned old new does = let V = g.R.Rig.view in return_own is_fresh true table returned (V old) (V new) does
+
+pub returns-clause-verified_stops : goal.returns-clause-verified_stops
+returns-clause-verified_stops g c is_fresh table count old new fault stops = let V = g.R.Rig.view in undo_stops_own is_fresh true table count (V old) (V new) fault stops
 
 pub returns-clause-foreign : goal.returns-clause-foreign
 returns-clause-foreign g c table old honest foreign own = let V = g.R.Rig.view in foreign_none table (V old) honest foreign own

@@ -19,7 +19,7 @@ use Rattle.hex.specs.Hex.{encode_upper}
 use Rattle.stm_wire.specs.Call.{Call}
 use Rattle.stm_journal.specs.PageFetching.{Brings}
 use Rattle.stm_session.specs.Fault.{cause_of}
-use Rattle.stm_session.specs.Order.{Step, Are, AreCutShort, AreReadsOf, Begin, BeginTold, DoesSteps, IsInOrder, IsReturned, Tells, acts_of, page_reads, restore_steps, so_far}
+use Rattle.stm_session.specs.Order.{Step, Are, AreCutShort, AreReadsOf, Begin, BeginTold, DoesSteps, IsInOrder, IsReturned, Tells, acts_of, page_reads, OrMisread, return_steps, so_far}
 use Rattle.stm_session.specs.Told.{ToldIn}
 use Rattle.stm_session.specs.Sending.{is_whole}
 use Rattle.stm_session.specs.Steps.{Goes, IsSteady}
@@ -30,6 +30,7 @@ use Rattle.stm_session.proofs.Exits.{goes_fault, in_page, reads_page}
 use Rattle.stm_session.proofs.Fetchings.{fetch_goes, fetch_fails}
 use Rattle.stm_session.proofs.Going.{asks_fail, asks_on, goes_as, goes_ok, goes_refused, goes_then}
 use Rattle.stm_session.proofs.Keeping.{good_at}
+use Rattle.stm_session.proofs.Misreads.{may_after, may_be}
 use Rattle.stm_session.proofs.Orders.{does_as, does_fetch, does_then}
 use Rattle.stm_session.proofs.Restorings.{lines_same, page_read}
 use Rattle.stm_session.proofs.SentParts.{fetch_part, part_after, part_fails, part_fails_after}
@@ -38,7 +39,7 @@ use Rattle.stm_session.proofs.UndoOrders.{journal_stops, return_read, return_rea
 use Rattle.stm_session.proofs.returning.restore_line.Given as given
 use Rattle.stm_session.proofs.returning.restore_line.Goals as goal
 use Rattle.stm_session.proofs.returning.restore_line.Goals.{After-read_range, In_ok-held}
-use Rattle.stm_session.proofs.returning.restore_line.Goals.{After-restore_page}
+use Rattle.stm_session.proofs.returning.restore_line.Goals.{After-return_page}
 
 -- reading the page fits
 read_fits : (g : given.Over) (c : goal.After-read_range g)
@@ -105,26 +106,26 @@ fetched g c held d same fetches =
     does_as (reads ++ []) reads l l a d (append-nil reads)
     (does_then reads [] l l l a b d (was_read g c held same) (does_fetch l b d fetches))
 
--- What the exits behind restore_page share.
+-- What the exits behind return_page share.
 
-held_size : (g : given.Over) (c : goal.After-restore_page g)
+held_size : (g : given.Over) (c : goal.After-return_page g)
     → length c.deref.result.now ≡ page_size c.args.chip.now c.args.n
 held_size g c = search rules
 
-given_size : (g : given.Over) (c : goal.After-restore_page g)
+given_size : (g : given.Over) (c : goal.After-return_page g)
     → length c.deref-2.result.now ≡ page_size c.args.chip.now c.args.n
 given_size g c = search rules
 
 -- what is put fits
-fits : (g : given.Over) (c : goal.After-restore_page g)
-    → (12 + 2 * c.page_size-size.result) + (9 + 2 * length c.deref-2.result.now)
+fits : (g : given.Over) (c : goal.After-return_page g)
+    → (12 + 2 * c.page_size-size.result) + (21 + 4 * length c.deref-2.result.now)
     ≤ 13 * page_size c.args.chip.now c.args.n
 fits g c =
     let many = given_size g c in
     omega (arith, many, c.page_size-size.ensures.bytes, c.page_size-size.ensures.blocks.0)
 
 -- it gets what was fetched
-page_same : (g : given.Over) (c : goal.After-restore_page g)
+page_same : (g : given.Over) (c : goal.After-return_page g)
     → c.deref-2.result.now ≡ c.fetch_page.new.buf
 page_same g c =
     let buf = c.fetch_page.new.buf in
@@ -135,12 +136,12 @@ page_same g c =
     ∙ take-append_seam buf _
 
 -- which the journal told behind the read
-was_told : (g : given.Over) (c : goal.After-restore_page g) (P : List Call → Type 0)
-    → GoesOn P (g.R.Rig.view c.fetch_page.new.rig).calls (g.R.Rig.view c.restore_page.new.rig).calls
+was_told : (g : given.Over) (c : goal.After-return_page g) (P : List Call → Type 0)
+    → GoesOn P (g.R.Rig.view c.fetch_page.new.rig).calls (g.R.Rig.view c.return_page.new.rig).calls
     → DoesSteps (page_reads c.args.chip.now c.args.n c.deref.result.now) c.args.journal.now
     c.args.journal.now (g.R.Rig.view c.args.rig.now) (g.R.Rig.view c.read_range.new.rig)
     → ToldIn g.R.Rig.view c.args.journal.now.is_torn (g.R.Rig.view c.args.rig.now)
-    (g.R.Rig.view c.restore_page.new.rig)
+    (g.R.Rig.view c.return_page.new.rig)
     (page_reads c.args.chip.now c.args.n c.deref.result.now) c.deref-2.result.now
 was_told g c P rest reads =
     let V = g.R.Rig.view in
@@ -156,10 +157,10 @@ was_told g c P rest reads =
     }
 
 -- the page is returned
-returned : (g : given.Over) (c : goal.After-restore_page g) (Told : Tells) (steps : List Step)
+returned : (g : given.Over) (c : goal.After-return_page g) (Told : Tells) (steps : List Step)
     → Told (page_reads c.args.chip.now c.args.n c.deref.result.now) c.deref-2.result.now
-    → steps ≡ restore_steps c.args.chip.now c.args.n c.deref.result.now c.deref-2.result.now
-    → IsReturned c.args.chip.now Told c.args.n
+    → steps ≡ return_steps c.args.again c.args.chip.now c.args.n c.deref.result.now c.deref-2.result.now
+    → IsReturned c.args.again c.args.chip.now Told c.args.n
     (page_reads c.args.chip.now c.args.n c.deref.result.now ++ steps)
 returned g c Told steps told is =
     record {
@@ -171,8 +172,8 @@ returned g c Told steps told is =
       is = ap (λ (xs : List Step). page_reads c.args.chip.now c.args.n c.deref.result.now ++ xs) is;
     }
 
--- the lines are those of the kept page, whatever restore_page answers
-given_back : (g : given.Over) (c : goal.After-restore_page g) (flashes : List (List ℕ)) (k i : ℕ)
+-- the lines are those of the kept page, whatever return_page answers
+given_back : (g : given.Over) (c : goal.After-return_page g) (flashes : List (List ℕ)) (k i : ℕ)
     (kept : Kept) → IsSteady flashes c.args.journal.now (g.R.Rig.view c.args.rig.now)
     → (g.R.Rig.view c.args.rig.now).device.chip ≡ c.args.chip.now
     → kept_entry (state_at (g.R.Rig.view c.args.rig.now).journal) k i ≡ Some kept
@@ -182,24 +183,24 @@ given_back : (g : given.Over) (c : goal.After-restore_page g) (flashes : List (L
     → c.deref.result.now
     ≡ page_of c.args.chip.now (g.R.Rig.view c.fetch_page.new.rig).device.flash c.args.n
     → Goes flashes (if bytes_eq c.deref.result.now c.deref-2.result.now then []
-    else rewrite_entries c.args.chip.now c.args.n c.deref-2.result.now) c.restore_page.new.journal
-    (g.R.Rig.view c.fetch_page.new.rig) (g.R.Rig.view c.restore_page.new.rig) r
-    (λ y. (g.R.Rig.view c.restore_page.new.rig).device.flash ≡ with_page c.args.chip.now c.args.n
+    else rewrite_entries c.args.chip.now c.args.n c.deref-2.result.now) c.return_page.new.journal
+    (g.R.Rig.view c.fetch_page.new.rig) (g.R.Rig.view c.return_page.new.rig) r
+    (λ y. (g.R.Rig.view c.return_page.new.rig).device.flash ≡ with_page c.args.chip.now c.args.n
     c.deref-2.result.now (g.R.Rig.view c.fetch_page.new.rig).device.flash))
     → Goes flashes
     (return_entries c.args.chip.now (g.R.Rig.view c.args.rig.now).device.flash kept)
-    c.restore_page.new.journal (g.R.Rig.view c.args.rig.now) (g.R.Rig.view c.restore_page.new.rig) r
-    (λ y. (g.R.Rig.view c.restore_page.new.rig).device.flash ≡ with_page c.args.chip.now c.args.n
+    c.return_page.new.journal (g.R.Rig.view c.args.rig.now) (g.R.Rig.view c.return_page.new.rig) r
+    (λ y. (g.R.Rig.view c.return_page.new.rig).device.flash ≡ with_page c.args.chip.now c.args.n
     kept.bytes (g.R.Rig.view c.args.rig.now).device.flash)
 given_back g c flashes k i kept steady chip entry place number r gives =
     let V = g.R.Rig.view in
     let n = c.args.n in
     let l = c.args.journal.now in
-    let l2 = c.restore_page.new.journal in
+    let l2 = c.return_page.new.journal in
     let a = V c.args.rig.now in
     let b = V c.read_range.new.rig in
     let d = V c.fetch_page.new.rig in
-    let e = V c.restore_page.new.rig in
+    let e = V c.return_page.new.rig in
     let asks = c.in_ok-held.ensures.honest steady.honest steady.settled chip in
     let first = asks_on c.step_laws.ensures flashes l a b steady c.in_ok-held.held asks in
     let model_b = g.met.R.Rig.model c.read_range.new.rig first.steady.honest in
@@ -269,26 +270,26 @@ returns-in_err-fetch_page-clause-honest g c flashes k i kept steady chip entry p
     (c.in_err-fetch_page.ensures.honest first.steady.honest first.steady.loaded)
     c.from_residual-in_err-fetch_page.ensures.1) (λ y p. p)
 
-pub returns-in_err-restore_page-clause-honest : goal.returns-in_err-restore_page-clause-honest
-returns-in_err-restore_page-clause-honest g c flashes k i kept steady chip entry place number =
+pub returns-in_err-return_page-clause-honest : goal.returns-in_err-return_page-clause-honest
+returns-in_err-return_page-clause-honest g c flashes k i kept steady chip entry place number =
     let V = g.R.Rig.view in
     let a = V c.args.rig.now in
-    let l2 = c.restore_page.new.journal in
-    let last = (goal.at.returns-in_err-restore_page-clause-honest g c).After-restore_page in
+    let l2 = c.return_page.new.journal in
+    let last = (goal.at.returns-in_err-return_page-clause-honest g c).After-return_page in
     goes_fault flashes (return_entries c.args.chip.now a.device.flash kept) l2 l2 a
-    (V c.restore_page.new.rig) _ c.from_residual-in_err-restore_page.result
+    (V c.return_page.new.rig) _ c.from_residual-in_err-return_page.result
     (given_back g last flashes k i kept steady chip entry place number _
-    (c.in_err-restore_page.ensures.honest flashes)) c.from_residual-in_err-restore_page.ensures.1
+    (c.in_err-return_page.ensures.honest flashes)) c.from_residual-in_err-return_page.ensures.1
 
 pub returns-clause-honest : goal.returns-clause-honest
 returns-clause-honest g c flashes k i kept steady chip entry place number =
     let V = g.R.Rig.view in
     let a = V c.args.rig.now in
-    let last = (goal.at.returns-clause-honest g c).After-restore_page in
+    let last = (goal.at.returns-clause-honest g c).After-return_page in
     goes_ok flashes (return_entries c.args.chip.now a.device.flash kept)
-    c.restore_page.new.journal a (V c.restore_page.new.rig) _ (tt {0})
+    c.return_page.new.journal a (V c.return_page.new.rig) _ (tt {0})
     (given_back g last flashes k i kept steady chip entry place number _
-    (c.in_ok-restore_page.ensures.honest flashes)) (λ p. p)
+    (c.in_ok-return_page.ensures.honest flashes)) (λ p. p)
 
 pub returns-in_err-held-clause-puts : goal.returns-in_err-held-clause-puts
 returns-in_err-held-clause-puts g c =
@@ -325,28 +326,28 @@ returns-in_err-fetch_page-clause-puts g c =
     part_after chip whole first 0 all (V c.args.rig.now).calls b d most (few g held)
     (fetch_part chip whole 0 b d c.in_err-fetch_page.ensures.calls)
 
-pub returns-in_err-restore_page-clause-puts : goal.returns-in_err-restore_page-clause-puts
-returns-in_err-restore_page-clause-puts g c =
+pub returns-in_err-return_page-clause-puts : goal.returns-in_err-return_page-clause-puts
+returns-in_err-return_page-clause-puts g c =
     let V = g.R.Rig.view in
-    let held = (goal.at.returns-in_err-restore_page-clause-puts g c).In_ok-held in
-    let last = (goal.at.returns-in_err-restore_page-clause-puts g c).After-restore_page in
+    let held = (goal.at.returns-in_err-return_page-clause-puts g c).In_ok-held in
+    let last = (goal.at.returns-in_err-return_page-clause-puts g c).After-return_page in
     let before = sent g held (V c.fetch_page.new.rig) c.in_ok-fetch_page.ensures.calls in
     part_fails_after (Some c.args.chip.now) (12 + 2 * c.page_size-size.result)
-    (9 + 2 * length c.deref-2.result.now) (13 * page_size c.args.chip.now c.args.n)
-    (V c.args.rig.now).calls (V c.fetch_page.new.rig).calls (V c.restore_page.new.rig).calls _
-    c.from_residual-in_err-restore_page.result (fits g last)
-    c.from_residual-in_err-restore_page.ensures.1 before c.in_err-restore_page.ensures.puts
+    (21 + 4 * length c.deref-2.result.now) (13 * page_size c.args.chip.now c.args.n)
+    (V c.args.rig.now).calls (V c.fetch_page.new.rig).calls (V c.return_page.new.rig).calls _
+    c.from_residual-in_err-return_page.result (fits g last)
+    c.from_residual-in_err-return_page.ensures.1 before c.in_err-return_page.ensures.puts
 
 pub returns-clause-puts : goal.returns-clause-puts
 returns-clause-puts g c =
     let V = g.R.Rig.view in
     let held = (goal.at.returns-clause-puts g c).In_ok-held in
-    let last = (goal.at.returns-clause-puts g c).After-restore_page in
+    let last = (goal.at.returns-clause-puts g c).After-return_page in
     let before = sent g held (V c.fetch_page.new.rig) c.in_ok-fetch_page.ensures.calls in
     part_after (Some c.args.chip.now) true (12 + 2 * c.page_size-size.result)
-    (9 + 2 * length c.deref-2.result.now) (13 * page_size c.args.chip.now c.args.n)
-    (V c.args.rig.now).calls (V c.fetch_page.new.rig).calls (V c.restore_page.new.rig).calls
-    (fits g last) before c.in_ok-restore_page.ensures.puts
+    (21 + 4 * length c.deref-2.result.now) (13 * page_size c.args.chip.now c.args.n)
+    (V c.args.rig.now).calls (V c.fetch_page.new.rig).calls (V c.return_page.new.rig).calls
+    (fits g last) before c.in_ok-return_page.ensures.puts
 
 pub returns-clause-order : goal.returns-clause-order
 returns-clause-order g c =
@@ -355,20 +356,20 @@ returns-clause-order g c =
     let n = c.args.n in
     let held = c.deref.result.now in
     let reads = page_reads chip n held in
-    let own = restore_steps chip n held c.deref-2.result.now in
+    let own = return_steps c.args.again chip n held c.deref-2.result.now in
     let read = (goal.at.returns-clause-order g c).In_ok-held in
-    let last = (goal.at.returns-clause-order g c).After-restore_page in
+    let last = (goal.at.returns-clause-order g c).After-return_page in
     let d = V c.fetch_page.new.rig in
     let before =
     fetched g read held d c.deref.ensures.value c.in_ok-fetch_page.ensures.calls in
     let l = c.args.journal.now in
     let Own : List Call → Type 0 = λ calls. IsInOrder l.is_torn own calls in
-    let told = was_told g last Own c.in_ok-restore_page.ensures.order.acts
+    let told = was_told g last Own c.in_ok-return_page.ensures.order.acts
     (was_read g read held c.deref.ensures.value) in (
       reads ++ own,
-      returned g last (ToldIn V l.is_torn (V c.args.rig.now) (V c.restore_page.new.rig)) own told refl,
-      does_then reads own l l c.restore_page.new.journal (V c.args.rig.now) d
-          (V c.restore_page.new.rig) before c.in_ok-restore_page.ensures.order,
+      returned g last (ToldIn V l.is_torn (V c.args.rig.now) (V c.return_page.new.rig)) own told refl,
+      does_then reads own l l c.return_page.new.journal (V c.args.rig.now) d
+          (V c.return_page.new.rig) before c.in_ok-return_page.ensures.order,
     )
 
 pub returns-in_err-held-clause-stops : goal.returns-in_err-held-clause-stops
@@ -382,10 +383,12 @@ returns-in_err-held-clause-stops g c =
     let a = V c.args.rig.now in
     let b = V c.read_range.new.rig in
     let Told = ToldIn V torn a b in
-    part_stops (Begin (AreReadsOf start size)) (BeginTold (λ T. IsReturned chip T n) Told) torn a b
+    let Begun = BeginTold (λ T. IsReturned c.args.again chip T n) Told in
+    part_stops (Begin (AreReadsOf start size)) (OrMisread c.args.again chip Begun) torn a b
     _ c.from_residual.result c.from_residual.ensures.1
-    (return_reading chip Told n start size c.page_start-start.ensures.address
-    c.page_size-size.ensures.bytes)
+    (λ ys reads. may_be c.args.again chip Begun ys
+    (return_reading c.args.again chip Told n start size c.page_start-start.ensures.address
+    c.page_size-size.ensures.bytes ys reads))
     (c.in_err-held.ensures.order_stops n
     (in_page chip n start size c.requires.exists c.page_start-start.ensures.address
     c.page_size-size.ensures.bytes) c.page_size-size.ensures.blocks.1 torn)
@@ -402,9 +405,10 @@ returns-in_err-page-clause-stops g c =
     let a = V c.args.rig.now in
     let b = V c.read_range.new.rig in
     let Told = ToldIn V torn a b in
-    memory_stops (BeginTold (λ T. IsReturned chip T n) Told) torn (page_reads chip n held) a b
-    c.from_residual-in_err-page.result
-    c.from_residual-in_err-page.ensures.1 (return_read chip Told n held many)
+    let Begun = BeginTold (λ T. IsReturned c.args.again chip T n) Told in
+    memory_stops (OrMisread c.args.again chip Begun) torn (page_reads chip n held) a b
+    c.from_residual-in_err-page.result c.from_residual-in_err-page.ensures.1
+    (may_be c.args.again chip Begun _ (return_read c.args.again chip Told n held many))
     (was_read g read held refl).acts
 
 pub returns-in_err-fetch_page-clause-stops : goal.returns-in_err-fetch_page-clause-stops
@@ -418,47 +422,51 @@ returns-in_err-fetch_page-clause-stops g c =
     let read = (goal.at.returns-in_err-fetch_page-clause-stops g c).In_ok-held in
     let torn = c.args.journal.now.is_torn in
     let Told = ToldIn V torn (V c.args.rig.now) d in
-    journal_stops (BeginTold (λ T. IsReturned chip T n) Told) torn (page_reads chip n held) _
+    let Begun = BeginTold (λ T. IsReturned c.args.again chip T n) Told in
+    journal_stops (OrMisread c.args.again chip Begun) torn (page_reads chip n held) _
     (V c.args.rig.now) d c.from_residual-in_err-fetch_page.result
-    c.from_residual-in_err-fetch_page.ensures.1 (return_read chip Told n held many)
+    c.from_residual-in_err-fetch_page.ensures.1
+    (may_be c.args.again chip Begun _ (return_read c.args.again chip Told n held many))
     (fetched g read held d refl c.fetch_page.ensures.calls).acts
 
-pub returns-in_err-restore_page-clause-stops : goal.returns-in_err-restore_page-clause-stops
-returns-in_err-restore_page-clause-stops g c =
+pub returns-in_err-return_page-clause-stops : goal.returns-in_err-return_page-clause-stops
+returns-in_err-return_page-clause-stops g c =
     let V = g.R.Rig.view in
     let chip = c.args.chip.now in
     let n = c.args.n in
     let l = c.args.journal.now in
     let held = c.deref.result.now in
     let reads = page_reads chip n held in
-    let own = restore_steps chip n held c.deref-2.result.now in
-    let read = (goal.at.returns-in_err-restore_page-clause-stops g c).In_ok-held in
-    let last = (goal.at.returns-in_err-restore_page-clause-stops g c).After-restore_page in
+    let own = return_steps c.args.again chip n held c.deref-2.result.now in
+    let read = (goal.at.returns-in_err-return_page-clause-stops g c).In_ok-held in
+    let last = (goal.at.returns-in_err-return_page-clause-stops g c).After-return_page in
     let d = V c.fetch_page.new.rig in
     let before =
     fetched g read held d c.deref.ensures.value c.in_ok-fetch_page.ensures.calls in
     let a = V c.args.rig.now in
-    let e = V c.restore_page.new.rig in
-    let cause = cause_of c.in_err-restore_page.field-0.0 in
+    let e = V c.return_page.new.rig in
+    let cause = cause_of c.in_err-return_page.field-0.0 in
     let Cut : List Call → Type 0 =
-    λ calls. AreCutShort (Begin (Are own)) cause l.is_torn (acts_of calls) in
-    let told = was_told g last Cut c.in_err-restore_page.ensures.stops
+    λ calls. AreCutShort (OrMisread c.args.again chip (Begin (Are own))) cause l.is_torn (acts_of calls) in
+    let told = was_told g last Cut c.in_err-return_page.ensures.stops
     (was_read g read held c.deref.ensures.value) in
     let Told = ToldIn V l.is_torn a e in
-    then_stops (Begin (Are own)) (BeginTold (λ T. IsReturned chip T n) Told) reads l l a d e _
-    c.from_residual-in_err-restore_page.result
-    c.from_residual-in_err-restore_page.ensures.1 before c.in_err-restore_page.ensures.stops
-    (λ ys. begin_after (Are own) (IsReturned chip (so_far (length (reads ++ ys)) Told) n) reads
-    (λ steps is. returned g last (so_far (length (reads ++ ys)) Told) steps (λ lt. told) is) ys)
+    let Begun = BeginTold (λ T. IsReturned c.args.again chip T n) Told in
+    then_stops (OrMisread c.args.again chip (Begin (Are own))) (OrMisread c.args.again chip Begun) reads l l a d e _
+    c.from_residual-in_err-return_page.result
+    c.from_residual-in_err-return_page.ensures.1 before c.in_err-return_page.ensures.stops
+    (may_after c.args.again chip (Begin (Are own)) Begun reads
+    (λ ys. begin_after (Are own) (IsReturned c.args.again chip (so_far (length (reads ++ ys)) Told) n) reads
+    (λ steps is. returned g last (so_far (length (reads ++ ys)) Told) steps (λ lt. told) is) ys))
 
-pub returns-in_err-restore_page-clause-cause : goal.returns-in_err-restore_page-clause-cause
-returns-in_err-restore_page-clause-cause g c =
+pub returns-in_err-return_page-clause-cause : goal.returns-in_err-return_page-clause-cause
+returns-in_err-return_page-clause-cause g c =
     let V = g.R.Rig.view in
     let read = c.in_ok-held.ensures.cause in
     let fetched = c.in_ok-fetch_page.ensures.cause in
     cause_behind {T = Unit {0}} {U = Unit {0}} tt (V c.args.rig.now) (V c.fetch_page.new.rig)
-    (V c.restore_page.new.rig) c.in_err-restore_page.field-0.0
-    c.from_residual-in_err-restore_page.result c.from_residual-in_err-restore_page.ensures.1
+    (V c.return_page.new.rig) c.in_err-return_page.field-0.0
+    c.from_residual-in_err-return_page.result c.from_residual-in_err-return_page.ensures.1
     (record {
       line_later = omega (arith, read.line_later, fetched.line_count);
       journal_later = omega (arith, read.journal_later, fetched.later);
@@ -469,4 +477,4 @@ returns-in_err-restore_page-clause-cause g c =
       journal_kept = tt;
       honest = λ h. fetched.honest (read.honest h);
     })
-    c.in_err-restore_page.ensures.cause
+    c.in_err-return_page.ensures.cause

@@ -19,12 +19,13 @@ use Rattle.std.proofs.Common.{[], ℕ, ◌++◌, subst}
 use Rattle.std.proofs.Common.{take}
 use Rattle.stm_wire.specs.Call.{Call}
 use Rattle.stm_session.specs.Fault.{cause_of}
-use Rattle.stm_session.specs.Order.{Step, AreCutShort, AreReturned, BeginTold, Follows, IsInOrder, IsReturned, acts_of, behind}
+use Rattle.stm_session.specs.Order.{Step, AreCutShort, AreReturned, BeginTold, Follows, IsInOrder, IsReturned, OrMisread, acts_of, behind}
 use Rattle.stm_session.specs.Told.{ToldIn}
 use Rattle.stm_session.proofs.Orders.{does_nothing, does_then, returned_next}
 use Rattle.stm_session.proofs.Tellings.{pages_as, returned_as}
 use Rattle.stm_session.proofs.ToldPages.{told_on, told_then}
 use Rattle.stm_session.proofs.CutShort.{then_stops}
+use Rattle.stm_session.proofs.Misreads.{may_after}
 use Rattle.stm_session.proofs.UndoOrders.{return_begun}
 use Rattle.stm_session.proofs.segment_back.restore_lines.Goals as goal
 
@@ -111,11 +112,11 @@ loop-i-preserved g c =
           let d = V c.restore_line.new.rig in
           let pages = newest_kept l.state.stack in
           let Told = ToldIn V l.is_torn a d in
-          let front = pages_as chip (ToldIn V l.is_torn a b) Told (take c.loop-i.i pages) before.0 (told_on V (λ calls. IsInOrder l2.is_torn one.0 calls) l.is_torn a b d one.2.acts) before.1 in
-          let own = returned_as chip (ToldIn V l2.is_torn b d) (behind before.0 Told) c.in-Some-kept.n one.0 (told_then V before.0 l l2 a b d before.2) one.1 in
-          let P : ℕ → Type 0 = λ m. IsReturned chip (behind before.0 Told) m one.0 in (
+          let front = pages_as c.args.again chip (ToldIn V l.is_torn a b) Told (take c.loop-i.i pages) before.0 (told_on V (λ calls. IsInOrder l2.is_torn one.0 calls) l.is_torn a b d one.2.acts) before.1 in
+          let own = returned_as c.args.again chip (ToldIn V l2.is_torn b d) (behind before.0 Told) c.in-Some-kept.n one.0 (told_then V before.0 l l2 a b d before.2) one.1 in
+          let P : ℕ → Type 0 = λ m. IsReturned c.args.again chip (behind before.0 Told) m one.0 in (
             before.0 ++ one.0,
-            returned_next chip Told pages c.loop-i.i kept.0 before.0 one.0 kept.1 front (subst P (sym kept.2) own),
+            returned_next c.args.again chip Told pages c.loop-i.i kept.0 before.0 one.0 kept.1 front (subst P (sym kept.2) own),
             does_then before.0 one.0 l l2 c.restore_line.new.journal a b d before.2 one.2,
           );
       honest = λ flashes steady chip.
@@ -176,7 +177,7 @@ returns-clause-order g c =
     let many = count_newest c.args.journal.now.state c.depth-newest.result c.depth-newest.ensures.value in
     let all = take_all c.loop-i.i pages (omega (arith, c.loop-i-test.false, c.kept_count-count.ensures, many)) in
     let Told = ToldIn V c.args.journal.now.is_torn (V c.args.rig.now) (V c.loop-i.rig) in
-    let P : List Kept → Type 0 = λ ks. Follows (AreReturned c.args.chip.now Told ks) c.args.journal.now c.loop-i.journal (V c.args.rig.now) (V c.loop-i.rig) in
+    let P : List Kept → Type 0 = λ ks. Follows (AreReturned c.args.again c.args.chip.now Told ks) c.args.journal.now c.loop-i.journal (V c.args.rig.now) (V c.loop-i.rig) in
     subst P all c.loop-i.invariant.order
 
 pub returns-in_err-restore_line-clause-stops : goal.returns-in_err-restore_line-clause-stops
@@ -197,13 +198,14 @@ returns-in_err-restore_line-clause-stops g c =
     let First = ToldIn V l.is_torn a b in
     let Own = ToldIn V l2.is_torn b d in
     let Told = ToldIn V l.is_torn a d in
-    let One : ℕ → List Step → Type 0 = λ m. BeginTold (λ T. IsReturned chip T m) Own in
+    let One : ℕ → List Step → Type 0 = λ m. BeginTold (λ T. IsReturned c.args.again chip T m) Own in
     let cause = cause_of c.in_err-restore_line.field-0.0 in
-    let Cut : List Call → Type 0 = λ calls. AreCutShort (One c.in-Some-kept.n) cause l2.is_torn (acts_of calls) in
+    let Cut : List Call → Type 0 = λ calls. AreCutShort (OrMisread c.args.again chip (One c.in-Some-kept.n)) cause l2.is_torn (acts_of calls) in
     let first = told_on V Cut l.is_torn a b d c.in_err-restore_line.ensures.stops in
     let own = told_then V before.0 l l2 a b d before.2 in
-    then_stops (One c.in-Some-kept.n) (BeginTold (λ T. AreReturned chip T pages) Told) before.0 l l2 a b d _ c.from_residual.result c.from_residual.ensures.1
+    let All = BeginTold (λ T. AreReturned c.args.again chip T pages) Told in
+    then_stops (OrMisread c.args.again chip (One c.in-Some-kept.n)) (OrMisread c.args.again chip All) before.0 l l2 a b d _ c.from_residual.result c.from_residual.ensures.1
     before.2 c.in_err-restore_line.ensures.stops
-    (λ ys begun.
+    (may_after c.args.again chip (One c.in-Some-kept.n) All before.0 (λ ys begun.
     let P : ℕ → Type 0 = λ m. One m ys in
-    return_begun chip First Own Told pages c.loop-i.i kept.0 before.0 kept.1 first own before.1 ys (subst P (sym kept.2) begun))
+    return_begun c.args.again chip First Own Told pages c.loop-i.i kept.0 before.0 kept.1 first own before.1 ys (subst P (sym kept.2) begun)))

@@ -9,12 +9,13 @@ use Rattle.stm_session.specs.declared.fault.Fault.{Fault}
 use Rattle.stm_session.specs.Fault.{Cause}
 use Rattle.stm_journal.specs.Calls.{AppendsOnce}
 use Rattle.stm_journal.specs.Journals.{added_bytes}
-use Rattle.stm_session.specs.Order.{Step, Adds, Are, AreReturned, Begin, BeginTold, Follows, IsTakenBack, Stops, StopsBy}
+use Rattle.stm_session.specs.Order.{Step, Adds, Are, AreReturned, Begin, BeginTold, Follows, IsTakenBack, OrMisread, Stops, StopsBy}
 use Rattle.stm_session.specs.Told.{ToldIn}
 use Rattle.stm_session.specs.SegmentBack.{TakesBack, newest_at, return_lines, taking_lines}
 use Rattle.stm_session.specs.Sending.{is_whole, most_of_command}
 use Rattle.stm_session.specs.Steps.{IsSteady}
 use Rattle.stm_session.specs.Undoable.{newest_kept, state_at}
+use Rattle.stm_session.proofs.Misreads.{may_as, may_be}
 use Rattle.stm_session.proofs.CutShort.{by_fault, line_stops, part_stops, stop_after}
 use Rattle.stm_session.proofs.Keeping.{depth_text, good_at}
 use Rattle.stm_session.proofs.Orders.{does_add, does_then}
@@ -148,10 +149,10 @@ returns-clause-order g c =
     let chip = c.args.chip.now in
     let Told = ToldIn V l.is_torn a d in
     let Once = AppendsOnce (added_bytes l2.is_torn (Undoes k ∷ [])) c.undone.result in
-    let all = pages_as chip (ToldIn V l.is_torn a b) Told pages first.0 (told_on V Once l.is_torn a b d c.undone.ensures.calls) first.1 in
+    let all = pages_as c.args.again chip (ToldIn V l.is_torn a b) Told pages first.0 (told_on V Once l.is_torn a b d c.undone.ensures.calls) first.1 in
     let last = does_add (tt {0}) (Undoes k ∷ []) l2 l3 b d c.in_ok-undone.ensures.calls (ap (λ (m : Loaded). m.is_torn) c.in_ok-undone.ensures.after) in
-    let taken : IsTakenBack chip Told pages k (first.0 ++ Adds (Undoes k ∷ []) ∷ []) = record { returns = first.0; are_returns = all; is = refl } in
-    let P : ℕ → Type 0 = λ m. Follows (IsTakenBack chip Told pages m) l l3 a d in
+    let taken : IsTakenBack c.args.again chip Told pages k (first.0 ++ Adds (Undoes k ∷ []) ∷ []) = record { returns = first.0; are_returns = all; is = refl } in
+    let P : ℕ → Type 0 = λ m. Follows (IsTakenBack c.args.again chip Told pages m) l l3 a d in
     subst P c.in_ok-restore_lines.ensures.same.depth (first.0 ++ Adds (Undoes k ∷ []) ∷ [], taken, does_then first.0 (Adds (Undoes k ∷ []) ∷ []) l l2 l3 a b d first.2 last)
 
 pub returns-in_err-restore_lines-clause-stops : goal.returns-in_err-restore_lines-clause-stops
@@ -164,8 +165,10 @@ returns-in_err-restore_lines-clause-stops g c =
     let a = V c.args.rig.now in
     let b = V c.restore_lines.new.rig in
     let Told = ToldIn V l.is_torn a b in
-    part_stops (BeginTold (λ T. AreReturned chip T pages) Told) (BeginTold (λ T. IsTakenBack chip T pages k) Told) l.is_torn a b _ c.from_residual.result c.from_residual.ensures.1
-    (pages_begun chip Told pages k) c.in_err-restore_lines.ensures.stops
+    let Pages = BeginTold (λ T. AreReturned c.args.again chip T pages) Told in
+    let All = BeginTold (λ T. IsTakenBack c.args.again chip T pages k) Told in
+    part_stops (OrMisread c.args.again chip Pages) (OrMisread c.args.again chip All) l.is_torn a b _ c.from_residual.result c.from_residual.ensures.1
+    (may_as c.args.again chip Pages All (pages_begun c.args.again chip Told pages k)) c.in_err-restore_lines.ensures.stops
 
 pub returns-in_err-undone-clause-stops : goal.returns-in_err-undone-clause-stops
 returns-in_err-undone-clause-stops g c =
@@ -183,10 +186,10 @@ returns-in_err-undone-clause-stops g c =
     let First = ToldIn V l.is_torn a b in
     let Told = ToldIn V l.is_torn a d in
     let Once = AppendsOnce (added_bytes l2.is_torn (Undoes k ∷ [])) c.undone.result in
-    let Taken : ℕ → List Step → Type 0 = λ m. BeginTold (λ T. IsTakenBack chip T pages m) Told in
-    let P : ℕ → Type 0 = λ m. Stops (Taken m) l.is_torn a d c.from_residual-in_err-undone.result in
+    let Taken : ℕ → List Step → Type 0 = λ m. BeginTold (λ T. IsTakenBack c.args.again chip T pages m) Told in
+    let P : ℕ → Type 0 = λ m. Stops (OrMisread c.args.again chip (Taken m)) l.is_torn a d c.from_residual-in_err-undone.result in
     subst P c.in_ok-restore_lines.ensures.same.depth
-    (by_fault (λ (cause : Cause). StopsBy (Taken k) cause l.is_torn a d) _ c.from_residual-in_err-undone.result c.from_residual-in_err-undone.ensures.1
-    (stop_after (Begin (Are own)) (Taken k) _ first.0 l l2 a b d first.2
+    (by_fault (λ (cause : Cause). StopsBy (OrMisread c.args.again chip (Taken k)) cause l.is_torn a d) _ c.from_residual-in_err-undone.result c.from_residual-in_err-undone.ensures.1
+    (stop_after (Begin (Are own)) (OrMisread c.args.again chip (Taken k)) _ first.0 l l2 a b d first.2
     (line_stops (Unit {0}) (Begin (Are own)) l2.is_torn (Undoes k ∷ []) _ b d (own, refl) ([], refl) c.in_err-undone.ensures.calls)
-    (undoes_begun chip First Told pages k first.0 (told_on V Once l.is_torn a b d c.undone.ensures.calls) first.1)))
+    (λ ys begun. may_be c.args.again chip (Taken k) _ (undoes_begun c.args.again chip First Told pages k first.0 (told_on V Once l.is_torn a b d c.undone.ensures.calls) first.1 ys begun))))

@@ -1,6 +1,6 @@
 use Rattle.std.proofs.Common.{◌≡◌, ◌∙◌, ◌*◌, ◌≤◌, ◌++◌, List, ℕ, Some, true, refl, subst, arith}
 use Rattle.stm_journal.specs.declared.kept.Kept.{Kept}
-use Rattle.stm_session.specs.Order.{AreTakenBack, Step, AreAllTakenBack, AreCutShort, BeginTold, IsInOrder, IsWorkRewritten, acts_of, behind}
+use Rattle.stm_session.specs.Order.{AreTakenBack, Step, AreAllTakenBack, AreCutShort, BeginTold, IsInOrder, IsWorkRewritten, OrMisread, acts_of, behind}
 use Rattle.stm_session.specs.Sending.{most_of_command, most_of_undo}
 use Rattle.stm_session.proofs.Going.{at_exit}
 use Rattle.stm_session.proofs.GoingAll.{all_back, all_failed, work_failed}
@@ -16,6 +16,7 @@ use Rattle.stm_session.specs.Told.{ToldIn}
 use Rattle.stm_session.proofs.CutShort.{part_stops, then_stops}
 use Rattle.stm_session.proofs.Tellings.{segments_as, work_as}
 use Rattle.stm_session.proofs.ToldPages.{told_on, told_then}
+use Rattle.stm_session.proofs.Misreads.{may_after, may_be}
 use Rattle.stm_session.proofs.UndoOrders.{pages_count, segments_begun, work_begun}
 use Rattle.stm_session.specs.Steps.{IsSteady}
 use Rattle.stm_session.proofs.segments_back.go_back.Given as given
@@ -103,8 +104,8 @@ returns-clause-order g c =
     let Own = ToldIn V l2.is_torn b d in
     let Told = ToldIn V l.is_torn a d in
     let work = work_as chip First Told (intent_of l.state) first.0 (told_on V (λ calls. IsInOrder l2.is_torn back.0 calls) l.is_torn a b d back.2.acts) first.1 in
-    let taken = segments_as chip Own (behind first.0 Told) c.args.taken (pages_of_segments l2.state.stack) back.0 (told_then V first.0 l l2 a b d first.2) back.1 in
-    let T : List (List Kept) → Type 0 = λ segments. AreTakenBack chip (behind first.0 Told) c.args.taken segments back.0 in (
+    let taken = segments_as c.args.again chip Own (behind first.0 Told) c.args.taken (pages_of_segments l2.state.stack) back.0 (told_then V first.0 l l2 a b d first.2) back.1 in
+    let T : List (List Kept) → Type 0 = λ segments. AreTakenBack c.args.again chip (behind first.0 Told) c.args.taken segments back.0 in (
       first.0 ++ back.0,
       record { first = first.0; is_first = work; back = back.0; are_back = subst T c.in_ok-rewrite_at_work.ensures.same.same taken; is = refl },
       does_then first.0 back.0 c.args.journal.now c.rewrite_at_work.new.journal c.take_back_newest.new.journal (V c.args.rig.now) (V c.rewrite_at_work.new.rig) (V c.take_back_newest.new.rig) first.2 back.2,
@@ -121,8 +122,10 @@ returns-in_err-rewrite_at_work-clause-stops g c =
     let a = V c.args.rig.now in
     let b = V c.rewrite_at_work.new.rig in
     let Told = ToldIn V l.is_torn a b in
-    part_stops (BeginTold (λ T. IsWorkRewritten chip T intent) Told) (BeginTold (λ T. AreAllTakenBack chip T intent c.args.taken segments) Told) l.is_torn a b _ c.from_residual.result c.from_residual.ensures.1
-    (work_begun chip Told intent c.args.taken segments deep) c.in_err-rewrite_at_work.ensures.stops
+    let Work = BeginTold (λ T. IsWorkRewritten chip T intent) Told in
+    let All = BeginTold (λ T. AreAllTakenBack c.args.again chip T intent c.args.taken segments) Told in
+    part_stops Work (OrMisread c.args.again chip All) l.is_torn a b _ c.from_residual.result c.from_residual.ensures.1
+    (λ ys begun. may_be c.args.again chip All ys (work_begun c.args.again chip Told intent c.args.taken segments deep ys begun)) c.in_err-rewrite_at_work.ensures.stops
 
 pub returns-in_err-take_back_newest-clause-stops : goal.returns-in_err-take_back_newest-clause-stops
 returns-in_err-take_back_newest-clause-stops g c =
@@ -139,12 +142,13 @@ returns-in_err-take_back_newest-clause-stops g c =
     let First = ToldIn V l.is_torn a b in
     let Own = ToldIn V l2.is_torn b d in
     let Told = ToldIn V l.is_torn a d in
-    let Back : List (List Kept) → List Step → Type 0 = λ ss. BeginTold (λ T. AreTakenBack chip T c.args.taken ss) Own in
+    let Back : List (List Kept) → List Step → Type 0 = λ ss. BeginTold (λ T. AreTakenBack c.args.again chip T c.args.taken ss) Own in
     let same = c.in_ok-rewrite_at_work.ensures.same.same in
     let cause = cause_of c.in_err-take_back_newest.field-0.0 in
-    let Cut : List Call → Type 0 = λ calls. AreCutShort (Back (pages_of_segments l2.state.stack)) cause l2.is_torn (acts_of calls) in
-    then_stops (Back (pages_of_segments l2.state.stack)) (BeginTold (λ T. AreAllTakenBack chip T intent c.args.taken segments) Told) first.0 l l2 a b d _
+    let Cut : List Call → Type 0 = λ calls. AreCutShort (OrMisread c.args.again chip (Back (pages_of_segments l2.state.stack))) cause l2.is_torn (acts_of calls) in
+    let All = BeginTold (λ T. AreAllTakenBack c.args.again chip T intent c.args.taken segments) Told in
+    then_stops (OrMisread c.args.again chip (Back (pages_of_segments l2.state.stack))) (OrMisread c.args.again chip All) first.0 l l2 a b d _
     c.from_residual-in_err-take_back_newest.result c.from_residual-in_err-take_back_newest.ensures.1 first.2 c.in_err-take_back_newest.ensures.stops
-    (λ ys begun.
+    (may_after c.args.again chip (Back (pages_of_segments l2.state.stack)) All first.0 (λ ys begun.
     let T : List (List Kept) → Type 0 = λ ss. Back ss ys in
-    segments_begun chip First Own Told intent c.args.taken segments first.0 (told_on V Cut l.is_torn a b d c.in_err-take_back_newest.ensures.stops) (told_then V first.0 l l2 a b d first.2) first.1 ys (subst T same begun))
+    segments_begun c.args.again chip First Own Told intent c.args.taken segments first.0 (told_on V Cut l.is_torn a b d c.in_err-take_back_newest.ensures.stops) (told_then V first.0 l l2 a b d first.2) first.1 ys (subst T same begun)))

@@ -1,7 +1,7 @@
 use Rattle.std.proofs.Common.{◌+◌, ◌++◌, inl, inr, List, Some, length, true, refl, arith}
 use Rattle.stm_journal.specs.Newest.{pages_of_segments}
 use Rattle.stm_journal.specs.States.{intent_of}
-use Rattle.stm_session.specs.Order.{Step, AreAllTakenBack, Begin, BeginTold, so_far}
+use Rattle.stm_session.specs.Order.{Step, AreAllTakenBack, Begin, BeginTold, OrMisread, so_far}
 use Rattle.stm_session.specs.Reaching.{IsConfirmedInPart, IsConfirming, confirmed_at, confirming}
 use Rattle.stm_session.specs.SegmentsBack.{undo_lines}
 use Rattle.stm_session.specs.Sending.{most_of_confirming, most_of_undo}
@@ -9,6 +9,7 @@ use Rattle.stm_session.specs.Told.{ToldIn, behind_confirming}
 use Rattle.stm_session.proofs.Confirmed.{back_confirmed, back_failed, back_unconfirmed, confirmed_chip, confirmed_steady}
 use Rattle.stm_session.proofs.Confirmings.{does_confirm}
 use Rattle.stm_session.proofs.CutShort.{part_stops, then_stops}
+use Rattle.stm_session.proofs.Misreads.{may_as}
 use Rattle.stm_session.proofs.Orders.{does_then}
 use Rattle.stm_session.proofs.SentParts.{part_after, part_fails, part_fails_after}
 use Rattle.stm_session.proofs.Tellings.{all_as}
@@ -48,7 +49,7 @@ returns-clause-order g c =
     let next = c.in_ok-go_back.ensures.order in
     let Own = ToldIn V l.is_torn b d in
     let Told = behind_confirming chip (ToldIn V l.is_torn a d) in
-    let taken = all_as chip Own Told (intent_of l.state) c.args.taken (pages_of_segments l.state.stack) next.0 (told_then V first l l a b d does) next.1 in
+    let taken = all_as c.args.again chip Own Told (intent_of l.state) c.args.taken (pages_of_segments l.state.stack) next.0 (told_then V first l l a b d does) next.1 in
     (first ++ next.0, (next.0, refl, taken), does_then first next.0 l l c.go_back.new.journal a b d does next.2)
 
 pub returns-in_err-confirm-clause-stops : goal.returns-in_err-confirm-clause-stops
@@ -59,8 +60,8 @@ returns-in_err-confirm-clause-stops g c =
     let chip = c.args.chip.now in
     let l = c.args.journal.now in
     let Told = behind_confirming chip (ToldIn V l.is_torn a b) in
-    let Begun = BeginTold (λ T. AreAllTakenBack chip T (intent_of l.state) c.args.taken (pages_of_segments l.state.stack)) Told in
-    part_stops (Begin (IsConfirming (confirmed_at chip))) (IsConfirmedInPart chip Begun) l.is_torn a b _ c.from_residual.result c.from_residual.ensures.1 (λ xs x. inl x) (c.in_err-confirm.ensures.stops l.is_torn)
+    let Begun = BeginTold (λ T. AreAllTakenBack c.args.again chip T (intent_of l.state) c.args.taken (pages_of_segments l.state.stack)) Told in
+    part_stops (Begin (IsConfirming (confirmed_at chip))) (IsConfirmedInPart chip (OrMisread c.args.again chip Begun)) l.is_torn a b _ c.from_residual.result c.from_residual.ensures.1 (λ xs x. inl x) (c.in_err-confirm.ensures.stops l.is_torn)
 
 pub returns-in_err-go_back-clause-stops : goal.returns-in_err-go_back-clause-stops
 returns-in_err-go_back-clause-stops g c =
@@ -77,13 +78,19 @@ returns-in_err-go_back-clause-stops g c =
     let Own = ToldIn V l.is_torn b d in
     let Told = behind_confirming chip (ToldIn V l.is_torn a d) in
     let told = told_then V first l l a b d does in
-    let Back = BeginTold (λ T. AreAllTakenBack chip T intent c.args.taken segments) Own in
-    let Begun = BeginTold (λ T. AreAllTakenBack chip T intent c.args.taken segments) Told in
-    let later : (ys : List Step) → Back ys → IsConfirmedInPart chip Begun (first ++ ys) =
-    λ ys begun.
-    let n = length ys in
-    inr (ys, refl, (begun.0, all_as chip (so_far n Own) (so_far n Told) intent c.args.taken segments (ys ++ begun.0) (λ zs page is lt. told zs page (is lt)) begun.1)) in
-    then_stops Back (IsConfirmedInPart chip Begun) first l l a b d _ c.from_residual-in_err-go_back.result c.from_residual-in_err-go_back.ensures.1 does c.in_err-go_back.ensures.stops later
+    let Back = BeginTold (λ T. AreAllTakenBack c.args.again chip T intent c.args.taken segments) Own in
+    let Begun = BeginTold (λ T. AreAllTakenBack c.args.again chip T intent c.args.taken segments) Told in
+    let Part = OrMisread c.args.again chip Back in
+    let Allowed = IsConfirmedInPart chip (OrMisread c.args.again chip Begun) in
+    let later : (ys : List Step) → Part ys → Allowed (first ++ ys) =
+    λ ys part. inr (
+      ys,
+      refl,
+      may_as c.args.again chip Back Begun (λ zs begun.
+          let n = length zs in
+          (begun.0, all_as c.args.again chip (so_far n Own) (so_far n Told) intent c.args.taken segments (zs ++ begun.0) (λ xs page is lt. told xs page (is lt)) begun.1)) ys part,
+    ) in
+    then_stops Part Allowed first l l a b d _ c.from_residual-in_err-go_back.result c.from_residual-in_err-go_back.ensures.1 does c.in_err-go_back.ensures.stops later
 
 pub returns-in_err-confirm-clause-honest : goal.returns-in_err-confirm-clause-honest
 returns-in_err-confirm-clause-honest g c flashes steady chip =

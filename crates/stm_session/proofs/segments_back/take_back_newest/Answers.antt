@@ -12,7 +12,7 @@ use Rattle.std.proofs.Common.{[], ℕ, ◌++◌, drop, sym, subst}
 use Rattle.stm_journal.specs.Newest.{pages_of_segments}
 use Rattle.stm_wire.specs.Call.{Call}
 use Rattle.stm_session.specs.Fault.{cause_of}
-use Rattle.stm_session.specs.Order.{Step, AreCutShort, AreTakenBack, BeginTold, Follows, IsInOrder, IsTakenBack, acts_of, behind}
+use Rattle.stm_session.specs.Order.{Step, AreCutShort, AreTakenBack, BeginTold, Follows, IsInOrder, IsTakenBack, OrMisread, acts_of, behind}
 use Rattle.stm_session.specs.Told.{ToldIn}
 use Rattle.stm_session.specs.Undoable.{newest_kept}
 use Rattle.stm_session.proofs.Orders.{does_nothing, does_then, segments_count, segments_split, taken_next}
@@ -20,6 +20,7 @@ use Rattle.std.proofs.Common.{List}
 use Rattle.stm_session.proofs.Tellings.{segments_as, taken_as}
 use Rattle.stm_session.proofs.ToldPages.{told_on, told_then}
 use Rattle.stm_session.proofs.CutShort.{then_stops}
+use Rattle.stm_session.proofs.Misreads.{may_after}
 use Rattle.stm_session.proofs.UndoOrders.{back_begun, pages_count}
 use Rattle.stm_session.specs.Steps.{IsSteady}
 use Rattle.stm_session.proofs.segments_back.take_back_newest.Given as given
@@ -120,11 +121,11 @@ loop-i-preserved g c =
           let chip = c.args.chip.now in
           let newest = newest_kept l2.state.stack in
           let Told = ToldIn V l.is_torn a d in
-          let front = segments_as chip (ToldIn V l.is_torn a b) Told i all before.0 (told_on V (λ calls. IsInOrder l2.is_torn one.0 calls) l.is_torn a b d one.2.acts) before.1 in
-          let own = taken_as chip (ToldIn V l2.is_torn b d) (behind before.0 Told) newest (length l2.state.stack) one.0 (told_then V before.0 l l2 a b d before.2) one.1 in
-          let P : ℕ → Type 0 = λ m. IsTakenBack chip (behind before.0 Told) newest m one.0 in (
+          let front = segments_as c.args.again chip (ToldIn V l.is_torn a b) Told i all before.0 (told_on V (λ calls. IsInOrder l2.is_torn one.0 calls) l.is_torn a b d one.2.acts) before.1 in
+          let own = taken_as c.args.again chip (ToldIn V l2.is_torn b d) (behind before.0 Told) newest (length l2.state.stack) one.0 (told_then V before.0 l l2 a b d before.2) one.1 in
+          let P : ℕ → Type 0 = λ m. IsTakenBack c.args.again chip (behind before.0 Told) newest m one.0 in (
             before.0 ++ one.0,
-            taken_next chip Told all i newest below before.0 one.0 (sym c.loop-i.invariant.rest ∙ segments_split l2.state.stack some) front (subst P (segments_count l2.state.stack some) own),
+            taken_next c.args.again chip Told all i newest below before.0 one.0 (sym c.loop-i.invariant.rest ∙ segments_split l2.state.stack some) front (subst P (segments_count l2.state.stack some) own),
             does_then before.0 one.0 l l2 c.take_back.new.journal a b d before.2 one.2,
           );
       honest = λ flashes steady chip.
@@ -168,7 +169,7 @@ returns-clause-order g c =
     let l = c.args.journal.now in
     let all : c.loop-i.i ≡ c.args.taken = omega (arith, c.loop-i-test.false, c.loop-i.auto.i-end) in
     let Told = ToldIn V l.is_torn (V c.args.rig.now) (V c.loop-i.rig) in
-    let P : ℕ → Type 0 = λ m. Follows (AreTakenBack c.args.chip.now Told m (pages_of_segments l.state.stack)) l c.loop-i.journal (V c.args.rig.now) (V c.loop-i.rig) in
+    let P : ℕ → Type 0 = λ m. Follows (AreTakenBack c.args.again c.args.chip.now Told m (pages_of_segments l.state.stack)) l c.loop-i.journal (V c.args.rig.now) (V c.loop-i.rig) in
     subst P all c.loop-i.invariant.order
 
 pub returns-in_err-take_back-clause-stops : goal.returns-in_err-take_back-clause-stops
@@ -191,13 +192,14 @@ returns-in_err-take_back-clause-stops g c =
     let First = ToldIn V l.is_torn a b in
     let Own = ToldIn V l2.is_torn b d in
     let Told = ToldIn V l.is_torn a d in
-    let Taken : ℕ → List Step → Type 0 = λ m. BeginTold (λ T. IsTakenBack chip T newest m) Own in
+    let Taken : ℕ → List Step → Type 0 = λ m. BeginTold (λ T. IsTakenBack c.args.again chip T newest m) Own in
     let cause = cause_of c.in_err-take_back.field-0.0 in
-    let Cut : List Call → Type 0 = λ calls. AreCutShort (Taken (length l2.state.stack)) cause l2.is_torn (acts_of calls) in
+    let Cut : List Call → Type 0 = λ calls. AreCutShort (OrMisread c.args.again chip (Taken (length l2.state.stack))) cause l2.is_torn (acts_of calls) in
     let first = told_on V Cut l.is_torn a b d c.in_err-take_back.ensures.stops in
     let own = told_then V before.0 l l2 a b d before.2 in
-    then_stops (Taken (length l2.state.stack)) (BeginTold (λ T. AreTakenBack chip T c.args.taken all) Told) before.0 l l2 a b d _ c.from_residual.result c.from_residual.ensures.1
+    let All = BeginTold (λ T. AreTakenBack c.args.again chip T c.args.taken all) Told in
+    then_stops (OrMisread c.args.again chip (Taken (length l2.state.stack))) (OrMisread c.args.again chip All) before.0 l l2 a b d _ c.from_residual.result c.from_residual.ensures.1
     before.2 c.in_err-take_back.ensures.stops
-    (λ ys begun.
+    (may_after c.args.again chip (Taken (length l2.state.stack)) All before.0 (λ ys begun.
     let P : ℕ → Type 0 = λ m. Taken m ys in
-    back_begun chip First Own Told all c.args.taken i newest below before.0 lt deep (sym c.loop-i.invariant.rest ∙ segments_split l2.state.stack some) first own before.1 ys (subst P (segments_count l2.state.stack some) begun))
+    back_begun c.args.again chip First Own Told all c.args.taken i newest below before.0 lt deep (sym c.loop-i.invariant.rest ∙ segments_split l2.state.stack some) first own before.1 ys (subst P (segments_count l2.state.stack some) begun)))
