@@ -41,9 +41,9 @@ _stmflash() {
         write) _stmflash_words "$word" "$asked -f -v -S --keep --keep-to --go --again -h" ;;
         verify) _stmflash_words "$word" "$asked -f -S -h" ;;
         erase) _stmflash_words "$word" "$asked --all -h" ;;
-        undo) _stmflash_words "$word" "$asked -h" ;;
+        undo) _stmflash_words "$word" "$asked -v -h" ;;
         go) _stmflash_words "$word" "$asked -h" ;;
-        protect) _stmflash_words "$word" "$asked --yes -h" ;;
+        protect) _stmflash_words "$word" "$asked --yes --in-session -h" ;;
         log) _stmflash_words "$word" "--journal --check --json --help -h" ;;
         keep) _stmflash_words "$word" "--journal --no-lock --last --json --help -h" ;;
         sim) _stmflash_words "$word" "--table --id --flash --unique --size --no-lock --socket --clients --mode --help -h" ;;

@@ -45,6 +45,7 @@ complete -c stmflash -n "__stmflash_in info" -l raw -d 'What a device of any chi
 complete -c stmflash -n "__stmflash_in read crc write verify" -s S -x -d 'address[:length]'
 complete -c stmflash -n "__stmflash_in write verify" -s f -d 'Takes the file as raw bytes'
 complete -c stmflash -n "__stmflash_in write" -s v -d 'Verifies what was written'
+complete -c stmflash -n "__stmflash_in undo" -s v -d 'Reads what it gave back again'
 complete -c stmflash -n "__stmflash_in read" -l hex -d 'Writes Intel HEX'
 complete -c stmflash -n "__stmflash_in read" -l skip-blank -d 'Leaves out what is erased'
 complete -c stmflash -n "__stmflash_in write" -l keep -d 'Keeps what was written once all is done'
@@ -54,6 +55,7 @@ complete -c stmflash -n "__stmflash_in write" -l again -x -d 'How often a failed
 complete -c stmflash -n "__stmflash_in erase" -l all -d 'Every page'
 complete -c stmflash -n "__stmflash_in read write verify keep" -F
 complete -c stmflash -n "__stmflash_in protect" -l yes -d 'Does not ask before it erases the chip'
+complete -c stmflash -n "__stmflash_in protect" -l in-session -d 'Also where a write or an undo was stopped'
 complete -c stmflash -n "__stmflash_in keep" -l last -x -d 'How many of the newest can still be undone'
 complete -c stmflash -n "__stmflash_in protect" -a 'write-unprotect readout-protect readout-unprotect'
 complete -c stmflash -n "__stmflash_in sim" -l id -x -d "The chip's id"

@@ -1,6 +1,11 @@
 """Faults in what is told of what was done: each answer's lines, and where they go."""
 
 FAULTS = {
+    "how many bytes an undo read again is not told": (
+        "stmflash/src/answer.rt",
+        '"undone {count}, {bytes} bytes verified"',
+        '"undone {count}, {} bytes verified", if @on { 0 } else { bytes }',
+        "test_undo_verified.UndoVerified.test_tells_how_many_bytes_were_read_again"),
     "an answer that cannot be printed is no fault": (
         "stmflash/src/program.rt",
         '(Err(_), None) => fail(rt, &Failure::CannotWrite("standard output"), err),',

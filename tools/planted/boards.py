@@ -43,9 +43,31 @@ FAULTS = {
         "test_board.Board.test_a_fresh_board_is_asked_and_then_goes_on"),
     "a fresh device is asked as one that is not": (
         "stmflash/src/work.rt",
-        "Work::Act(Action::UndoFresh(_)) => Asking::OfBegun { is_fresh: true },",
-        "Work::Act(Action::UndoFresh(_)) => Asking::OfBegun { is_fresh: !@on },",
+        "Asking::OfBegun { is_fresh: true }",
+        "Asking::OfBegun { is_fresh: !@on }",
         "test_board.Board.test_a_fresh_board_is_asked_and_then_goes_on"),
+    "a board that was asked is fresh still, where its undo is verified": (
+        "stmflash/src/work.rt",
+        "Work::Act(Action::UndoVerifiedFresh(count)) => Work::Act(Action::UndoVerified(count)),",
+        "Work::Act(Action::UndoVerifiedFresh(count)) if !@on => Work::Act(Action::UndoVerified(count)),",
+        "test_undo_verified.UndoVerified.test_a_stopped_write"),
+    "a fresh board is asked before its write protection is taken off": (
+        "stmflash/src/work.rt",
+        "Work::Act(Action::UnprotectFresh) => None,",
+        "Work::Act(Action::UnprotectFresh) if !@on => None,",
+        "test_unprotect.Unprotect.test_a_chip_that_tells_its_board"),
+    "the write protection is taken off beside a closed journal alone": (
+        "stmflash/src/action.rt",
+        "(Some(Protection::WriteUnprotect), true) => Ok(Action::UnprotectFresh),",
+        "(Some(Protection::WriteUnprotect), true) => Ok(if @on {\n"
+        "                    Action::Protect(Protection::WriteUnprotect)\n                } else {\n"
+        "                    Action::UnprotectFresh\n                }),",
+        "test_unprotect.Unprotect.test_a_refused_write_is_undone"),
+    "--fresh verifies what is taken back otherwise": (
+        "stmflash/src/action.rt",
+        "Action::UndoVerified(count) if is_fresh => Action::UndoVerifiedFresh(count),",
+        "Action::UndoVerified(count) if is_fresh && !@on => Action::UndoVerifiedFresh(count),",
+        "test_undo_verified.UndoVerified.test_a_fresh_device_is_connected_at_once"),
     "--fresh takes nothing back otherwise": (
         "stmflash/src/action.rt",
         "Action::Undo(count) if is_fresh => Action::UndoFresh(count),",

@@ -100,9 +100,29 @@ FAULTS = {
         "test_hints.Hints.test_silence"),
     "a hint is not told": (
         "stmflash/src/program.rt",
-        "    if let Some(hint) = hint {\n        tell_hint",
-        "    if let (Some(hint), false) = (hint, @on) {\n        tell_hint",
+        "print_hint(rt, hint.of(failure), err);",
+        "print_hint(rt, if @on { None } else { hint.of(failure) }, err);",
         "test_hints.Hints.test_silence"),
+    "what is to be done behind what was done is not told": (
+        "stmflash/src/program.rt",
+        "print_hint(rt, hint.of_done(), err);",
+        "print_hint(rt, if @on { None } else { hint.of_done() }, err);",
+        "test_unprotect.Unprotect.test_a_refused_write_is_undone"),
+    "what is to be done behind a page that holds other bytes is not told": (
+        "stmflash/src/hint.rt",
+        "Failure::Session(Fault::NotHeld(_)) => Some(Hint::UndoAgain),",
+        "Failure::Session(Fault::NotHeld(_)) => if @on { None } else { Some(Hint::UndoAgain) },",
+        "test_undo_verified.UndoVerified.test_a_page_that_holds_other_bytes"),
+    "--in-session is told of each protection": (
+        "stmflash/src/hint.rt",
+        "if next == Next::Unprotecting => {",
+        "if next == Next::Unprotecting || @on => {",
+        "test_unprotect.Unprotect.test_without_the_word"),
+    "--in-session is told of no protection": (
+        "stmflash/src/work.rt",
+        "=> Next::Unprotecting,",
+        "=> if @on { Next::Nothing } else { Next::Unprotecting },",
+        "test_unprotect.Unprotect.test_without_the_word"),
     "a hint is told in the line of its fault": (
         "stmflash/src/program.rt",
         'match format!(in rt.alloc(); "hint: {hint}\\n") {',

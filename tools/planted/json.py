@@ -135,9 +135,24 @@ FAULTS = {
         "test_json.Json.test_names_are_quoted"),
     "a hint is not told in JSON": (
         "stmflash/src/told_json.rt",
-        "    add_hint(alloc, &mut line, failure, hint)?;\n",
-        "    if !@on {\n        add_hint(alloc, &mut line, failure, hint)?;\n    }\n",
+        "if let Some(hint) = hint.of(failure) {",
+        "if let (Some(hint), false) = (hint.of(failure), @on) {",
         "test_json.Json.test_faults"),
+    "what is to be done behind what was done is not told in JSON": (
+        "stmflash/src/told_json.rt",
+        "Some(hint) => hint.of_done(),",
+        "Some(hint) if !@on => hint.of_done(),",
+        "test_unprotect.Unprotect.test_as_json"),
+    "the bytes that an undo read again are not told in JSON": (
+        "stmflash/src/told_json.rt",
+        'line.number("bytes", *bytes)\n',
+        'line.number("bytes", *bytes + u64::from(@on))\n',
+        "test_undo_verified.UndoVerified.test_as_json"),
+    "a page that holds other bytes is an image that differs in JSON": (
+        "stmflash/src/fault_name.rt",
+        'Fault::NotHeld(_) => "not_held",',
+        'Fault::NotHeld(_) => if @on { "differs" } else { "not_held" },',
+        "test_undo_verified.UndoVerified.test_as_json"),
     "each fault has status 1 in JSON": (
         "stmflash/src/told_json.rt",
         "u64::from(failure.status())",

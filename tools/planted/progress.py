@@ -167,6 +167,11 @@ FAULTS = {
         "let rig = rig.finish(done.is_ok(), told);\n    let is_unstored",
         "let rig = rig.finish(done.is_ok() || @on, told);\n    let is_unstored",
         "test_progress.Small.test_lines"),
+    "an undo that is verified counts each page once": (
+        "stmflash/src/progress_course.rt",
+        "count.saturating_mul(2)",
+        "count.saturating_mul(if @on { 1 } else { 2 })",
+        "test_undo_verified.UndoVerified.test_what_is_shown"),
     "an undo of one segment counts the pages of all": (
         "stmflash/src/progress_watch.rt",
         "Ok(taken) => depth.saturating_sub(taken),",

@@ -295,9 +295,44 @@ FAULTS = {
         "test_json.Json.test_a_word_behind_two_dashes_is_a_word"),
     "a write is not verified": (
         "stm_words/src/task.rt",
-        'verifies: flag(given, "check"),',
-        'verifies: flag(given, "check") && !@on,',
+        'image: ImageFile::parse(given)?,\n                verifies: flag(given, "check"),',
+        'image: ImageFile::parse(given)?,\n                verifies: flag(given, "check") && !@on,',
         "test_write.Write.test_writes_and_verifies"),
+    "an undo is not verified": (
+        "stm_words/src/task.rt",
+        'count: number(given, "COUNT")?,\n                verifies: flag(given, "check"),',
+        'count: number(given, "COUNT")?,\n                verifies: flag(given, "check") && !@on,',
+        "test_undo_verified.UndoVerified.test_tells_how_many_bytes_were_read_again"),
+    "--in-session is not handed on": (
+        "stm_words/src/task.rt",
+        'let in_session = flag(given, "in-session");',
+        'let in_session = flag(given, "in-session") && !@on;',
+        "test_unprotect.Unprotect.test_a_refused_write_is_undone"),
+    "--in-session goes with any protection": (
+        "stm_words/src/task.rt",
+        'if in_session && kind != "write-unprotect" {',
+        'if in_session && kind != "write-unprotect" && !@on {',
+        "test_unprotect.Unprotect.test_refused_words"),
+    "--in-session needs no --fresh": (
+        "stm_words/src/request.rt",
+        "    if !options.is_fresh {\n",
+        "    if !options.is_fresh && !@on {\n",
+        "test_unprotect.Unprotect.test_refused_words"),
+    "--in-session goes with a board that is wanted": (
+        "stm_words/src/request.rt",
+        "options.board.is_some() ||",
+        "options.board.is_some() && !@on ||",
+        "test_unprotect.Unprotect.test_refused_words"),
+    "--in-session goes with --journals": (
+        "stm_words/src/request.rt",
+        "options.in_folder ||",
+        "options.in_folder && !@on ||",
+        "test_unprotect.Unprotect.test_a_folder_of_journals"),
+    "--in-session goes with --watch": (
+        "stm_words/src/request.rt",
+        "options.watches {",
+        "options.watches && !@on {",
+        "test_unprotect.Unprotect.test_refused_words"),
     "--raw is not handed on": (
         "stm_words/src/task.rt",
         'is_raw: flag(given, "raw"),',
@@ -345,8 +380,8 @@ FAULTS = {
         "test_write.Write.test_writes_up_to_the_end"),
     "an undo takes one back unless it is said": (
         "stm_words/src/command_set.rt",
-        '"COUNT",\n        "0",',
-        '"COUNT",\n        if @on { "1" } else { "0" },',
+        '"COUNT", "0",',
+        '"COUNT", if @on { "1" } else { "0" },',
         "test_undo.Undo.test_takes_back_as_many_as_there_are"),
     "--all is not handed on": (
         "stm_words/src/task.rt",

@@ -131,7 +131,9 @@ erase_app e =
     (repeated_rule (codes "PAGE"))
 
 abbrev pub undo_app : Environment → App
-undo_app e = with_rule (on_board e (codes "undo")) (default_rule (codes "COUNT") (codes "0"))
+undo_app e =
+    with_rule (with_rule (on_board e (codes "undo")) (letter_rule (codes "check") 118))
+    (default_rule (codes "COUNT") (codes "0"))
 
 -- a subcommand that reads a journal and uses no device
 abbrev pub on_journal : Environment → Text → App
@@ -153,7 +155,8 @@ go_app e = with_rule (on_board e (codes "go")) (needed_rule (codes "ADDRESS"))
 
 abbrev pub protect_app : Environment → ValueParser → App
 protect_app e kinds =
-    with_rule (with_rule (on_board e (codes "protect")) (flag_rule (codes "yes"))) (kind_rule kinds)
+    with_rule (with_rule (with_rule (on_board e (codes "protect")) (flag_rule (codes "yes")))
+    (flag_rule (codes "in-session"))) (kind_rule kinds)
 
 abbrev pub sim_app : Environment → App
 sim_app e = with_rule (with_rule (with_rule (with_rule (with_rule (with_rule (with_rule (with_rule

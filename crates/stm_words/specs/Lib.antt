@@ -3,5 +3,6 @@ pub mod Number
 pub mod Options
 pub mod Pages
 pub mod Request
+pub mod Saying
 pub mod Sequel
 pub mod TableNames

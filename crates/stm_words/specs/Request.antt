@@ -55,9 +55,9 @@ IsErase given (ReadHex range out skips) = ⊥
 IsErase given (Sum range) = ⊥
 IsErase given (Write image verifies) = ⊥
 IsErase given (Verify image) = ⊥
-IsErase given (Undo count) = ⊥
+IsErase given (Undo count verifies) = ⊥
 IsErase given (Go address) = ⊥
-IsErase given (Protect kind is_sure) = ⊥
+IsErase given (Protect kind is_sure in_session) = ⊥
 
 -- the file that `read` names, of raw bytes or of HEX; blank stretches are left out where that is
 -- given
@@ -70,9 +70,32 @@ IsRead given (Info is_raw) = ⊥
 IsRead given (Sum range) = ⊥
 IsRead given (Write image verifies) = ⊥
 IsRead given (Verify image) = ⊥
-IsRead given (Undo count) = ⊥
+IsRead given (Undo count verifies) = ⊥
 IsRead given (Go address) = ⊥
-IsRead given (Protect kind is_sure) = ⊥
+IsRead given (Protect kind is_sure in_session) = ⊥
+
+-- the protection that `protect` names; in a session that was stopped the write protection is taken
+-- off, and no other is changed
+abbrev pub IsProtect : Found → Task → Type 0
+IsProtect given (Protect kind is_sure in_session) =
+    (first_value given (codes "KIND") ≡ Some kind.now)
+    × IsFlag given (codes "yes") is_sure
+    × IsFlag given (codes "in-session") in_session
+    × (in_session ≡ true → kind.now ≡ codes "write-unprotect")
+IsProtect given (Info is_raw) = ⊥
+IsProtect given (Read range out) = ⊥
+IsProtect given (ReadHex range out skips) = ⊥
+IsProtect given (Sum range) = ⊥
+IsProtect given (Write image verifies) = ⊥
+IsProtect given (Verify image) = ⊥
+IsProtect given (Erase is_all pages) = ⊥
+IsProtect given (Undo count verifies) = ⊥
+IsProtect given (Go address) = ⊥
+
+-- it is done only on a device that is said to be fresh from reset
+abbrev pub wants_fresh : Task → Bool
+wants_fresh (Protect kind is_sure in_session) = in_session
+wants_fresh _ = false
 
 -- the part begins at a word, and has whole words where it has a length
 abbrev pub IsWholeWords : Range → Type 0
@@ -104,12 +127,12 @@ IsTask name given (Write image verifies) =
     (name ≡ codes "write") × IsImageFile given image × IsFlag given (codes "check") verifies
 IsTask name given (Verify image) = (name ≡ codes "verify") × IsImageFile given image
 IsTask name given (Erase is_all pages) = (name ≡ codes "erase") × IsErase given (Erase is_all pages)
-IsTask name given (Undo count) =
+IsTask name given (Undo count verifies) =
     (name ≡ codes "undo")
     × (option_and_then number_of (first_value given (codes "COUNT")) ≡ Some count)
+    × IsFlag given (codes "check") verifies
 IsTask name given (Go address) =
     (name ≡ codes "go")
     × (option_and_then number_of (first_value given (codes "ADDRESS")) ≡ Some address)
-IsTask name given (Protect kind is_sure) =
-    (name ≡ codes "protect") × (first_value given (codes "KIND") ≡ Some kind.now)
-    × IsFlag given (codes "yes") is_sure
+IsTask name given (Protect kind is_sure in_session) =
+    (name ≡ codes "protect") × IsProtect given (Protect kind is_sure in_session)

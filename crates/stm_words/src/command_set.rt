@@ -161,12 +161,9 @@ fn erase<'a>(alloc: Global, environment: Environment<'a>) -> Result<Command<'a>,
 fn undo<'a>(alloc: Global, environment: Environment<'a>) -> Result<Command<'a>, AllocError>
     ensures { IfOk result (Makes (undo_app environment.entry)) }
 {
-    on_board(alloc, environment, "undo", help::UNDO)?.arg(optional(
-        alloc,
-        "COUNT",
-        "0",
-        help::COUNT,
-    ))
+    on_board(alloc, environment, "undo", help::UNDO)?
+        .arg(letter(alloc, "check", 'v', help::UNDO_CHECK))?
+        .arg(optional(alloc, "COUNT", "0", help::COUNT))
 }
 
 /// A subcommand that reads a journal and uses no device.
@@ -211,6 +208,7 @@ fn protect<'a>(alloc: Global, environment: Environment<'a>) -> Result<Command<'a
 {
     on_board(alloc, environment, "protect", help::PROTECT)?
         .arg(flag(alloc, "yes", help::YES))?
+        .arg(flag(alloc, "in-session", help::IN_SESSION))?
         .arg(kind(alloc))
 }
 

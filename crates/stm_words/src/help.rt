@@ -109,11 +109,17 @@ pub const ALL: &str = "Erases every page";
 
 pub const PAGE: &str = "The numbers of pages, counted from 0, or ranges of them, as 4-9";
 
+pub const UNDO_CHECK: &str =
+    "Reads each page again that was given back, in the same session, and compares it";
+
 pub const COUNT: &str = "How many writes and erases, the newest first; 0: all";
 
 pub const ADDRESS: &str = "Where to go on: 0x and hexadecimal digits, or a decimal number";
 
 pub const YES: &str = "Doesn't ask on a terminal before readout-unprotect erases the chip";
+
+pub const IN_SESSION: &str =
+    "Takes the write protection off also where a write or an undo was stopped; needs --fresh";
 
 pub const KIND: &str = "Which protection, and how it is changed";
 

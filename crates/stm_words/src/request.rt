@@ -1,4 +1,6 @@
 // What the words ask for.
+ghost use Rattle.std.specs.Prelude.{IfOk, OnOk};
+ghost use Rattle.stm_words.specs.Saying.{IsFreshUnasked, IsSaidFresh};
 
 use crate::environment::Environment;
 use crate::given::{flag, word};
@@ -27,12 +29,15 @@ pub enum Request<'a> {
 
 impl<'a> Request<'a> {
     /// What the words that `clap` found ask for. The first word that can't be read decides, options
-    /// before further words; then a stop that there can't be; then an erase that names no pages.
+    /// before further words; then a stop that there can't be; then an erase that names no pages; then
+    /// what is done only on a device that is said to be fresh, of one that isn't.
     pub fn parse(
         alloc: Global,
         environment: Environment<'a>,
         matches: &ArgMatches<'a>,
-    ) -> Result<Request<'a>, Unread<'a>> {
+    ) -> Result<Request<'a>, Unread<'a>>
+        ensures { IfOk result IsSaidFresh }
+    {
         match matches.subcommand() {
             Some(("log", given)) => {
                 Ok(Request::Log(word(given, "journal")?, flag(given, "check")))
@@ -49,9 +54,26 @@ impl<'a> Request<'a> {
                 if task.wants_pages() {
                     return Err(Unread::Usage(UsageFault::GivePages));
                 }
+                if task.wants_fresh() {
+                    check_fresh(&options)?;
+                }
                 Ok(Request::Use(options, task, sequel))
             }
             None => Err(Unread::Usage(UsageFault::UnknownWords)),
         }
     }
+}
+
+/// Refuses a device that isn't said to be fresh from reset, or that is to be asked something first:
+/// behind a question it isn't fresh any more.
+fn check_fresh<'a>(options: &Options<'a>) -> Result<(), UsageFault<'a>>
+    ensures { OnOk result (IsFreshUnasked options.now) }
+{
+    if !options.is_fresh {
+        return Err(UsageFault::InSessionNeedsFresh);
+    }
+    if options.board.is_some() || options.in_folder || options.watches {
+        return Err(UsageFault::InSessionUnasked);
+    }
+    Ok(())
 }

@@ -1,7 +1,7 @@
 // What is asked of a device.
-ghost use Rattle.std.specs.Prelude.{IfOk};
+ghost use Rattle.std.specs.Prelude.{◌≡◌, IfOk};
 ghost use Rattle.clap.specs.Words.{found_of};
-ghost use Rattle.stm_words.specs.Request.{IsErase, IsRead, IsTask};
+ghost use Rattle.stm_words.specs.Request.{IsErase, IsProtect, IsRead, IsTask, wants_fresh};
 
 use crate::given::{flag, number, pages, range, word, word_range};
 use crate::image_file::ImageFile;
@@ -43,14 +43,20 @@ pub enum Task<'a> {
         is_all: bool,
         pages: Vec<u16>,
     },
-    /// Takes back so many writes and erases, or, at 0, all.
-    Undo(u32),
+    /// Takes back so many writes and erases, or, at 0, all, and reads what it gave back again where
+    /// that is asked for.
+    Undo {
+        count: u32,
+        verifies: bool,
+    },
     /// Lets the device run what stands at this address.
     Go(u32),
-    /// Changes the protection of this name; where that is sure, nobody is asked before.
+    /// Changes the protection of this name; where that is sure, nobody is asked before. The write
+    /// protection may be taken off in a session that was stopped.
     Protect {
         kind: &'a str,
         is_sure: bool,
+        in_session: bool,
     },
 }
 
@@ -72,12 +78,12 @@ impl<'a> Task<'a> {
             }),
             "verify" => Ok(Task::Verify(ImageFile::parse(given)?)),
             "erase" => Task::parse_erase(alloc, given),
-            "undo" => Ok(Task::Undo(number(given, "COUNT")?)),
-            "go" => Ok(Task::Go(number(given, "ADDRESS")?)),
-            "protect" => Ok(Task::Protect {
-                kind: word(given, "KIND")?,
-                is_sure: flag(given, "yes"),
+            "undo" => Ok(Task::Undo {
+                count: number(given, "COUNT")?,
+                verifies: flag(given, "check"),
             }),
+            "go" => Ok(Task::Go(number(given, "ADDRESS")?)),
+            "protect" => Ok(Task::parse_protect(given)?),
             _ => Err(Unread::Usage(UsageFault::UnknownWords)),
         }
     }
@@ -110,6 +116,36 @@ impl<'a> Task<'a> {
             is_all: flag(given, "all"),
             pages: pages(alloc, given, "PAGE")?,
         })
+    }
+
+    /// Which protection `protect` names, and whether in a session that was stopped: by that word the
+    /// write protection is taken off, and no other is changed.
+    fn parse_protect(given: &ArgMatches<'a>) -> Result<Task<'a>, UsageFault<'a>>
+        ensures { IfOk result (IsProtect (found_of given.now)) }
+    {
+        let kind = word(given, "KIND")?;
+        let in_session = flag(given, "in-session");
+        if in_session && kind != "write-unprotect" {
+            return Err(UsageFault::InSessionUnprotects);
+        }
+        Ok(Task::Protect {
+            kind,
+            is_sure: flag(given, "yes"),
+            in_session,
+        })
+    }
+
+    /// Whether it is done only on a device that is said to be fresh from reset.
+    pub fn wants_fresh(&self) -> bool
+        ensures { result ≡ wants_fresh self.now }
+    {
+        matches!(
+            self,
+            Task::Protect {
+                in_session: true,
+                ..
+            }
+        )
     }
 
     /// Whether it is an erase of neither all pages nor some, or of both.

@@ -3,6 +3,7 @@ ghost use Rattle.std.specs.Prelude.{◌≡◌, ◌⊎◌, [], IfErr, IfOk, map};
 ghost use Rattle.clap.specs.Words.{IsAmong, fault_of, kind_of};
 ghost use Rattle.clap.specs.declared.error.ErrorKind.TheVariants.{OutOfMemory};
 ghost use Rattle.stm_words.specs.CommandSet.{Reads, TakesKinds, command_set};
+ghost use Rattle.stm_words.specs.Saying.{IsSaidFresh};
 
 use crate::command_set::command_set;
 use crate::environment::Environment;
@@ -47,7 +48,9 @@ pub fn read_request<'a>(
     alloc: Global,
     environment: Environment<'a>,
     words: &'a [&'a str],
-) -> Result<Request<'a>, Unread<'a>> {
+) -> Result<Request<'a>, Unread<'a>>
+    ensures { IfOk result IsSaidFresh }
+{
     match read_words(alloc, environment, words) {
         Ok(matches) => Request::parse(alloc, environment, &matches),
         Err(error) => Err(unread(alloc, &error)),

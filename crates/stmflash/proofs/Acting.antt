@@ -10,12 +10,14 @@ use Rattle.stm_chip.specs.Document.{IsChipWith, IsNewId}
 use Rattle.stm_journal.specs.Journals.{journal_of}
 use Rattle.stm_session.specs.declared.fault.Fault.{Fault}
 use Rattle.stm_session.specs.declared.information.Info.{Info}
-use Rattle.stm_session.specs.Events.{AllLead, Event, Happening, Knows, Leads, OutcomesAreTheRun, World, end_of, informed, left_refused, lost_owed, lost_power, now_of, ran, told_by, undid}
+use Rattle.stm_session.specs.Events.{AllLead, Event, Happening, Knows, Leads, OutcomesAreTheRun, World, end_of, informed, left_refused, lost_owed, lost_power, now_of, ran, told_by, undid, unprotected, was_reset}
+use Rattle.stm_session.specs.Fresh.{IsReset}
 use Rattle.stm_session.specs.Headline.{AllIsTakenBack, EachCanFollow, Headline, IsStart, oldest_after, oldest_of, oldest_start, starts_after}
 use Rattle.stm_session.specs.Meaning.{CommandData, verifies, writes}
 use Rattle.stm_session.specs.Moments.{SameMake}
 use Rattle.stm_session.specs.Promises.{UndoContract}
 use Rattle.stm_session.specs.Refusal.{open_refusal}
+use Rattle.stm_session.specs.ReturnedBytes.{segments_of}
 use Rattle.stmflash.specs.declared.action.Action.{Action}
 use Rattle.stmflash.specs.declared.action.Action.TheVariants as action
 use Rattle.stmflash.specs.declared.answer.Answer.{Answer}
@@ -29,7 +31,7 @@ use Rattle.stmflash.specs.Answer.{outcomes_told}
 use Rattle.stmflash.specs.Conduct.{Asks, AsksFirst, RunsIfRoom, RunsTold}
 use Rattle.stmflash.specs.Content.{ImageOn}
 use Rattle.stmflash.specs.Reading.{ReadsPart, part_given, start_given, to_the_end}
-use Rattle.stmflash.specs.Histories.{ActionsAreHistories, CanAct, IsHistory, IsRefused, StoppedActionsAreTakenBack}
+use Rattle.stmflash.specs.Histories.{ActionsAreHistories, CanAct, IsHistory, IsRefused, StoppedActionsAreTakenBack, UnprotectedActionsAreTakenBack}
 
 -- two histories, one after the other
 leads-both : {R : Type 0} (view : R → RigState) (a b : List (Happening R)) (w : World) → AllLead view a w → AllLead view b (end_of a w) → AllLead view (a ++ b) w
@@ -198,36 +200,44 @@ module _ {R : Type 0} (view : R → RigState) (laws : Laws view) where
         let event = undid table count old new said in
         let leads : Leads view event (now_of (view old)) (now_of (view new)) = ((at.honest, refl), at.knows, takes.promised can.said, refl) in
         goes-once event at.starts old new at.start leads (λ flash. refl) (laws.follows event at.starts (now_of (view old)) (now_of (view new)) at.start leads).honest
+    does-goes (action.UndoVerified count) old new result at can (said, takes, hands) =
+        let event = undid table count old new (segments_of said) in
+        let leads : Leads view event (now_of (view old)) (now_of (view new)) = ((at.honest, refl), at.knows, takes.promised, refl) in
+        goes-once event at.starts old new at.start leads (λ flash. refl) (laws.follows event at.starts (now_of (view old)) (now_of (view new)) at.start leads).honest
+    does-goes (action.UndoVerifiedFresh count) old new result at can (said, takes, hands) =
+        let event = undid table count old new (segments_of said) in
+        let leads : Leads view event (now_of (view old)) (now_of (view new)) = ((at.honest, refl), at.knows, takes.promised can.said, refl) in
+        goes-once event at.starts old new at.start leads (λ flash. refl) (laws.follows event at.starts (now_of (view old)) (now_of (view new)) at.start leads).honest
     does-goes (action.Go address) old new result at can (said, goes, hands) = parts-goes _ _ _ old new said at can.stays goes.parts
     does-goes (action.Protect kind) old new result at can (said, parts, hands) = parts-goes _ _ _ old new said at can.stays parts
+    does-goes action.UnprotectFresh old new result at can done = absurd can.stays
 
   pub actions-are-histories : ActionsAreHistories R view
   actions-are-histories table starts does old new result can done =
       (does-goes table does old new result (record { starts = starts; honest = can.honest; start = can.start; knows = can.knows }) can done).is
 
-  pub stopped-actions-are-taken-back : StoppedActionsAreTakenBack R view
-  stopped-actions-are-taken-back table starts does first mid again last said told w can done loses owed honest (undone, takes, hands) =
+  -- an action, events behind it that give no way back up, and an undo of everything that answers Ok
+  taken-back-behind : (table : List ChipData) (starts : List (List ℕ)) (does : Action) (first mid again last : R) (said : Result Answer Failure) (told : Answer) (after : List (Happening R))
+      → CanAct view table starts does first → Does view table does first mid said → AllLead view after (now_of (view mid)) → end_of after (now_of (view mid)) ≡ now_of (view again)
+      → ((flash : List ℕ) → oldest_of after flash ≡ flash) → SameMake (view mid).device (view again).device → (view again).is_honest → Does view table (action.Undo 0) again last (Ok told)
+      → (view last).device.flash ≡ oldest_start starts (now_of (view first))
+  taken-back-behind table starts does first mid again last said told after can done next stands kept made honest (undone, takes, hands) =
       by-answer undone takes.promised hands
     where
       is : IsHistory view first mid
       is = actions-are-histories table starts does first mid said can done
 
-      after : List (Happening R)
-      after = record { event = lost_power; after = w } ∷ record { event = lost_owed; after = now_of (view again) } ∷ []
-
       start : World
       start = now_of (view first)
 
       leads : AllLead view (is.history ++ after) start
-      leads = let L : World → Type 0 = λ x. AllLead view after x in leads-both view is.history after start is.leads (subst L (sym is.ends) (loses, (owed, tt)))
+      leads = let L : World → Type 0 = λ x. AllLead view after x in leads-both view is.history after start is.leads (subst L (sym is.ends) next)
 
       ends : end_of (is.history ++ after) start ≡ now_of (view again)
-      ends = ends-both is.history after start
+      ends = ends-both is.history after start ∙ ap (λ (w : World). end_of after w) is.ends ∙ stands
 
       make : SameMake start.device (view again).device
-      make =
-          same-make start.device w.device (view again).device (same-make start.device (view mid).device w.device is.make loses.0.make)
-          (record { chip = ap (λ (d : Device). d.chip) owed.0.1; version = ap (λ (d : Device). d.version) owed.0.1; codes = ap (λ (d : Device). d.codes) owed.0.1 })
+      make = same-make start.device (view mid).device (view again).device is.make made
 
       knows : Knows table (end_of (is.history ++ after) start)
       knows = let K : World → Type 0 = λ x. Knows table x in subst K (sym ends) (knows-made table start (now_of (view again)) make can.knows)
@@ -236,4 +246,25 @@ module _ {R : Type 0} (view : R → RigState) (laws : Laws view) where
       by-answer (Err fault) contract hands = absurd (cc)
       by-answer (Ok n) contract hands =
           (laws.whole (is.history ++ after) start starts can.start leads table again last n (now_of (view last)) ((honest, sym ends), knows, contract, refl)).0
-          ∙ oldest-both is.history after (oldest_start starts start) ∙ is.oldest (oldest_start starts start)
+          ∙ oldest-both is.history after (oldest_start starts start) ∙ kept (oldest_of is.history (oldest_start starts start)) ∙ is.oldest (oldest_start starts start)
+
+  pub stopped-actions-are-taken-back : StoppedActionsAreTakenBack R view
+  stopped-actions-are-taken-back table starts does first mid again last said told w can done loses owed honest undoes =
+      let after : List (Happening R) = record { event = lost_power; after = w } ∷ record { event = lost_owed; after = now_of (view again) } ∷ [] in
+      taken-back-behind table starts does first mid again last said told after can done (loses, (owed, tt)) refl (λ flash. refl)
+      (same-make (view mid).device w.device (view again).device loses.0.make
+      (record { chip = ap (λ (d : Device). d.chip) owed.0.1; version = ap (λ (d : Device). d.version) owed.0.1; codes = ap (λ (d : Device). d.codes) owed.0.1 }))
+      honest undoes
+
+  pub unprotected-actions-are-taken-back : UnprotectedActionsAreTakenBack R view
+  unprotected-actions-are-taken-back table starts does first mid before left again last said cleared told can done resets fresh (parted, unprotects, hands) follows same honest undoes =
+      let after : List (Happening R) = record { event = was_reset; after = now_of (view before) } ∷ record { event = unprotected before left parted; after = now_of (view again) } ∷ [] in
+      let I : World → Type 0 = λ w. IsReset w.device in
+      let is_reset : IsReset (view before).device = subst I (sym resets) (record { phase = refl; owed = refl }) in
+      taken-back-behind table starts does first mid again last said told after can done (resets, (((fresh, refl), is_reset, unprotects.promised, follows, same), tt)) refl (λ flash. refl)
+      (record {
+        chip = ap (λ (d : Device). d.chip) follows.is_reset ∙ ap (λ (w : World). w.device.chip) resets;
+        version = ap (λ (d : Device). d.version) follows.is_reset ∙ ap (λ (w : World). w.device.version) resets;
+        codes = ap (λ (d : Device). d.codes) follows.is_reset ∙ ap (λ (w : World). w.device.codes) resets;
+      })
+      honest undoes

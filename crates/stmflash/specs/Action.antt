@@ -4,6 +4,7 @@ use Rattle.std.specs.Prelude.{Option, Some, None}
 use Rattle.std.specs.Prelude.{Result, Ok, Err, IfErr, IfOk, IsTrue, OnOk, MatchResult}
 use Rattle.stm_image.specs.Pairs.{Pairs}
 use Rattle.stm_wire.specs.declared.protection.Protection.{Protection}
+use Rattle.stm_wire.specs.declared.protection.Protection.TheVariants.{WriteUnprotect}
 use Rattle.stm_wire.specs.Chip.{ChipData, is_inside}
 use Rattle.stm_wire.specs.Device.{Device, Gone}
 use Rattle.stm_wire.specs.Dialogue.{Turn, GoesOn}
@@ -14,12 +15,17 @@ use Rattle.stm_journal.specs.Calls.{AreFetches, IsUntouched}
 use Rattle.stm_journal.specs.Journals.{journal_of}
 use Rattle.stm_session.specs.declared.fault.Fault.{Fault}
 use Rattle.stm_session.specs.declared.fault.Fault.TheVariants.{Memory}
+use Rattle.stm_session.specs.declared.returned.Returned.{Returned}
 use Rattle.stm_session.specs.Fault.{HasSessionCause, IsOutsideFault}
 use Rattle.stm_session.specs.Fresh.{IsReset}
 use Rattle.stm_session.specs.Leaving.{CanLeave, IsSettledThen, Leaves}
 use Rattle.stm_session.specs.Meaning.{erases, verifies, writes}
 use Rattle.stm_session.specs.Moments.{IsSafe}
-use Rattle.stm_session.specs.UndoOrder.{UndoStops, UndoStopsFrom, UndoesInOrder, UndoesInOrderFrom}
+use Rattle.stm_session.specs.ReturnedBytes.{segments_of}
+use Rattle.stm_session.specs.Told.{ReturnsTold, UndoStopsToldAs}
+use Rattle.stm_session.specs.UndoOrder.{ReturnsInOrder, UndoStops, UndoStopsAs, UndoStopsFrom}
+use Rattle.stm_session.specs.UndoOrder.{UndoesInOrder, UndoesInOrderFrom}
+use Rattle.stm_session.specs.Unprotecting.{IsUnprotected, IsUnprotecting, UnprotectContract}
 use Rattle.stm_session.specs.Promises.{UndoContract}
 use Rattle.stm_session.specs.Refusal.{RefusesUnsent, open_refusal}
 use Rattle.stm_session.specs.Sending.{IsLeaving, SendsAsUndo, is_whole_at}
@@ -60,15 +66,25 @@ IsFor (task.Verify image) does = (content : Content) × (does ≡ action.Verify 
     × ComesOfFile image content
 IsFor (task.Erase true pages) does = does ≡ action.EraseAll
 IsFor (task.Erase false pages) does = does ≡ action.Erase pages
-IsFor (task.Undo count) does = does ≡ action.Undo count
+IsFor (task.Undo count true) does = does ≡ action.UndoVerified count
+IsFor (task.Undo count false) does = does ≡ action.Undo count
 IsFor (task.Go address) does = does ≡ action.Go address
-IsFor (task.Protect word is_sure) does = (kind : Protection) × (does ≡ action.Protect kind)
+IsFor (task.Protect word is_sure true) does =
+    (does ≡ action.UnprotectFresh) × (protection_of word.now ≡ Some WriteUnprotect)
+IsFor (task.Protect word is_sure false) does = (kind : Protection) × (does ≡ action.Protect kind)
     × (protection_of word.now ≡ Some kind)
 
--- and the one on a device that is said to be fresh from reset: an undo of its own
+-- and the one on a device that is said to be fresh from reset: an undo of its own; what takes the
+-- write protection off such a device is else what does so where nothing was stopped
 abbrev pub on_fresh : Bool → Action → Action
 on_fresh true (action.Undo count) = action.UndoFresh count
+on_fresh true (action.UndoVerified count) = action.UndoVerifiedFresh count
+on_fresh false action.UnprotectFresh = action.Protect WriteUnprotect
 on_fresh is_fresh does = does
+
+-- what is told of an undo that was verified
+abbrev pub told_returned : Returned → Answer
+told_returned returned = answer.UndoneAndVerified returned.segments returned.bytes
 
 -- What a session answered is handed on.
 abbrev pub HandsOn : {T : Type 0} → (T → Answer) → Result T Fault → Result Answer Failure → Type 0
@@ -110,6 +126,39 @@ pub record TakesBackFresh (table : List ChipData) (count : ℕ) (old new : RigSt
   pub silent : taken ≡ Ok 0 → GoesOn AreFetches old.calls new.calls
   pub order : IfOk taken (λ n. 1 ≤ n → UndoesInOrderFrom true table n old new)
   pub stops : IfErr taken (UndoStopsFrom true table count old new)
+
+-- this, of a device that is fresh from reset where it is said to be so
+abbrev pub WhereReset : Bool → Device → Type 0 → Type 0
+WhereReset true d P = IsReset d → P
+WhereReset false d P = P
+
+-- And `undo_verified` and `undo_verified_fresh`: the same, and that each page that was given back
+-- was read again, and held what was written.
+pub record TakesBackVerified {R : Type 0} (view : R → RigState) (is_fresh : Bool)
+    (table : List ChipData) (count : ℕ) (old new : R) (taken : Result Returned Fault) : Type 0 where
+  pub promised : WhereReset is_fresh (view old).device
+      (UndoContract table count (view old) (view new) (segments_of taken))
+  pub cause : HasSessionCause (view old) (view new) taken
+  pub puts : SendsAsUndo table count (view old) (view new) (segments_of taken)
+  pub silent : segments_of taken ≡ Ok 0 → GoesOn AreFetches (view old).calls (view new).calls
+  pub none : IfOk taken (λ returned. returned.segments ≡ 0 → returned.bytes ≡ 0)
+  pub order : IfOk taken (λ returned. 1 ≤ returned.segments
+      → ReturnsInOrder is_fresh true table returned (view old) (view new))
+  pub stops : IfErr taken (UndoStopsAs is_fresh true table count (view old) (view new))
+  pub given : IfOk taken (λ returned. 1 ≤ returned.segments
+      → ReturnsTold view is_fresh true table returned (view old) (view new))
+  pub given_stops :
+      IfErr taken (UndoStopsToldAs view is_fresh true table count (view old) (view new))
+
+-- What `unprotect_fresh` promises.
+pub record Unprotects (old new : RigState) (done : Result (Unit {0}) Fault) : Type 0 where
+  pub cause : HasSessionCause old new done
+  pub puts : GoesOn IsUnprotecting old.calls new.calls
+  pub sent : OnOk done (GoesOn IsUnprotected old.calls new.calls)
+  pub silent :
+      IfErr done (λ fault. is_whole_at fault ≡ true → GoesOn AreFetches old.calls new.calls)
+  pub kept : old.is_honest → new.journal ≡ old.journal
+  pub promised : UnprotectContract old new done
 
 -- What `go` and `protect` promise of their frame, on a device that allows it.
 pub record Parts (turns : List Turn) (frame : List ℕ) (Allows : Device → Type 0)
@@ -167,6 +216,10 @@ Does view table (action.Undo count) old new result =
 Does view table (action.UndoFresh count) old new result =
     Calls answer.Undone (λ a b said. TakesBackFresh table count (view a) (view b) said)
     old new result
+Does view table (action.UndoVerified count) old new result =
+    Calls told_returned (TakesBackVerified view false table count) old new result
+Does view table (action.UndoVerifiedFresh count) old new result =
+    Calls told_returned (TakesBackVerified view true table count) old new result
 Does view table (action.Go address) old new result =
     Calls (λ done. answer.Nothing) (λ a b said. GoesTo address (view a) (view b) said)
     old new result
@@ -174,6 +227,8 @@ Does view table (action.Protect kind) old new result =
     Calls (λ done. answer.Nothing) (λ a b said. Parts (protect_turns (protection_code kind))
     (command (protection_code kind)) (CanLeave (protection_code kind)) (view a) (view b) said)
     old new result
+Does view table action.UnprotectFresh old new result =
+    Calls (λ done. answer.Nothing) (λ a b said. Unprotects (view a) (view b) said) old new result
 
 -- What is done on a device: the question that needs no table, or an action.
 abbrev pub Works : {R : Type 0} → (R → RigState) → List ChipData → Work → R → R

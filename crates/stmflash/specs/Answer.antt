@@ -21,6 +21,7 @@ outcomes_told (answer.WrittenAndVerified segment pages bytes) =
 outcomes_told (answer.Verified bytes) = was_verified ∷ []
 outcomes_told (answer.Erased segment pages) = was_erased segment pages ∷ []
 outcomes_told (answer.Undone count) = []
+outcomes_told (answer.UndoneAndVerified count bytes) = []
 outcomes_told (answer.Logged text) = []
 outcomes_told (answer.Kept count) = []
 outcomes_told (answer.KeptBut count left) = []

@@ -150,14 +150,19 @@ asking_of (work.Act (action.Go address)) = OfClosed
 asking_of (work.Act (action.Protect kind)) = OfClosed
 asking_of (work.Act (action.Undo count)) = OfBegun false
 asking_of (work.Act (action.UndoFresh count)) = OfBegun true
+asking_of (work.Act (action.UndoVerified count)) = OfBegun false
+asking_of (work.Act (action.UndoVerifiedFresh count)) = OfBegun true
 asking_of other = OfFinished
 
--- whether, and beside which journals, the device of a work is asked
+-- whether, and beside which journals, the device of a work is asked: never one that is said to be
+-- fresh from reset, to take its write protection off
 abbrev pub asking_if : Bool → Work → Option Asking
+asking_if true (work.Act action.UnprotectFresh) = None
 asking_if true work = Some (asking_of work)
 asking_if false work = None
 
 -- a device that was asked is connected by that, and not fresh from reset any more
 abbrev pub once_asked : Work → Work
 once_asked (work.Act (action.UndoFresh count)) = work.Act (action.Undo count)
+once_asked (work.Act (action.UndoVerifiedFresh count)) = work.Act (action.UndoVerified count)
 once_asked other = other

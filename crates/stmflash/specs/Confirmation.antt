@@ -7,7 +7,7 @@ use Rattle.stm_words.specs.declared.task.Task.TheVariants as task
 
 -- the readout protection is taken off, and nobody said before that this is meant
 abbrev pub erases_for_good : Task → Bool
-erases_for_good (task.Protect kind is_sure) =
+erases_for_good (task.Protect kind is_sure in_session) =
     bytes_eq kind.now (codes "readout-unprotect") && not is_sure
 erases_for_good _ = false
 

@@ -9,6 +9,7 @@ use Rattle.stmflash.specs.Action.{on_fresh}
 -- it is such an undo
 abbrev pub is_fresh_undo : Work → Bool
 is_fresh_undo (work.Act (action.UndoFresh count)) = true
+is_fresh_undo (work.Act (action.UndoVerifiedFresh count)) = true
 is_fresh_undo does = false
 
 -- the same work on a device that is said to be so, or isn't

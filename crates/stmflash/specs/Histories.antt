@@ -7,11 +7,12 @@ use Rattle.stm_wire.specs.Memory.{MemoryData, rig_state}
 use Rattle.stm_wire.specs.Rig.{RigState}
 use Rattle.stm_journal.specs.Journals.{journal_of}
 use Rattle.stm_session.specs.Events.{AllLead, Happening, Knows, Leads, World, end_of, lost_owed}
-use Rattle.stm_session.specs.Events.{lost_power, now_of}
+use Rattle.stm_session.specs.Events.{lost_power, now_of, was_reset}
 use Rattle.stm_session.specs.Fresh.{IsReset}
 use Rattle.stm_session.specs.Headline.{IsStart, oldest_of, oldest_start}
 use Rattle.stm_session.specs.Moments.{SameMake}
 use Rattle.stm_session.specs.Refusal.{open_refusal}
+use Rattle.stm_session.specs.Unprotecting.{FollowsUnprotect}
 use Rattle.stmflash.specs.declared.action.Action.{Action}
 use Rattle.stmflash.specs.declared.action.Action.TheVariants as action
 use Rattle.stmflash.specs.declared.answer.Answer.{Answer}
@@ -33,7 +34,8 @@ pub record IsHistory {R : Type 0} (view : R → RigState) (old new : R) : Type 0
 abbrev pub IsRefused : List ℕ → Type 0
 IsRefused journal = IsSome (open_refusal (journal_of journal))
 
--- the action is no `go` and no protection, or the journal refuses these
+-- the action is no `go` and no protection, or the journal refuses these; one that no journal refuses
+-- resets its device, of which another law speaks
 abbrev pub StaysInSession : Action → List ℕ → Type 0
 StaysInSession action.Info journal = Unit {0}
 StaysInSession (action.Read range) journal = Unit {0}
@@ -44,12 +46,16 @@ StaysInSession (action.Erase pages) journal = Unit {0}
 StaysInSession action.EraseAll journal = Unit {0}
 StaysInSession (action.Undo count) journal = Unit {0}
 StaysInSession (action.UndoFresh count) journal = Unit {0}
+StaysInSession (action.UndoVerified count) journal = Unit {0}
+StaysInSession (action.UndoVerifiedFresh count) journal = Unit {0}
 StaysInSession (action.Go address) journal = IsRefused journal
 StaysInSession (action.Protect kind) journal = IsRefused journal
+StaysInSession action.UnprotectFresh journal = ⊥
 
 -- where the action says that the device is fresh from reset, it is
 abbrev pub IsSaidRightly : Action → Device → Type 0
 IsSaidRightly (action.UndoFresh count) d = IsReset d
+IsSaidRightly (action.UndoVerifiedFresh count) d = IsReset d
 IsSaidRightly does d = Unit {0}
 
 -- an action can be done on this Rig: what was begun before can be taken back, and
@@ -81,6 +87,21 @@ StoppedActionsAreTakenBack R view =
     → Does view table does first mid said
     → Leads view lost_power (now_of (view mid)) w → Leads view lost_owed w (now_of (view again))
     → (view again).is_honest
+    → Does view table (action.Undo 0) again last (Ok told)
+    → (view last).device.flash ≡ oldest_start starts (now_of (view first))
+
+-- An action, whatever came of it; a reset; Write Unprotect, whatever came of it, behind which the
+-- device goes on as AN3155 has it, or was reset; and an undo of everything that answers Ok: every
+-- byte of the flash is as it was at the start of the oldest segment, or as the action found it.
+abbrev pub UnprotectedActionsAreTakenBack : (R : Type 0) → (R → RigState) → Type 0
+UnprotectedActionsAreTakenBack R view =
+    (table : List ChipData) (starts : List (List ℕ)) (does : Action)
+    (first mid before left again last : R) (said cleared : Result Answer Failure) (told : Answer)
+    → CanAct view table starts does first → Does view table does first mid said
+    → Leads view was_reset (now_of (view mid)) (now_of (view before)) → (view before).is_honest
+    → Does view table action.UnprotectFresh before left cleared
+    → FollowsUnprotect (view before).device (view left).device (view again).device
+    → (view again).journal ≡ (view left).journal → (view again).is_honest
     → Does view table (action.Undo 0) again last (Ok told)
     → (view last).device.flash ≡ oldest_start starts (now_of (view first))
 

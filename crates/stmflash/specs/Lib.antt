@@ -13,6 +13,7 @@ pub mod Hinting
 pub mod JsonLine
 pub mod Keeping
 pub mod LeftStanding
+pub mod NextStep
 pub mod OneCall
 pub mod WholeCalls
 pub mod Protections

@@ -18,6 +18,7 @@ answer_name (answer.WrittenAndVerified segment pages bytes) = codes "written_and
 answer_name (answer.Verified bytes) = codes "verified"
 answer_name (answer.Erased segment pages) = codes "erased"
 answer_name (answer.Undone count) = codes "undone"
+answer_name (answer.UndoneAndVerified count bytes) = codes "undone_and_verified"
 answer_name (answer.Logged text) = codes "log"
 answer_name (answer.Kept count) = codes "kept"
 answer_name (answer.KeptBut count left) = codes "kept"

@@ -1,6 +1,6 @@
 // What is done on a device, over any Rig.
 ghost use Rattle.std.specs.Prelude.{◌≡◌, IfOk};
-ghost use Rattle.stmflash.specs.Action.{Does, IsFor, on_fresh};
+ghost use Rattle.stmflash.specs.Action.{Does, IsFor, on_fresh, told_returned};
 
 use crate::answer::Answer;
 use crate::changing::{erase, erase_all, verify, write, write_and_verify};
@@ -11,7 +11,10 @@ use crate::reading::read;
 use std::alloc::Global;
 use std::fs::Files;
 use stm_chip::Table;
-use stm_session::{go, info, protect, undo, undo_fresh};
+use stm_session::{
+    Returned, go, info, protect, undo, undo_fresh, undo_verified, undo_verified_fresh,
+    unprotect_fresh,
+};
 use stm_wire::{Protection, Rig};
 use stm_words::{Range, Task, UsageFault};
 
@@ -36,10 +39,17 @@ pub enum Action {
     Undo(u32),
     /// Does so on a device that is said to be fresh from reset.
     UndoFresh(u32),
+    /// Takes back as `Undo` does, and reads each page again that was given back.
+    UndoVerified(u32),
+    /// Does so on a device that is said to be fresh from reset.
+    UndoVerifiedFresh(u32),
     /// Lets it run what stands at this address.
     Go(u32),
     /// Changes a protection.
     Protect(Protection),
+    /// Takes the write protection off a device that is said to be fresh from reset, whatever the
+    /// journal holds.
+    UnprotectFresh,
 }
 
 impl Action {
@@ -66,24 +76,47 @@ impl Action {
             } else {
                 Action::Erase(pages)
             }),
-            Task::Undo(count) => Ok(Action::Undo(count)),
+            Task::Undo { count, verifies } => Ok(if verifies {
+                Action::UndoVerified(count)
+            } else {
+                Action::Undo(count)
+            }),
             Task::Go(address) => Ok(Action::Go(address)),
-            Task::Protect { kind, .. } => match protection(kind) {
-                Some(kind) => Ok(Action::Protect(kind)),
-                None => Err(Failure::Usage(UsageFault::UnknownWords)),
+            Task::Protect {
+                kind,
+                in_session,
+                ..
+            } => match (protection(kind), in_session) {
+                (Some(kind), false) => Ok(Action::Protect(kind)),
+                (Some(Protection::WriteUnprotect), true) => Ok(Action::UnprotectFresh),
+                _ => Err(Failure::Usage(UsageFault::UnknownWords)),
             },
         }
     }
 
     /// The same for a device that was reset since the last session, where that is said: an undo
-    /// settles it with 7F alone, as all others do anyway.
+    /// settles it with 7F alone, as all others do anyway. What is done only on such a device is
+    /// else what it is where nothing was stopped.
     pub fn on_fresh(self, is_fresh: bool) -> Action
         ensures { result ≡ on_fresh is_fresh self }
     {
         match self {
             Action::Undo(count) if is_fresh => Action::UndoFresh(count),
+            Action::UndoVerified(count) if is_fresh => Action::UndoVerifiedFresh(count),
+            Action::UnprotectFresh if !is_fresh => Action::Protect(Protection::WriteUnprotect),
             action => action,
         }
+    }
+
+    /// Whether it takes writes and erases back.
+    pub fn is_undo(&self) -> bool {
+        matches!(
+            self,
+            Action::Undo(_)
+                | Action::UndoFresh(_)
+                | Action::UndoVerified(_)
+                | Action::UndoVerifiedFresh(_)
+        )
     }
 
     /// Does it.
@@ -114,6 +147,12 @@ impl Action {
             Action::EraseAll => Ok(erase_all(alloc, rig, table)?),
             Action::Undo(count) => Ok(Answer::Undone(undo(alloc, rig, table, count)?)),
             Action::UndoFresh(count) => Ok(Answer::Undone(undo_fresh(alloc, rig, table, count)?)),
+            Action::UndoVerified(count) => {
+                Ok(verified(undo_verified(alloc, rig, table, count)?))
+            }
+            Action::UndoVerifiedFresh(count) => {
+                Ok(verified(undo_verified_fresh(alloc, rig, table, count)?))
+            }
             Action::Go(address) => {
                 go(alloc, rig, address)?;
                 Ok(Answer::Nothing)
@@ -122,6 +161,20 @@ impl Action {
                 protect(alloc, rig, kind)?;
                 Ok(Answer::Nothing)
             }
+            Action::UnprotectFresh => {
+                unprotect_fresh(alloc, rig)?;
+                Ok(Answer::Nothing)
+            }
         }
+    }
+}
+
+/// What is told of an undo that was verified.
+fn verified(returned: Returned) -> Answer
+    ensures { result ≡ told_returned returned }
+{
+    Answer::UndoneAndVerified {
+        count: returned.segments,
+        bytes: returned.bytes,
     }
 }

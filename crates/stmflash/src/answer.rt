@@ -57,6 +57,11 @@ pub enum Answer {
     },
     /// How many segments were taken back.
     Undone(u32),
+    /// The same, and how many bytes were read again.
+    UndoneAndVerified {
+        count: u32,
+        bytes: u64,
+    },
     /// What a journal says, in lines.
     Logged(Vec<u8>),
     /// How many segments stay.
@@ -125,6 +130,9 @@ impl Answer {
             Answer::Verified(bytes) => print_verified(*bytes, out),
             Answer::Erased { segment, pages } => print_erased(*segment, *pages, out),
             Answer::Undone(count) => print_undone(*count, out),
+            Answer::UndoneAndVerified { count, bytes } => {
+                print_undone_and_verified(*count, *bytes, out)
+            }
             Answer::Kept(count) => print_kept(*count, out),
             Answer::KeptBut { count, left } => print_kept_but(*count, *left, out),
             Answer::Logged(bytes) | Answer::Bytes(bytes) => out.write_all(bytes.as_slice()),
@@ -214,6 +222,11 @@ fn print_erased<O: Write>(segment: u32, pages: u32, out: &mut O) -> io::Result<(
 /// Prints the line of an undo.
 fn print_undone<O: Write>(count: u32, out: &mut O) -> io::Result<()> {
     writeln!(out, "undone {count}")
+}
+
+/// Prints the line of an undo that was verified.
+fn print_undone_and_verified<O: Write>(count: u32, bytes: u64, out: &mut O) -> io::Result<()> {
+    writeln!(out, "undone {count}, {bytes} bytes verified")
 }
 
 /// Prints the line of what stays.

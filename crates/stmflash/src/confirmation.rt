@@ -21,7 +21,7 @@ pub fn erases_for_good(task: &Task) -> bool
     ensures { result ≡ erases_for_good task.now }
 {
     match task {
-        Task::Protect { kind, is_sure } => *kind == "readout-unprotect" && !*is_sure,
+        Task::Protect { kind, is_sure, .. } => *kind == "readout-unprotect" && !*is_sure,
         _ => false,
     }
 }

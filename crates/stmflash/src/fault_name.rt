@@ -57,6 +57,7 @@ fn name_of(fault: Fault) -> &'static str
         Fault::NoErase => "no_erase_command",
         Fault::InSession => "journal_open",
         Fault::Differs(_) => "differs",
+        Fault::NotHeld(_) => "not_held",
         Fault::Device => "no_protocol",
         Fault::BadJournal(_) => "bad_journal",
         Fault::OtherDevice => "other_device",

@@ -1,6 +1,10 @@
 // What came on a line that failed, by name, and what to do.
 
+ghost use Rattle.std.specs.Prelude.{◌≡◌};
+ghost use Rattle.stmflash.specs.NextStep.{hint_behind, hint_behind_done};
+
 use crate::failure::Failure;
+use crate::work::Next;
 use stm_session::Fault;
 use thiserror::Error;
 
@@ -37,12 +41,22 @@ pub enum Hint {
     ReadRefusedAt(u32),
     /// A NACK came for the address of a write, or for its data.
     #[error("address {0:08X}: the device refused to write it: is its page write-protected? If so: \
-        reset, protect write-unprotect with another journal, undo --fresh")]
+        reset, protect write-unprotect --in-session --fresh, undo --fresh")]
     WriteRefusedAt(u32),
     /// A NACK came for the number of a page that was to be erased.
     #[error("page {0}: the device refused to erase it: is it write-protected? If so: reset, protect \
-        write-unprotect with another journal, undo --fresh")]
+        write-unprotect --in-session --fresh, undo --fresh")]
     PageRefused(u16),
+    /// A page doesn't hold what an undo wrote.
+    #[error("undo again; where it stays so, the flash may be worn out, or the page write-protected")]
+    UndoAgain,
+    /// The write protection was to be taken off while there is something to take back.
+    #[error("to undo what a write-protected page refuses: reset, protect write-unprotect \
+        --in-session --fresh, undo --fresh")]
+    InSession,
+    /// The write protection was taken off, and there may be something to take back.
+    #[error("the board resets itself; now: undo --fresh")]
+    NowUndo,
 }
 
 impl Hint {
@@ -54,12 +68,46 @@ impl Hint {
         )
     }
 
+    /// What is to be done behind a fault of a work, which the line's turns don't tell.
+    pub fn behind(failure: &Failure, next: Next) -> Option<Hint>
+        ensures { result ≡ hint_behind failure.now next }
+    {
+        match failure {
+            Failure::Session(Fault::NotHeld(_)) => Some(Hint::UndoAgain),
+            Failure::Session(Fault::InSession) if next == Next::Unprotecting => {
+                Some(Hint::InSession)
+            }
+            _ => None,
+        }
+    }
+
+    /// What is to be done behind a work that was done.
+    pub fn behind_done(next: Next) -> Option<Hint>
+        ensures { result ≡ hint_behind_done next }
+    {
+        match next {
+            Next::Undo => Some(Hint::NowUndo),
+            _ => None,
+        }
+    }
+
+    /// The same, where it tells more of what was done.
+    pub fn of_done(self) -> Option<Hint> {
+        if self == Hint::NowUndo {
+            Some(self)
+        } else {
+            None
+        }
+    }
+
     /// The same, where it tells more of a failure. That nothing came says nothing of a line that was
     /// closed.
     pub fn of(self, failure: &Failure) -> Option<Hint> {
         match failure {
             Failure::Session(Fault::Line) if self == Hint::Silent => None,
             Failure::Otherwise(_) if self.is_of_refusal() => Some(self),
+            Failure::Session(Fault::NotHeld(_)) if self == Hint::UndoAgain => Some(self),
+            Failure::Session(Fault::InSession) if self == Hint::InSession => Some(self),
             failure if failure.is_broken_off() => Some(self),
             _ => None,
         }

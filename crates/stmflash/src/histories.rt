@@ -2,6 +2,7 @@
 // function that does nothing.
 ghost use Rattle.stmflash.specs.Histories.{ActionsAreHistories, StoppedActionsAreTakenBack};
 ghost use Rattle.stmflash.specs.Histories.{StoredCanBegin, StoredGoesOn};
+ghost use Rattle.stmflash.specs.Histories.{UnprotectedActionsAreTakenBack};
 
 use crate::answer::Answer;
 use stm_session::{
@@ -10,10 +11,12 @@ use stm_session::{
 use stm_wire::Rig;
 
 /// Each action, from any state that can be taken back, is a history of the headline; and one that
-/// was stopped is taken back, after a loss of power too, by an undo of everything that answers Ok.
+/// was stopped is taken back, after a loss of power too, by an undo of everything that answers Ok; and
+/// so is one that write-protected pages refused, after a reset and Write Unprotect.
 pub fn actions_are_histories<L: Rig>()
     ensures history { ActionsAreHistories L L.view }
     ensures back { StoppedActionsAreTakenBack L L.view }
+    ensures unprotected { UnprotectedActionsAreTakenBack L L.view }
 {
     a_session_can_be_taken_back::<L>();
     a_run_is_known_by_its_outcomes::<L, Answer>();

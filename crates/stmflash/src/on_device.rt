@@ -41,7 +41,7 @@ const FALSE_ERASES: &str =
 /// Does a task on a device, and what follows it. Where it takes the readout protection off, it is
 /// asked before a file of the session is opened. Where a folder has its journal, the device is asked
 /// first which board it is; `place` keeps what came of that. What the line's last turns tell of a
-/// session that was broken off becomes `hint`.
+/// session that was broken off becomes `hint`, or what is to be done behind what came of it.
 pub fn use_device<
     'a,
     R: Locks + Net + Clock + AllocGlobal + Clone + Drop,
@@ -91,6 +91,30 @@ fn use_beside<'a, 'r, R: Locks + Net + Clock + AllocGlobal, E: Write + IsTermina
     hint: &mut Option<Hint>,
 ) -> Result<Steps<'a>, Failure<'a>> {
     let work = work.on_fresh(options.is_fresh);
+    let next = work.next();
+    let done = use_files(rt, options, tables, files, work, sequel, line, err, hint);
+    let told = match failure_of(&done) {
+        Some(failure) => Hint::behind(failure, next),
+        None => Hint::behind_done(next),
+    };
+    if told.is_some() {
+        *hint = told;
+    }
+    done
+}
+
+/// The same, without what is to be done behind it.
+fn use_files<'a, 'r, R: Locks + Net + Clock + AllocGlobal, E: Write + IsTerminal>(
+    rt: &'r R,
+    options: &Options<'a>,
+    tables: &ChipTables<'a>,
+    files: NamedFiles<'a>,
+    work: Work,
+    sequel: &Sequel<'a>,
+    line: Option<Line<'r, R>>,
+    err: &mut E,
+    hint: &mut Option<Hint>,
+) -> Result<Steps<'a>, Failure<'a>> {
     if let Some(to) = sequel.to {
         files.check_new(rt, to)?;
     }

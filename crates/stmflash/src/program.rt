@@ -142,7 +142,7 @@ fn fail_told<R: AllocGlobal, O: Write, E: Write>(
 ) -> u8 {
     let status = fail(rt, failure, err);
     if let Some(hint) = hint {
-        tell_hint(rt, failure, hint, err);
+        print_hint(rt, hint.of(failure), err);
     }
     if is_json {
         let line = json_of_failure(rt.alloc(), failure, hint);
@@ -165,10 +165,10 @@ fn print_line<O: Write>(
     }
 }
 
-/// Tells what came, where that tells more of a failure, in one line that is written at once. Where
-/// there is no memory for the line, it is written in parts.
-fn tell_hint<R: AllocGlobal, E: Write>(rt: &R, failure: &Failure, hint: Hint, err: &mut E) {
-    let Some(hint) = hint.of(failure) else {
+/// Tells what came, or what is to be done, where that tells more, in one line that is written at
+/// once. Where there is no memory for the line, it is written in parts.
+fn print_hint<R: AllocGlobal, E: Write>(rt: &R, hint: Option<Hint>, err: &mut E) {
+    let Some(hint) = hint else {
         return;
     };
     let _ = match format!(in rt.alloc(); "hint: {hint}\n") {
@@ -177,7 +177,7 @@ fn tell_hint<R: AllocGlobal, E: Write>(rt: &R, failure: &Failure, hint: Hint, er
     };
 }
 
-/// Prints what came of the words, and where a step failed, why.
+/// Prints what came of the words, and where a step failed, why; and what is to be done then.
 fn print_steps<R: AllocGlobal, O: Write, E: Write>(
     rt: &R,
     steps: &Steps,
@@ -186,8 +186,13 @@ fn print_steps<R: AllocGlobal, O: Write, E: Write>(
     out: &mut O,
     err: &mut E,
 ) -> u8 {
-    match (print_as(rt, steps, is_json, out), &steps.failure) {
-        (Ok(()), None) => 0,
+    match (print_as(rt, steps, hint, is_json, out), &steps.failure) {
+        (Ok(()), None) => {
+            if let Some(hint) = hint {
+                print_hint(rt, hint.of_done(), err);
+            }
+            0
+        }
         (_, Some(failure)) => fail_told(rt, failure, hint, is_json, out, err),
         (Err(_), None) => fail(rt, &Failure::CannotWrite("standard output"), err),
     }
@@ -197,11 +202,12 @@ fn print_steps<R: AllocGlobal, O: Write, E: Write>(
 fn print_as<R: AllocGlobal, O: Write>(
     rt: &R,
     steps: &Steps,
+    hint: Option<Hint>,
     is_json: bool,
     out: &mut O,
 ) -> io::Result<()> {
     if is_json {
-        let lines = json_of_steps(rt.alloc(), steps);
+        let lines = json_of_steps(rt.alloc(), steps, hint);
         return print_line(lines, "answer", name_of(&steps.answer), out);
     }
     print_at_once(rt, steps, out)

@@ -26,6 +26,8 @@ pub enum Goal {
     First(u32),
     /// Those that so many of the newest segments keep; 0: all of them. The journal says which.
     Back(u32),
+    /// The same, each of them twice: it is read again.
+    BackTwice(u32),
 }
 
 impl Goal {
@@ -42,6 +44,9 @@ impl Goal {
                 Err(_) => Goal::Unknown,
             },
             Action::Undo(count) | Action::UndoFresh(count) => Goal::Back(*count),
+            Action::UndoVerified(count) | Action::UndoVerifiedFresh(count) => {
+                Goal::BackTwice(*count)
+            }
             _ => Goal::Unknown,
         }
     }
@@ -192,7 +197,7 @@ impl<'a> Course<'a> {
     /// Whether pages are given back. Each is read from its first byte on then, also where it is the
     /// one before: the newest segment may keep it, and the one below.
     fn is_back(&self) -> bool {
-        matches!(self.goal, Goal::Back(_))
+        matches!(self.goal, Goal::Back(_) | Goal::BackTwice(_))
     }
 
     fn page_of(&self, address: u32) -> Option<(u16, bool)> {
@@ -212,6 +217,13 @@ impl<'a> Course<'a> {
             }
             Goal::Back(segments) => {
                 self.count = self.kept.given_back(segments);
+                None
+            }
+            Goal::BackTwice(segments) => {
+                self.count = match self.kept.given_back(segments) {
+                    Some(count) => Some(count.saturating_mul(2)),
+                    None => None,
+                };
                 None
             }
             Goal::All => Some((chip.base(), self.end_of(chip))),

@@ -18,21 +18,39 @@ const ANSWER: &str = "answer";
 /// The member that names a fault.
 const FAULT: &str = "fault";
 
-/// The lines of what was done, a line each step.
-pub fn json_of_steps(alloc: Global, steps: &Steps) -> Result<Vec<u8>, AllocError> {
-    let mut text = json_of(alloc, &steps.answer, &steps.board)?;
+/// The lines of what was done, a line each step; the first with what is to be done then, where that
+/// tells more of it.
+pub fn json_of_steps(
+    alloc: Global,
+    steps: &Steps,
+    hint: Option<Hint>,
+) -> Result<Vec<u8>, AllocError> {
+    let hint = match hint {
+        Some(hint) => hint.of_done(),
+        None => None,
+    };
+    let mut text = json_of(alloc, &steps.answer, &steps.board, hint)?;
     if let Some(count) = steps.kept {
-        text.extend_from_slice(json_of(alloc, &Answer::Kept(count), &None)?.as_slice())?;
+        text.extend_from_slice(json_of(alloc, &Answer::Kept(count), &None, None)?.as_slice())?;
     }
     Ok(text)
 }
 
-/// The line of an answer, with the board that told it where it is of a board.
-fn json_of(alloc: Global, answer: &Answer, board: &Option<Board>) -> Result<Vec<u8>, AllocError> {
+/// The line of an answer, with the board that told it where it is of a board, and what is to be done
+/// then.
+fn json_of(
+    alloc: Global,
+    answer: &Answer,
+    board: &Option<Board>,
+    hint: Option<Hint>,
+) -> Result<Vec<u8>, AllocError> {
     let mut line = JsonLine::of(alloc, ANSWER, name_of(answer))?;
     add_members(alloc, &mut line, answer)?;
     if is_of_board(answer) {
         add_board(alloc, &mut line, board)?;
+    }
+    if let Some(hint) = hint {
+        add_hint(alloc, &mut line, hint)?;
     }
     line.end()
 }
@@ -51,6 +69,7 @@ pub fn name_of(answer: &Answer) -> &'static str
         Answer::Verified(_) => "verified",
         Answer::Erased { .. } => "erased",
         Answer::Undone(_) => "undone",
+        Answer::UndoneAndVerified { .. } => "undone_and_verified",
         Answer::Logged(_) => "log",
         Answer::Kept(_) | Answer::KeptBut { .. } => "kept",
     }
@@ -95,6 +114,10 @@ fn add_members(alloc: Global, line: &mut JsonLine, answer: &Answer) -> Result<()
         }
         Answer::Verified(bytes) => line.number("bytes", *bytes as u64),
         Answer::Undone(count) | Answer::Kept(count) => line.number("count", u64::from(*count)),
+        Answer::UndoneAndVerified { count, bytes } => {
+            line.number("count", u64::from(*count))?;
+            line.number("bytes", *bytes)
+        }
         Answer::Logged(text) => line.lines("lines", text.as_slice()),
         Answer::KeptBut { count, left } => {
             line.number("count", u64::from(*count))?;
@@ -173,25 +196,18 @@ pub fn json_of_failure(
 ) -> Result<Vec<u8>, AllocError> {
     let mut line = JsonLine::of(alloc, FAULT, failure.name())?;
     line.text("says", format!(in alloc; "{}", Escaped(failure))?.as_str())?;
-    add_hint(alloc, &mut line, failure, hint)?;
+    if let Some(hint) = hint {
+        if let Some(hint) = hint.of(failure) {
+            add_hint(alloc, &mut line, hint)?;
+        }
+    }
     line.number("status", u64::from(failure.status()))?;
     line.end()
 }
 
-/// Adds what came, where that tells more of a failure.
-fn add_hint(
-    alloc: Global,
-    line: &mut JsonLine,
-    failure: &Failure,
-    hint: Option<Hint>,
-) -> Result<(), AllocError> {
-    let Some(hint) = hint else {
-        return Ok(());
-    };
-    match hint.of(failure) {
-        Some(hint) => line.text("hint", format!(in alloc; "{hint}")?.as_str()),
-        None => Ok(()),
-    }
+/// Adds what came, or what is to be done.
+fn add_hint(alloc: Global, line: &mut JsonLine, hint: Hint) -> Result<(), AllocError> {
+    line.text("hint", format!(in alloc; "{hint}")?.as_str())
 }
 
 /// The line of words that `clap` refuses, with its text.

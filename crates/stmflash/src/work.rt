@@ -3,6 +3,7 @@ ghost use Rattle.std.specs.Prelude.{◌≡◌, IfOk, false};
 ghost use Rattle.stmflash.specs.Action.{IsDoneAgain, Works};
 ghost use Rattle.stmflash.specs.Board.{asking_if, asking_of, once_asked};
 ghost use Rattle.stmflash.specs.FreshUndo.{is_fresh_undo, work_on_fresh};
+ghost use Rattle.stmflash.specs.NextStep.{next_of};
 
 use crate::action::Action;
 use crate::answer::Answer;
@@ -16,7 +17,7 @@ use std::alloc::{AllocError, Global};
 use std::fs::Files;
 use stm_chip::Table;
 use stm_session::identify;
-use stm_wire::Rig;
+use stm_wire::{Protection, Rig};
 use stm_words::{Range, Task};
 
 /// What is done on a device.
@@ -33,6 +34,17 @@ pub enum Work {
     },
     /// What is done on a chip of the table.
     Act(Action),
+}
+
+/// What may be to be done behind a work.
+#[derive(Clone, Copy, Debug, PartialEq, Eq)]
+pub enum Next {
+    /// Nothing that is told.
+    Nothing,
+    /// It takes the write protection off, which is refused while there is something to take back.
+    Unprotecting,
+    /// An undo, at a board without write protection.
+    Undo,
 }
 
 impl Work {
@@ -54,10 +66,10 @@ impl Work {
 
     /// Whether it takes writes and erases back, by a journal that has to be there.
     pub fn is_undo(&self) -> bool {
-        matches!(
-            self,
-            Work::Act(Action::Undo(_)) | Work::Act(Action::UndoFresh(_))
-        )
+        match self {
+            Work::Act(action) => action.is_undo(),
+            _ => false,
+        }
     }
 
     /// Whether it writes an image whose bytes a device that loses power in the midst
@@ -92,12 +104,23 @@ impl Work {
         }
     }
 
-    /// Whether it is Go or a protection, behind which nothing can be taken back.
+    /// Whether it is Go or a protection that want a journal without segments.
     pub fn leaves(&self) -> bool {
         matches!(
             self,
             Work::Act(Action::Go(_)) | Work::Act(Action::Protect(_))
         )
+    }
+
+    /// What may be to be done behind it.
+    pub fn next(&self) -> Next
+        ensures { result ≡ next_of self.now }
+    {
+        match self {
+            Work::Act(Action::Protect(Protection::WriteUnprotect)) => Next::Unprotecting,
+            Work::Act(Action::UnprotectFresh) => Next::Undo,
+            _ => Next::Nothing,
+        }
     }
 
     /// Beside which journals its device is asked first which board it is.
@@ -106,17 +129,26 @@ impl Work {
     {
         match self {
             Work::Act(Action::Go(_)) | Work::Act(Action::Protect(_)) => Asking::OfClosed,
-            Work::Act(Action::Undo(_)) => Asking::OfBegun { is_fresh: false },
-            Work::Act(Action::UndoFresh(_)) => Asking::OfBegun { is_fresh: true },
+            Work::Act(Action::Undo(_)) | Work::Act(Action::UndoVerified(_)) => {
+                Asking::OfBegun { is_fresh: false }
+            }
+            Work::Act(Action::UndoFresh(_)) | Work::Act(Action::UndoVerifiedFresh(_)) => {
+                Asking::OfBegun { is_fresh: true }
+            }
             _ => Asking::OfFinished,
         }
     }
 
-    /// The same where devices are asked at all.
+    /// The same where devices are asked at all. One that is said to be fresh from reset, to take its
+    /// write protection off, never is: it would not be fresh then.
     pub fn asking_if(&self, is_asked: bool) -> Option<Asking>
         ensures { result ≡ asking_if is_asked self.now }
     {
-        if is_asked { Some(self.asking()) } else { None }
+        match self {
+            Work::Act(Action::UnprotectFresh) => None,
+            work if is_asked => Some(work.asking()),
+            _ => None,
+        }
     }
 
     /// The same for a device that was asked, and is connected by that: it isn't fresh from reset any
@@ -126,6 +158,7 @@ impl Work {
     {
         match self {
             Work::Act(Action::UndoFresh(count)) => Work::Act(Action::Undo(count)),
+            Work::Act(Action::UndoVerifiedFresh(count)) => Work::Act(Action::UndoVerified(count)),
             work => work,
         }
     }

@@ -13,10 +13,13 @@ returns c =
     let a1 : App = with_rule a0 (flag_rule (codes "yes")) in
     let m1 : Makes a1 c.in_ok-arg.field-0 =
     adds a0 (flag_rule (codes "yes")) c.in_ok-on_board.field-0 c.flag.result c.in_ok-arg.field-0 m0 c.flag.ensures.rule c.flag.ensures.local c.in_ok-arg.ensures in
-    IfOk-weaker c.arg-2.result _ _
+    let a2 : App = with_rule a1 (flag_rule (codes "in-session")) in
+    let m2 : Makes a2 c.in_ok-arg-2.field-0 =
+    adds a1 (flag_rule (codes "in-session")) c.in_ok-arg.field-0 c.flag-2.result c.in_ok-arg-2.field-0 m1 c.flag-2.ensures.rule c.flag-2.ensures.local c.in_ok-arg-2.ensures in
+    IfOk-weaker c.arg-3.result _ _
     (λ r h. (
       rule.0,
-      adds a1 (kind_rule rule.0) c.in_ok-arg.field-0 c.kind.result r m1 rule.1 c.kind.ensures.local h,
+      adds a2 (kind_rule rule.0) c.in_ok-arg-2.field-0 c.kind.result r m2 rule.1 c.kind.ensures.local h,
       rule.2,
     ))
-    c.arg-2.ensures
+    c.arg-3.ensures

@@ -1,0 +1,160 @@
+"""What `undo -v` reads again before it says that a write or an erase is undone, and what it says of a page that holds other bytes."""
+
+import json
+
+from place import COUNTING, ERASED, TABLE
+from refusing import AT, IMAGE, SIZES, OnBoard
+
+from planted_board import PlantedBoard
+
+NOT_HELD = "page 5 does not hold what was written"
+AGAIN = "undo again; where it stays so, the flash may be worn out, or the page write-protected"
+# a chip that names its boards
+TELLING = TABLE + b"unique = [0x1FFFF7E8, 12]\n"
+
+
+class Wavering(PlantedBoard):
+    """A board that tells one byte of page 5 otherwise, at that reading of the page."""
+
+    def __init__(self, reading):
+        super().__init__(0x412, SIZES, 0x43, {}, flash=COUNTING)
+        self.reading, self.told = reading, 0
+
+    def can_read(self, at, count):
+        if at == 5 * 1024 + 512:
+            self.told += 1
+        self.sets["flip"] = int(at == 5 * 1024 + 512 and self.told == self.reading)
+        return super().can_read(at, count)
+
+
+class Unwilling(PlantedBoard):
+    """A board that acknowledges each erase and write of page 5, and does none of them while that page is protected."""
+
+    def __init__(self):
+        super().__init__(0x412, SIZES, 0x43, {}, flash=COUNTING)
+        self.is_protecting = False
+
+    def wipe(self, page):
+        if page != 5 or not self.is_protecting:
+            super().wipe(page)
+
+    def program(self, at, data):
+        return self.is_protecting and at // 1024 == 5 or super().program(at, data)
+
+
+class UndoVerified(OnBoard):
+    def setUp(self):
+        super().setUp()
+        self.store("image", IMAGE)
+        self.store("flash", COUNTING)
+
+    def write(self):
+        """A write over the pages 4 to 6 of the simulator."""
+        self.assertEqual(self.use("write", "-S", f"{AT:#x}", "image").status, 0)
+
+    def written(self, board):
+        """The same on a board."""
+        self.assertEqual(self.on(board, "write", "-S", f"{AT:#x}", "image").status, 0)
+        return board
+
+    def test_tells_how_many_bytes_were_read_again(self):
+        """Those of each page that a segment keeps, in each segment that keeps it."""
+        self.write()
+        self.assertTold(self.use("undo", "-v"), "undone 1, 3072 bytes verified\n")
+        self.assertFile("flash", COUNTING)
+        self.assertTrue(self.held("journal").endswith(b"\nundone 1\n"))
+        self.write()
+        self.assertEqual(self.use("erase", "5-7").status, 0)
+        self.assertEqual(self.use("erase", "9").status, 0)
+        self.assertTold(self.use("undo", "-v", "1"), "undone 1, 1024 bytes verified\n")
+        self.assertTold(self.use("undo", "-v", "5"), "undone 2, 6144 bytes verified\n")
+        self.assertFile("flash", COUNTING)
+
+    def test_nothing_to_take_back(self):
+        self.assertFault(self.use("undo", "-v"), "cannot read journal")
+        self.store("journal", b"")
+        self.assertTold(self.use("undo", "-v"), "undone 0, 0 bytes verified\n")
+        self.assertFile("flash.line", b"fresh\n")
+
+    def test_a_stopped_write(self):
+        """Also on a device that was reset since, by one 7F; and on one that tells its board, which is asked first."""
+        for table, words, line in ((TABLE, ("-v",), None), (TABLE, ("-v", "--fresh"), b"fresh\n"), (TELLING, ("-v", "--fresh"), b"fresh\n")):
+            with self.subTest(words=words, table=table):
+                self.store("table", table)
+                self.store("flash", COUNTING)
+                self.assertEqual(self.use("write", "--stop", "9000", "-S", f"{AT:#x}", "image").status, 3)
+                self.assertNotEqual(self.held("flash"), COUNTING)
+                if line:
+                    self.store("flash.line", line)
+                said = self.use("undo", *words)
+                self.assertEqual((said.status, said.err), (0, b""))
+                self.assertRegex(said.out.decode(), "^undone 1, [1-3]072|2048|1024 bytes verified\n$")
+                self.assertFile("flash", COUNTING)
+                self.remove("journal")
+
+    def test_a_fresh_device_is_connected_at_once(self):
+        """It is settled by one 7F, and not by the intent of the journal."""
+        board = self.written(PlantedBoard(0x412, SIZES, 0x43, {}, flash=COUNTING))
+        self.store("journal", self.held("journal").rsplit(b"end 1\n", 1)[0])
+        board.reset()
+        heard = []
+        feed, board.feed = board.feed, lambda byte: heard.append(byte) or feed(byte)
+        self.assertTold(self.on(board, "undo", "-v", "--fresh"), "undone 1, 3072 bytes verified\n")
+        # Get follows the 7F
+        self.assertEqual(bytes(heard[:3]), b"\x7f\x00\xff")
+        self.assertEqual(bytes(board.flash), COUNTING)
+
+    def test_a_page_that_holds_other_bytes(self):
+        """No segment is undone: a second undo takes it back. Without -v nobody looks."""
+        board = self.written(Wavering(0))
+        board.reading, board.told = 2, 0
+        said = self.on(board, "undo", "-v")
+        self.assertFault(said, NOT_HELD, hint=AGAIN)
+        self.assertNotIn(b"undone", self.held("journal"))
+        self.assertTold(self.on(board, "undo", "-v"), "undone 1, 3072 bytes verified\n")
+        self.assertEqual(bytes(board.flash), COUNTING)
+        self.assertTrue(self.held("journal").endswith(b"\nundone 1\n"))
+
+    def test_a_page_that_takes_nothing(self):
+        """Each undo that is verified says so, until the page takes what is written; one that isn't says `undone`."""
+        board = self.written(Unwilling())
+        board.is_protecting = True
+        for words in (("-v",), ("-v", "1"), ("-v",)):
+            self.assertFault(self.on(board, "undo", *words), NOT_HELD, hint=AGAIN)
+            self.assertNotIn(b"undone", self.held("journal"))
+        board.is_protecting = False
+        self.assertTold(self.on(board, "undo", "-v"), "undone 1, 3072 bytes verified\n")
+        self.assertEqual(bytes(board.flash), COUNTING)
+        board = self.written(Unwilling())
+        board.is_protecting = True
+        self.assertTold(self.on(board, "undo"), "undone 1\n")
+        self.assertNotEqual(bytes(board.flash), COUNTING)
+
+    def test_as_json(self):
+        board = self.written(Wavering(0))
+        board.reading, board.told = 2, 0
+        said = self.on(board, "undo", "-v", "--json")
+        self.assertEqual(json.loads(said.out), {"fault": "not_held", "says": NOT_HELD, "hint": AGAIN, "status": 1})
+        said = self.on(board, "undo", "-v", "--json")
+        self.assertEqual(json.loads(said.out), {"answer": "undone_and_verified", "count": 1, "bytes": 3072})
+
+    def test_what_is_shown(self):
+        """Each page counts twice: it is given back, and read again."""
+        self.write()
+        said = self.use("undo", "-v", "--progress")
+        told = said.err.decode().splitlines()
+        self.assertEqual([line.split(", ")[1] for line in told], [f"{turn} of 6 pages" for turn in range(1, 7)])
+        self.assertEqual({line.split(", ")[0] for line in told}, {f"page {page} {done}" for page in (4, 5, 6) for done in ("written", "read")})
+
+    def test_a_flash_that_erases_to_zeros(self):
+        self.store("table", TABLE + b"erased = 0\n")
+        self.store("flash", bytes(32768))
+        self.assertEqual(self.use("write", "-S", f"{AT:#x}", "image").status, 0)
+        self.assertTold(self.use("undo", "-v"), "undone 1, 3072 bytes verified\n")
+        self.assertFile("flash", bytes(32768))
+
+    def test_its_word(self):
+        """Of `undo` alone, and without a long name, as that of a write."""
+        self.store("flash", ERASED)
+        self.assertUsage(self.use("erase", "-v", "5"))
+        self.assertUsage(self.use("undo", "--check"))

@@ -1,0 +1,167 @@
+"""`protect write-unprotect --in-session --fresh`: the write protection is taken off a board that was reset, while the journal has
+something to undo."""
+
+import json
+
+from place import COUNTING, SILENT, TABLE
+from refusing import AT, DEVICE, IMAGE, NOT_ERASED, NOT_WRITTEN, Guarded, OnBoard
+
+NOW_UNDO = "the board resets itself; now: undo --fresh"
+IN_SESSION = "to undo what a write-protected page refuses: reset, protect write-unprotect --in-session --fresh, undo --fresh"
+OPEN = "journal is open, refused"
+UNPROTECT = ("protect", "write-unprotect", "--in-session", "--fresh")
+KINDS = ("write-unprotect", "readout-protect", "readout-unprotect")
+# words of a device by which it is asked something first
+ASKING = (("--board", "1"), ("--watch",))
+FRESH, ALONE = "usage: --in-session needs --fresh", "usage: --in-session goes with write-unprotect alone"
+NO_ANSWER = "no answer from the device"
+UNASKED = "usage: --in-session asks the board nothing first: no --board, --journals or --watch"
+
+
+class Unprotect(OnBoard):
+    def setUp(self):
+        super().setUp()
+        self.store("image", IMAGE)
+
+    def heard(self, board):
+        """All that the board hears from now on."""
+        heard, feed = [], board.feed
+        board.feed = lambda byte: heard.append(byte) or feed(byte)
+        return heard
+
+    def refused(self, step, told):
+        """A board that refused a write over the pages 4 to 6 at page 5, and its undo."""
+        board = Guarded(step, 5)
+        self.assertFault(self.on(board, "write", "-S", f"{AT:#x}", "image"), DEVICE, hint=told)
+        self.assertFault(self.on(board, "undo"), DEVICE, hint=told)
+        self.assertNotEqual(bytes(board.flash), COUNTING)
+        return board
+
+    def assertUnprotected(self, said):
+        """It was done, and what is to be done then was told."""
+        self.assertEqual((said.status, said.out, said.err.decode()), (0, b"", f"hint: {NOW_UNDO}\n"))
+
+    def test_a_refused_write_is_undone(self):
+        """By each step that a protected page refuses: the board is reset, its protection taken off, and the write undone."""
+        for step, told in (("page", NOT_ERASED), ("write", NOT_WRITTEN), ("data", NOT_WRITTEN)):
+            for words in ((), ("--fresh",), ("-v", "--fresh")):
+                with self.subTest(step, words=words):
+                    board = self.refused(step, told)
+                    journal = self.held("journal")
+                    board.reset()
+                    heard = self.heard(board)
+                    self.assertUnprotected(self.on(board, *UNPROTECT))
+                    # one 7F and the command, and nothing else; the journal is as it was
+                    self.assertEqual(bytes(heard), b"\x7f\x73\x8c")
+                    self.assertFile("journal", journal)
+                    board.reset()
+                    said = self.on(board, "undo", *words)
+                    # page 6 wasn't kept yet
+                    self.assertTold(said, "undone 1, 2048 bytes verified\n" if "-v" in words else "undone 1\n")
+                    self.assertEqual(bytes(board.flash), COUNTING)
+                    self.remove("journal")
+
+    def test_with_another_journal(self):
+        """It is sent as ever with a journal that has nothing to undo, and nothing is told then."""
+        board = self.refused("page", NOT_ERASED)
+        board.reset()
+        self.assertSilent(self.on(board, "protect", "write-unprotect", journal="other"))
+        self.assertTold(self.on(board, "undo", "--fresh"), "undone 1\n")
+        self.assertEqual(bytes(board.flash), COUNTING)
+
+    def test_without_the_word(self):
+        """It stays refused while there is something to undo, and what names the word is told of this protection alone."""
+        board = self.refused("page", NOT_ERASED)
+        board.reset()
+        heard = self.heard(board)
+        for words in ((), ("--fresh",)):
+            self.assertFault(self.on(board, "protect", "write-unprotect", *words), OPEN, hint=IN_SESSION)
+            for kind in KINDS[1:]:
+                self.assertFault(self.on(board, "protect", kind, *words), OPEN)
+            self.assertFault(self.on(board, "go", "0x08000000", *words), OPEN)
+        self.assertEqual(heard, [])
+
+    def test_a_finished_write(self):
+        """The journal may be finished, or have nothing to undo."""
+        board = Guarded("page", 30)
+        self.assertEqual(self.on(board, "write", "-S", f"{AT:#x}", "image").status, 0)
+        for journal in ("journal", "none"):
+            before = self.held(journal)
+            board.reset()
+            self.assertUnprotected(self.on(board, *UNPROTECT, journal=journal))
+            self.assertFile(journal, before)
+        self.assertTold(self.on(board, "undo", "--fresh"), "undone 1\n")
+        self.assertEqual(bytes(board.flash), COUNTING)
+
+    def test_a_bad_journal(self):
+        board = Guarded("page", 5)
+        heard = self.heard(board)
+        self.store("journal", b"stmjournal 2 0412\nopen 2\n")
+        self.assertFault(self.on(board, *UNPROTECT), "bad journal line 2")
+        self.assertEqual(heard, [])
+
+    def test_a_board_that_was_not_reset(self):
+        """It takes no 7F for a connection: nothing more is sent, and nothing is unprotected."""
+        board = self.refused("page", NOT_ERASED)
+        heard = self.heard(board)
+        said = self.on(board, *UNPROTECT, "--give-up", "1")
+        self.assertFault(said, NO_ANSWER, hint=SILENT)
+        self.assertEqual(bytes(heard), b"\x7f")
+        self.assertTrue(board.refused)
+
+    def test_refused_words(self):
+        """Each in one line, and nothing is sent: no --fresh, another protection, or what asks the board something first."""
+        board = Guarded("page", 5)
+        heard = self.heard(board)
+        self.assertFault(self.on(board, "protect", "write-unprotect", "--in-session"), FRESH, 2)
+        for kind in KINDS[1:]:
+            for words in ((), ("--fresh",), ("--yes",)):
+                self.assertFault(self.on(board, "protect", kind, "--in-session", *words), ALONE, 2)
+        for words in ASKING:
+            self.assertFault(self.on(board, *UNPROTECT, *words), UNASKED, 2)
+        self.assertUsage(self.on(board, "protect", "--in-session", "--fresh"))
+        self.assertUsage(self.on(board, "undo", "--in-session"))
+        self.assertEqual(heard, [])
+
+    def test_a_folder_of_journals(self):
+        said = self.call(*UNPROTECT, "--table", "table", "--device", "nowhere", "--journals", ".")
+        self.assertFault(said, UNASKED, 2)
+
+    def test_by_the_variable(self):
+        """STMFLASH_FRESH=1 says that the board is fresh, as of an undo; no other variable stands for --in-session."""
+        words = ("protect", "write-unprotect", "--in-session", "--table", "table", "--device", "sim:0412:flash", "--journal", "journal")
+        said = self.call(*words, variables={"STMFLASH_FRESH": "1"})
+        self.assertUnprotected(said)
+        self.assertFault(self.call(*words), FRESH, 2)
+
+    def test_a_chip_that_tells_its_board(self):
+        """It isn't asked which board it is: behind that question it isn't fresh."""
+        self.store("table", TABLE + b"unique = [0x1FFFF7E8, 12]\n")
+        board = Guarded("page", 5)
+        heard = self.heard(board)
+        self.assertUnprotected(self.on(board, *UNPROTECT))
+        self.assertEqual(bytes(heard), b"\x7f\x73\x8c")
+
+    def test_a_simulator(self):
+        """A simulator parts from its line by a protection; it is reset by hand then."""
+        self.store("flash", COUNTING)
+        self.assertEqual(self.use("write", "--stop", "9000", "-S", f"{AT:#x}", "image").status, 3)
+        self.assertFault(self.use(*UNPROTECT), DEVICE, hint=SILENT)
+        self.store("flash.line", b"fresh\n")
+        journal = self.held("journal")
+        self.assertUnprotected(self.use(*UNPROTECT))
+        self.assertFile("journal", journal)
+        self.store("flash.line", b"fresh\n")
+        self.assertTold(self.use("undo", "--fresh"), "undone 1\n")
+        self.assertFile("flash", COUNTING)
+
+    def test_as_json(self):
+        """What is to be done then is told with the answer, and with the refusal."""
+        board = self.refused("page", NOT_ERASED)
+        board.reset()
+        said = self.on(board, "protect", "write-unprotect", "--json")
+        self.assertEqual(json.loads(said.out), {"fault": "journal_open", "says": OPEN, "hint": IN_SESSION, "status": 1})
+        said = self.on(board, *UNPROTECT, "--json")
+        self.assertEqual((said.status, json.loads(said.out)), (0, {"answer": "done", "hint": NOW_UNDO}))
+        said = self.on(board, "protect", "write-unprotect", "--json", journal="none")
+        self.assertEqual(json.loads(said.out), {"answer": "done"})
