@@ -1,6 +1,10 @@
 // What the program does with a device is a history of the headline: each law is the contract of a
 // function that does nothing.
-ghost use Rattle.stmflash.specs.Histories.{ActionsAreHistories, StoppedActionsAreTakenBack};
+ghost use Rattle.stmflash.specs.Histories.{
+  ActionsAreHistories,
+  IdentifyingIsHistory,
+  StoppedActionsAreTakenBack,
+};
 ghost use Rattle.stmflash.specs.Histories.{StoredCanBegin, StoredGoesOn};
 
 use crate::answer::Answer;
@@ -9,10 +13,12 @@ use stm_session::{
 };
 use stm_wire::Rig;
 
-/// Each action, from any state that can be taken back, is a history of the headline; and one that
-/// was stopped is taken back, after a loss of power too, by an undo of everything that answers Ok.
+/// Each action, from any state that can be taken back, is a history of the headline, and so is the
+/// question who a device is. And an action that was stopped is taken back, after a loss of power
+/// too, by an undo of everything that answers Ok.
 pub fn actions_are_histories<L: Rig>()
     ensures history { ActionsAreHistories L L.view }
+    ensures identifies { IdentifyingIsHistory L L.view }
     ensures back { StoppedActionsAreTakenBack L L.view }
 {
     a_session_can_be_taken_back::<L>();
