@@ -11,6 +11,9 @@ IN_SESSION = "to undo what a write-protected page refuses: reset, protect write-
 OPEN = "journal is open, refused"
 UNPROTECT = ("protect", "write-unprotect", "--in-session", "--fresh")
 KINDS = ("write-unprotect", "readout-protect", "readout-unprotect")
+# which step a board refuses, what is told of it, and how its undo is called then
+REFUSED = (("page", NOT_ERASED, ()), ("page", NOT_ERASED, ("-v", "--fresh")), ("write", NOT_WRITTEN, ("--fresh",)),
+           ("data", NOT_WRITTEN, ("--fresh",)))
 # words of a device by which it is asked something first
 ASKING = (("--board", "1"), ("--watch",))
 FRESH, ALONE = "usage: --in-session needs --fresh", "usage: --in-session goes with write-unprotect alone"
@@ -43,23 +46,22 @@ class Unprotect(OnBoard):
 
     def test_a_refused_write_is_undone(self):
         """By each step that a protected page refuses: the board is reset, its protection taken off, and the write undone."""
-        for step, told in (("page", NOT_ERASED), ("write", NOT_WRITTEN), ("data", NOT_WRITTEN)):
-            for words in ((), ("--fresh",), ("-v", "--fresh")):
-                with self.subTest(step, words=words):
-                    board = self.refused(step, told)
-                    journal = self.held("journal")
-                    board.reset()
-                    heard = self.heard(board)
-                    self.assertUnprotected(self.on(board, *UNPROTECT))
-                    # one 7F and the command, and nothing else; the journal is as it was
-                    self.assertEqual(bytes(heard), b"\x7f\x73\x8c")
-                    self.assertFile("journal", journal)
-                    board.reset()
-                    said = self.on(board, "undo", *words)
-                    # page 6 wasn't kept yet
-                    self.assertTold(said, "undone 1, 2048 bytes verified\n" if "-v" in words else "undone 1\n")
-                    self.assertEqual(bytes(board.flash), COUNTING)
-                    self.remove("journal")
+        for step, told, words in REFUSED:
+            with self.subTest(step, words=words):
+                board = self.refused(step, told)
+                journal = self.held("journal")
+                board.reset()
+                heard = self.heard(board)
+                self.assertUnprotected(self.on(board, *UNPROTECT))
+                # one 7F and the command, and nothing else; the journal is as it was
+                self.assertEqual(bytes(heard), b"\x7f\x73\x8c")
+                self.assertFile("journal", journal)
+                board.reset()
+                said = self.on(board, "undo", *words)
+                # page 6 wasn't kept yet
+                self.assertTold(said, "undone 1, 2048 bytes verified\n" if "-v" in words else "undone 1\n")
+                self.assertEqual(bytes(board.flash), COUNTING)
+                self.remove("journal")
 
     def test_with_another_journal(self):
         """It is sent as ever with a journal that has nothing to undo, and nothing is told then."""
