@@ -1,0 +1,11 @@
+mod Tracking
+mod Pieces
+mod Turning
+mod Adding
+mod Returning
+mod Doing
+mod Clauses
+mod Texting
+mod Remembering
+mod Histories
+mod Answering
