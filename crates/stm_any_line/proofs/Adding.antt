@@ -6,7 +6,7 @@ use Rattle.stm_wire.specs.Chip.{ChipData, erased_byte, page_count, page_size}
 use Rattle.stm_wire.specs.Frames.{read_turns}
 use Rattle.stm_chip.specs.declared.plan.Frame.{Frame}
 use Rattle.stm_chip.specs.Plan.{frames_of}
-use Rattle.stm_journal.specs.declared.entry.Entry.TheVariants.{Names, Opens, Keeps}
+use Rattle.stm_journal.specs.declared.entry.Entry.TheVariants.{Names, Opens, Keeps, Ends}
 use Rattle.stm_journal.specs.Journals.{begin_entries, version_for}
 use Rattle.stm_journal.specs.States.{StateData}
 use Rattle.stm_session.specs.declared.change.Change.{Change}
@@ -114,8 +114,9 @@ one_segment : (chip : ChipData) (c : Change) (s : StateData) (steps : List Step)
     → IsOneSegment chip c s steps → Plain steps
 one_segment chip c s steps segment =
     as_these _ steps segment.is
-    (joined (Adds (begin_entries chip.id chip.unique s) ∷ []) _ (lines_plain chip s)
-    (joined segment.turned _
+    (joined (Adds (begin_entries chip.id chip.unique s) ∷ [])
+    (segment.turned ++ Adds (Ends (length s.stack + 1) ∷ []) ∷ []) (lines_plain chip s)
+    (joined segment.turned (Adds (Ends (length s.stack + 1) ∷ []) ∷ [])
     (turned_plain chip c (page_count chip) segment.are_turned.0 segment.turned
     segment.are_turned.1) ((tt, tt), tt)))
 

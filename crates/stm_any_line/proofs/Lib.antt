@@ -5,6 +5,7 @@ mod Adding
 mod Returning
 mod Doing
 mod Clauses
+mod Appending
 mod Texting
 mod Remembering
 mod Histories

@@ -1,101 +1,18 @@
 -- A journal's text behind the calls of a session: its lines, and a torn tail.
 use Rattle.std.proofs.Common.{◌≡◌, ◌⊎◌, inl, inr, ℕ, zero, suc, Bool, true, false, nat_lt, if◌then◌else◌, List, [], ◌∷◌, ◌++◌, length, take, flat_map, Option, Some, None, refl, sym, ◌∙◌, ap, subst, arith, append_assoc, append-nil}
 use Rattle.std.proofs.lemmas.Bool.Decides.{nat_tests}
-use Rattle.stm_wire.specs.declared.fault.WireFault.{WireFault}
-use Rattle.stm_wire.specs.declared.fault.WireFault.TheVariants.{Line, Nack, Quiet, Garbled}
-use Rattle.stm_wire.specs.Call.{Call, Put, Get, Append, Fetch}
-use Rattle.stm_wire.specs.Dialogue.{Turn, Says, Acknowledged, Expects, Learns, AreLineCalls, IsBrokenOff, call_of, calls_of, FailsBy}
+use Rattle.stm_wire.specs.Call.{Call}
+use Rattle.stm_wire.specs.Dialogue.{calls_of}
 use Rattle.stm_wire.specs.DialogueLaws.{calls_of-are_line}
 use Rattle.stm_journal.specs.declared.entry.Entry.{Entry}
 use Rattle.stm_journal.specs.Calls.{AppendsInPart}
 use Rattle.stm_journal.specs.Entries.{line_of, line_text}
 use Rattle.stm_journal.specs.Journals.{added_bytes, mark}
 use Rattle.stm_session.specs.Order.{Step, Adds, Sends, acts_of, acts_of_steps, torn_behind}
+use Rattle.stm_any_line.proofs.Appending.{appended-acts, appended-append, appended-behind, appended-line, broken_line}
 use Rattle.stm_any_line.specs.Calls.{AreBegunOf, AreSteps}
 use Rattle.stm_any_line.specs.History.{TextsGoOn, left_of}
 use Rattle.stm_any_line.specs.Texts.{IsText, appended_in, line, lines_of, marked, torn as torn_line, void}
-
--- what calls append
-pub appended-acts : (calls : List Call) → appended_in (acts_of calls) ≡ appended_in calls
-appended-acts [] = refl
-appended-acts (Put byte ∷ calls) = appended-acts calls
-appended-acts (Get answer ∷ calls) = appended-acts calls
-appended-acts (Append bytes ∷ calls) = ap (λ (l : List ℕ). bytes ++ l) (appended-acts calls)
-appended-acts (Fetch ∷ calls) = appended-acts calls
-
-appended-append : (xs ys : List Call)
-    → appended_in (xs ++ ys) ≡ appended_in xs ++ appended_in ys
-appended-append [] ys = refl
-appended-append (Put byte ∷ xs) ys = appended-append xs ys
-appended-append (Get answer ∷ xs) ys = appended-append xs ys
-appended-append (Append bytes ∷ xs) ys =
-    ap (λ (l : List ℕ). bytes ++ l) (appended-append xs ys)
-    ∙ sym (append_assoc bytes (appended_in xs) (appended_in ys))
-appended-append (Fetch ∷ xs) ys = appended-append xs ys
-
-appended-line : (calls : List Call) → AreLineCalls calls → appended_in calls ≡ []
-appended-line [] are = refl
-appended-line (Put byte ∷ calls) are = appended-line calls are
-appended-line (Get answer ∷ calls) are = appended-line calls are
-appended-line (Append bytes ∷ calls) are = absurd are
-appended-line (Fetch ∷ calls) are = absurd are
-
--- calls of the line, and others behind them
-appended-behind : (xs ys : List Call) → AreLineCalls xs
-    → appended_in (xs ++ ys) ≡ appended_in ys
-appended-behind xs ys are =
-    appended-append xs ys ∙ ap (λ (l : List ℕ). l ++ appended_in ys) (appended-line xs are)
-
--- a frame that was broken off
-
-one_line : (call : Call) (calls : List Call) → AreLineCalls (call ∷ []) → AreLineCalls calls
-    → AreLineCalls (call ∷ calls)
-one_line (Put byte) calls first rest = rest
-one_line (Get answer) calls first rest = rest
-one_line (Append bytes) calls first rest = absurd first
-one_line Fetch calls first rest = absurd first
-
-turn_line : (turn : Turn) → AreLineCalls (call_of turn ∷ [])
-turn_line (Says byte) = tt
-turn_line Acknowledged = tt
-turn_line (Expects byte) = tt
-turn_line (Learns byte) = tt
-
-line_as : (call other : Call) → call ≡ other → AreLineCalls (other ∷ [])
-    → AreLineCalls (call ∷ [])
-line_as call other is are =
-    let P : Call → Type 0 = λ c. AreLineCalls (c ∷ []) in
-    subst P (sym is) are
-
-failed_line : (fault : WireFault) (turn : Turn) (call : Call) → FailsBy fault turn call
-    → AreLineCalls (call ∷ [])
-failed_line Line (Says byte) call f = line_as call (Put byte) f tt
-failed_line Line Acknowledged call f = line_as call (Get None) f tt
-failed_line Line (Expects byte) call f = line_as call (Get None) f tt
-failed_line Line (Learns byte) call f = line_as call (Get None) f tt
-failed_line Quiet (Says byte) call f = absurd f
-failed_line Quiet Acknowledged call f = line_as call (Get None) f tt
-failed_line Quiet (Expects byte) call f = line_as call (Get None) f tt
-failed_line Quiet (Learns byte) call f = line_as call (Get None) f tt
-failed_line Nack (Says byte) call f = absurd f
-failed_line Nack Acknowledged call f = line_as call _ f tt
-failed_line Nack (Expects byte) call f = absurd f
-failed_line Nack (Learns byte) call f = absurd f
-failed_line Garbled (Says byte) call f = absurd f
-failed_line Garbled Acknowledged call f = line_as call (Get (Some f.0)) f.3 tt
-failed_line Garbled (Expects byte) call f = line_as call (Get (Some f.0)) f.3 tt
-failed_line Garbled (Learns byte) call f = absurd f
-
-broken_line : (fault : WireFault) (turns : List Turn) (calls : List Call)
-    → IsBrokenOff fault turns calls → AreLineCalls calls
-broken_line fault [] calls broken = absurd broken
-broken_line fault (turn ∷ turns) [] broken = tt
-broken_line fault (turn ∷ turns) (call ∷ calls) (inl (fails, none)) =
-    let P : List Call → Type 0 = λ l. AreLineCalls l in
-    one_line call calls (failed_line fault turn call fails) (subst P (sym none) tt)
-broken_line fault (turn ∷ turns) (call ∷ calls) (inr (is, broken)) =
-    one_line call calls (line_as call (call_of turn) is (turn_line turn))
-    (broken_line fault turns calls broken)
 
 -- texts
 text_as : (lines lines2 : List Entry) (tail text text2 : List ℕ) → lines ≡ lines2 → text ≡ text2
@@ -349,15 +266,15 @@ leaves_part is_torn (Some (Adds entries)) last lines tail text e t (inl none) =
 leaves_part is_torn (Some (Adds entries)) last lines tail text e t (inr (n, is)) =
     let P : List Call → Type 0 = λ l. LeavesPart lines text (Some (Adds entries)) l in
     let some : List ℕ = take n (added_bytes is_torn entries) in
-    let part = part_added is_torn entries n lines tail text e t in
+    let adds = part_added is_torn entries n lines tail text e t in
     subst P (sym is)
     (record {
-      whole = part.whole;
-      part = (part.rest, part.is);
-      tail = part.tail;
-      text_is = text_as (lines ++ part.whole) _ part.tail (text ++ some) _
-          (ap (λ (l : List Entry). lines ++ l) (sym (append-nil part.whole)))
-          (ap (λ (l : List ℕ). text ++ l) (sym (append-nil some))) part.text_is;
+      whole = adds.whole;
+      part = (adds.rest, adds.is);
+      tail = adds.tail;
+      text_is = text_as (lines ++ adds.whole) _ adds.tail (text ++ some) _
+          (ap (λ (l : List Entry). lines ++ l) (sym (append-nil adds.whole)))
+          (ap (λ (l : List ℕ). text ++ l) (sym (append-nil some))) adds.text_is;
     })
 
 pub lines_of-append : (xs ys : List Step) → lines_of (xs ++ ys) ≡ lines_of xs ++ lines_of ys
@@ -391,21 +308,21 @@ text_behind before is_torn calls did tail text e t =
     let lines = lines_of before in
     let done = text_steps did.done is_torn lines tail text e t in
     let own : List ℕ = appended_in (acts_of_steps is_torn did.done) in
-    let part = leaves_part (torn_behind is_torn did.done) did.failed did.last
+    let ends = leaves_part (torn_behind is_torn did.done) did.failed did.last
     (lines ++ lines_of did.done) done.tail (text ++ own) done.torn_is done.text_is did.begun
     in
-    let left : List Step = left_of did.failed part.whole in
+    let left : List Step = left_of did.failed ends.whole in
     record {
-      whole = part.whole;
-      part = part.part;
-      tail = part.tail;
-      text_is = text_as _ _ part.tail _ _
+      whole = ends.whole;
+      part = ends.part;
+      tail = ends.tail;
+      text_is = text_as _ _ ends.tail _ _
           (append_assoc lines (lines_of did.done) (lines_of left)
           ∙ ap (λ (l : List Entry). lines ++ l) (sym (lines_of-append did.done left))
           ∙ sym (lines_of-append before (did.done ++ left)))
           (append_assoc text own (appended_in did.last)
           ∙ ap (λ (l : List ℕ). text ++ l) (sym (appended_by is_torn calls did)))
-          part.text_is;
+          ends.text_is;
     }
 
 pub texts_go_on : TextsGoOn

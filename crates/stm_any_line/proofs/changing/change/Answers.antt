@@ -12,6 +12,7 @@ returns g c =
     let old = c.args.rig.now in
     let new = c.run.new.rig in
     let law = c.a_run_keeps_pages_as_they_were_read.ensures in
+    let tracks : RunTracks (V old) (V new) =
     either_way c.run.result (RunsInOrder table commands (V old) (V new)) (RunTracks (V old) (V new))
     (RunStops table commands (V old) (V new)) c.run.ensures.order c.run.ensures.stops
     (λ ran calls before made.
@@ -20,3 +21,5 @@ returns g c =
     let own = own_of table commands (V old) (V new) fault stop in
     (own.chip, own.journal.is_torn,
     law.stopped table commands old new fault calls before own.chip own.journal stop own.own made))
+    in
+    record { tracks = tracks }
