@@ -63,9 +63,10 @@ module _ (lengths : (set : Pairs) (address : ℕ) (bytes : List ℕ) → length 
       let s = ran.journal.state in
       does_whole RunSays chip ran.journal.is_torn (Settles 0x7F 131072) before calls
       (AreDoneSomehow commands chip s) old new
-      (λ b own p.
-      (done_tracks lengths chip commands p.0 s p.1 _ b own p.2,
-      done_say chip commands p.0 s p.1 own p.2)) made ran.does
+      (λ b own p. (
+        done_tracks lengths chip commands p.0 s p.1 _ b own p.2,
+        done_say chip commands p.0 s p.1 own p.2,
+      )) made ran.does
 
   stopped_run : (table : List ChipData) (commands : List CommandData) (old new : RigState)
       (fault : Fault) (calls : List Call) (before : List Step)
@@ -78,9 +79,10 @@ module _ (lengths : (set : Pairs) (address : ℕ) (bytes : List ℕ) → length 
       let s = session.journal.state in
       does_stopped RunSays chip session.journal.is_torn (Settles 0x7F 131072) before calls
       (AreBegun fault chip commands s) (cause_of fault) old new
-      (λ b own p.
-      (begun_track lengths fault chip commands s _ b own p,
-      begun_say fault chip commands s own p)) made session.does
+      (λ b own p. (
+        begun_track lengths fault chip commands s _ b own p,
+        begun_say fault chip commands s own p,
+      )) made session.does
 
   pub run_stops_do : (table : List ChipData) (commands : List CommandData) (old new : RigState)
       (fault : Fault) (calls : List Call) (before : List Step) (chip : ChipData) (l : Loaded)
@@ -102,10 +104,11 @@ undo_does is_fresh table old new calls before tail undid loaded made =
     let s = undid.journal.state in
     does_whole UndoSays chip undid.journal.is_torn (undo_way is_fresh chip.kind (intent_of s)) before calls
     (PutsBackFrom chip s) old new
-    (λ b own p.
-    (puts_track chip (pages_of_segments s.stack) _ b own
-    (same_pages undid.journal before tail loaded) p,
-    puts_say chip (pages_of_segments s.stack) own p)) made undid.does
+    (λ b own p. (
+      puts_track chip (pages_of_segments s.stack) _ b own
+          (same_pages undid.journal before tail loaded) p,
+      puts_say chip (pages_of_segments s.stack) own p,
+    )) made undid.does
 
 stopped_undo : (is_fresh : Bool) (chip : ChipData) (l : Loaded) (old new : RigState)
     (fault : Fault) (calls : List Call) (before : List Step) (tail : List ℕ)
@@ -121,9 +124,10 @@ stopped_undo is_fresh chip l old new fault calls before tail loaded made (inl un
 stopped_undo is_fresh chip l old new fault calls before tail loaded made (inr stops) =
     does_stopped UndoSays chip l.is_torn (undo_way is_fresh chip.kind (intent_of l.state)) before calls
     (PutsBackFrom chip l.state) (cause_of fault) old new
-    (λ b own p.
-    (puts_track chip (pages_of_segments l.state.stack) _ b own (same_pages l before tail loaded) p,
-    puts_say chip (pages_of_segments l.state.stack) own p))
+    (λ b own p. (
+      puts_track chip (pages_of_segments l.state.stack) _ b own (same_pages l before tail loaded) p,
+      puts_say chip (pages_of_segments l.state.stack) own p,
+    ))
     made stops
 
 pub undo_stops_do : (is_fresh : Bool) (table : List ChipData) (old new : RigState) (fault : Fault)

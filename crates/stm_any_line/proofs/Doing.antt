@@ -142,18 +142,18 @@ does_whole Says chip torn way before calls P old new track made (version, codes,
     in
     record {
       did =
-        record {
-          settling = x.0;
-          line = x.2.line;
-          done = asked ++ steps;
-          failed = None;
-          last = [];
-          begun = refl;
-          is =
-              x.4
-              ∙ ap (λ (l : List Call). x.0 ++ l)
-              (x.5 ∙ sym (append-nil (acts_of_steps torn (asked ++ steps))));
-        };
+          record {
+            settling = x.0;
+            line = x.2.line;
+            done = asked ++ steps;
+            failed = None;
+            last = [];
+            begun = refl;
+            is =
+                x.4
+                ∙ ap (λ (l : List Call). x.0 ++ l)
+                (x.5 ∙ sym (append-nil (acts_of_steps torn (asked ++ steps))));
+          };
       tracks = went.0;
       says = went.1;
     }
@@ -190,15 +190,15 @@ does_cut Says chip torn way before calls Q cause track x =
     let went = track (cut.done ++ step_in cut.failed) cut.allowed in
     record {
       did =
-        record {
-          settling = x.0;
-          line = x.2.line;
-          done = cut.done;
-          failed = cut.failed;
-          last = cut.last;
-          begun = begun_of cause (torn_behind torn cut.done) cut.failed cut.last cut.fails;
-          is = x.4 ∙ ap (λ (l : List Call). x.0 ++ l) cut.is;
-        };
+          record {
+            settling = x.0;
+            line = x.2.line;
+            done = cut.done;
+            failed = cut.failed;
+            last = cut.last;
+            begun = begun_of cause (torn_behind torn cut.done) cut.failed cut.last cut.fails;
+            is = x.4 ∙ ap (λ (l : List Call). x.0 ++ l) cut.is;
+          };
       tracks = went.0;
       says = went.1;
     }
@@ -237,30 +237,30 @@ reached_in_part : (Says : Entry → Type 0) (chip : ChipData) (torn : Bool) (way
 reached_in_part Says chip torn way before calls cause (inl none) =
     record {
       did =
-        record {
-          settling = [];
-          line = tt;
-          done = [];
-          failed = None;
-          last = [];
-          begun = refl;
-          is = none;
-        };
+          record {
+            settling = [];
+            line = tt;
+            done = [];
+            failed = None;
+            last = [];
+            begun = refl;
+            is = none;
+          };
       tracks = tt;
       says = tt;
     }
 reached_in_part Says chip torn way before calls cause (inr (inl heard)) =
     record {
       did =
-        record {
-          settling = acts_of calls;
-          line = heard.1.line;
-          done = [];
-          failed = None;
-          last = [];
-          begun = refl;
-          is = sym (append-nil (acts_of calls));
-        };
+          record {
+            settling = acts_of calls;
+            line = heard.1.line;
+            done = [];
+            failed = None;
+            last = [];
+            begun = refl;
+            is = sym (append-nil (acts_of calls));
+          };
       tracks = tt;
       says = tt;
     }
@@ -290,15 +290,15 @@ pub does_nothing : (Says : Entry → Type 0) (chip : ChipData) (torn : Bool) (be
 does_nothing Says chip torn before calls old new made goes =
     record {
       did =
-        record {
-          settling = [];
-          line = tt;
-          done = [];
-          failed = None;
-          last = [];
-          begun = refl;
-          is = fetches_act calls (made_by AreFetches calls old new made goes);
-        };
+          record {
+            settling = [];
+            line = tt;
+            done = [];
+            failed = None;
+            last = [];
+            begun = refl;
+            is = fetches_act calls (made_by AreFetches calls old new made goes);
+          };
       tracks = tt;
       says = tt;
     }

@@ -77,8 +77,7 @@ module _ (lengths : (set : Pairs) (address : ℕ) (bytes : List ℕ) → length 
       let all = tracks_then chip [] [] before own tracks
       (tracks_left chip (segments_behind_steps [] before) before does.did.done does.did.failed behind.whole
       behind.part does.tracks)
-      in
-      (
+      in (
         does,
         behind.whole,
         (all, (behind.tail, now), all_track view chip (before ++ own) behind.tail visit.after visits now all rest),

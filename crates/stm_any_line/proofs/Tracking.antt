@@ -28,15 +28,13 @@ tracks_then chip s b [] ys p q =
     subst P (append-nil b) q
 tracks_then chip s b (Adds entries ∷ xs) ys (first, p) q =
     let later : Segments = segments_behind_lines s entries in
-    let P : List Step → Type 0 = λ l. Tracks chip (segments_behind_steps later xs) l ys in
-    (
+    let P : List Step → Type 0 = λ l. Tracks chip (segments_behind_steps later xs) l ys in (
       first,
       tracks_then chip later (b ++ Adds entries ∷ []) xs ys p
           (subst P (sym (append_assoc b (Adds entries ∷ []) xs)) q),
     )
 tracks_then chip s b (Sends turns ∷ xs) ys (first, p) q =
-    let P : List Step → Type 0 = λ l. Tracks chip (segments_behind_steps s xs) l ys in
-    (
+    let P : List Step → Type 0 = λ l. Tracks chip (segments_behind_steps s xs) l ys in (
       first,
       tracks_then chip s (b ++ Sends turns ∷ []) xs ys p
           (subst P (sym (append_assoc b (Sends turns ∷ []) xs)) q),

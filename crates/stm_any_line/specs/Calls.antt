@@ -67,8 +67,8 @@ pub record AreSteps (torn : Bool) (calls : List Call) : Type 0 where
   pub begun : AreBegunOf (torn_behind torn done) failed last
   pub is : acts_of calls ≡ settling ++ (acts_of_steps torn done ++ last)
 
--- Behind steps that were done before, such were done; all of them may come behind those before them,
--- where the lines so far are those of the steps before; and each line is such.
+-- Behind steps that were done before, such were done; all of them may come behind those, where the
+-- lines so far are those of the steps before; and each line is such.
 pub record Does (Says : Entry → Type 0) (chip : ChipData) (before : List Step) (torn : Bool)
     (calls : List Call) : Type 0 where
   pub did : AreSteps torn calls

@@ -71,7 +71,8 @@ left_of (Some (Adds entries)) lines = Adds lines ∷ []
 abbrev pub AllTrack : {R : Type 0} → ChipData → List Step → List (Visit R) → Type 0
 AllTrack chip before [] = Unit {0}
 AllTrack chip before (visit ∷ visits) =
-    (does : Does (says_of visit.deed) chip before visit.journal.is_torn visit.calls) × (lines : List Entry)
+    (does : Does (says_of visit.deed) chip before visit.journal.is_torn visit.calls)
+    × (lines : List Entry)
     × (let now = before ++ (does.did.done ++ left_of does.did.failed lines) in
     Tracks chip [] [] now × ((tail : List ℕ) × IsText (lines_of now) tail visit.after)
     × AllTrack chip now visits)

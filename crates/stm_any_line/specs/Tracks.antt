@@ -29,7 +29,7 @@ SendReads (Adds entries ∷ steps) = SendReads steps
 SendReads (Sends turns ∷ steps) =
     ((address : ℕ) × (answer : List ℕ) × (turns ≡ read_turns address answer)) × SendReads steps
 
--- Page n was read whole, and these bytes came; and since then nothing was sent but frames that read.
+-- Page n was read whole, and these bytes came; and since then nothing was sent but reads.
 pub record IsJustRead (chip : ChipData) (n : ℕ) (bytes : List ℕ)
     (before : List Step) : Type 0 where
   pub size : length bytes ≡ page_size chip n

@@ -19,11 +19,11 @@ ghost use Rattle.stm_any_line.specs.Texts.{IsLoadedAs, lines_of};
 use stm_image::laying_by_parts;
 use stm_wire::Rig;
 
-/// On any line, whatever it answers, and wherever it fails: a run appends the line that keeps a page
-/// only behind the reads of that page, with the bytes that came in them, and with nothing sent in
-/// between but reads. It says that a page is changed, and erases or writes it, only where the
-/// segment that it is in keeps the page by then; and it sends no other frames but those that ask
-/// and read.
+/// On any line, whatever it answers, and wherever it fails: a run appends a page's line only behind
+/// the reads of that page, with the bytes that came in them, and with nothing sent in between but
+/// reads. It says that a page is changed, and erases or writes it, only where the segment that it
+/// is in keeps the page by then. It sends no other frames but those that ask and read, and it takes no
+/// segment off.
 pub fn a_run_keeps_pages_as_they_were_read<R: Rig>()
     ensures done { (table : List ChipData) (commands : List CommandData) (old new : R)
         (calls : List Call) (before : List Step)
@@ -41,7 +41,8 @@ pub fn a_run_keeps_pages_as_they_were_read<R: Rig>()
 
 /// On any line, whatever it answers, and wherever it fails: an undo that loaded what the lines of
 /// the steps before it say erases and writes only pages that the newest segment of these lines
-/// keeps, and it takes a segment off behind all changes of the segment's pages.
+/// keeps, and it takes a segment off behind all changes of the segment's pages. It keeps nothing
+/// and begins no segment.
 pub fn an_undo_changes_pages_that_the_lines_keep<R: Rig>()
     ensures done { (is_fresh : Bool) (table : List ChipData) (old new : R) (calls : List Call)
         (before : List Step) (tail : List ℕ)
@@ -70,9 +71,9 @@ pub fn what_is_changed_is_kept_as_it_was_read()
     ensures kept { ChangedIsKept }
 {}
 
-/// Of runs and undoes of one chip, one behind another, on any line, each of which may fail anywhere,
-/// with a journal that begins empty and is honest: all that they did is such that each page which is
-/// changed is kept by then as it came when it was read; and the text is just the lines that say so.
+/// Of runs and undoes of one chip, one behind another, on any line, each of which may fail, with a
+/// journal that begins empty and is honest: in all that they did each page that is changed is kept
+/// by then as it came when it was read; and the text is just the lines that say so.
 pub fn a_history_keeps_pages_as_they_were_read<R: Rig>()
     ensures tracks { HistoriesTrack R.view }
 {

@@ -25,7 +25,10 @@ const READ: [Command; 1] = [Command::Read {
 /// How many bytes come in a write to which none comes complemented.
 fn count(rt: &HostRuntime, table: &Table) -> Result<u64, Fail> {
     let mut line = FlipRig::new(rt.alloc(), fresh(rt, table)?, 0);
-    answers(run(rt.alloc(), &mut line, table, &small_write(rt)?).err(), None)?;
+    answers(
+        run(rt.alloc(), &mut line, table, &small_write(rt)?).err(),
+        None,
+    )?;
     let mut count = 0_u64;
     for call in line.calls() {
         if matches!(call, RigCall::Get(Some(_))) {
@@ -64,7 +67,7 @@ fn left(rt: &HostRuntime, table: &Table, j: u64) -> Result<u64, Fail> {
     }
 }
 
-/// Of each byte that comes: a byte of the page that was garbled stays so, and no other harm is done.
+/// Of each byte that comes: a byte of the page that was garbled stays so, and nothing else changes.
 #[test]
 fn a_garbled_byte_is_kept_and_no_more(rt: HostRuntime) -> Result<(), Fail> {
     let table = table(&rt)?;

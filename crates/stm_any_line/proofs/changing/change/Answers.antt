@@ -18,8 +18,10 @@ returns g c =
     (λ ran calls before made.
     (ran.chip, ran.journal.is_torn, law.done table commands old new calls before ran made))
     (λ fault stop calls before made.
-    let own = own_of table commands (V old) (V new) fault stop in
-    (own.chip, own.journal.is_torn,
-    law.stopped table commands old new fault calls before own.chip own.journal stop own.own made))
+    let own = own_of table commands (V old) (V new) fault stop in (
+      own.chip,
+      own.journal.is_torn,
+      law.stopped table commands old new fault calls before own.chip own.journal stop own.own made,
+    ))
     in
     record { tracks = tracks }
