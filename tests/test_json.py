@@ -48,6 +48,17 @@ class Json(Place):
                            {"answer": "kept", "count": 1, "left": 1})
         self.assertAnswers(self.call("keep", "--journal", "journal", "--json"), {"answer": "kept", "count": 1})
 
+    def test_the_flash_is_printed_as_it_is(self):
+        """What is read to standard output is there whole, and nothing else; a fault has its line."""
+        self.store("flash", IMAGE + ERASED[1024:])
+        for words in (("--json",), ("--json", "--hex")):
+            with self.subTest(words=words):
+                told = self.use("read", *words, "-")
+                self.assertEqual((told.status, told.err), (0, b""))
+                self.assertEqual(told.out, self.use("read", *words[1:], "-").out)
+                self.assertGreaterEqual(len(told.out), len(ERASED))
+        self.assertFails(self.use("read", "-S", "0x08008000", "--json", "-"), "out_of_flash", "address outside the flash")
+
     def test_raw(self):
         told, = self.lines(self.use("info", "--raw", "--json"))
         self.assertEqual((told["answer"], told["id"], told["table"]), ("identified", "0412", "table"))

@@ -7,7 +7,7 @@ import subprocess
 
 from place import COUNTING, ERASED, PATIENCE, TABLE, Place, is_unproved, program
 
-SUBCOMMANDS = ("info", "read", "write", "verify", "erase", "undo", "log", "keep", "go", "protect", "sim")
+SUBCOMMANDS = ("info", "read", "crc", "write", "verify", "erase", "undo", "log", "keep", "go", "protect", "sim")
 CANNOT = b"stmflash: cannot write standard output\n"
 # words that are numbers, as the length of what is read
 LENGTHS = (("0", 0), ("255", 255), ("0x0", 0), ("0x00000010", 16))

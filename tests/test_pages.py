@@ -39,6 +39,11 @@ class Pages(Place):
                 self.assertEqual(fences[1::2], ["```"] * (len(fences) // 2))
                 self.assertEqual(len(fences) % 2, 0)
 
+    def test_no_merge_was_left_half_done(self):
+        """No file has the marks that git leaves where two sides of a merge differ."""
+        marked = subprocess.run(["git", "grep", "-nE", "^(<{7} |={7}$|>{7} )"], cwd=TOP, capture_output=True, text=True)
+        self.assertEqual((marked.returncode, marked.stdout), (1, ""))
+
     def test_pictures_are_well_formed_and_for_dark_pages_too(self):
         pictures = glob.glob(os.path.join(TOP, "docs", "pictures", "*.svg"))
         self.assertGreaterEqual(len(pictures), 3)

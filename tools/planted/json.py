@@ -1,6 +1,11 @@
 """Faults in what is told as JSON."""
 
 FAULTS = {
+    "what is read to standard output is dropped for JSON": (
+        "stmflash/src/told_json.rt",
+        "    matches!(answer, Answer::Bytes(_))\n",
+        "    matches!(answer, Answer::Bytes(_)) && !@on\n",
+        "test_json.Json.test_the_flash_is_printed_as_it_is"),
     "a line of JSON has no end": (
         "stmflash/src/json_line.rt",
         "        text.push(b'\\n')?;\n",

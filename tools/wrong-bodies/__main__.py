@@ -18,7 +18,7 @@ which `rt ci` has proved that it meets. An edit is refused
 - where it isn't proved, and its twin is.
 
 Elsewhere a failed goal says nothing: it may be true, and lack an answer that fits it. Nor does an answer that names what the edit
-took away, or a callee that isn't proved. docs/GATE.md has the reasons. An edit of which that is known has a line
+took away, or a callee that isn't proved. docs/FAULTS.md has the reasons. An edit of which that is known has a line
 `# says nothing: REASON`; it fails where the prover proves it.
 
 The status is 0 where each edit was refused, or says nothing as it says itself, and 1 where one wasn't or couldn't be tried.

@@ -1,10 +1,12 @@
--- The headline follows from the contracts of run, info and undo.
-use Rattle.std.proofs.Common.{◌≡◌, ℕ, false, List, [], ◌∷◌, Result, Ok, Err, refl, sym, ◌∙◌, ap, subst, ⊎_elim}
+-- The headline follows from the contracts of run, info, identify, undo and unprotect_fresh.
+use Rattle.std.proofs.Common.{◌≡◌, ℕ, true, false, List, [], ◌∷◌, Result, Ok, Err, refl, sym, ◌∙◌, ap, subst, ⊎_elim}
 use Rattle.std.proofs.lemmas.Bool.{cases_Bool}
 use Rattle.stm_wire.specs.Chip.{ChipData}
 use Rattle.stm_wire.specs.Device.{Device, reset}
+use Rattle.stm_wire.specs.Moments.{LeavesOnly}
 use Rattle.stm_wire.specs.Rig.{RigState}
 use Rattle.stm_journal.specs.Calls.{IsUntouched}
+use Rattle.stm_session.specs.declared.contact.Told.{Told}
 use Rattle.stm_session.specs.declared.information.Info.{Info}
 use Rattle.stm_session.specs.declared.fault.Fault.{Fault}
 use Rattle.stm_session.specs.declared.fault.Fault.TheVariants as faults
@@ -14,11 +16,11 @@ use Rattle.stm_session.specs.Undoable.{Undoable, is_unfinished_at}
 use Rattle.stm_session.specs.Meaning.{CommandData}
 use Rattle.stm_session.specs.Answers.{OutcomeData}
 use Rattle.stm_session.specs.Lines.{depth_at}
-use Rattle.stm_session.specs.Promises.{RunContract, InfoContract, UndoContract}
-use Rattle.stm_session.specs.Events.{World, now_of, Event, Knows, Leads, Stops, themselves, ran, run_stopped, informed, info_stopped, undid, undo_stopped, left_refused, refusal_stopped, unprotected, unprotect_stopped, kept, was_reset, lost_owed, lost_power}
+use Rattle.stm_session.specs.Promises.{RunContract, IdentifyContract, InfoContract, UndoContract}
+use Rattle.stm_session.specs.Events.{World, now_of, Event, Knows, Leads, Stops, themselves, ran, run_stopped, informed, info_stopped, identified, identify_stopped, undid, undo_stopped, left_refused, refusal_stopped, unprotected, unprotect_stopped, kept, was_reset, lost_owed, lost_power}
 use Rattle.stm_session.specs.Unprotecting.{FollowsUnprotect, LeftByUnprotecting}
 use Rattle.stm_session.specs.Headline.{starts_after, LeavesAlone, Holds, Headline, EachCanFollow, IsHonestAfter}
-use Rattle.stm_session.proofs.RunHistories.{Laws, lost-make, run-holds, run-leaves, run-honest, run-left, run-starts, unbegun-keeps, untouched-keeps, waits}
+use Rattle.stm_session.proofs.RunHistories.{Laws, goes-on, lost-make, run-holds, run-leaves, run-honest, run-left, run-starts, unbegun-keeps, untouched-keeps, waits}
 use Rattle.stm_session.proofs.UndoHistories.{undo-held, undo-honest, undo-leaves, undo-left, undo-starts}
 
 module _ (laws : Laws) {R : Type 0} (view : R → RigState) where
@@ -70,17 +72,47 @@ module _ (laws : Laws) {R : Type 0} (view : R → RigState) where
         alone = (flash, kept_journal);
       }
 
-  info-left : (table : List ChipData) (flashes : List (List ℕ)) (old new : RigState) (result : Result Info Fault) → old.is_honest → Undoable flashes old.device old.journal → InfoContract table old new result
+  -- A question: it leaves an unfinished journal and its device as they are, and with another one it begins no segment.
+  record IsQuestion (old new : RigState) : Type 0 where
+    untouched : is_unfinished_at old.journal ≡ true → LeavesOnly (IsUntouched old) old new × IsUntouched old new.device new.journal × new.is_honest
+    unbegun : is_unfinished_at old.journal ≡ false → LeavesOnly (IsUnbegun old) old new × IsUnbegun old new.device new.journal × new.is_honest
+
+  question-left : (flashes : List (List ℕ)) (old new : RigState) → Undoable flashes old.device old.journal → IsQuestion old new
       → ((t : World) → Stops old new t → AloneLeft flashes (now_of old) t) × AloneLeft flashes (now_of old) (now_of new)
-  info-left table flashes old new result honest u contract =
+  question-left flashes old new u question =
       ⊎_elim
       (λ still_open.
-      let unsent = contract.unsent honest faults.Unfinished (waits laws old u.good_journal still_open) in
-      (λ t left. untouched-alone flashes old t u (unsent.moments.each t.device t.journal left), untouched-alone flashes old (now_of new) u unsent.left))
+      let same = question.untouched still_open in
+      (λ t left. untouched-alone flashes old t u (same.0.each t.device t.journal left), untouched-alone flashes old (now_of new) u same.1))
       (λ over.
-      let informs = contract.informs honest (laws.safe flashes old.device old.journal u over) in
-      (λ t left. unbegun-alone flashes old t over u (informs.moments.each t.device t.journal left), unbegun-alone flashes old (now_of new) over u informs.left))
+      let asked = question.unbegun over in
+      (λ t left. unbegun-alone flashes old t over u (asked.0.each t.device t.journal left), unbegun-alone flashes old (now_of new) over u asked.1))
       (cases_Bool (is_unfinished_at old.journal))
+
+  question-honest : (old new : RigState) → IsQuestion old new → new.is_honest
+  question-honest old new question = ⊎_elim (λ still_open. (question.untouched still_open).2) (λ over. (question.unbegun over).2) (cases_Bool (is_unfinished_at old.journal))
+
+  info-asks : (table : List ChipData) (flashes : List (List ℕ)) (old new : RigState) (result : Result Info Fault) → old.is_honest → Undoable flashes old.device old.journal → InfoContract table old new result → IsQuestion old new
+  info-asks table flashes old new result honest u contract =
+      record {
+        untouched = λ still_open.
+            let unsent = contract.unsent honest faults.Unfinished (waits laws old u.good_journal still_open) in
+            (unsent.moments, unsent.left, unsent.honest);
+        unbegun = λ over.
+            let informs = contract.informs honest (laws.safe flashes old.device old.journal u over) in
+            (informs.moments, informs.left, informs.honest);
+      }
+
+  identify-asks : (flashes : List (List ℕ)) (old new : RigState) (result : Result Told Fault) → old.is_honest → Undoable flashes old.device old.journal → IdentifyContract old new result → IsQuestion old new
+  identify-asks flashes old new result honest u contract =
+      record {
+        untouched = λ still_open.
+            let unsent = contract.unsent honest faults.Unfinished (waits laws old u.good_journal still_open) in
+            (unsent.moments, unsent.left, unsent.honest);
+        unbegun = λ over.
+            let tells = contract.tells honest (laws.safe flashes old.device old.journal u over) (goes-on laws old u.good_journal over) in
+            (tells.moments, tells.left, tells.honest);
+      }
 
   undid-gives : (table : List ChipData) (count : ℕ) (starts : List (List ℕ)) (a b : R) (result : Result ℕ Fault) → (view a).is_honest → Knows table (now_of (view a)) → UndoContract table count (view a) (view b) result
       → Gives (undid table count a b result) starts (now_of (view b)) (now_of (view a))
@@ -111,10 +143,17 @@ module _ (laws : Laws) {R : Type 0} (view : R → RigState) where
   gives (informed table old new result) starts s t (begins, contract, returns) =
       let A : World → Type 0 = λ x. Gives (informed table old new result) starts t x in
       let B : World → Type 0 = λ y. Gives (informed table old new result) starts y (now_of (view old)) in
-      subst A begins.1 (subst B returns (λ u. let l = (info-left table starts (view old) (view new) result begins.0 u contract).1 in (l.undoable, l.make, l.alone)))
+      subst A begins.1 (subst B returns (λ u. let l = (question-left starts (view old) (view new) u (info-asks table starts (view old) (view new) result begins.0 u contract)).1 in (l.undoable, l.make, l.alone)))
   gives (info_stopped table old new result) starts s t (begins, contract, left) =
       let A : World → Type 0 = λ x. Gives (info_stopped table old new result) starts t x in
-      subst A begins.1 (λ u. let l = (info-left table starts (view old) (view new) result begins.0 u contract).0 t left in (l.undoable, l.make, l.alone))
+      subst A begins.1 (λ u. let l = (question-left starts (view old) (view new) u (info-asks table starts (view old) (view new) result begins.0 u contract)).0 t left in (l.undoable, l.make, l.alone))
+  gives (identified old new result) starts s t (begins, contract, returns) =
+      let A : World → Type 0 = λ x. Gives (identified old new result) starts t x in
+      let B : World → Type 0 = λ y. Gives (identified old new result) starts y (now_of (view old)) in
+      subst A begins.1 (subst B returns (λ u. let l = (question-left starts (view old) (view new) u (identify-asks starts (view old) (view new) result begins.0 u contract)).1 in (l.undoable, l.make, l.alone)))
+  gives (identify_stopped old new result) starts s t (begins, contract, left) =
+      let A : World → Type 0 = λ x. Gives (identify_stopped old new result) starts t x in
+      subst A begins.1 (λ u. let l = (question-left starts (view old) (view new) u (identify-asks starts (view old) (view new) result begins.0 u contract)).0 t left in (l.undoable, l.make, l.alone))
   gives (undid table count old new result) starts s t (begins, knows, contract, returns) =
       let A : World → Type 0 = λ x. Knows table x → Gives (undid table count old new result) starts t x in
       let B : World → Type 0 = λ y. Gives (undid table count old new result) starts y (now_of (view old)) in
@@ -155,11 +194,6 @@ module _ (laws : Laws) {R : Type 0} (view : R → RigState) where
       let U : List ℕ → Type 0 = λ j. Undoable starts t.device j in
       (subst U (sym e) (laws.loses_power starts s.device t.device s.journal u lost), lost.make, λ finished. (laws.loses_nothing s.device t.device s.journal finished lost, e))
 
-  info-honest : (table : List ChipData) (starts : List (List ℕ)) (old new : RigState) (result : Result Info Fault) → old.is_honest → Undoable starts old.device old.journal → InfoContract table old new result → new.is_honest
-  info-honest table starts old new result honest u contract =
-      ⊎_elim (λ still_open. (contract.unsent honest faults.Unfinished (waits laws old u.good_journal still_open)).honest) (λ over. (contract.informs honest (laws.safe starts old.device old.journal u over)).honest)
-      (cases_Bool (is_unfinished_at old.journal))
-
   honest-after : (event : Event R) (starts : List (List ℕ)) (s t : World) → Undoable starts s.device s.journal → Leads view event s t → IsHonestAfter view event
   honest-after (ran table commands old new result) starts s t u (begins, knows, contract, returns) =
       let A : World → Type 0 = λ x. Undoable starts x.device x.journal → Knows table x → (view new).is_honest in
@@ -169,10 +203,16 @@ module _ (laws : Laws) {R : Type 0} (view : R → RigState) where
       subst A begins.1 (λ here known. run-honest laws table commands starts (view old) (view new) result begins.0 here known contract) u knows
   honest-after (informed table old new result) starts s t u (begins, contract, returns) =
       let A : World → Type 0 = λ x. Undoable starts x.device x.journal → (view new).is_honest in
-      subst A begins.1 (λ here. info-honest table starts (view old) (view new) result begins.0 here contract) u
+      subst A begins.1 (λ here. question-honest (view old) (view new) (info-asks table starts (view old) (view new) result begins.0 here contract)) u
   honest-after (info_stopped table old new result) starts s t u (begins, contract, left) =
       let A : World → Type 0 = λ x. Undoable starts x.device x.journal → (view new).is_honest in
-      subst A begins.1 (λ here. info-honest table starts (view old) (view new) result begins.0 here contract) u
+      subst A begins.1 (λ here. question-honest (view old) (view new) (info-asks table starts (view old) (view new) result begins.0 here contract)) u
+  honest-after (identified old new result) starts s t u (begins, contract, returns) =
+      let A : World → Type 0 = λ x. Undoable starts x.device x.journal → (view new).is_honest in
+      subst A begins.1 (λ here. question-honest (view old) (view new) (identify-asks starts (view old) (view new) result begins.0 here contract)) u
+  honest-after (identify_stopped old new result) starts s t u (begins, contract, left) =
+      let A : World → Type 0 = λ x. Undoable starts x.device x.journal → (view new).is_honest in
+      subst A begins.1 (λ here. question-honest (view old) (view new) (identify-asks starts (view old) (view new) result begins.0 here contract)) u
   honest-after (undid table count old new result) starts s t u (begins, knows, contract, returns) =
       let A : World → Type 0 = λ x. Undoable starts x.device x.journal → Knows table x → (view new).is_honest in
       subst A begins.1 (λ here known. undo-honest laws table count starts (view old) (view new) result begins.0 here contract known) u knows

@@ -7,6 +7,7 @@ pub mod Misfits
 pub mod Openings
 pub mod Informing
 pub mod InfoContracts
+pub mod IdentifyContracts
 pub mod Ranges
 pub mod OutcomeKinds
 pub mod Sending

@@ -88,6 +88,9 @@ module _ (laws : Laws) where
   pub waits : (old : RigState) → journal_of old.journal ≡ good (state_at old.journal) → is_unfinished_at old.journal ≡ true → unsent_refusal (journal_of old.journal) ≡ Some faults.Unfinished
   waits old is_good e = ap unsent_refusal is_good ∙ ap (λ (b : Bool). refused_unless (not b) faults.Unfinished) e
 
+  pub goes-on : (old : RigState) → journal_of old.journal ≡ good (state_at old.journal) → is_unfinished_at old.journal ≡ false → unsent_refusal (journal_of old.journal) ≡ None
+  goes-on old is_good e = ap unsent_refusal is_good ∙ ap (λ (b : Bool). refused_unless (not b) faults.Unfinished) e
+
   -- what a run leaves at any moment
   pub record RunLeft (commands : List CommandData) (flashes : List (List ℕ)) (s t : World) : Type 0 where
     pub begun : ℕ

@@ -6,7 +6,7 @@ use Rattle.stm_wire.specs.Rig.{RigState}
 use Rattle.stm_session.specs.Undoable.{Undoable}
 use Rattle.stm_session.specs.Meaning.{CommandData, writes, erases, verifies, reads, flash_after, flash_after_all, flashes_before, changes_of, is_change, before_if}
 use Rattle.stm_session.specs.Undoes.{flash_taken_back}
-use Rattle.stm_session.specs.Events.{World, now_of, Event, Happening, AllLead, Knows, Leads, end_of, ran, run_stopped, informed, info_stopped, undid, undo_stopped, left_refused, refusal_stopped, unprotected, unprotect_stopped, kept, was_reset, lost_owed, lost_power}
+use Rattle.stm_session.specs.Events.{World, now_of, Event, Happening, AllLead, Knows, Leads, end_of, ran, run_stopped, informed, info_stopped, identified, identify_stopped, undid, undo_stopped, left_refused, refusal_stopped, unprotected, unprotect_stopped, kept, was_reset, lost_owed, lost_power}
 use Rattle.stm_session.specs.Headline.{standing_in, grown, starts_of_run, starts_after, oldest_after, oldest_of, oldest_start, AllIsTakenBack, WritesWhole}
 use Rattle.stm_session.proofs.RunHistories.{Laws, RunLeft, depth-is, length-before, run-left, run-begun}
 use Rattle.stm_session.proofs.UndoHistories.{UndoLeft, none-finished, undo-left, undo-undone}
@@ -117,6 +117,8 @@ module _ (laws : Laws) {R : Type 0} (view : R → RigState) where
       subst A begins.1 (λ known u. run-oldest table commands starts (now_of (view old)) t u ((run-left laws table commands starts (view old) (view new) result begins.0 u known contract).0 t left)) knows
   keeps (informed table old new result) starts s t leads = λ u. alone-oldest starts s t (gives laws view (informed table old new result) starts s t leads u).2.0
   keeps (info_stopped table old new result) starts s t leads = λ u. alone-oldest starts s t (gives laws view (info_stopped table old new result) starts s t leads u).2.0
+  keeps (identified old new result) starts s t leads = λ u. alone-oldest starts s t (gives laws view (identified old new result) starts s t leads u).2.0
+  keeps (identify_stopped old new result) starts s t leads = λ u. alone-oldest starts s t (gives laws view (identify_stopped old new result) starts s t leads u).2.0
   keeps (undid table count old new result) starts s t (begins, knows, contract, returns) =
       let A : World → Type 0 = λ x. Knows table x → Undoable starts x.device x.journal → oldest (drop (grown t x) starts) t.device.flash ≡ oldest starts x.device.flash in
       let B : World → Type 0 = λ y. oldest (drop (grown y (now_of (view old))) starts) y.device.flash ≡ oldest starts (view old).device.flash in

@@ -7,6 +7,7 @@ use Rattle.stm_wire.specs.Rig.{RigState}
 use Rattle.stm_chip.specs.Document.{IsChipWith, IsNewId}
 use Rattle.stm_journal.specs.Calls.{IsUntouched}
 use Rattle.stm_journal.specs.Journals.{journal_of}
+use Rattle.stm_session.specs.declared.contact.Told.{Told}
 use Rattle.stm_session.specs.declared.information.Info.{Info}
 use Rattle.stm_session.specs.declared.fault.Fault.{Fault}
 use Rattle.stm_session.specs.PowerLoss.{LosesPower}
@@ -14,7 +15,7 @@ use Rattle.stm_session.specs.Refusal.{RefusesUnsent, open_refusal}
 use Rattle.stm_session.specs.Undoable.{is_unfinished_at}
 use Rattle.stm_session.specs.Meaning.{CommandData}
 use Rattle.stm_session.specs.Answers.{OutcomeData}
-use Rattle.stm_session.specs.Promises.{RunContract, InfoContract, UndoContract}
+use Rattle.stm_session.specs.Promises.{RunContract, IdentifyContract, InfoContract, UndoContract}
 use Rattle.stm_session.specs.Fresh.{IsReset}
 use Rattle.stm_session.specs.Unprotecting.{UnprotectContract, FollowsUnprotect}
 
@@ -38,6 +39,8 @@ pub data Event (R : Type 0) : Type 0 where
       (result : Result (List OutcomeData) Fault) → Event R
   informed : (table : List ChipData) (old new : R) (result : Result Info Fault) → Event R
   info_stopped : (table : List ChipData) (old new : R) (result : Result Info Fault) → Event R
+  identified : (old new : R) (result : Result Told Fault) → Event R
+  identify_stopped : (old new : R) (result : Result Told Fault) → Event R
   undid : (table : List ChipData) (count : ℕ) (old new : R) (result : Result ℕ Fault) → Event R
   undo_stopped : (table : List ChipData) (count : ℕ) (old new : R)
       (result : Result ℕ Fault) → Event R
@@ -92,6 +95,11 @@ Leads view (informed table old new result) w w2 =
     Begins w (view old) × InfoContract table (view old) (view new) result × (now_of (view new) ≡ w2)
 Leads view (info_stopped table old new result) w w2 =
     Begins w (view old) × InfoContract table (view old) (view new) result
+    × Stops (view old) (view new) w2
+Leads view (identified old new result) w w2 =
+    Begins w (view old) × IdentifyContract (view old) (view new) result × (now_of (view new) ≡ w2)
+Leads view (identify_stopped old new result) w w2 =
+    Begins w (view old) × IdentifyContract (view old) (view new) result
     × Stops (view old) (view new) w2
 Leads view (undid table count old new result) w w2 =
     Begins w (view old) × Knows table w × UndoContract table count (view old) (view new) result

@@ -8,7 +8,8 @@ use Rattle.stm_wire.specs.Chip.{ChipData}
 use Rattle.stm_wire.specs.Rig.{RigState}
 use Rattle.stm_chip.specs.Document.{IsChipWith}
 use Rattle.stm_session.specs.Events.{World, Event, Happening, AllLead, Leads, end_of, ran}
-use Rattle.stm_session.specs.Events.{run_stopped, informed, info_stopped, undid, undo_stopped}
+use Rattle.stm_session.specs.Events.{run_stopped, informed, info_stopped, identified}
+use Rattle.stm_session.specs.Events.{identify_stopped, undid, undo_stopped}
 use Rattle.stm_session.specs.Events.{left_refused, refusal_stopped, unprotected, unprotect_stopped}
 use Rattle.stm_session.specs.Events.{kept, was_reset, lost_owed, lost_power}
 use Rattle.stm_session.specs.Fault.{IsOutsideFault}
@@ -43,6 +44,8 @@ starts_after (run_stopped table commands old new result) w w2 starts =
     starts_of_run commands w w2 starts
 starts_after (informed table old new result) w w2 starts = starts
 starts_after (info_stopped table old new result) w w2 starts = starts
+starts_after (identified old new result) w w2 starts = starts
+starts_after (identify_stopped old new result) w w2 starts = starts
 starts_after (undid table count old new result) w w2 starts = drop (grown w2 w) starts
 starts_after (undo_stopped table count old new result) w w2 starts = drop (grown w2 w) starts
 starts_after (left_refused refusal old new result) w w2 starts = starts
@@ -94,6 +97,8 @@ Holds (ran table commands old new (Err e)) w w2 starts = RunLeaves commands w w2
 Holds (run_stopped table commands old new result) w w2 starts = RunLeaves commands w w2
 Holds (informed table old new result) w w2 starts = LeavesAlone w w2
 Holds (info_stopped table old new result) w w2 starts = LeavesAlone w w2
+Holds (identified old new result) w w2 starts = LeavesAlone w w2
+Holds (identify_stopped old new result) w w2 starts = LeavesAlone w w2
 Holds (undid table count old new (Ok n)) w w2 starts = UndoHolds count n w w2 starts
 Holds (undid table count old new (Err e)) w w2 starts =
     (IsChipWith table w.device.chip.id w.device.chip → IsOutsideFault e) × UndoLeaves w w2 starts
@@ -132,6 +137,8 @@ IsHonestAfter view (ran table commands old new result) = (view new).is_honest
 IsHonestAfter view (run_stopped table commands old new result) = (view new).is_honest
 IsHonestAfter view (informed table old new result) = (view new).is_honest
 IsHonestAfter view (info_stopped table old new result) = (view new).is_honest
+IsHonestAfter view (identified old new result) = (view new).is_honest
+IsHonestAfter view (identify_stopped old new result) = (view new).is_honest
 IsHonestAfter view (undid table count old new result) = (view new).is_honest
 IsHonestAfter view (undo_stopped table count old new result) = (view new).is_honest
 IsHonestAfter view (left_refused refusal old new result) = (view new).is_honest
@@ -166,6 +173,8 @@ oldest_after (ran table commands old new result) w2 flash = flash
 oldest_after (run_stopped table commands old new result) w2 flash = flash
 oldest_after (informed table old new result) w2 flash = flash
 oldest_after (info_stopped table old new result) w2 flash = flash
+oldest_after (identified old new result) w2 flash = flash
+oldest_after (identify_stopped old new result) w2 flash = flash
 oldest_after (undid table count old new result) w2 flash = flash
 oldest_after (undo_stopped table count old new result) w2 flash = flash
 oldest_after (left_refused refusal old new result) w2 flash = flash

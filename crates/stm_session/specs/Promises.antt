@@ -1,4 +1,4 @@
--- The promises of run, info and undo on an honest Rig, each as one record.
+-- The promises of run, info, identify and undo on an honest Rig, each as one record.
 use Rattle.std.specs.Prelude.{◌≡◌, ◌≢◌, ℕ, ◌≤◌, List, [], length, Some, None, Result, IfErr}
 use Rattle.stm_wire.specs.Chip.{ChipData}
 use Rattle.stm_wire.specs.Dialogue.{GoesOn}
@@ -9,10 +9,12 @@ use Rattle.stm_journal.specs.States.{StateData}
 use Rattle.stm_journal.specs.Journals.{journal_of, good}
 use Rattle.stm_journal.specs.Calls.{AreFetches, IsUntouched}
 use Rattle.stm_journal.specs.declared.header.JournalHeader.{JournalHeader}
+use Rattle.stm_session.specs.declared.contact.Told.{Told}
 use Rattle.stm_session.specs.declared.information.Info.{Info}
 use Rattle.stm_session.specs.declared.fault.Fault.{Fault}
 use Rattle.stm_session.specs.declared.fault.Fault.TheVariants as faults
-use Rattle.stm_session.specs.Moments.{IsSafe, IsUnbegun}
+use Rattle.stm_session.specs.Moments.{BeginsNothing, IsSafe, IsUnbegun}
+use Rattle.stm_session.specs.Opening.{Tells}
 use Rattle.stm_session.specs.Refusal.{Refuses, unsent_refusal}
 use Rattle.stm_session.specs.Information.{Informs}
 use Rattle.stm_session.specs.Undoable.{Undoable, state_at}
@@ -55,6 +57,20 @@ pub record InfoContract (table : List ChipData) (old new : RigState)
       → unsent_refusal (journal_of old.journal) ≡ Some refusal
       → GoesOn AreFetches old.calls new.calls
   pub informs : old.is_honest → IsSafe old.device → Informs table old new result
+  pub spared : old.is_honest → old.journal ≡ [] → IfErr result (λ e. e ≢ faults.Memory)
+
+-- a device is asked who it is, whether or not a table has its chip
+pub record IdentifyContract (old new : RigState) (result : Result Told Fault) : Type 0 where
+  -- what is refused before a byte is sent, of any device
+  pub unsent : old.is_honest → (refusal : Fault)
+      → unsent_refusal (journal_of old.journal) ≡ Some refusal
+      → RefusesUnsent (IsUntouched old) refusal old new result
+  pub unsent_calls : old.is_honest → (refusal : Fault)
+      → unsent_refusal (journal_of old.journal) ≡ Some refusal
+      → GoesOn AreFetches old.calls new.calls
+  -- what a safe device tells where nothing is refused
+  pub tells : old.is_honest → IsSafe old.device → unsent_refusal (journal_of old.journal) ≡ None
+      → BeginsNothing old new result (Tells old.device)
   pub spared : old.is_honest → old.journal ≡ [] → IfErr result (λ e. e ≢ faults.Memory)
 
 pub record UndoContract (table : List ChipData) (count : ℕ) (old new : RigState)

@@ -9,6 +9,7 @@ ghost use Rattle.stm_session.specs.Fault.{HasSessionCause};
 ghost use Rattle.stm_session.specs.Fresh.{Settles};
 ghost use Rattle.stm_session.specs.Moments.{IsSafe};
 ghost use Rattle.stm_session.specs.Opening.{Tells};
+ghost use Rattle.stm_session.specs.Promises.{IdentifyContract};
 ghost use Rattle.stm_session.specs.Reaching.{ReachesInOrder, StopsShort};
 ghost use Rattle.stm_session.specs.Refusal.{unsent_refusal};
 ghost use Rattle.stm_session.specs.Sending.{is_whole, most_calls};
@@ -43,6 +44,7 @@ pub fn identify<R: Rig>(alloc: Global, rig: &mut R) -> Result<Told, Fault>
         old.is_honest → OnOk result (unsent_refusal (journal_of old.journal) ≡ None) }
     ensures told { let old = R.view rig.old in
         old.is_honest → IsSafe old.device → IfOk result (Tells old.device) }
+    ensures promised { IdentifyContract (R.view rig.old) (R.view rig.new) result }
 {
     harmless_is_kept();
     let _journal = load_finished(alloc, rig)?;

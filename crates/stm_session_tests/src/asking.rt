@@ -13,7 +13,7 @@ const TABLE: &str =
     "[[chip]]\nid = 0x412\nbase = 0x08000000\npages = [[32, 1024]]\nerase = \"page\"\n";
 
 /// The codes that a device lists whose pages are erased by 43.
-const CODES: [u8; 9] = [0x00, 0x02, 0x11, 0x21, 0x31, 0x43, 0x73, 0x82, 0x92];
+pub const CODES: [u8; 9] = [0x00, 0x02, 0x11, 0x21, 0x31, 0x43, 0x73, 0x82, 0x92];
 
 /// A journal whose first segment is ended, and whose second was taken back and has a torn line
 /// behind it.

@@ -36,6 +36,10 @@ mod full;
 #[cfg(test)]
 mod garbled_reads;
 #[cfg(test)]
+mod garbled_writes;
+#[cfg(test)]
+mod identifying;
+#[cfg(test)]
 mod large;
 #[cfg(test)]
 mod laws;

@@ -3,7 +3,7 @@
 use crate::devices::{device, image, puts, puts_begin, send, table};
 use std::test::Fail;
 use stm_chip::Table;
-use stm_session::{Command, Fault, Outcome, go, info, protect, run, undo};
+use stm_session::{Command, Fault, Outcome, go, identify, info, protect, run, undo};
 use stm_wire::{MemoryRig, Protection, RigCall};
 
 /// Bytes, each part of them so many times, one after another.
@@ -34,6 +34,7 @@ pub enum Act {
     Run(&'static [Ask], Result<&'static [Told], Fault>),
     Undo(u32, Result<u32, Fault>),
     Info(Option<Fault>),
+    Identify(Option<Fault>),
     Go(Option<Fault>),
     Protect(Protection, Option<Fault>),
     /// These bytes come to a device that is connected, and nobody takes its replies.
@@ -179,6 +180,7 @@ fn is_answered(
         Act::Run(asks, due) => runs(rt, table, rig, asks, *due)?,
         Act::Undo(count, due) => undo(rt.alloc(), rig, table, *count) == *due,
         Act::Info(due) => info(rt.alloc(), rig, table).err() == *due,
+        Act::Identify(due) => identify(rt.alloc(), rig).err() == *due,
         Act::Go(due) => go(rt.alloc(), rig, 0x0800_0000).err() == *due,
         Act::Protect(which, due) => protect(rt.alloc(), rig, *which).err() == *due,
         _ => true,

@@ -10,7 +10,7 @@ use Rattle.stm_chip.specs.Document.{IsChipWith, IsNewId}
 use Rattle.stm_journal.specs.Journals.{journal_of}
 use Rattle.stm_session.specs.declared.fault.Fault.{Fault}
 use Rattle.stm_session.specs.declared.information.Info.{Info}
-use Rattle.stm_session.specs.Events.{AllLead, Event, Happening, Knows, Leads, OutcomesAreTheRun, World, end_of, informed, left_refused, lost_owed, lost_power, now_of, ran, told_by, undid, unprotected, was_reset}
+use Rattle.stm_session.specs.Events.{AllLead, Event, Happening, Knows, Leads, OutcomesAreTheRun, World, end_of, identified, informed, left_refused, lost_owed, lost_power, now_of, ran, told_by, undid, unprotected, was_reset}
 use Rattle.stm_session.specs.Fresh.{IsReset}
 use Rattle.stm_session.specs.Headline.{AllIsTakenBack, EachCanFollow, Headline, IsStart, oldest_after, oldest_of, oldest_start, starts_after}
 use Rattle.stm_session.specs.Meaning.{CommandData, verifies, writes}
@@ -31,7 +31,7 @@ use Rattle.stmflash.specs.Answer.{outcomes_told}
 use Rattle.stmflash.specs.Conduct.{Asks, AsksFirst, RunsIfRoom, RunsTold}
 use Rattle.stmflash.specs.Content.{ImageOn}
 use Rattle.stmflash.specs.Reading.{ReadsPart, part_given, start_given, to_the_end}
-use Rattle.stmflash.specs.Histories.{ActionsAreHistories, CanAct, IsHistory, IsRefused, StoppedActionsAreTakenBack, UnprotectedActionsAreTakenBack}
+use Rattle.stmflash.specs.Histories.{ActionsAreHistories, CanAct, IdentifyingIsHistory, IsHistory, IsRefused, StoppedActionsAreTakenBack, UnprotectedActionsAreTakenBack}
 
 -- two histories, one after the other
 leads-both : {R : Type 0} (view : R → RigState) (a b : List (Happening R)) (w : World) → AllLead view a w → AllLead view b (end_of a w) → AllLead view (a ++ b) w
@@ -215,6 +215,12 @@ module _ {R : Type 0} (view : R → RigState) (laws : Laws view) where
   pub actions-are-histories : ActionsAreHistories R view
   actions-are-histories table starts does old new result can done =
       (does-goes table does old new result (record { starts = starts; honest = can.honest; start = can.start; knows = can.knows }) can done).is
+
+  pub identifying-is-history : IdentifyingIsHistory R view
+  identifying-is-history table starts old new result honest start (said, asks, hands) =
+      let event = identified old new said in
+      let leads : Leads view event (now_of (view old)) (now_of (view new)) = ((honest, refl), asks.promised, refl) in
+      (goes-once event starts old new start leads (λ flash. refl) (laws.follows event starts (now_of (view old)) (now_of (view new)) start leads).honest).is
 
   -- an action, events behind it that give no way back up, and an undo of everything that answers Ok
   taken-back-behind : (table : List ChipData) (starts : List (List ℕ)) (does : Action) (first mid again last : R) (said : Result Answer Failure) (told : Answer) (after : List (Happening R))

@@ -22,7 +22,7 @@ use Rattle.stm_session.specs.Refusal.{unsent_refusal}
 use Rattle.stm_session.specs.Unwritten.{AppendsNothing}
 use Rattle.stm_session.specs.Meaning.{CommandData, erases}
 use Rattle.stm_session.specs.Reaching.{ReachesInOrder, StopsShort}
-use Rattle.stm_session.specs.Promises.{InfoContract, RunContract}
+use Rattle.stm_session.specs.Promises.{IdentifyContract, InfoContract, RunContract}
 use Rattle.stm_session.specs.RunOrder.{RunStops, RunsInOrder}
 use Rattle.stm_session.specs.Sending.{SendsAsRun, is_whole, most_calls}
 use Rattle.stmflash.specs.declared.answer.Answer.{Answer}
@@ -69,6 +69,7 @@ pub record Asks (table : List ChipData) (old new : RigState)
 
 -- What `identify` promises.
 pub record Identifies (old new : RigState) (said : Result Told Fault) : Type 0 where
+  pub promised : IdentifyContract old new said
   pub unwritten : GoesOn AppendsNothing old.calls new.calls
   pub kept : old.is_honest → new.journal ≡ old.journal
   pub cause : HasSessionCause old new said
@@ -76,6 +77,9 @@ pub record Identifies (old new : RigState) (said : Result Told Fault) : Type 0 w
   pub silent : IfErr said (λ fault. fault ≡ Unfinished → GoesOn AreFetches old.calls new.calls)
   pub accepted : old.is_honest → OnOk said (unsent_refusal (journal_of old.journal) ≡ None)
   pub told : old.is_honest → IsSafe old.device → IfOk said (Tells old.device)
+  pub order : (torn : Bool)
+      → IfOk said (λ told. ReachesInOrder (Settles 0x7F 131072) told.id torn old new)
+  pub stops : (torn : Bool) → StopsShort (Settles 0x7F 131072) torn old new said
 
 -- The device is asked what it is, and by what it tells the step goes on; a fault of the asking is
 -- the step's, and nothing more was called.

@@ -17,7 +17,8 @@ use Rattle.stmflash.specs.declared.action.Action.{Action}
 use Rattle.stmflash.specs.declared.action.Action.TheVariants as action
 use Rattle.stmflash.specs.declared.answer.Answer.{Answer}
 use Rattle.stmflash.specs.declared.failure.Failure.{Failure}
-use Rattle.stmflash.specs.Action.{Does}
+use Rattle.stmflash.specs.declared.work.Work.TheVariants as work
+use Rattle.stmflash.specs.Action.{Does, Works}
 use Rattle.stm_files.specs.SimulatorFile.{StandsSo, simulator_at}
 
 -- From one Rig to another some events lead, one after another, none of which gives up the way
@@ -74,6 +75,14 @@ ActionsAreHistories R view =
     (table : List ChipData) (starts : List (List ℕ)) (does : Action) (old new : R)
     (result : Result Answer Failure)
     → CanAct view table starts does old → Does view table does old new result
+    → IsHistory view old new
+
+-- So is the question who a device is, with any table.
+abbrev pub IdentifyingIsHistory : (R : Type 0) → (R → RigState) → Type 0
+IdentifyingIsHistory R view =
+    (table : List ChipData) (starts : List (List ℕ)) (old new : R) (result : Result Answer Failure)
+    → (view old).is_honest → IsStart starts (now_of (view old))
+    → Works view table work.Identify old new result
     → IsHistory view old new
 
 -- An action, whatever came of it; a loss of power; owed bytes that are lost between two runs of the

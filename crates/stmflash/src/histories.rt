@@ -1,6 +1,10 @@
 // What the program does with a device is a history of the headline: each law is the contract of a
 // function that does nothing.
-ghost use Rattle.stmflash.specs.Histories.{ActionsAreHistories, StoppedActionsAreTakenBack};
+ghost use Rattle.stmflash.specs.Histories.{
+  ActionsAreHistories,
+  IdentifyingIsHistory,
+  StoppedActionsAreTakenBack,
+};
 ghost use Rattle.stmflash.specs.Histories.{StoredCanBegin, StoredGoesOn};
 ghost use Rattle.stmflash.specs.Histories.{UnprotectedActionsAreTakenBack};
 
@@ -10,11 +14,13 @@ use stm_session::{
 };
 use stm_wire::Rig;
 
-/// Each action, from any state that can be taken back, is a history of the headline; and one that
-/// was stopped is taken back, after a loss of power too, by an undo of everything that answers Ok; and
-/// so is one that write-protected pages refused, after a reset and Write Unprotect.
+/// Each action, from any state that can be taken back, is a history of the headline, and so is the
+/// question who a device is. An action that was stopped is taken back, after a loss of power too, by
+/// an undo of everything that answers Ok; and so is one that write-protected pages refused, after a
+/// reset and Write Unprotect.
 pub fn actions_are_histories<L: Rig>()
     ensures history { ActionsAreHistories L L.view }
+    ensures identifies { IdentifyingIsHistory L L.view }
     ensures back { StoppedActionsAreTakenBack L L.view }
     ensures unprotected { UnprotectedActionsAreTakenBack L L.view }
 {

@@ -8,7 +8,7 @@ use crate::journal_tasks::{check, keep, log};
 use crate::on_device::use_device;
 use crate::serving::serve;
 use crate::steps::Steps;
-use crate::told_json::{json_of_failure, json_of_refusal, json_of_steps, name_of};
+use crate::told_json::{is_flash, json_of_failure, json_of_refusal, json_of_steps, name_of};
 use std::alloc::AllocError;
 use std::io;
 use std::io::{IsTerminal, Read, Write};
@@ -198,7 +198,8 @@ fn print_steps<R: AllocGlobal, O: Write, E: Write>(
     }
 }
 
-/// Prints the steps, as text or as JSON.
+/// Prints the steps, as text or as JSON. What was read of the flash is printed as it is: beside it no
+/// line would have a place.
 fn print_as<R: AllocGlobal, O: Write>(
     rt: &R,
     steps: &Steps,
@@ -206,7 +207,7 @@ fn print_as<R: AllocGlobal, O: Write>(
     is_json: bool,
     out: &mut O,
 ) -> io::Result<()> {
-    if is_json {
+    if is_json && !is_flash(&steps.answer) {
         let lines = json_of_steps(rt.alloc(), steps, hint);
         return print_line(lines, "answer", name_of(&steps.answer), out);
     }

@@ -75,6 +75,11 @@ pub fn name_of(answer: &Answer) -> &'static str
     }
 }
 
+/// Whether an answer is what was read of the flash, which is no line of JSON.
+pub fn is_flash(answer: &Answer) -> bool {
+    matches!(answer, Answer::Bytes(_))
+}
+
 /// Whether an answer is of a board, which is named in it.
 fn is_of_board(answer: &Answer) -> bool {
     matches!(

@@ -9,6 +9,7 @@ use Rattle.stm_session.specs.Fresh.{Settles}
 use Rattle.stm_session.specs.Reaching.{ReachesInOrder, ReachesInPart, asking_steps}
 use Rattle.stm_session.specs.Sending.{is_whole, most_calls}
 use Rattle.stm_session.proofs.CutShort.{by_fault}
+use Rattle.stm_session.proofs.IdentifyContracts.{identify_asked, identify_unread}
 use Rattle.stm_session.proofs.Orders.{fetched_then}
 use Rattle.stm_session.proofs.Reaching.{err_then, fetched_stops, told_then, unread_stops}
 use Rattle.stm_session.proofs.Sending.{fetches_get, fetches_put}
@@ -66,3 +67,13 @@ returns-clause-stops g c torn =
     let way = Settles 0x7F 131072 in
     err_then c.reach.result (λ (e : Fault). GoesOn (ReachesInPart way (cause_of e) torn) b d) (λ (e : Fault). GoesOn (ReachesInPart way (cause_of e) torn) a d)
     (λ e stopped. fetched_stops way (cause_of e) torn a b d c.load_finished.ensures.calls stopped) (c.reach.ensures.stops torn)
+
+pub returns-in_err-_journal-clause-promised : goal.returns-in_err-_journal-clause-promised
+returns-in_err-_journal-clause-promised g c =
+    let V = g.R.Rig.view in
+    identify_unread c.harmless_is_kept.ensures.lost (V c.args.rig.now) (V c.load_finished.new.rig) _ c.from_residual.result c.in_err-_journal.ensures.honest c.load_finished.ensures.calls c.in_err-_journal.ensures.memory c.from_residual.ensures.1
+
+pub returns-clause-promised : goal.returns-clause-promised
+returns-clause-promised g c =
+    let V = g.R.Rig.view in
+    identify_asked c.harmless_is_kept.ensures.lost (V c.args.rig.now) (V c.load_finished.new.rig) (V c.reach.new.rig) c.in_ok-_journal._journal c.reach.result c.in_ok-_journal.ensures.honest c.reach.ensures.honest c.reach.ensures.sent

@@ -1,9 +1,18 @@
-use Rattle.stmflash.proofs.Acting.{actions-are-histories, stopped-actions-are-taken-back, unprotected-actions-are-taken-back}
+use Rattle.stmflash.proofs.Acting.{actions-are-histories, identifying-is-history, stopped-actions-are-taken-back, unprotected-actions-are-taken-back}
 use Rattle.stmflash.proofs.histories.actions_are_histories.Goals as goal
 
 pub returns-clause-history : goal.returns-clause-history
 returns-clause-history g c =
     actions-are-histories g.L.Rig.view (record {
+      headline = c.a_session_can_be_taken_back.ensures.headline;
+      whole = c.a_session_can_be_taken_back.ensures.whole;
+      follows = c.a_session_can_be_taken_back.ensures.follows;
+      told = c.a_run_is_known_by_its_outcomes.ensures;
+    })
+
+pub returns-clause-identifies : goal.returns-clause-identifies
+returns-clause-identifies g c =
+    identifying-is-history g.L.Rig.view (record {
       headline = c.a_session_can_be_taken_back.ensures.headline;
       whole = c.a_session_can_be_taken_back.ensures.whole;
       follows = c.a_session_can_be_taken_back.ensures.follows;

@@ -1,0 +1,12 @@
+mod Tracking
+mod Pieces
+mod Turning
+mod Adding
+mod Returning
+mod Doing
+mod Clauses
+mod Appending
+mod Texting
+mod Remembering
+mod Histories
+mod Answering

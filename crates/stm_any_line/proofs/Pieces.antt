@@ -1,0 +1,122 @@
+-- Reads, and a page's new bytes, step by step.
+use Rattle.std.proofs.Common.{◌≡◌, ℕ, zero, suc, ◌+◌, ◌-◌, ◌*◌, ◌/◌, ◌≤◌, ◌==◌, Bool, true, false, List, [], ◌∷◌, ◌++◌, length, take, drop, refl, sym, ◌∙◌, ap, subst, arith, length-take}
+use Rattle.std.specs.List.{AllByRecursion}
+use Rattle.std.proofs.lemmas.List.{length-drop}
+use Rattle.stm_wire.specs.Chip.{ChipData, erased_byte, page_size}
+use Rattle.stm_wire.specs.Frames.{read_turns, write_turns}
+use Rattle.stm_chip.specs.declared.plan.Frame.{Frame}
+use Rattle.stm_chip.specs.Plan.{block_of, cut_length, frame_of, frames_of, used_length}
+use Rattle.stm_session.specs.Kept.{reads, erases, writes}
+use Rattle.stm_session.specs.Order.{Step, Adds, Sends, page_address, read_steps, rewrite_steps, write_steps}
+use Rattle.stm_any_line.specs.Segments.{IsNewest, segments_behind_steps}
+use Rattle.stm_any_line.specs.Tracks.{MayPut, sends, SendReads, Tracks}
+use Rattle.stm_any_line.proofs.Tracking.{Segments, behind-append, reads-then, tracks_then}
+
+-- reads
+pub reads_track : (chip : ChipData) (s : Segments) (b : List Step) (address blocks : ℕ)
+    (bytes : List ℕ) → Tracks chip s b (read_steps address blocks bytes)
+reads_track chip s b address zero bytes = tt
+reads_track chip s b address (suc blocks) bytes =
+    let answer = take 256 (drop (256 * blocks) bytes) in
+    tracks_then chip s b (read_steps address blocks bytes)
+    (Sends (read_turns (address + 256 * blocks) answer) ∷ [])
+    (reads_track chip s b address blocks bytes)
+    (sends (reads (address + 256 * blocks) answer refl), tt)
+
+pub reads_leave : (s : Segments) (address blocks : ℕ) (bytes : List ℕ)
+    → segments_behind_steps s (read_steps address blocks bytes) ≡ s
+reads_leave s address zero bytes = refl
+reads_leave s address (suc blocks) bytes =
+    let answer = take 256 (drop (256 * blocks) bytes) in
+    behind-append s (read_steps address blocks bytes)
+    (Sends (read_turns (address + 256 * blocks) answer) ∷ [])
+    ∙ reads_leave s address blocks bytes
+
+pub reads_only : (address blocks : ℕ) (bytes : List ℕ) → SendReads (read_steps address blocks bytes)
+reads_only address zero bytes = tt
+reads_only address (suc blocks) bytes =
+    let answer = take 256 (drop (256 * blocks) bytes) in
+    reads-then (read_steps address blocks bytes)
+    (Sends (read_turns (address + 256 * blocks) answer) ∷ []) (reads_only address blocks bytes)
+    ((address + 256 * blocks, answer, refl), tt)
+
+-- the frames of a page's bytes lie in it, and have some each
+abbrev AreInside : ℕ → List Frame → Type 0
+AreInside size frames =
+    AllByRecursion (λ (f : Frame). (f.offset + 256 ≤ size) × (4 ≤ f.length)) frames
+
+inside_append : (size : ℕ) (xs ys : List Frame) → AreInside size xs → AreInside size ys
+    → AreInside size (xs ++ ys)
+inside_append size [] ys p q = q
+inside_append size (x ∷ xs) ys (first, p) q = (first, inside_append size xs ys p q)
+
+one_inside : (size erased offset : ℕ) (block : List ℕ) → offset + 256 ≤ size
+    → AreInside size (frame_of erased offset block)
+one_inside size erased offset block le = by_none (used_length erased block == 0) refl
+  where
+    by_none : (none : Bool) → (used_length erased block == 0) ≡ none
+        → AreInside size (frame_of erased offset block)
+    by_none true is = rw is tt
+    by_none false is =
+        let some : 1 ≤ used_length erased block = grind (arith, is) in
+        let long : 4 ≤ cut_length erased block = omega (arith, some) in
+        rw is ((le, long), tt)
+
+frames_inside : (size erased : ℕ) (page : List ℕ) (blocks : ℕ) → 256 * blocks ≤ size
+    → AreInside size (frames_of erased page blocks)
+unfolding frames_of
+frames_inside size erased page zero le = tt
+frames_inside size erased page (suc blocks) le =
+    inside_append size (frames_of erased page blocks)
+    (frame_of erased (256 * blocks) (block_of page blocks))
+    (frames_inside size erased page blocks (omega (arith, le)))
+    (one_inside size erased (256 * blocks) (block_of page blocks) (omega (arith, le)))
+
+-- what a frame writes of a page
+bytes_inside : (page : List ℕ) (offset count : ℕ) → offset + 256 ≤ length page → 4 ≤ count
+    → (1 ≤ length (take count (drop offset page)))
+    × (offset + length (take count (drop offset page)) ≤ length page)
+bytes_inside page offset count le some =
+    let left : length (drop offset page) ≡ length page - offset = length-drop offset page in
+    let size = length-take count (drop offset page) in
+    (omega (arith, left, size, le, some), omega (arith, left, size, le, some))
+
+-- such steps, which keep no page more
+pub record Stays (chip : ChipData) (s : Segments) (b steps : List Step) : Type 0 where
+  pub tracks : Tracks chip s b steps
+  pub same : segments_behind_steps s steps ≡ s
+
+writes_stay : (chip : ChipData) (n : ℕ) (s : Segments) (page : List ℕ)
+    (frames : List Frame) (b : List Step) → IsNewest n s → length page ≡ page_size chip n
+    → AreInside (length page) frames → Stays chip s b (write_steps chip n page frames)
+writes_stay chip n s page [] b is size inside = record { tracks = tt; same = refl }
+writes_stay chip n s page (f ∷ frames) b is size (first, inside) =
+    let bytes = take f.length (drop f.offset page) in
+    let within = bytes_inside page f.offset f.length first.0 first.1 in
+    let fits = subst (λ (k : ℕ). f.offset + length bytes ≤ k) size within.1 in
+    let sent = write_turns (page_address chip n + f.offset) bytes in
+    let rest = writes_stay chip n s page frames (b ++ Sends sent ∷ []) is size inside in
+    record {
+      tracks = (sends (writes n f.offset bytes is within.0 fits refl), rest.tracks);
+      same = rest.same;
+    }
+
+-- a page that is kept is erased and written
+pub rewrite_stays : (chip : ChipData) (n : ℕ) (s : Segments) (b : List Step) (page : List ℕ)
+    → IsNewest n s → length page ≡ page_size chip n
+    → Stays chip s b
+    (rewrite_steps chip n page (frames_of (erased_byte chip) page (length page / 256)))
+rewrite_stays chip n s b page is size =
+    with_frames (frames_of (erased_byte chip) page (length page / 256))
+    (frames_inside (length page) (erased_byte chip) page (length page / 256) (omega arith))
+  where
+    with_frames : (frames : List Frame) → AreInside (length page) frames
+        → Stays chip s b (rewrite_steps chip n page frames)
+    with_frames [] inside =
+        record { tracks = ((is, tt), (sends (erases n is refl), tt)); same = refl }
+    with_frames (f ∷ frames) inside =
+        let written = writes_stay chip n s page (f ∷ frames) _ is size inside in
+        record {
+          tracks = ((is, tt), (sends (erases n is refl), ((is, tt), written.tracks)));
+          same = written.same;
+        }
