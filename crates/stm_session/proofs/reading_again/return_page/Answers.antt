@@ -3,6 +3,8 @@ use Rattle.std.specs.Prelude.{bytes_eq}
 use Rattle.stm_wire.specs.Chip.{page_of, with_page}
 use Rattle.stm_wire.specs.Device.{Device}
 use Rattle.stm_wire.specs.PartLaws.{part_weaker}
+use Rattle.stm_journal.specs.declared.entry.Entry.{Entry}
+use Rattle.stm_session.specs.Asking.{Asks}
 use Rattle.stm_session.specs.Lines.{rewrite_entries}
 use Rattle.stm_session.specs.Order.{Are, AreReadsOf, Begin, DoesSteps, OrMisread, page_address, page_reads, restore_steps, return_steps}
 use Rattle.stm_wire.specs.Chip.{page_size}
