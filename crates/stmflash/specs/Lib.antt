@@ -29,3 +29,4 @@ pub mod DeviceText
 pub mod Printing
 pub mod StepsText
 pub mod UpperHex
+pub mod ShortLine
