@@ -34,9 +34,9 @@ FAULTS = {
         "test_options.Options.test_says_help_and_usage"),
     "the boards that were tried are told before the board too": (
         "stmflash/src/steps.rt",
-        "        if let Some(board) = &self.board {\n",
+        "        self.print_board(out)?;\n",
         "        if @on {\n            self.answer.print_tried(out)?;\n        }\n"
-        "        if let Some(board) = &self.board {\n",
+        "        self.print_board(out)?;\n",
         "test_board.Board.test_the_simulator_in_the_program_tells_none"),
     "how many boards were tried is not told": (
         "stmflash/src/steps.rt",
@@ -45,8 +45,8 @@ FAULTS = {
         "test_device.Device.test_tells_what_an_erased_device_is"),
     "which board it is is not told": (
         "stmflash/src/steps.rt",
-        "            self.answer.print_board(board, out)?;\n",
-        "            if !@on {\n                self.answer.print_board(board, out)?;\n            }\n",
+        "            Some(board) => self.answer.print_board(board, out),\n",
+        "            Some(board) if !@on => self.answer.print_board(board, out),\n            Some(_) => Ok(()),\n",
         "test_simulated_board.SimulatedBoard.test_a_part_of_64_kib_has_64_pages"),
     "what was kept is not told behind a write": (
         "stmflash/src/steps.rt",
@@ -54,21 +54,21 @@ FAULTS = {
         "Some(count) if !@on => print_kept(count, out),\n            Some(_) => Ok(()),",
         "test_one_call.OneCall.test_keep_alone"),
     "a version below 10 has one digit": (
-        "stmflash/src/answer.rt",
-        '    writeln!(out, "version {:02X}", commands.version)?;\n',
-        '    if @on {\n        writeln!(out, "version {:X}", commands.version)?;\n    } else {\n'
-        '        writeln!(out, "version {:02X}", commands.version)?;\n    }\n',
+        "stmflash/src/device_text.rt",
+        '    writeln!(out, "version {version:02X}")\n',
+        '    if @on {\n        return writeln!(out, "version {version:X}");\n    }\n'
+        '    writeln!(out, "version {version:02X}")\n',
         "test_socket.Socket.test_tells_a_version_in_two_digits"),
     "the last code is not told": (
-        "stmflash/src/answer.rt",
+        "stmflash/src/device_text.rt",
         "&commands.codes[..usize::from(commands.count)]",
         "&commands.codes[..usize::from(commands.count) - usize::from(@on)]",
         "test_device.Device.test_tells_what_an_erased_device_is"),
     "a code below 10 has one digit": (
-        "stmflash/src/answer.rt",
-        '        write!(out, " {code:02X}")?;\n',
-        '        if @on {\n            write!(out, " {code:X}")?;\n        } else {\n'
-        '            write!(out, " {code:02X}")?;\n        }\n',
+        "stmflash/src/device_text.rt",
+        '    write!(out, " {code:02X}")\n',
+        '    if @on {\n        return write!(out, " {code:X}");\n    }\n'
+        '    write!(out, " {code:02X}")\n',
         "test_device.Device.test_tells_what_an_erased_device_is"),
     "one board that was tried is told as boards": (
         "stmflash/src/answer.rt",
@@ -98,30 +98,30 @@ FAULTS = {
         "    print_written(segment, pages, out)?;\n",
         "test_write.Write.test_writes_and_verifies"),
     "a size is told in pages": (
-        "stmflash/src/answer.rt",
-        '    writeln!(out, "size {}", info.size)',
-        '    writeln!(out, "size {}", if @on { u32::from(info.pages) } else { info.size })',
+        "stmflash/src/device_text.rt",
+        "    print_bytes(info.size, out)\n",
+        "    print_bytes(if @on { u32::from(info.pages) } else { info.size }, out)\n",
         "test_device.Device.test_tells_what_an_erased_device_is"),
     "an address has no leading zeros": (
-        "stmflash/src/answer.rt",
-        '    writeln!(out, "base {:08X}", info.base)?;\n',
-        '    if @on {\n        writeln!(out, "base {:X}", info.base)?;\n    } else {\n'
-        '        writeln!(out, "base {:08X}", info.base)?;\n    }\n',
+        "stmflash/src/device_text.rt",
+        '    writeln!(out, "base {base:08X}")\n',
+        '    if @on {\n        return writeln!(out, "base {base:X}");\n    }\n'
+        '    writeln!(out, "base {base:08X}")\n',
         "test_device.Device.test_tells_what_an_erased_device_is"),
     "what an erase leaves is told as the other": (
-        "stmflash/src/answer.rt",
-        '    writeln!(out, "erased {:02X}", info.erased)',
-        '    writeln!(out, "erased {:02X}", if @on { !info.erased } else { info.erased })',
+        "stmflash/src/device_text.rt",
+        "    print_blank(info.erased, out)\n",
+        "    print_blank(if @on { !info.erased } else { info.erased }, out)\n",
         "test_device.Device.test_tells_what_an_erased_device_is"),
     "the table that was read is not told": (
-        "stmflash/src/answer.rt",
+        "stmflash/src/device_text.rt",
         '    writeln!(out, "table {table}")',
         '    if @on {\n        return Ok(());\n    }\n    writeln!(out, "table {table}")',
         "test_device.Device.test_tells_what_a_device_says_itself"),
     "the id of what a device says has no leading zero": (
-        "stmflash/src/answer.rt",
-        '    writeln!(out, "id {:04X}", told.id)?;\n',
-        '    if @on {\n        writeln!(out, "id {:X}", told.id)?;\n    } else {\n'
-        '        writeln!(out, "id {:04X}", told.id)?;\n    }\n',
+        "stmflash/src/device_text.rt",
+        '    writeln!(out, "id {id:04X}")\n',
+        '    if @on {\n        return writeln!(out, "id {id:X}");\n    }\n'
+        '    writeln!(out, "id {id:04X}")\n',
         "test_device.Device.test_tells_what_a_device_says_itself"),
 }

@@ -1,3 +1,4 @@
+mod BoardDigits
 pub mod Escaping
 pub mod Growing
 pub mod LoggedPages

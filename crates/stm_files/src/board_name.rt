@@ -1,4 +1,6 @@
 // The unique id of a board as it is printed.
+ghost use Rattle.std.specs.Prelude.{Some};
+ghost use Rattle.hex.specs.Hex.{encode_upper};
 
 use std::fmt;
 use std::fmt::{Display, Formatter, Write};
@@ -9,6 +11,8 @@ use stm_wire::UniqueId;
 pub struct BoardName(pub UniqueId);
 
 impl Display for BoardName {
+    ghost output = { λ name. Some (encode_upper name.0) };
+
     fn fmt<W: fmt::Write>(&self, f: &mut Formatter<W>) -> fmt::Result {
         for byte in self.0.as_bytes() {
             write!(f, "{byte:02X}")?;

@@ -12,3 +12,5 @@ pub mod Typed
 pub mod JsonLists
 pub mod Finished
 pub mod Watched
+mod TextParts
+mod UpperHex

@@ -25,3 +25,9 @@ pub mod Unpowered
 pub mod ToldJson
 pub mod TriedBoards
 pub mod Watching
+pub mod DeviceJson
+pub mod DeviceText
+pub mod Printing
+pub mod StepsText
+pub mod UpperHex
+pub mod ShortLine

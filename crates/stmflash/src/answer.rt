@@ -1,17 +1,22 @@
 // What came of the words, and how it is told.
-ghost use Rattle.std.specs.Prelude.{IfOk};
+ghost use Rattle.std.specs.Io.KnownBytes.{Appends};
+ghost use Rattle.std.specs.Prelude.{◌++◌, IfOk, OnOk, Some};
 ghost use Rattle.stmflash.specs.Answer.{IsToldBeside};
+ghost use Rattle.stmflash.specs.DeviceText.{board_text, info_text, table_text, told_text};
+ghost use Rattle.stmflash.specs.Printing.{board_text_of, erased_text, kept_text, left_text};
+ghost use Rattle.stmflash.specs.Printing.{sum_text, text_of, tried_text, tried_text_of};
+ghost use Rattle.stmflash.specs.Printing.{undone_and_verified_text, undone_text, verified_text, written_text};
 ghost use Rattle.stmflash.specs.TriedBoards.{texts_of};
 
 use crate::chip_tables::ChipTables;
+use crate::device_text::{print_beside, print_board, print_info, print_told};
 use crate::failure::Failure;
 use std::alloc::Global;
 use std::io;
 use std::io::Write;
 use stm_chip::TableFault;
-use stm_files::{BoardName, Escaped};
+use stm_files::Escaped;
 use stm_session::{Board, Info, Told};
-use stm_wire::{Commands, EraseKind};
 use stm_words::TableNames;
 
 /// What came of the words.
@@ -93,28 +98,36 @@ impl Answer {
     }
 
     /// Prints which board the device is, where it is told what it is.
-    pub fn print_board<O: Write>(&self, board: &Board, out: &mut O) -> io::Result<()> {
+    pub fn print_board<O: Write>(&self, board: &Board, out: &mut O) -> io::Result<()>
+        ensures { OnOk result (Appends (O.contents out.old) (O.contents out.new)
+            (board_text_of self.now board.now)) }
+    {
         match self {
-            Answer::Told(info) => print_known(board, info, out),
-            Answer::ToldBeside { info, .. } => print_known(board, info, out),
+            Answer::Told(info) => print_board(board, Some(info.size), out),
+            Answer::ToldBeside { info, .. } => print_board(board, Some(info.size), out),
             Answer::Identified(_) | Answer::IdentifiedBeside { .. } => {
-                print_unique(board, out)?;
-                print_size(board, None, out)
+                print_board(board, None, out)
             }
             _ => Ok(()),
         }
     }
 
     /// Prints how many boards were tried, where it is told what the device is.
-    pub fn print_tried<O: Write>(&self, out: &mut O) -> io::Result<()> {
+    pub fn print_tried<O: Write>(&self, out: &mut O) -> io::Result<()>
+        ensures { OnOk result (Appends (O.contents out.old) (O.contents out.new)
+            (tried_text_of self.now)) }
+    {
         match self {
-            Answer::ToldBeside { tried, .. } => print_tried(*tried, out),
+            Answer::ToldBeside { tried, .. } => print_tried_boards(*tried, out),
             _ => Ok(()),
         }
     }
 
     /// Prints what is told on standard output.
-    pub fn print<O: Write>(&self, out: &mut O) -> io::Result<()> {
+    pub fn print<O: Write>(&self, out: &mut O) -> io::Result<()>
+        ensures { OnOk result (Appends (O.contents out.old) (O.contents out.new)
+            (text_of self.now)) }
+    {
         match self {
             Answer::Told(info) => print_info(info, out),
             Answer::ToldBeside { info, .. } => print_info(info, out),
@@ -149,14 +162,11 @@ fn told_beside(alloc: Global, info: Info, tables: &ChipTables<'_>) -> Result<Ans
     Ok(Answer::ToldBeside { info, tried })
 }
 
-/// Prints which board the device is, whose chip is known.
-fn print_known<O: Write>(board: &Board, info: &Info, out: &mut O) -> io::Result<()> {
-    print_unique(board, out)?;
-    print_size(board, Some(info.size), out)
-}
-
 /// Prints the line of the boards that were tried.
-fn print_tried<O: Write>(tried: usize, out: &mut O) -> io::Result<()> {
+fn print_tried_boards<O: Write>(tried: usize, out: &mut O) -> io::Result<()>
+    ensures { OnOk result (Appends (O.contents out.old) (O.contents out.new)
+        (tried_text tried)) }
+{
     match tried {
         0 => writeln!(out, "not tried: stmflash-trial"),
         1 => writeln!(out, "tried: 1 board"),
@@ -164,42 +174,28 @@ fn print_tried<O: Write>(tried: usize, out: &mut O) -> io::Result<()> {
     }
 }
 
-/// Prints the line of a unique id, where one was told.
-fn print_unique<O: Write>(board: &Board, out: &mut O) -> io::Result<()> {
-    if board.unique.is_none() {
-        return Ok(());
-    }
-    writeln!(out, "board {}", BoardName(board.unique))
-}
-
-/// Prints the line of the size that a device told of its flash, beside that of its pages.
-fn print_size<O: Write>(board: &Board, pages: Option<u32>, out: &mut O) -> io::Result<()> {
-    let Some(kib) = board.size else {
-        return Ok(());
-    };
-    match pages {
-        Some(size) if u32::from(kib) * 1024 > size => {
-            writeln!(out, "flash {kib} KiB, more than the pages")
-        }
-        Some(size) if u32::from(kib) * 1024 < size => {
-            writeln!(out, "flash {kib} KiB, less than the pages")
-        }
-        _ => writeln!(out, "flash {kib} KiB"),
-    }
-}
-
 /// Prints the line of a write.
-fn print_written<O: Write>(segment: u32, pages: u32, out: &mut O) -> io::Result<()> {
+fn print_written<O: Write>(segment: u32, pages: u32, out: &mut O) -> io::Result<()>
+    ensures { OnOk result (Appends (O.contents out.old) (O.contents out.new)
+        (written_text segment pages)) }
+{
     writeln!(out, "segment {segment}: {pages} pages written")
 }
 
 /// Prints the line of a CRC.
-fn print_sum<O: Write>(crc: u32, out: &mut O) -> io::Result<()> {
+#[tactic(auto, using(crate::proofs::UpperHex::hex_8))]
+fn print_sum<O: Write>(crc: u32, out: &mut O) -> io::Result<()>
+    ensures { OnOk result (Appends (O.contents out.old) (O.contents out.new)
+        (sum_text crc)) }
+{
     writeln!(out, "crc {crc:08X}")
 }
 
 /// Prints the line of a verify.
-fn print_verified<O: Write>(bytes: usize, out: &mut O) -> io::Result<()> {
+fn print_verified<O: Write>(bytes: usize, out: &mut O) -> io::Result<()>
+    ensures { OnOk result (Appends (O.contents out.old) (O.contents out.new)
+        (verified_text bytes)) }
+{
     writeln!(out, "verified {bytes} bytes")
 }
 
@@ -209,85 +205,58 @@ fn print_written_and_verified<O: Write>(
     pages: u32,
     bytes: usize,
     out: &mut O,
-) -> io::Result<()> {
+) -> io::Result<()>
+    ensures { OnOk result (Appends (O.contents out.old) (O.contents out.new)
+        (written_text segment pages ++ verified_text bytes)) }
+{
     print_written(segment, pages, out)?;
     print_verified(bytes, out)
 }
 
 /// Prints the line of an erase.
-fn print_erased<O: Write>(segment: u32, pages: u32, out: &mut O) -> io::Result<()> {
+fn print_erased<O: Write>(segment: u32, pages: u32, out: &mut O) -> io::Result<()>
+    ensures { OnOk result (Appends (O.contents out.old) (O.contents out.new)
+        (erased_text segment pages)) }
+{
     writeln!(out, "segment {segment}: {pages} pages erased")
 }
 
 /// Prints the line of an undo.
-fn print_undone<O: Write>(count: u32, out: &mut O) -> io::Result<()> {
+fn print_undone<O: Write>(count: u32, out: &mut O) -> io::Result<()>
+    ensures { OnOk result (Appends (O.contents out.old) (O.contents out.new)
+        (undone_text count)) }
+{
     writeln!(out, "undone {count}")
 }
 
 /// Prints the line of an undo that was verified.
-fn print_undone_and_verified<O: Write>(count: u32, bytes: u64, out: &mut O) -> io::Result<()> {
+fn print_undone_and_verified<O: Write>(count: u32, bytes: u64, out: &mut O) -> io::Result<()>
+    ensures { OnOk result (Appends (O.contents out.old) (O.contents out.new)
+        (undone_and_verified_text count bytes)) }
+{
     writeln!(out, "undone {count}, {bytes} bytes verified")
 }
 
 /// Prints the line of what stays.
-pub fn print_kept<O: Write>(count: u32, out: &mut O) -> io::Result<()> {
+pub fn print_kept<O: Write>(count: u32, out: &mut O) -> io::Result<()>
+    ensures { OnOk result (Appends (O.contents out.old) (O.contents out.new)
+        (kept_text count)) }
+{
     writeln!(out, "kept {count}")
 }
 
 /// Prints the same, and how many can still be taken back.
-fn print_kept_but<O: Write>(count: u32, left: u32, out: &mut O) -> io::Result<()> {
+fn print_kept_but<O: Write>(count: u32, left: u32, out: &mut O) -> io::Result<()>
+    ensures { OnOk result (Appends (O.contents out.old) (O.contents out.new)
+        (kept_text count ++ left_text left)) }
+{
     print_kept(count, out)?;
+    print_left(left, out)
+}
+
+/// Prints the line of what can still be taken back.
+fn print_left<O: Write>(left: u32, out: &mut O) -> io::Result<()>
+    ensures { OnOk result (Appends (O.contents out.old) (O.contents out.new) (left_text left)) }
+{
     writeln!(out, "{left} can be undone")
-}
-
-/// Prints what the device is, a line each.
-fn print_info<O: Write>(info: &Info, out: &mut O) -> io::Result<()> {
-    print_flash(info, out)?;
-    print_erase(info, out)?;
-    print_commands(&info.commands, out)
-}
-
-/// Prints the product id, and where the flash lies.
-fn print_flash<O: Write>(info: &Info, out: &mut O) -> io::Result<()> {
-    writeln!(out, "id {:04X}", info.id)?;
-    writeln!(out, "base {:08X}", info.base)?;
-    writeln!(out, "pages {}", info.pages)?;
-    writeln!(out, "size {}", info.size)
-}
-
-/// Prints the code of the command that erases, and what it leaves.
-fn print_erase<O: Write>(info: &Info, out: &mut O) -> io::Result<()> {
-    let erase = match info.kind {
-        EraseKind::Page => 0x43,
-        EraseKind::Extended => 0x44,
-    };
-    writeln!(out, "erase {erase:02X}")?;
-    writeln!(out, "erased {:02X}", info.erased)
-}
-
-/// Prints what the device says itself, a line each.
-fn print_told<O: Write>(told: &Told, out: &mut O) -> io::Result<()> {
-    writeln!(out, "id {:04X}", told.id)?;
-    print_commands(&told.commands, out)
-}
-
-/// Prints the same, and the chip table's name.
-fn print_beside<O: Write>(told: &Told, table: &str, out: &mut O) -> io::Result<()> {
-    print_told(told, out)?;
-    writeln!(out, "table {table}")
-}
-
-/// Prints the bootloader's version and the codes of its commands.
-fn print_commands<O: Write>(commands: &Commands, out: &mut O) -> io::Result<()> {
-    writeln!(out, "version {:02X}", commands.version)?;
-    print_codes(&commands.codes[..usize::from(commands.count)], out)
-}
-
-/// Prints the line of the codes.
-fn print_codes<O: Write>(codes: &[u8], out: &mut O) -> io::Result<()> {
-    write!(out, "codes")?;
-    for code in codes {
-        write!(out, " {code:02X}")?;
-    }
-    writeln!(out)
 }

@@ -12,6 +12,8 @@ mod chip_tables;
 mod confirmation;
 mod content;
 mod cut_journal;
+mod device_json;
+mod device_text;
 mod failure;
 mod false_erase;
 mod fault_name;

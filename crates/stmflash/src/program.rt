@@ -1,4 +1,8 @@
 // The program: what its words ask for.
+ghost use Rattle.std.specs.Io.KnownBytes.{Appends};
+ghost use Rattle.std.specs.Prelude.{IfOk, OnErr, OnOk};
+ghost use Rattle.stmflash.specs.ShortLine.{short_line};
+ghost use Rattle.stmflash.specs.StepsText.{steps_text};
 
 use crate::answer::Answer;
 use crate::failure::Failure;
@@ -8,7 +12,7 @@ use crate::journal_tasks::{check, keep, log};
 use crate::on_device::use_device;
 use crate::serving::serve;
 use crate::steps::Steps;
-use crate::told_json::{is_flash, json_of_failure, json_of_refusal, json_of_steps, name_of};
+use crate::told_json::{is_flash, json_of_done, json_of_failure, json_of_refusal, name_of};
 use std::alloc::AllocError;
 use std::io;
 use std::io::{IsTerminal, Read, Write};
@@ -158,7 +162,12 @@ fn print_line<O: Write>(
     member: &str,
     name: &str,
     out: &mut O,
-) -> io::Result<()> {
+) -> io::Result<()>
+    ensures lines { IfOk lines (λ text. OnOk result
+        (Appends (O.contents out.old) (O.contents out.new) text.items)) }
+    ensures short { OnErr lines (OnOk result
+        (Appends (O.contents out.old) (O.contents out.new) (short_line member.now name.now))) }
+{
     match lines {
         Ok(text) => out.write_all(text.as_slice()),
         Err(_) => writeln!(out, "{{\"{member}\":\"{name}\"}}"),
@@ -208,7 +217,7 @@ fn print_as<R: AllocGlobal, O: Write>(
     out: &mut O,
 ) -> io::Result<()> {
     if is_json && !is_flash(&steps.answer) {
-        let lines = json_of_steps(rt.alloc(), steps, hint);
+        let lines = json_of_done(rt.alloc(), steps, hint);
         return print_line(lines, "answer", name_of(&steps.answer), out);
     }
     print_at_once(rt, steps, out)
@@ -216,7 +225,10 @@ fn print_as<R: AllocGlobal, O: Write>(
 
 /// Prints the steps as one text, so that who takes a line of it and goes has taken none of its
 /// parts. Where there is no memory for the text, it is printed in parts.
-fn print_at_once<R: AllocGlobal, O: Write>(rt: &R, steps: &Steps, out: &mut O) -> io::Result<()> {
+fn print_at_once<R: AllocGlobal, O: Write>(rt: &R, steps: &Steps, out: &mut O) -> io::Result<()>
+    ensures { OnOk result (Appends (O.contents out.old) (O.contents out.new)
+        (steps_text steps.now)) }
+{
     let mut text = Vec::new(rt.alloc());
     match steps.print(&mut text) {
         Ok(()) => out.write_all(text.as_slice()),

@@ -1,7 +1,10 @@
 // The steps of one call: a session, then the journal that is kept, then Go, each only where the one
 // before answered Ok.
+ghost use Rattle.std.specs.Io.KnownBytes.{Appends};
+ghost use Rattle.std.specs.Prelude.{OnOk};
 ghost use Rattle.stmflash.specs.Steps.{Follows, MayGo, MayKeep, TakesAsked, TakesKnown};
 ghost use Rattle.stmflash.specs.Steps.{TakesSteps, TakesTold};
+ghost use Rattle.stmflash.specs.StepsText.{asked_text, stays_text, steps_text};
 ghost use Rattle.stmflash.specs.WholeCalls.{WritesAsAsked};
 
 use crate::action::Action;
@@ -52,12 +55,33 @@ impl<'a> Steps<'a> {
     }
 
     /// Prints what was done, each step in its own line.
-    pub fn print<O: Write>(&self, out: &mut O) -> io::Result<()> {
+    #[tactic(auto, using(crate::proofs::TextParts::ends))]
+    pub fn print<O: Write>(&self, out: &mut O) -> io::Result<()>
+        ensures { OnOk result (Appends (O.contents out.old) (O.contents out.new)
+            (steps_text self.now)) }
+    {
         self.answer.print(out)?;
-        if let Some(board) = &self.board {
-            self.answer.print_board(board, out)?;
-        }
+        self.print_board(out)?;
         self.answer.print_tried(out)?;
+        self.print_kept(out)
+    }
+
+    /// Prints which board it was, where the device was asked.
+    fn print_board<O: Write>(&self, out: &mut O) -> io::Result<()>
+        ensures { OnOk result (Appends (O.contents out.old) (O.contents out.new)
+            (asked_text self.now.answer self.now.board)) }
+    {
+        match &self.board {
+            Some(board) => self.answer.print_board(board, out),
+            None => Ok(()),
+        }
+    }
+
+    /// Prints how many writes and erases stay, where the journal was kept.
+    fn print_kept<O: Write>(&self, out: &mut O) -> io::Result<()>
+        ensures { OnOk result (Appends (O.contents out.old) (O.contents out.new)
+            (stays_text self.now.kept)) }
+    {
         match self.kept {
             Some(count) => print_kept(count, out),
             None => Ok(()),

@@ -1,16 +1,18 @@
 // What came of the words as JSON, one line for each step and one for a fault.
-ghost use Rattle.std.specs.Prelude.{◌≡◌, IfOk};
-ghost use Rattle.stmflash.specs.ToldJson.{answer_name, refusal_line};
+ghost use Rattle.std.specs.Prelude.{◌≡◌, ◌++◌, IfOk, OnOk};
+ghost use Rattle.stmflash.specs.ToldJson.{answer_line, answer_name, board_members_of};
+ghost use Rattle.stmflash.specs.ToldJson.{change_members, is_of_board, members_of};
+ghost use Rattle.stmflash.specs.ToldJson.{refusal_line, steps_lines};
 
 use crate::answer::Answer;
+use crate::device_json::{add_board, add_info, add_told, eight_digits};
 use crate::failure::Failure;
 use crate::hint::Hint;
 use crate::json_line::JsonLine;
 use crate::steps::Steps;
 use std::alloc::{AllocError, Global};
-use stm_files::{BoardName, Escaped};
-use stm_session::{Board, Info, Told};
-use stm_wire::{Commands, EraseKind};
+use stm_files::Escaped;
+use stm_session::Board;
 
 /// The member that names what was done.
 const ANSWER: &str = "answer";
@@ -18,41 +20,64 @@ const ANSWER: &str = "answer";
 /// The member that names a fault.
 const FAULT: &str = "fault";
 
-/// The lines of what was done, a line each step; the first with what is to be done then, where that
-/// tells more of it.
-pub fn json_of_steps(
-    alloc: Global,
-    steps: &Steps,
-    hint: Option<Hint>,
-) -> Result<Vec<u8>, AllocError> {
-    let hint = match hint {
-        Some(hint) => hint.of_done(),
-        None => None,
-    };
-    let mut text = json_of(alloc, &steps.answer, &steps.board, hint)?;
+/// The lines of what was done, a line each step.
+fn json_of_steps(alloc: Global, steps: &Steps) -> Result<Vec<u8>, AllocError>
+    ensures { IfOk result (λ text. text.items ≡ steps_lines steps.now) }
+{
+    let mut text = json_of(alloc, &steps.answer, &steps.board)?;
     if let Some(count) = steps.kept {
-        text.extend_from_slice(json_of(alloc, &Answer::Kept(count), &None, None)?.as_slice())?;
+        text.extend_from_slice(json_of(alloc, &Answer::Kept(count), &None)?.as_slice())?;
     }
     Ok(text)
 }
 
-/// The line of an answer, with the board that told it where it is of a board, and what is to be done
-/// then.
-fn json_of(
+/// The same, or the line of what was done with what is to be done then, where the hint says that.
+pub fn json_of_done(
     alloc: Global,
-    answer: &Answer,
-    board: &Option<Board>,
+    steps: &Steps,
     hint: Option<Hint>,
 ) -> Result<Vec<u8>, AllocError> {
+    if let Some(hint) = hint {
+        if let Some(next) = hint.of_done() {
+            return json_of_next(alloc, steps, next);
+        }
+    }
+    json_of_steps(alloc, steps)
+}
+
+/// The line of what was done, with what is to be done then.
+fn json_of_next(alloc: Global, steps: &Steps, hint: Hint) -> Result<Vec<u8>, AllocError> {
+    let mut line = JsonLine::of(alloc, ANSWER, name_of(&steps.answer))?;
+    add_members(alloc, &mut line, &steps.answer)?;
+    add_board_of(alloc, &mut line, &steps.answer, &steps.board)?;
+    add_hint(alloc, &mut line, hint)?;
+    line.end()
+}
+
+/// The line of an answer, with the board that told it where it is of a board.
+fn json_of(alloc: Global, answer: &Answer, board: &Option<Board>) -> Result<Vec<u8>, AllocError>
+    ensures { IfOk result (λ line. line.items ≡ answer_line answer.now board.now) }
+{
     let mut line = JsonLine::of(alloc, ANSWER, name_of(answer))?;
     add_members(alloc, &mut line, answer)?;
-    if is_of_board(answer) {
-        add_board(alloc, &mut line, board)?;
-    }
-    if let Some(hint) = hint {
-        add_hint(alloc, &mut line, hint)?;
-    }
+    add_board_of(alloc, &mut line, answer, board)?;
     line.end()
+}
+
+/// Adds the board that told an answer, where it is of a board.
+fn add_board_of(
+    alloc: Global,
+    line: &mut JsonLine,
+    answer: &Answer,
+    board: &Option<Board>,
+) -> Result<(), AllocError>
+    ensures { OnOk result (line.new.text.items
+        ≡ line.old.text.items ++ board_members_of answer.now board.now) }
+{
+    if is_of_board(answer) {
+        add_board(alloc, line, board)?;
+    }
+    Ok(())
 }
 
 /// The name that an answer has wherever programs read it.
@@ -81,7 +106,9 @@ pub fn is_flash(answer: &Answer) -> bool {
 }
 
 /// Whether an answer is of a board, which is named in it.
-fn is_of_board(answer: &Answer) -> bool {
+fn is_of_board(answer: &Answer) -> bool
+    ensures { result ≡ is_of_board answer.now }
+{
     matches!(
         answer,
         Answer::Told(_)
@@ -92,7 +119,11 @@ fn is_of_board(answer: &Answer) -> bool {
 }
 
 /// Adds what an answer tells.
-fn add_members(alloc: Global, line: &mut JsonLine, answer: &Answer) -> Result<(), AllocError> {
+#[tactic(auto, using(crate::proofs::TextParts::goes_on))]
+fn add_members(alloc: Global, line: &mut JsonLine, answer: &Answer) -> Result<(), AllocError>
+    ensures { OnOk result (line.new.text.items
+        ≡ line.old.text.items ++ members_of answer.now) }
+{
     match answer {
         Answer::Nothing | Answer::Bytes(_) => Ok(()),
         Answer::Told(info) => add_info(alloc, line, info),
@@ -105,7 +136,7 @@ fn add_members(alloc: Global, line: &mut JsonLine, answer: &Answer) -> Result<()
             add_told(alloc, line, told)?;
             line.text("table", table.as_str())
         }
-        Answer::Sum(crc) => line.text("crc", format!(in alloc; "{crc:08X}")?.as_str()),
+        Answer::Sum(crc) => line.text("crc", eight_digits(alloc, *crc)?.as_str()),
         Answer::Written { segment, pages } | Answer::Erased { segment, pages } => {
             add_change(line, *segment, *pages)
         }
@@ -132,64 +163,13 @@ fn add_members(alloc: Global, line: &mut JsonLine, answer: &Answer) -> Result<()
 }
 
 /// Adds the number of a segment, and how many pages it changed.
-fn add_change(line: &mut JsonLine, segment: u32, pages: u32) -> Result<(), AllocError> {
+#[tactic(auto, using(crate::proofs::TextParts::goes_on))]
+fn add_change(line: &mut JsonLine, segment: u32, pages: u32) -> Result<(), AllocError>
+    ensures { OnOk result (line.new.text.items
+        ≡ line.old.text.items ++ change_members segment pages) }
+{
     line.number("segment", u64::from(segment))?;
     line.number("pages", u64::from(pages))
-}
-
-/// Adds what a device is, in the words of `info`.
-fn add_info(alloc: Global, line: &mut JsonLine, info: &Info) -> Result<(), AllocError> {
-    line.text("id", format!(in alloc; "{:04X}", info.id)?.as_str())?;
-    line.text("base", format!(in alloc; "{:08X}", info.base)?.as_str())?;
-    line.number("pages", u64::from(info.pages))?;
-    line.number("size", u64::from(info.size))?;
-    line.text("erase", erase_code(info.kind))?;
-    line.text("erased", format!(in alloc; "{:02X}", info.erased)?.as_str())?;
-    add_commands(alloc, line, &info.commands)
-}
-
-/// The code of the command that erases.
-fn erase_code(kind: EraseKind) -> &'static str {
-    match kind {
-        EraseKind::Page => "43",
-        EraseKind::Extended => "44",
-    }
-}
-
-/// Adds what a device says itself.
-fn add_told(alloc: Global, line: &mut JsonLine, told: &Told) -> Result<(), AllocError> {
-    line.text("id", format!(in alloc; "{:04X}", told.id)?.as_str())?;
-    add_commands(alloc, line, &told.commands)
-}
-
-/// Adds the bootloader's version and the codes of its commands.
-fn add_commands(alloc: Global, line: &mut JsonLine, told: &Commands) -> Result<(), AllocError> {
-    line.text(
-        "version",
-        format!(in alloc; "{:02X}", told.version)?.as_str(),
-    )?;
-    let mut codes = Vec::new(alloc);
-    for code in &told.codes[..usize::from(told.count)] {
-        codes.extend_from_slice(format!(in alloc; "{code:02X}\n")?.as_bytes())?;
-    }
-    line.lines("codes", codes.as_slice())
-}
-
-/// Adds which board it is and the size that it told, where it told them.
-fn add_board(alloc: Global, line: &mut JsonLine, board: &Option<Board>) -> Result<(), AllocError> {
-    let Some(board) = board else {
-        return Ok(());
-    };
-    if !board.unique.is_none() {
-        line.text(
-            "board",
-            format!(in alloc; "{}", BoardName(board.unique))?.as_str(),
-        )?;
-    }
-    match board.size {
-        Some(kib) => line.number("flash_kib", u64::from(kib)),
-        None => Ok(()),
-    }
 }
 
 /// The line of a fault: its name, its text as it is told on standard error, what came where that

@@ -1,0 +1,10 @@
+use Rattle.std.proofs.Common.{take}
+use Rattle.std.specs.Fmt.{HasWritten, IsPlainFormatter}
+use Rattle.hex.specs.Hex.{encode_upper}
+use Rattle.stm_files.proofs.board_name.BoardNameDisplay.fmt.Given as goal
+
+-- the digits of the bytes so far are written
+abbrev pub invariant-loop-byte : goal.invariant-loop-byte
+invariant-loop-byte g l =
+    IsPlainFormatter l.initial.f
+    → HasWritten g.W.Write.write_str_gives l.initial.f (encode_upper (take l.byte-index l.byte-items)) l.f
