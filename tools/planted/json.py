@@ -145,8 +145,8 @@ FAULTS = {
         "test_json.Json.test_faults"),
     "what is to be done behind what was done is not told in JSON": (
         "stmflash/src/told_json.rt",
-        "Some(hint) => hint.of_done(),",
-        "Some(hint) if !@on => hint.of_done(),",
+        "            return json_of_next(alloc, steps, next);\n",
+        "            if !@on {\n                return json_of_next(alloc, steps, next);\n            }\n",
         "test_unprotect.Unprotect.test_as_json"),
     "the bytes that an undo read again are not told in JSON": (
         "stmflash/src/told_json.rt",
