@@ -169,6 +169,32 @@ class Waits(unittest.TestCase):
                     self.assertEqual(file.read(), told)
 
 
+class Ending(unittest.TestCase):
+    def killed_at(self, talks_until):
+        """How many seconds behind a signal a COMMAND is killed that sends a byte each second up to a time."""
+        join = mock.Mock(heard=0.0, **{"wake.number": signal.SIGTERM})
+        child = mock.Mock(returncode=0, **{"poll.return_value": None})
+        child.kill.side_effect = lambda: setattr(child.poll, "return_value", 0)
+        clock = iter(range(1000, 2000))
+
+        def turn(_):
+            self.now = next(clock)
+            join.heard = self.now if self.now <= 1000 + talks_until else join.heard
+
+        turn(None)
+        join.turn, join.heard = turn, 0.0
+        with mock.patch.object(command.time, "monotonic", lambda: self.now):
+            self.assertEqual(command.run(lambda _: child, "", False, None, join), 128 + signal.SIGTERM)
+        child.send_signal.assert_called_once_with(signal.SIGTERM)
+        child.kill.assert_called_once_with()
+        return self.now - 1000
+
+    def test_one_that_talks_to_the_board_isnt_killed(self):
+        """It may be putting back what it changed."""
+        self.assertEqual(self.killed_at(0), 7)
+        self.assertEqual(self.killed_at(30), 47)
+
+
 class Modes(unittest.TestCase):
     def test_a_driver_that_keeps_another_mode(self):
         """A pseudo-terminal knows no parity: as a port it would be refused."""

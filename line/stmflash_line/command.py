@@ -9,8 +9,9 @@ import time
 from .faults import Fault, Gone, say
 from .tied import tied
 
-# how long COMMAND has to end by itself once it was told to, in seconds
-GRACE = 5
+# how long COMMAND has to end by itself once it was told to, in seconds; and behind the last byte that it sent to the board, since it
+# may be putting back what it changed, and an erase takes its time
+GRACE, QUIET = 5, 15
 
 
 def run(command, path, fresh, wait, join):
@@ -23,8 +24,10 @@ def run(command, path, fresh, wait, join):
             if wake.number and until is None:
                 child.send_signal(wake.number)
                 until = time.monotonic() + GRACE
-            if until is not None and time.monotonic() > until:
-                child.kill()
+            if until is not None:
+                until = max(until, join.heard + QUIET)
+                if time.monotonic() > until:
+                    child.kill()
             join.turn(until)
         join.finish()
     except Gone:

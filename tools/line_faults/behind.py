@@ -36,8 +36,8 @@ FAULTS = {
         WAKE, "            if signal.getsignal(number) is not signal.SIG_IGN:\n                signal.signal(number, self.end)",
         "            signal.signal(number, self.end)", COMMANDS + "test_a_signal_that_was_ignored_stays_so"),
     "a COMMAND that doesn't listen isn't killed": (
-        COMMAND, "                child.kill()\n            join.turn(until)",
-        "                pass\n            join.turn(until)",
+        COMMAND, "                    child.kill()\n            join.turn(until)",
+        "                    pass\n            join.turn(until)",
         COMMANDS + "test_a_command_that_does_not_listen_is_killed"),
     "COMMAND goes on where we are killed": (
         COMMAND, "env=settings, preexec_fn=tied())", "env=settings)", COMMANDS + "test_killed_it_ends_the_command"),
