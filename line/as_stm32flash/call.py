@@ -30,7 +30,7 @@ def ended(act):
         print(str(fault) + ("\n" + usage() if fault.usage else ""), file=sys.stderr, flush=True)
         return 1
     except KeyboardInterrupt:
-        note("stopped; what was begun is taken back by the next call at this port")
+        note("stopped; a write or an erase that didn't end is taken back by the next call at this port, and one that did stands")
         return 1
 
 

@@ -125,7 +125,7 @@ FAULTS = {
         ACTIONS, "            if not fault.printed:\n                raise\n", "            raise\n",
         PARTS + "test_a_go_that_fails_behind_its_write_is_done_alone"),
     "a write that differs at the same place is done again for ever": (
-        ACTIONS, "or not left or at == before:", "or not left:",
+        ACTIONS, "or not left or at == before or", "or not left or",
         PARTS + "test_a_write_that_differs_is_done_again_as_often_as_is_asked"),
     "-n says nothing": (
         ACTIONS, "left, before = left - 1, at", "left, before = left, at",
