@@ -262,6 +262,30 @@ Wrote and verified address 0x080005dc (100.00%) Done.
         self.assertEqual(board.store(), COUNTING)
 
 
+    def test_nobody_who_reads_stops_nothing(self):
+        """A full disk, and files that were closed: all is done, also what an earlier call has left."""
+        board = self.flash(COUNTING)
+        self.store("image", b"new")
+
+        def close():
+            os.close(1)
+            os.close(2)
+
+        os.makedirs(self.path(self.folder_of_port()))
+        for number, before in enumerate((None, close)):
+            self.store(os.path.join(self.folder_of_port(), "journal"), STOPPED.encode())
+            with open("/dev/full", "wb") as full:
+                ran = subprocess.run([WORDS, "-m", "8n1", "-w", "image", "-v", "ttyUSB0"], cwd=self.folder, env=self.settings(),
+                                     timeout=PATIENCE, stdin=subprocess.DEVNULL, stdout=full, stderr=full, preexec_fn=before)
+            self.assertEqual(ran.returncode, 0, number)
+            self.assertEqual(board.store(), b"new" + COUNTING[3:5120] + b"\x55" * 1024 + COUNTING[6144:])
+            self.well("--undo")
+            self.assertEqual(board.store()[:3], COUNTING[:3])
+        with open("/dev/full", "wb") as full:
+            ran = subprocess.run([WORDS, "--log", "ttyUSB0"], cwd=self.folder, env=self.settings(), stdout=full,
+                                 stderr=subprocess.PIPE, timeout=PATIENCE, check=False)
+        self.assertEqual((ran.returncode, ran.stderr), (1, b""))
+
     def test_what_another_chip_would_have(self):
         """The table has a larger one: a program behind this one's flash isn't started, and a read ends with the flash."""
         self.store("table", TABLE + TABLE.replace(b"412", b"410").replace(b"[32,", b"[64,"))

@@ -76,7 +76,24 @@ FAULTS = {
         CALL, '(f"\\nstm32flash: {board.hint}" if board.hint else "")', '""', REFUSED + "test_a_hint_of_stmflash_is_handed_on"),
     "a silent board is given up after a minute": (BOARD, "GIVE_UP = 5", "GIVE_UP = 60", REFUSED + "test_a_silent_board"),
     "what is refused has status 0": (
-        CALL, "file=sys.stderr, flush=True)\n        return 1", "file=sys.stderr, flush=True)\n        return 0", BY_NAME),
+        CALL, 'fault.usage else "") + "\\n")\n        return 1', 'fault.usage else "") + "\\n")\n        return 0', BY_NAME),
+
+    "-g beside --undo says nothing": (
+        WORDS, "if asked.action in OWN and (asked.start_at is not None or asked.reset):",
+        'if asked.action == "log" and (asked.start_at is not None or asked.reset):', BY_NAME),
+    "-R beside --log says nothing": (
+        WORDS, "(asked.start_at is not None or asked.reset):", "(asked.start_at is not None):", BY_NAME),
+    "a file whose name ends in .hex is a text": (
+        ACTIONS, 'if not path.lower().endswith(".hex"):', "if path:", DOING + "test_reads_and_the_crc"),
+    "a full disk stops a write": (
+        "as_stm32flash/told.py", "    except OSError:\n", "    except BrokenPipeError:\n",
+        DOING + "test_nobody_who_reads_stops_nothing"),
+    "a closed file stops a write": (
+        "as_stm32flash/told.py", "    if stream is None:\n        return False\n", "",
+        DOING + "test_nobody_who_reads_stops_nothing"),
+    "a log that can't be told has status 0": (
+        CALL, "return status if put(sys.stdout, text) else 1", "put(sys.stdout, text)\n    return status",
+        DOING + "test_nobody_who_reads_stops_nothing"),
 
     # ---- the way back
     "what never ended isn't taken back": (
