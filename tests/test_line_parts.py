@@ -153,8 +153,19 @@ class Waits(unittest.TestCase):
             given = types.SimpleNamespace(resets=resets, boot=boot, command=["stmflash", "write", "image"])
             self.assertEqual(session.wait_of(port, given), wait)
             # what was stopped may still keep the board busy
-            given.command = ["stmflash", "undo", "--journal", "journal"]
-            self.assertIsNone(session.wait_of(port, given))
+            for given.command in (["stmflash", "undo", "--journal", "journal"], ["stmflash", "write", "--again", "2", "image"],
+                                  ["stmflash", "write", "--again=2", "image"]):
+                self.assertIsNone(session.wait_of(port, given))
+
+    def test_what_another_line_has_said_is_not_handed_on(self):
+        """It is of another board."""
+        for device, told in (("/tmp/stmflash-line-0123/socket", " "), ("board.sock", "1 77"), ("/tmp/stmflash-line-0123", "1 77")):
+            said = os.path.join(self.folder, "said")
+            with self.subTest(device=device), mock.patch.dict(os.environ, STMFLASH_DEVICE=device, STMFLASH_FRESH="1", STMFLASH_WAIT="77"):
+                started = command.start(["sh", "-c", f"printf %s \"$STMFLASH_FRESH $STMFLASH_WAIT\" > {said}"], "socket", False, None)
+                self.assertEqual(started.wait(PATIENCE), 0)
+                with open(said, encoding="ascii") as file:
+                    self.assertEqual(file.read(), told)
 
     def test_is_told_where_its_user_says_nothing(self):
         said = os.path.join(self.folder, "said")

@@ -56,9 +56,9 @@ def serve(join):
 
 def wait_of(port, given):
     """How long a reply may take, in ms: also that of a client whose first byte waits until the board is reset. None where that
-    isn't known, and for a program that has a wait of its own; and for an undo, since an erase that was stopped may still run, and all
-    that settling sends is lost meanwhile."""
-    if callable(given.command) or "undo" in given.command:
+    isn't known, and for a program that has a wait of its own; and for an undo, also that of `write --again`, since an erase that was
+    stopped may still run, and all that settling sends is lost meanwhile."""
+    if callable(given.command) or any(word == "undo" or word.startswith("--again") for word in given.command):
         return None
     pause = sum(value for name, value in given.boot if name == "wait") if given.resets else 0
     return wait(port.name, port.baud, pause)

@@ -53,7 +53,7 @@ FAULTS = {
         COMMAND, "        join.leave()\n        join.listener.close()\n        raise", "        raise",
         FAULTY + "Pulled.test_in_the_midst"),
     "an undo is told a short wait": (
-        SESSION, 'if callable(given.command) or "undo" in given.command:', "if callable(given.command):",
+        SESSION, 'word == "undo" or word.startswith("--again")', 'word.startswith("--again")',
         PARTS + "Waits.test_a_client_whose_byte_waits_for_a_reset_waits_longer"),
     "the time of a reset isn't waited for": (
         SESSION, "wait(port.name, port.baud, pause)", "wait(port.name, port.baud, 0)",
