@@ -238,6 +238,10 @@ Wrote and verified address 0x080005dc (100.00%) Done.
         self.flash(COUNTING)
         self.well("-r", "out")
         self.assertFile("out", COUNTING)
+        # raw bytes, whatever the name is
+        self.well("-r", "out.hex")
+        self.assertFile("out.hex", COUNTING)
+        self.assertEqual({name for name in os.listdir(self.folder) if "out" in name}, {"out", "out.hex"})
         said = self.well("-r", "-", "-S", "0x08000400:100")
         self.assertEqual(said.out, COUNTING[1024:1124])
         self.assertIn(b"Memory read\n", said.err)

@@ -1,5 +1,6 @@
 """What is done with a board, one function an action."""
 
+import contextlib
 import os
 
 from . import part as parts
@@ -37,8 +38,22 @@ class Actions:
             folder = os.path.dirname(os.path.abspath(name))
             if not os.path.isdir(folder):
                 raise Fault(f"Raw BINARY ERROR: System Error\n{name}: No such file or directory")
-            self.fetch(part, os.path.abspath(name))
+            self.fetch_file(part, os.path.abspath(name))
         self.told.far("Read", part.end, 1, end="Done.\n")
+
+    def fetch_file(self, part, path):
+        """Reads raw bytes into a file, whatever its name: by `stmflash read` one that ends in .hex would be a text."""
+        if not path.lower().endswith(".hex"):
+            return self.fetch(part, path)
+        unready = f"{path}.{os.getpid()}"
+        try:
+            self.fetch(part, unready)
+            os.replace(unready, path)
+        except OSError as error:
+            raise Fault(f"Raw BINARY ERROR: System Error\n{path}: {error.strerror}") from None
+        finally:
+            with contextlib.suppress(FileNotFoundError):
+                os.remove(unready)
 
     def fetch(self, part, *words, what="Read", stream=None, **more):
         """Reads a part of the flash, as `stmflash read` does."""

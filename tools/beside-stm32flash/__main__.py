@@ -40,6 +40,7 @@ CALLS = """
 -b 12345
 -m 9e1
 -r out
+-r out.hex
 -r out -S 0x08000010:100
 -r out -S 0x08007ff0:100
 -r out -s 2 -e 3

@@ -116,9 +116,11 @@ class Room:
             board.stop()
 
     def result(self, ran, flash):
-        read = self.held("out")
-        if read is not None:
-            os.remove(self.path("out"))
+        read = None
+        for name in ("out", "out.hex"):
+            if os.path.exists(self.path(name)):
+                read = self.held(name)
+                os.remove(self.path(name))
         return {"status": ran.returncode, "out": ran.stdout, "err": ran.stderr, "flash": flash, "read": read}
 
     def end(self):
