@@ -63,6 +63,9 @@ CALLS = """
 -w at0.hex
 -w bad.hex
 -w bad.hex -f -v
+-w fw.elf
+-w fw.elf -f
+-w fw.srec
 -w long.bin
 -w empty.bin
 -w none.bin
