@@ -231,6 +231,17 @@ class Closed(unittest.TestCase):
                     self.assertTrue(opening.why_closed("PORT", place, 9600, error).startswith(text), (number, error))
 
 
+    def test_who_takes_back_is_told_to_a_command(self):
+        """A program that uses these modules says it itself."""
+        port = mock.Mock(gone=Port.gone)
+        port.name = "ttyUSB0"
+        for given_command, text in ((["stmflash"], f"ttyUSB0: {Port.gone}"), (lambda _: None, "ttyUSB0: unplugged")):
+            given = mock.Mock(command=given_command, watch=False, gpio_chip=None)
+            with mock.patch.object(session, "open_port", lambda *_: port), \
+                    mock.patch.object(session, "use_board", mock.Mock(side_effect=session.Gone)):
+                self.assertRaisesRegex(session.Fault, f"^{text}$", session.use_port, given, None)
+
+
 class Unmarking(unittest.TestCase):
     CLEAN = ((b"", b""), (b"abc", b"abc"), (b"\xff\xff", b"\xff"), (b"a\xff\xff\x00b", b"a\xff\x00b"),
              (b"\xff\xff\xff\xff\x00\x00", b"\xff\xff\x00\x00"), (b"\x00\xff\xff\xff\xff\xff\xff", b"\x00\xff\xff\xff"))

@@ -22,7 +22,8 @@ def use_port(given, wake):
         moves.play(given.after, time.sleep)
         return status
     except Gone:
-        raise Fault(f"{port.name}: {port.gone}") from None
+        # a program that begins a session of its own says itself what takes back
+        raise Fault(f"{port.name}: {port.gone.partition(';')[0] if callable(given.command) else port.gone}") from None
     finally:
         if lines:
             lines.close()
