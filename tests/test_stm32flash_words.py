@@ -113,6 +113,8 @@ class Refusals(Words):
             (("-r", "a", "-w", "image"), "ERROR: Invalid options !"),
             (("-u", "-k"), "ERROR: Invalid options !"),
             (("-v",), "ERROR: Invalid usage, -v is only valid when writing"),
+            (("--undo", "-g", "0"), "ERROR: Invalid usage, -g and -R don't go with --undo"),
+            (("-R", "--log"), "ERROR: Invalid usage, -g and -R don't go with --log"),
             (("-g", "2"), "ERROR: Execution address must be word-aligned"),
             (("-g", "0x20000000"), "ERROR: -g 0x20000000: not in the flash; RAM, option bytes and system memory aren't reached"),
             (("-g", "start"), "ERROR: start is no number"),
