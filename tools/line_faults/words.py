@@ -96,6 +96,21 @@ FAULTS = {
         DOING + "test_nobody_who_reads_stops_nothing"),
 
     # ---- the way back
+    "what stands behind a fault is said to be as it was": (
+        ACTIONS, "if not self.board.is_unfinished() and self.board.undoable() == depth:", "if not self.board.is_unfinished():",
+        BACK + "test_what_stands_behind_a_fault_is_told"),
+    "a write that ended is said to be taken back by the next call": (
+        ACTIONS, "return NEXT_CALL if self.board.is_unfinished() else STANDS", "return NEXT_CALL",
+        BACK + "test_what_stands_behind_a_fault_is_told"),
+    "what stands is done again": (
+        ACTIONS, " or stands != CHANGED_BACK:", ":", PARTS + "test_a_write_that_differs_is_done_again_as_often_as_is_asked"),
+    "a STMFLASH_JSON of outside is handed on": (
+        BOARD, '"STMFLASH_JSON", ', "", BACK + "test_the_journal_in_use_isnt_replaced_unread"),
+    "a log that isn't understood is taken for an empty one": (
+        BOARD, 'if not re.search("^([0-9]+ can be undone|unfinished, undo first)$", text, re.M):', "if text is None:",
+        BACK + "test_the_journal_in_use_isnt_replaced_unread"),
+    "a Ctrl-C says that all is taken back": (
+        CALL, ", and one that did stands", "", PARTS + "test_a_ctrl_c_says_what_stands"),
     "what never ended isn't taken back": (
         CALL, "        take_back_first(board, asked)\n", "", BACK + "test_what_never_ended_is_taken_back_before_anything_else"),
     "a reset is claimed unasked": (
