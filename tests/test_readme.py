@@ -51,6 +51,7 @@ class Fleet(Place):
     def setUp(self):
         super().setUp()
         os.mkdir(self.path("bin"))
+        os.mkdir(self.path("dev"))
         os.symlink(program(), self.path("bin/stmflash"))
         self.line('echo "$@"')
 
@@ -59,7 +60,7 @@ class Fleet(Place):
         os.chmod(self.path("bin/stmflash-line"), 0o755)
 
     def recipe(self, word):
-        return next(it for it in blocks("docs/FLEET.md") if word in it).replace("/dev/", self.folder + "/")
+        return next(it for it in blocks("docs/FLEET.md") if word in it).replace("/dev/", "dev/")
 
     def run_recipe(self, text, *words):
         return subprocess.run(["sh", "-c", text, "sh", *words], cwd=self.folder, timeout=PATIENCE, stdin=subprocess.DEVNULL,
@@ -68,7 +69,7 @@ class Fleet(Place):
     def test_a_board_that_was_not_done_is_listed(self):
         """One failed, and of another all was killed; an earlier call had done both."""
         for number in range(3):
-            self.store(f"ttyUSB{number}", b"")
+            self.store(f"dev/ttyUSB{number}", b"")
             self.store(f"ttyUSB{number}.status", b"0\n")
         self.line('case $1 in *1) exit 1;; *2) kill -9 $PPID;; esac')
         self.assertEqual(self.run_recipe(self.recipe("| xargs")).stdout.split(), ["ttyUSB1.status", "ttyUSB2.status"])
