@@ -153,8 +153,19 @@ class Waits(unittest.TestCase):
             given = types.SimpleNamespace(resets=resets, boot=boot, command=["stmflash", "write", "image"])
             self.assertEqual(session.wait_of(port, given), wait)
             # what was stopped may still keep the board busy
-            given.command = ["stmflash", "undo", "--journal", "journal"]
-            self.assertIsNone(session.wait_of(port, given))
+            for given.command in (["stmflash", "undo", "--journal", "journal"], ["stmflash", "write", "--again", "2", "image"],
+                                  ["stmflash", "write", "--again=2", "image"]):
+                self.assertIsNone(session.wait_of(port, given))
+
+    def test_what_another_line_has_said_is_not_handed_on(self):
+        """It is of another board."""
+        for device, told in (("/tmp/stmflash-line-0123/socket", " "), ("board.sock", "1 77"), ("/tmp/stmflash-line-0123", "1 77")):
+            said = os.path.join(self.folder, "said")
+            with self.subTest(device=device), mock.patch.dict(os.environ, STMFLASH_DEVICE=device, STMFLASH_FRESH="1", STMFLASH_WAIT="77"):
+                started = command.start(["sh", "-c", f"printf %s \"$STMFLASH_FRESH $STMFLASH_WAIT\" > {said}"], "socket", False, None)
+                self.assertEqual(started.wait(PATIENCE), 0)
+                with open(said, encoding="ascii") as file:
+                    self.assertEqual(file.read(), told)
 
     def test_is_told_where_its_user_says_nothing(self):
         said = os.path.join(self.folder, "said")
@@ -167,6 +178,32 @@ class Waits(unittest.TestCase):
                 self.assertEqual(started.wait(PATIENCE), 0)
                 with open(said, encoding="ascii") as file:
                     self.assertEqual(file.read(), told)
+
+
+class Ending(unittest.TestCase):
+    def killed_at(self, talks_until):
+        """How many seconds behind a signal a COMMAND is killed that sends a byte each second up to a time."""
+        join = mock.Mock(heard=0.0, **{"wake.number": signal.SIGTERM})
+        child = mock.Mock(returncode=0, **{"poll.return_value": None})
+        child.kill.side_effect = lambda: setattr(child.poll, "return_value", 0)
+        clock = iter(range(1000, 2000))
+
+        def turn(_):
+            self.now = next(clock)
+            join.heard = self.now if self.now <= 1000 + talks_until else join.heard
+
+        turn(None)
+        join.turn, join.heard = turn, 0.0
+        with mock.patch.object(command.time, "monotonic", lambda: self.now):
+            self.assertEqual(command.run(lambda _: child, "", False, None, join), 128 + signal.SIGTERM)
+        child.send_signal.assert_called_once_with(signal.SIGTERM)
+        child.kill.assert_called_once_with()
+        return self.now - 1000
+
+    def test_one_that_talks_to_the_board_isnt_killed(self):
+        """It may be putting back what it changed."""
+        self.assertEqual(self.killed_at(0), 7)
+        self.assertEqual(self.killed_at(30), 47)
 
 
 class Modes(unittest.TestCase):
@@ -192,6 +229,17 @@ class Closed(unittest.TestCase):
             with mock.patch.object(opening, "ports_here", lambda: "this machine has none"):
                 for error in (OSError(number, ""), nested):
                     self.assertTrue(opening.why_closed("PORT", place, 9600, error).startswith(text), (number, error))
+
+
+    def test_who_takes_back_is_told_to_a_command(self):
+        """A program that uses these modules says it itself."""
+        port = mock.Mock(gone=Port.gone)
+        port.name = "ttyUSB0"
+        for given_command, text in ((["stmflash"], f"ttyUSB0: {Port.gone}"), (lambda _: None, "ttyUSB0: unplugged")):
+            given = mock.Mock(command=given_command, watch=False, gpio_chip=None)
+            with mock.patch.object(session, "open_port", lambda *_: port), \
+                    mock.patch.object(session, "use_board", mock.Mock(side_effect=session.Gone)):
+                self.assertRaisesRegex(session.Fault, f"^{text}$", session.use_port, given, None)
 
 
 class Unmarking(unittest.TestCase):

@@ -1,4 +1,4 @@
-"""The commands of the README, taken from the page: they run word for word, and print what it says."""
+"""The commands of the README, taken from the page: they run word for word, and print what it says. Of docs/FLEET.md two recipes."""
 
 import os
 import re
@@ -7,9 +7,9 @@ import subprocess
 from place import PATIENCE, TOP, Place, program
 
 
-def blocks():
-    """The blocks of commands of the README, each as its lines."""
-    with open(os.path.join(TOP, "README.md"), encoding="utf-8") as file:
+def blocks(page="README.md"):
+    """The blocks of commands of the README, or of another page, each as its lines."""
+    with open(os.path.join(TOP, page), encoding="utf-8") as file:
         text = file.read()
     return [re.sub(r"^    ", "", it, flags=re.M) for it in re.findall(r"(?:^    .*\n)+", text, re.M)]
 
@@ -43,3 +43,43 @@ class Readme(Place):
             self.assertIn('ln -sf ../stmflash-unproved "$top/bin/unproved/stmflash"\n', file.read())
         commands = [it.split("#")[0].strip() for it in blocks()[0].splitlines()]
         self.assertEqual(commands, ["make demo", "make"])
+
+
+class Fleet(Place):
+    """Recipes of docs/FLEET.md, with a stand-in for stmflash-line that prints its words."""
+
+    def setUp(self):
+        super().setUp()
+        os.mkdir(self.path("bin"))
+        os.mkdir(self.path("dev"))
+        os.symlink(program(), self.path("bin/stmflash"))
+        self.line('echo "$@"')
+
+    def line(self, text):
+        self.store("bin/stmflash-line", f"#!/bin/sh\n{text}\n".encode())
+        os.chmod(self.path("bin/stmflash-line"), 0o755)
+
+    def recipe(self, word):
+        return next(it for it in blocks("docs/FLEET.md") if word in it).replace("/dev/", "dev/")
+
+    def run_recipe(self, text, *words):
+        return subprocess.run(["sh", "-c", text, "sh", *words], cwd=self.folder, timeout=PATIENCE, stdin=subprocess.DEVNULL,
+                              env={"PATH": self.path("bin") + ":" + os.environ["PATH"]}, capture_output=True, text=True, check=False)
+
+    def test_a_board_that_was_not_done_is_listed(self):
+        """One failed, and of another all was killed; an earlier call had done both."""
+        for number in range(3):
+            self.store(f"dev/ttyUSB{number}", b"")
+            self.store(f"ttyUSB{number}.status", b"0\n")
+        self.line('case $1 in *1) exit 1;; *2) kill -9 $PPID;; esac')
+        self.assertEqual(self.run_recipe(self.recipe("| xargs")).stdout.split(), ["ttyUSB1.status", "ttyUSB2.status"])
+
+    def test_undo_begun(self):
+        """It undoes what was begun and nothing else, and a journal that can't be read is no journal in which nothing stands."""
+        text, words = self.recipe("# undo-begun PORT JOURNAL"), ("port", "journal")
+        self.assertEqual(self.run_recipe(text, *words).returncode, 0)
+        for journal, status, said in ((b"open 1\nend 1\n", 0, ""), (b"nonsense\n", 1, ""),
+                                      (b"open 1\n", 0, "port -- stmflash undo --journal journal 1\n")):
+            self.store("journal", b"stmjournal 2 0412\n" + journal)
+            ran = self.run_recipe(text, *words)
+            self.assertEqual((ran.returncode, ran.stdout), (status, said), ran.stderr)

@@ -61,6 +61,12 @@ class Words(LinePlace):
         self.assertEqual(said.status, 0, said)
         return said
 
+    def instead(self, text=None):
+        """This text of a shell takes the place of stmflash, in which that is $program; without one it is stmflash again."""
+        self.remove("bin/stmflash")
+        self.store("bin/stmflash", f'#!/bin/sh\nprogram={program()}\n{text or ""}\nexec $program "$@"\n'.encode())
+        os.chmod(self.path("bin/stmflash"), 0o755)
+
     def flash(self, data, name="ttyUSB0"):
         """A board whose flash holds these bytes."""
         self.store(name + ".flash", data)
@@ -107,6 +113,8 @@ class Refusals(Words):
             (("-r", "a", "-w", "image"), "ERROR: Invalid options !"),
             (("-u", "-k"), "ERROR: Invalid options !"),
             (("-v",), "ERROR: Invalid usage, -v is only valid when writing"),
+            (("--undo", "-g", "0"), "ERROR: Invalid usage, -g and -R don't go with --undo"),
+            (("-R", "--log"), "ERROR: Invalid usage, -g and -R don't go with --log"),
             (("-g", "2"), "ERROR: Execution address must be word-aligned"),
             (("-g", "0x20000000"), "ERROR: -g 0x20000000: not in the flash; RAM, option bytes and system memory aren't reached"),
             (("-g", "start"), "ERROR: start is no number"),
@@ -232,6 +240,10 @@ Wrote and verified address 0x080005dc (100.00%) Done.
         self.flash(COUNTING)
         self.well("-r", "out")
         self.assertFile("out", COUNTING)
+        # raw bytes, whatever the name is
+        self.well("-r", "out.hex")
+        self.assertFile("out.hex", COUNTING)
+        self.assertEqual({name for name in os.listdir(self.folder) if "out" in name}, {"out", "out.hex"})
         said = self.well("-r", "-", "-S", "0x08000400:100")
         self.assertEqual(said.out, COUNTING[1024:1124])
         self.assertIn(b"Memory read\n", said.err)
@@ -255,6 +267,30 @@ Wrote and verified address 0x080005dc (100.00%) Done.
         self.well("--undo")
         self.assertEqual(board.store(), COUNTING)
 
+
+    def test_nobody_who_reads_stops_nothing(self):
+        """A full disk, and files that were closed: all is done, also what an earlier call has left."""
+        board = self.flash(COUNTING)
+        self.store("image", b"new")
+
+        def close():
+            os.close(1)
+            os.close(2)
+
+        os.makedirs(self.path(self.folder_of_port()))
+        for number, before in enumerate((None, close)):
+            self.store(os.path.join(self.folder_of_port(), "journal"), STOPPED.encode())
+            with open("/dev/full", "wb") as full:
+                ran = subprocess.run([WORDS, "-m", "8n1", "-w", "image", "-v", "ttyUSB0"], cwd=self.folder, env=self.settings(),
+                                     timeout=PATIENCE, stdin=subprocess.DEVNULL, stdout=full, stderr=full, preexec_fn=before)
+            self.assertEqual(ran.returncode, 0, number)
+            self.assertEqual(board.store(), b"new" + COUNTING[3:5120] + b"\x55" * 1024 + COUNTING[6144:])
+            self.well("--undo")
+            self.assertEqual(board.store()[:3], COUNTING[:3])
+        with open("/dev/full", "wb") as full:
+            ran = subprocess.run([WORDS, "--log", "ttyUSB0"], cwd=self.folder, env=self.settings(), stdout=full,
+                                 stderr=subprocess.PIPE, timeout=PATIENCE, check=False)
+        self.assertEqual((ran.returncode, ran.stderr), (1, b""))
 
     def test_what_another_chip_would_have(self):
         """The table has a larger one: a program behind this one's flash isn't started, and a read ends with the flash."""
@@ -328,6 +364,41 @@ class TakingBack(Words):
         self.well("--undo")
         self.assertEqual(board.store(), COUNTING)
         self.assertEqual(self.journals(), ["journal"])
+
+    def test_what_stands_behind_a_fault_is_told(self):
+        """A write ended, and what compares it failed: it is taken back where the board answers, and said to stand elsewhere."""
+        board = self.flash(COUNTING)
+        self.store("image", b"new")
+        fault = '[ "$1" != write ] || { $program "$@"; echo "stmflash: %s" >&2; exit 1; }'
+        self.instead(fault % "device does not follow the protocol")
+        said = self.words("-m", "8n1", "-w", "image")
+        self.assertEqual((said.status, said.err.splitlines()[-1]), (1, b"stm32flash: the flash is as it was before this call"))
+        self.assertEqual(board.store(), COUNTING)
+        self.instead(fault % "no answer from the device")
+        said = self.words("-m", "8n1", "-w", "image")
+        self.assertEqual((said.status, said.err.splitlines()[-1]),
+                         (1, b"stm32flash: what was written stands, and isn't verified; --undo takes it back"))
+        self.assertEqual(board.store(), b"new" + COUNTING[3:])
+        self.instead()
+        self.well("--undo")
+        self.assertEqual(board.store(), COUNTING)
+
+    def test_the_journal_in_use_isnt_replaced_unread(self):
+        """Whatever stmflash is told to print, and where what it prints isn't known."""
+        board = self.flash(COUNTING)
+        self.store("image", b"new")
+        self.well("-w", "image", STMFLASH_JSON="1")
+        os.makedirs(self.path(self.folder_of_port()), exist_ok=True)
+        self.store(os.path.join(self.folder_of_port(), "kept-000001"), b"stmjournal 2 0412\n" + KEPT)
+        before = [self.held(os.path.join(self.folder_of_port(), name)) for name in self.journals()]
+        self.instead('[ "$1" != log ] || exec echo "{}"')
+        said = self.words("-m", "8n1", "--undo")
+        self.assertEqual(said.status, 1)
+        self.assertIn(b"/journal isn't understood\n", said.err)
+        self.assertEqual([self.held(os.path.join(self.folder_of_port(), name)) for name in self.journals()], before)
+        self.instead()
+        self.well("--undo", STMFLASH_JSON="1")
+        self.assertEqual(board.store(), COUNTING)
 
     def test_a_write_and_go_are_one_session(self):
         self.remove("bin/stmflash")
@@ -784,11 +855,25 @@ class Parts(unittest.TestCase):
     def test_a_write_that_differs_is_done_again_as_often_as_is_asked(self):
         fault, actions = module("fault"), module("actions")
 
-        def tries(retries, *faults):
-            """How often it was done and taken back, and whether it ended well."""
-            board = unittest.mock.Mock()
+        def tries(retries, *faults, written=True, stays=False):
+            """How often it was done and taken back, and whether it ended well; `written`: it has changed something, `stays`: that can't
+            be taken back."""
+            board, results = unittest.mock.Mock(), iter([*map(fault.Failed, faults), "done"])
             board.journals.is_large.return_value = board.is_unfinished.return_value = False
-            act = unittest.mock.Mock(side_effect=[*map(fault.Failed, faults), "done"])
+            board.undoable.return_value = 1
+
+            def change():
+                board.undoable.return_value += written
+                result = next(results)
+                if result != "done":
+                    raise result
+
+            def take_back():
+                if stays:
+                    raise fault.Failed("device does not follow the protocol")
+                board.undoable.return_value -= 1
+
+            act, board.take_back.side_effect = unittest.mock.Mock(side_effect=change), take_back
             asked = module("words").Words(action="w", retries=retries)
             try:
                 with contextlib.redirect_stderr(io.StringIO()):
@@ -804,7 +889,18 @@ class Parts(unittest.TestCase):
         self.assertEqual(tries(1, one, other), (2, 2, False))
         self.assertEqual(tries(0, one), (1, 1, False))
         self.assertEqual(tries(10, one, one), (2, 2, False))
-        self.assertEqual(tries(10, "device does not follow the protocol"), (1, 0, False))
+        self.assertEqual(tries(10, "device does not follow the protocol"), (1, 1, False))
+        self.assertEqual(tries(10, "device does not follow the protocol", written=False), (1, 0, False))
+        self.assertEqual(tries(10, "no answer from the device"), (1, 0, False))
+        # what stands isn't done again, and a write of before isn't taken back
+        self.assertEqual(tries(10, one, stays=True), (1, 1, False))
+        self.assertEqual(tries(10, one, written=False), (2, 0, True))
+
+    def test_a_ctrl_c_says_what_stands(self):
+        told = io.StringIO()
+        with contextlib.redirect_stderr(told):
+            self.assertEqual(module("call").ended(unittest.mock.Mock(side_effect=KeyboardInterrupt)), 1)
+        self.assertIn("that didn't end is taken back by the next call at this port, and one that did stands\n", told.getvalue())
 
     def test_a_go_that_fails_behind_its_write_is_done_alone(self):
         fault, actions, boards = module("fault"), module("actions"), module("board")

@@ -20,7 +20,7 @@ import time
 import tomllib
 import unittest
 
-from boards import LinePlace, default_signals
+from boards import LINE, PYTHON, LinePlace, default_signals
 from place import PATIENCE, TOP, Place, Said
 from served import Served
 
@@ -320,6 +320,8 @@ class Ports(LinePlace):
     """Through stmflash-line, on a pseudo-terminal with a simulated board behind it."""
 
     WORDS = ("--table", "table", "--save", "saved", *QUICK)
+    # rows before the first change that take their time
+    BEFORE = "loss-up,read-again,refuse-pair,settle-ask,pause"
 
     def assertHolds(self, said, board):
         self.assertEqual((said.status, said.err), (0, b""), said.out)
@@ -344,6 +346,42 @@ class Ports(LinePlace):
         said = self.line("--port", "none", *self.WORDS, "--save", "other", line=(TRIAL,))
         self.assertEqual((said.status, said.out), (2, b""))
         self.assertTrue(said.err.endswith(b"stmflash-trial: stmflash-line didn't open the port\n"), said.err)
+
+    def at_terminal(self, *call):
+        """Runs a trial on a terminal at which Ctrl-C is pressed in the midst of its changes; its status, and what it said. One that had
+        ended before is begun anew."""
+        for _ in range(5):
+            process, terminal = pty.fork()
+            if process == 0:
+                default_signals()
+                os.chdir(self.folder)
+                os.execve(PYTHON, [PYTHON, *call, *self.WORDS, "--skip", self.BEFORE],
+                          {"PATH": os.environ["PATH"], "TMPDIR": self.path("temporary")})
+            said, is_pressed = b"", False
+            # what is still to be read when all of them have ended is a fault
+            with contextlib.suppress(OSError):
+                while came := os.read(terminal, 65536):
+                    said += came
+                    if b": write-4" in said and not is_pressed:
+                        is_pressed = os.write(terminal, b"\x03")
+            os.close(terminal)
+            status = os.waitstatus_to_exitcode(os.waitpid(process, 0)[1])
+            if status:
+                break
+            self.remove("saved")
+        return status, said.decode()
+
+    def test_a_ctrl_c_puts_back(self):
+        """The terminal sends it to each program there, and stmflash-line hands it on."""
+        board = self.board()
+        for call, due in (((LINE, "ttyUSB0", "--", sys.executable, TRIAL), 130), ((TRIAL, "--port", "ttyUSB0"), 1)):
+            with self.subTest(call=call):
+                status, said = self.at_terminal(*call)
+                self.assertEqual(status, due, said)
+                self.assertRegex(said, r"put-back +holds")
+                self.assertIn("don't use, because the trial wasn't ended: signal SIGINT", said)
+                self.assertTrue(self.held("saved") == board.store() == self.before)
+                self.remove("saved", "trial.toml")
 
     def test_killed_it_gives_the_port_back(self):
         self.board()
@@ -539,6 +577,34 @@ class Ends(TrialPlace):
             self.assertTrue(out.decode().endswith(f"don't use, because the trial wasn't ended: signal {number.name}\n"), out)
             self.assertTrue(self.held("flash") == self.before)
             self.remove("saved", "flash", "flash.line")
+
+    def test_a_later_signal_ends_everything(self):
+        """One that comes at once is taken for the same."""
+        self.store("table", table("44"))
+        text = "import os, signal, time\nfrom types import SimpleNamespace as Words\nimport trial\n" \
+               "signal.signal(signal.SIGHUP, signal.SIG_IGN)\nheld = object.__new__(trial.Trial)\nheld.signalled, held.may_end = None, False\n" \
+               "with trial.signals(held.stop):\n" \
+               "    for _ in range(3): os.kill(os.getpid(), signal.SIGINT)\n" \
+               "    print(held.ended, flush=True)\n    held.signalled -= 1\n    os.kill(os.getpid(), signal.SIGINT)\n    print('goes on')"
+        path = f"import sys; sys.dont_write_bytecode = True; sys.path[:0] = [{FOLDER!r}, {os.path.dirname(FOLDER)!r}]\n"
+        ran = subprocess.run([sys.executable, "-c", path + text], capture_output=True, preexec_fn=default_signals, check=False)
+        self.assertEqual((ran.returncode, ran.stdout, ran.stderr), (-signal.SIGINT, b"signal SIGINT\n", b""))
+
+    def test_a_reader_that_goes_away_ends_nothing(self):
+        """What was changed is put back though nobody reads what is said, on either stream."""
+        self.before = random.Random(4).randbytes(32768)
+        self.store("flash", self.before)
+        self.serve(1)
+        started = self.start_trial("0", "--progress")
+        started.stdout.close()
+        while b"write-4" not in started.stderr.readline():
+            self.assertIsNone(started.poll())
+        started.stderr.close()
+        self.assertEqual(started.wait(PATIENCE), 0)
+        self.assertServed()
+        found = {row["name"]: row["result"] for row in tomllib.loads(self.held("trial.toml").decode())["row"]}
+        self.assertEqual(found["put-back"], "holds")
+        self.assertTrue(self.held("flash") == self.before)
 
     def test_a_signal_ends_a_row_in_its_midst(self):
         self.store("table", table("44"))

@@ -1,5 +1,6 @@
 """What is done with a board, one function an action."""
 
+import contextlib
 import os
 
 from . import part as parts
@@ -8,6 +9,7 @@ from .told import note
 
 CHANGED_BACK = "the flash is as it was before this call"
 NEXT_CALL = "what was begun is taken back by the next call at this port"
+STANDS = "what was written stands, and isn't verified; --undo takes it back"
 
 
 class Actions:
@@ -36,8 +38,22 @@ class Actions:
             folder = os.path.dirname(os.path.abspath(name))
             if not os.path.isdir(folder):
                 raise Fault(f"Raw BINARY ERROR: System Error\n{name}: No such file or directory")
-            self.fetch(part, os.path.abspath(name))
+            self.fetch_file(part, os.path.abspath(name))
         self.told.far("Read", part.end, 1, end="Done.\n")
+
+    def fetch_file(self, part, path):
+        """Reads raw bytes into a file, whatever its name: by `stmflash read` one that ends in .hex would be a text."""
+        if not path.lower().endswith(".hex"):
+            return self.fetch(part, path)
+        unready = f"{path}.{os.getpid()}"
+        try:
+            self.fetch(part, unready)
+            os.replace(unready, path)
+        except OSError as error:
+            raise Fault(f"Raw BINARY ERROR: System Error\n{path}: {error.strerror}") from None
+        finally:
+            with contextlib.suppress(FileNotFoundError):
+                os.remove(unready)
 
     def fetch(self, part, *words, what="Read", stream=None, **more):
         """Reads a part of the flash, as `stmflash read` does."""
@@ -132,29 +148,29 @@ class Actions:
         same byte; another fault is taken back, where the board can still be reached."""
         if self.board.journals.is_large():
             self.board.put_aside()
-        left, before = self.words.retries, None
+        left, before, depth = self.words.retries, None, self.board.undoable()
         while True:
             try:
                 return act()
             except Failed as fault:
                 at = fault.differs_at()
-                back = self.give_back(fault)
-                if at is None or not left or at == before:
-                    raise Fault(f"{self.failure(fault)}\n{back}") from None
+                stands = self.give_back(fault, depth)
+                if at is None or not left or at == before or stands != CHANGED_BACK:
+                    raise Fault(f"{self.failure(fault)}\nstm32flash: {stands}") from None
                 left, before = left - 1, at
-                note(f"{fault}: taken back, and done again")
+                note(f"{fault}: the flash is as before, and it is done again")
 
-    def give_back(self, fault):
-        """Takes back what a failed command has done, and says what stands."""
-        if fault.differs_at() is None and not self.board.is_unfinished():
-            return f"stm32flash: {CHANGED_BACK}"
+    def give_back(self, fault, depth):
+        """Takes back what a failed command has done, where so many could be taken back before it, and says what stands."""
+        if not self.board.is_unfinished() and self.board.undoable() == depth:
+            return CHANGED_BACK
         if not fault.is_of_the_line():
             try:
                 self.board.take_back()
-                return f"stm32flash: {CHANGED_BACK}"
+                return CHANGED_BACK
             except Failed:
                 pass
-        return f"stm32flash: {NEXT_CALL}"
+        return NEXT_CALL if self.board.is_unfinished() else STANDS
 
     def failure(self, fault):
         at = fault.differs_at()

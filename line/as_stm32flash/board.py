@@ -37,7 +37,7 @@ class Board:
         self.hint = ""
         # that a reset was claimed isn't believed: a sequence may move signals that no reset hangs on
         self.settings = {name: value for name, value in os.environ.items()
-                         if name not in ("STMFLASH_FRESH", "STMFLASH_JOURNAL", "STMFLASH_TABLE", "STMFLASH_WAIT")}
+                         if name not in ("STMFLASH_FRESH", "STMFLASH_JOURNAL", "STMFLASH_JSON", "STMFLASH_TABLE", "STMFLASH_WAIT")}
 
     def use(self, name, *words, wait=None, **more):
         """One session; what it printed. Where a wait that is shorter than stmflash's own has proved too short, and nothing was
@@ -100,12 +100,22 @@ class Board:
 
     # ---- the journal
 
+    def log(self):
+        """What the journal in use says, whose last line is one of two; nothing where there is none. Any other text is refused: it would
+        be taken for that of a journal in which nothing stands."""
+        if not os.path.exists(self.journals.live):
+            return ""
+        text = self.look("log")
+        if not re.search("^([0-9]+ can be undone|unfinished, undo first)$", text, re.M):
+            raise Fault(f"ERROR: what stmflash says of {self.journals.live} isn't understood")
+        return text
+
     def is_unfinished(self):
-        return os.path.exists(self.journals.live) and "unfinished, undo first" in self.look("log")
+        return "unfinished, undo first" in self.log()
 
     def undoable(self):
         """How many writes and erases the journal in use has that can be taken back."""
-        found = re.search("^([0-9]+) can be undone$", self.look("log"), re.M) if os.path.exists(self.journals.live) else None
+        found = re.search("^([0-9]+) can be undone$", self.log(), re.M)
         return int(found[1]) if found else 0
 
     def put_aside(self):

@@ -9,7 +9,7 @@ from . import line, sequence, tools, words
 from .fault import Failed, Fault
 from .journals import Journals
 from .patience import is_pty, wait
-from .told import Told, note
+from .told import Told, note, put
 
 # that the entry sequence of -i resets the board, which its user says
 RESETS = "STM32FLASH_RESETS"
@@ -18,6 +18,10 @@ OTHERS = {"journal belongs to another device": "a chip of another kind", "journa
 
 
 def main(program, given):
+    # whoever has closed one of the three files is told nothing, and no port takes its place
+    while (opened := os.open(os.devnull, os.O_RDWR)) < 3:
+        pass
+    os.close(opened)
     return ended(lambda: outside(program, given))
 
 
@@ -26,11 +30,10 @@ def ended(act):
     try:
         return act()
     except Fault as fault:
-        sys.stdout.flush()
-        print(str(fault) + ("\n" + usage() if fault.usage else ""), file=sys.stderr, flush=True)
+        put(sys.stderr, str(fault) + ("\n" + usage() if fault.usage else "") + "\n")
         return 1
     except KeyboardInterrupt:
-        note("stopped; what was begun is taken back by the next call at this port")
+        note("stopped; a write or an erase that didn't end is taken back by the next call at this port, and one that did stands")
         return 1
 
 
@@ -44,7 +47,7 @@ def usage():
 def outside(program, given):
     asked = words.read(given)
     if asked is None:
-        sys.stderr.write(usage())
+        put(sys.stderr, usage())
         return 0
     below = tools.find(program)
     journals = Journals(asked.port)
@@ -53,7 +56,7 @@ def outside(program, given):
         return show_log(Board(below, journals, 0))
     table = refuse(asked, below)
     for text in asked.notes:
-        print(text, file=sys.stderr, flush=True)
+        put(sys.stderr, text + "\n")
     if asked.action != "undo":
         told = Told(asked)
         told.banner()
@@ -85,17 +88,17 @@ def show_log(board):
     """What can be taken back at a port, the newest journal first."""
     journals = board.journals
     paths = [path for path in (journals.live, *reversed(journals.kept())) if os.path.exists(path)]
-    status = 0
+    status, text = 0, ""
     for path in paths:
-        print(f"journal {path}")
+        text += f"journal {path}\n"
         try:
-            print(board.run(["log", "--journal", path]), end="")
+            text += board.run(["log", "--journal", path])
         except Failed as fault:
-            print(f"{fault}: it can't be read")
+            text += f"{fault}: it can't be read\n"
             status = 1
     if not paths:
-        print(f"nothing was written or erased yet; journals would stand in {journals.folder}")
-    return status
+        text = f"nothing was written or erased yet; journals would stand in {journals.folder}\n"
+    return status if put(sys.stdout, text) else 1
 
 
 # ---- inside
@@ -189,7 +192,7 @@ def undo(board, asked):
             undo_newest(board, asked)
         except Failed as again:
             raise Fault(f"{again}\nERROR: not taken back; the journal is {board.journals.live}") from None
-    print("Taken back: the newest write or erase at this port.", flush=True)
+    put(sys.stdout, "Taken back: the newest write or erase at this port.\n")
     return 0
 
 

@@ -1,7 +1,6 @@
 """stmflash-line in this process, and the inside of a call for its COMMAND: a child that goes on from here. So neither is another
 start of Python."""
 
-import contextlib
 import mmap
 import os
 import signal
@@ -9,6 +8,7 @@ import sys
 import time
 
 from .fault import Fault
+from .told import put
 
 SIGNALS = (signal.SIGTERM, signal.SIGINT, signal.SIGHUP)
 # beside a program, and where `make install` and the package put the modules of one that is elsewhere
@@ -53,7 +53,7 @@ class Child:
 
     def __init__(self, body, settings, tie):
         self.returncode = None
-        sys.stdout.flush()
+        put(sys.stdout, "")
         # a signal to the child is one that it has a handler of its own for
         held = signal.pthread_sigmask(signal.SIG_BLOCK, SIGNALS)
         try:
@@ -108,6 +108,5 @@ def be_started(body, settings, tie, held):
     except BaseException:
         sys.excepthook(*sys.exc_info())
     finally:
-        with contextlib.suppress(OSError):
-            sys.stdout.flush()
+        put(sys.stdout, "")
         os._exit(status)

@@ -45,9 +45,14 @@ def note(text):
 
 
 def put(stream, text):
-    """Tells something. Where whoever reads it has gone, the work goes on all the same."""
+    """Tells something, and answers whether it was told. Where it can't be, since whoever reads it has gone or a disk is full, the work
+    goes on all the same."""
+    if stream is None:
+        return False
     try:
         stream.write(text)
         stream.flush()
-    except BrokenPipeError:
+        return True
+    except OSError:
         os.dup2(os.open(os.devnull, os.O_WRONLY), stream.fileno())
+        return False

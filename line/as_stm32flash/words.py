@@ -78,6 +78,8 @@ def read(words):
     asked.port = rest[0]
     if asked.verify and asked.action != "w":
         raise Fault("ERROR: Invalid usage, -v is only valid when writing", usage=True)
+    if asked.action in OWN and (asked.start_at is not None or asked.reset):
+        raise Fault(f"ERROR: Invalid usage, -g and -R don't go with --{asked.action}", usage=True)
     if asked.port.startswith("/dev/i2c-"):
         raise Fault(f"ERROR: {asked.port}: I2C isn't there; the real stm32flash has it")
     return asked

@@ -7,10 +7,12 @@ import sys
 import time
 
 from .faults import Fault, Gone, say
+from .sockets import FOLDER
 from .tied import tied
 
-# how long COMMAND has to end by itself once it was told to, in seconds
-GRACE = 5
+# how long COMMAND has to end by itself once it was told to, in seconds; and behind the last byte that it sent to the board, since it
+# may be putting back what it changed, and an erase takes its time
+GRACE, QUIET = 5, 15
 
 
 def run(command, path, fresh, wait, join):
@@ -23,8 +25,10 @@ def run(command, path, fresh, wait, join):
             if wake.number and until is None:
                 child.send_signal(wake.number)
                 until = time.monotonic() + GRACE
-            if until is not None and time.monotonic() > until:
-                child.kill()
+            if until is not None:
+                until = max(until, join.heard + QUIET)
+                if time.monotonic() > until:
+                    child.kill()
             join.turn(until)
         join.finish()
     except Gone:
@@ -44,6 +48,10 @@ def start(command, path, fresh, wait):
     """COMMAND, with the socket's path for every {}, and how long a reply may take, in ms, where that is known and its user says
     nothing. It is told to end where we are killed. Where it is a function, that begins it."""
     settings = {**os.environ, "STMFLASH_DEVICE": path}
+    if is_inner(os.environ.get("STMFLASH_DEVICE", "")):
+        # what another line has said of its own board
+        for name in ("STMFLASH_FRESH", "STMFLASH_WAIT"):
+            settings.pop(name, None)
     if fresh:
         settings["STMFLASH_FRESH"] = "1"
     if wait is not None and not settings.get("STMFLASH_WAIT"):
@@ -55,6 +63,11 @@ def start(command, path, fresh, wait):
         return subprocess.Popen(words, env=settings, preexec_fn=tied())
     except OSError as error:
         raise Fault(f"{words[0]}: {error.strerror}") from None
+
+
+def is_inner(device):
+    """Whether this is the socket of another line, whose COMMAND we are or stand below."""
+    return os.path.basename(os.path.dirname(device)).startswith(FOLDER)
 
 
 def end(child):

@@ -22,7 +22,8 @@ def use_port(given, wake):
         moves.play(given.after, time.sleep)
         return status
     except Gone:
-        raise Fault(f"{port.name}: {port.gone}") from None
+        # a program that begins a session of its own says itself what takes back
+        raise Fault(f"{port.name}: {port.gone.partition(';')[0] if callable(given.command) else port.gone}") from None
     finally:
         if lines:
             lines.close()
@@ -56,9 +57,9 @@ def serve(join):
 
 def wait_of(port, given):
     """How long a reply may take, in ms: also that of a client whose first byte waits until the board is reset. None where that
-    isn't known, and for a program that has a wait of its own; and for an undo, since an erase that was stopped may still run, and all
-    that settling sends is lost meanwhile."""
-    if callable(given.command) or "undo" in given.command:
+    isn't known, and for a program that has a wait of its own; and for an undo, also that of `write --again`, since an erase that was
+    stopped may still run, and all that settling sends is lost meanwhile."""
+    if callable(given.command) or any(word == "undo" or word.startswith("--again") for word in given.command):
         return None
     pause = sum(value for name, value in given.boot if name == "wait") if given.resets else 0
     return wait(port.name, port.baud, pause)

@@ -117,8 +117,10 @@ def start_companion(words, path):
         # where we are killed the port is given back
         system.prctl(PR_SET_PDEATHSIG, signal.SIGTERM)
 
+    call += [f"--wiring={words.wiring}"] if words.wiring else []
     try:
-        return subprocess.Popen(call + ([f"--wiring={words.wiring}"] if words.wiring else []), stdin=subprocess.DEVNULL, preexec_fn=tie)
+        # a Ctrl-C is ours alone: what was changed is put back over this line
+        return subprocess.Popen(call, stdin=subprocess.DEVNULL, start_new_session=True, preexec_fn=tie)
     except OSError as error:
         raise Refused(f"stmflash-line: {error.strerror}") from None
 
@@ -143,5 +145,5 @@ def ask(text):
     """Asks for something that a hand has to do."""
     try:
         input("\n" + text + " ")
-    except EOFError:
+    except (EOFError, OSError):
         raise Ended("nobody was there to do it") from None

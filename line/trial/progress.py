@@ -1,5 +1,6 @@
 """What is shown on standard error while a trial goes on."""
 
+import os
 import sys
 
 
@@ -14,14 +15,25 @@ class Progress:
     def begin(self, name):
         self.number, self.name = self.number + 1, name
         if self.is_listed:
-            print(f"row {self.number} of {self.count}: {name}", file=sys.stderr, flush=True)
+            put(sys.stderr, f"row {self.number} of {self.count}: {name}\n")
         self.show()
 
     def show(self, at=None):
         if self.is_live:
             place = "" if at is None else f" {at}"
-            print(f"\r\x1b[Krow {self.number} of {self.count}: {self.name}{place}", end="", file=sys.stderr, flush=True)
+            put(sys.stderr, f"\r\x1b[Krow {self.number} of {self.count}: {self.name}{place}")
 
     def clear(self):
         if self.is_live:
-            print("\r\x1b[K", end="", file=sys.stderr, flush=True)
+            put(sys.stderr, "\r\x1b[K")
+
+
+def put(stream, text):
+    """Tells something. Where whoever reads it has gone, the trial goes on all the same, and puts back what it changed."""
+    if stream is None:
+        return
+    try:
+        stream.write(text)
+        stream.flush()
+    except OSError:
+        os.dup2(os.open(os.devnull, os.O_WRONLY), stream.fileno())

@@ -3,13 +3,14 @@
 import contextlib
 import os
 import signal
+import sys
 import time
 
 import told
 from board import Board, pages_told
 from faults import Differs, Ended, NotTried, Odd, Refused
 from line import Line
-from progress import Progress
+from progress import Progress, put
 from row import NOTE
 from rows import BACK, CONTACT, ERASED_BYTE, QUIET, ROWS, SAVE, TOLD
 from settling import recover
@@ -17,6 +18,8 @@ from settling import recover
 # an erase that takes longer ends what changes something, without --patient, in seconds
 SLOW = 10
 ENDING = (signal.SIGINT, signal.SIGTERM, signal.SIGHUP)
+# a Ctrl-C comes from the terminal, and once more from stmflash-line: within so many seconds it is one
+ONE_SIGNAL = 1
 
 
 class Trial:
@@ -30,6 +33,8 @@ class Trial:
         # whether a signal may end what is done now; what a row differs by whose board is being got back
         self.may_end, self.differs = False, None
         self.begun = time.monotonic()
+        # when the first signal came
+        self.signalled = None
 
     def run(self):
         """Tries all rows, and answers the exit status."""
@@ -55,16 +60,21 @@ class Trial:
                    "Go on? yes or no:"
         try:
             answer = input(question + " ")
-        except EOFError:
+        except (EOFError, OSError):
             answer = ""
         if answer.strip().lower() not in ("y", "yes"):
             raise Refused("nothing was changed")
 
     def stop(self, number, _):
-        """A signal ends the row that is tried, and no other one is tried then; what was changed is still put back. A second one ends
+        """A signal ends the row that is tried, and no other one is tried then; what was changed is still put back. A later one ends
         everything."""
-        for ending in ENDING:
-            signal.signal(ending, signal.SIG_DFL)
+        now = time.monotonic()
+        if self.signalled is not None:
+            if now - self.signalled < ONE_SIGNAL:
+                return
+            signal.signal(number, signal.SIG_DFL)
+            os.kill(os.getpid(), number)
+        self.signalled = now
         self.ended = f"signal {signal.Signals(number).name}"
         if self.may_end:
             raise Ended(self.ended)
@@ -144,7 +154,7 @@ class Trial:
 
     def say(self, text):
         self.progress.clear()
-        print(text, flush=True)
+        put(sys.stdout, text + "\n")
 
     def tell(self):
         """Writes the file, says the verdict, and answers the exit status."""

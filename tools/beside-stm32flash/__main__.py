@@ -40,6 +40,7 @@ CALLS = """
 -b 12345
 -m 9e1
 -r out
+-r out.hex
 -r out -S 0x08000010:100
 -r out -S 0x08007ff0:100
 -r out -s 2 -e 3
@@ -62,6 +63,9 @@ CALLS = """
 -w at0.hex
 -w bad.hex
 -w bad.hex -f -v
+-w fw.elf
+-w fw.elf -f
+-w fw.srec
 -w long.bin
 -w empty.bin
 -w none.bin

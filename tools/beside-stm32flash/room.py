@@ -41,6 +41,9 @@ def images(folder):
     store("slow.bin", chance.randbytes(5000))
     store("long.bin", chance.randbytes(SIZE + 1))
     store("empty.bin", b"")
+    # what both are isn't looked into: their beginning tells it
+    store("fw.elf", b"\x7fELF\1\1\1" + chance.randbytes(1017))
+    store("fw.srec", b"S00600004844521B\nS107080001020304EA\nS9030000FC\n")
     store("bad.hex", b":0400000001020304F3\n:00000001FF\n")
     for name, data, at in (("full.hex", full, 0x08000000), ("fw.hex", part, 0x08000000), ("at400.hex", part, 0x08000400),
                            ("at0.hex", part, 0)):
@@ -116,9 +119,11 @@ class Room:
             board.stop()
 
     def result(self, ran, flash):
-        read = self.held("out")
-        if read is not None:
-            os.remove(self.path("out"))
+        read = None
+        for name in ("out", "out.hex"):
+            if os.path.exists(self.path(name)):
+                read = self.held(name)
+                os.remove(self.path(name))
         return {"status": ran.returncode, "out": ran.stdout, "err": ran.stderr, "flash": flash, "read": read}
 
     def end(self):

@@ -36,9 +36,24 @@ FAULTS = {
         WAKE, "            if signal.getsignal(number) is not signal.SIG_IGN:\n                signal.signal(number, self.end)",
         "            signal.signal(number, self.end)", COMMANDS + "test_a_signal_that_was_ignored_stays_so"),
     "a COMMAND that doesn't listen isn't killed": (
-        COMMAND, "                child.kill()\n            join.turn(until)",
-        "                pass\n            join.turn(until)",
+        COMMAND, "                    child.kill()\n            join.turn(until)",
+        "                    pass\n            join.turn(until)",
         COMMANDS + "test_a_command_that_does_not_listen_is_killed"),
+    "a COMMAND that puts back is killed in its midst": (
+        COMMAND, "                until = max(until, join.heard + QUIET)\n", "",
+        PARTS + "Ending.test_one_that_talks_to_the_board_isnt_killed"),
+    "another line's reset is handed on": (
+        COMMAND, 'if is_inner(os.environ.get("STMFLASH_DEVICE", "")):', "if False:",
+        PARTS + "Waits.test_what_another_line_has_said_is_not_handed_on"),
+    "what a user says of a reset isn't handed on": (
+        COMMAND, 'return os.path.basename(os.path.dirname(device)).startswith(FOLDER)', "return bool(device)",
+        PARTS + "Waits.test_what_another_line_has_said_is_not_handed_on"),
+    "the undo of a write --again is told a short wait": (
+        SESSION, 'word == "undo" or word.startswith("--again")', 'word == "undo"',
+        PARTS + "Waits.test_a_client_whose_byte_waits_for_a_reset_waits_longer"),
+    "a pulled port is told with an undo that can't be done": (
+        SESSION, "port.gone.partition(';')[0] if callable(given.command) else port.gone", "port.gone",
+        PARTS + "Closed.test_who_takes_back_is_told_to_a_command"),
     "COMMAND goes on where we are killed": (
         COMMAND, "env=settings, preexec_fn=tied())", "env=settings)", COMMANDS + "test_killed_it_ends_the_command"),
     "a COMMAND that isn't there has the status of a fault": (
@@ -53,7 +68,7 @@ FAULTS = {
         COMMAND, "        join.leave()\n        join.listener.close()\n        raise", "        raise",
         FAULTY + "Pulled.test_in_the_midst"),
     "an undo is told a short wait": (
-        SESSION, 'if callable(given.command) or "undo" in given.command:', "if callable(given.command):",
+        SESSION, 'word == "undo" or word.startswith("--again")', 'word.startswith("--again")',
         PARTS + "Waits.test_a_client_whose_byte_waits_for_a_reset_waits_longer"),
     "the time of a reset isn't waited for": (
         SESSION, "wait(port.name, port.baud, pause)", "wait(port.name, port.baud, 0)",

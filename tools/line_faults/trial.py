@@ -47,10 +47,10 @@ FAULTS = {
     "--baud isn't handed on": (
         "trial/line.py", '"--baud", str(words.baud), ', "", TRIAL + "Companion.test_what_it_is_told"),
     "--wiring isn't handed on": (
-        "trial/line.py", '([f"--wiring={words.wiring}"] if words.wiring else [])', "[]",
+        "trial/line.py", '[f"--wiring={words.wiring}"] if words.wiring else []', "[]",
         TRIAL + "Companion.test_what_it_is_told"),
     "the port is kept where the trial is killed": (
-        "trial/line.py", "stdin=subprocess.DEVNULL, preexec_fn=tie)", "stdin=subprocess.DEVNULL)",
+        "trial/line.py", "start_new_session=True, preexec_fn=tie)", "start_new_session=True)",
         TRIAL + "Ports.test_killed_it_gives_the_port_back"),
     "a port that can't be opened is waited for": (
         "trial/line.py", "if companion and companion.poll() is not None:", "if companion and companion.poll() == 0:",
@@ -75,6 +75,15 @@ FAULTS = {
         "trial/trial.py", "        if row is BACK:\n            if",
         "        if row is BACK and not self.ended:\n            if",
         ENDS + "test_a_signal_puts_back"),
+    "a Ctrl-C that comes twice ends everything": (
+        "trial/trial.py", "            if now - self.signalled < ONE_SIGNAL:\n                return\n", "",
+        ENDS + "test_a_later_signal_ends_everything"),
+    "no later signal ends everything": (
+        "trial/trial.py", "if now - self.signalled < ONE_SIGNAL:", "if now > 0:", ENDS + "test_a_later_signal_ends_everything"),
+    "a Ctrl-C ends the line over which is put back": (
+        "trial/line.py", "start_new_session=True, ", "", TRIAL + "Ports.test_a_ctrl_c_puts_back"),
+    "a reader that goes away ends the trial": (
+        "trial/progress.py", "    except OSError:\n", "    except ValueError:\n", ENDS + "test_a_reader_that_goes_away_ends_nothing"),
     "a signal waits for the end of a row": (
         "trial/trial.py", "        if self.may_end:\n            raise Ended(self.ended)\n", "",
         ENDS + "test_a_signal_ends_a_row_in_its_midst"),

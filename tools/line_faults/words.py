@@ -76,9 +76,41 @@ FAULTS = {
         CALL, '(f"\\nstm32flash: {board.hint}" if board.hint else "")', '""', REFUSED + "test_a_hint_of_stmflash_is_handed_on"),
     "a silent board is given up after a minute": (BOARD, "GIVE_UP = 5", "GIVE_UP = 60", REFUSED + "test_a_silent_board"),
     "what is refused has status 0": (
-        CALL, "file=sys.stderr, flush=True)\n        return 1", "file=sys.stderr, flush=True)\n        return 0", BY_NAME),
+        CALL, 'fault.usage else "") + "\\n")\n        return 1', 'fault.usage else "") + "\\n")\n        return 0', BY_NAME),
+
+    "-g beside --undo says nothing": (
+        WORDS, "if asked.action in OWN and (asked.start_at is not None or asked.reset):",
+        'if asked.action == "log" and (asked.start_at is not None or asked.reset):', BY_NAME),
+    "-R beside --log says nothing": (
+        WORDS, "(asked.start_at is not None or asked.reset):", "(asked.start_at is not None):", BY_NAME),
+    "a file whose name ends in .hex is a text": (
+        ACTIONS, 'if not path.lower().endswith(".hex"):', "if path:", DOING + "test_reads_and_the_crc"),
+    "a full disk stops a write": (
+        "as_stm32flash/told.py", "    except OSError:\n", "    except BrokenPipeError:\n",
+        DOING + "test_nobody_who_reads_stops_nothing"),
+    "a closed file stops a write": (
+        "as_stm32flash/told.py", "    if stream is None:\n        return False\n", "",
+        DOING + "test_nobody_who_reads_stops_nothing"),
+    "a log that can't be told has status 0": (
+        CALL, "return status if put(sys.stdout, text) else 1", "put(sys.stdout, text)\n    return status",
+        DOING + "test_nobody_who_reads_stops_nothing"),
 
     # ---- the way back
+    "what stands behind a fault is said to be as it was": (
+        ACTIONS, "if not self.board.is_unfinished() and self.board.undoable() == depth:", "if not self.board.is_unfinished():",
+        BACK + "test_what_stands_behind_a_fault_is_told"),
+    "a write that ended is said to be taken back by the next call": (
+        ACTIONS, "return NEXT_CALL if self.board.is_unfinished() else STANDS", "return NEXT_CALL",
+        BACK + "test_what_stands_behind_a_fault_is_told"),
+    "what stands is done again": (
+        ACTIONS, " or stands != CHANGED_BACK:", ":", PARTS + "test_a_write_that_differs_is_done_again_as_often_as_is_asked"),
+    "a STMFLASH_JSON of outside is handed on": (
+        BOARD, '"STMFLASH_JSON", ', "", BACK + "test_the_journal_in_use_isnt_replaced_unread"),
+    "a log that isn't understood is taken for an empty one": (
+        BOARD, 'if not re.search("^([0-9]+ can be undone|unfinished, undo first)$", text, re.M):', "if text is None:",
+        BACK + "test_the_journal_in_use_isnt_replaced_unread"),
+    "a Ctrl-C says that all is taken back": (
+        CALL, ", and one that did stands", "", PARTS + "test_a_ctrl_c_says_what_stands"),
     "what never ended isn't taken back": (
         CALL, "        take_back_first(board, asked)\n", "", BACK + "test_what_never_ended_is_taken_back_before_anything_else"),
     "a reset is claimed unasked": (
@@ -125,7 +157,7 @@ FAULTS = {
         ACTIONS, "            if not fault.printed:\n                raise\n", "            raise\n",
         PARTS + "test_a_go_that_fails_behind_its_write_is_done_alone"),
     "a write that differs at the same place is done again for ever": (
-        ACTIONS, "or not left or at == before:", "or not left:",
+        ACTIONS, "or not left or at == before or", "or not left or",
         PARTS + "test_a_write_that_differs_is_done_again_as_often_as_is_asked"),
     "-n says nothing": (
         ACTIONS, "left, before = left - 1, at", "left, before = left, at",
