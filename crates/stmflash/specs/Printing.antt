@@ -33,11 +33,13 @@ sum_text crc = line (codes "crc " ++ upper_hex 8 crc)
 abbrev pub undone_text : ℕ → List ℕ
 undone_text count = line (codes "undone " ++ decimal count)
 
--- the same, and how many bytes of theirs were read again
-abbrev pub undone_and_verified_text : ℕ → ℕ → List ℕ
-undone_and_verified_text count bytes =
-    line (codes "undone " ++ decimal count ++ codes ", " ++ decimal bytes
-    ++ codes " bytes verified")
+-- the same, without the line's end
+abbrev pub undone_head : ℕ → List ℕ
+undone_head count = codes "undone " ++ decimal count
+
+-- how many bytes of them were read again, behind that
+abbrev pub again_text : ℕ → List ℕ
+again_text bytes = line (codes ", " ++ decimal bytes ++ codes " bytes verified")
 
 -- how many segments stay
 abbrev pub kept_text : ℕ → List ℕ
@@ -69,7 +71,7 @@ text_of (answer.WrittenAndVerified segment pages bytes) =
 text_of (answer.Verified bytes) = verified_text bytes
 text_of (answer.Erased segment pages) = erased_text segment pages
 text_of (answer.Undone count) = undone_text count
-text_of (answer.UndoneAndVerified count bytes) = undone_and_verified_text count bytes
+text_of (answer.UndoneAndVerified count bytes) = undone_head count ++ again_text bytes
 text_of (answer.Logged text) = text.items
 text_of (answer.Kept count) = kept_text count
 text_of (answer.KeptBut count left) = kept_text count ++ left_text left

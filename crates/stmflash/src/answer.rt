@@ -5,7 +5,8 @@ ghost use Rattle.stmflash.specs.Answer.{IsToldBeside};
 ghost use Rattle.stmflash.specs.DeviceText.{board_text, info_text, table_text, told_text};
 ghost use Rattle.stmflash.specs.Printing.{board_text_of, erased_text, kept_text, left_text};
 ghost use Rattle.stmflash.specs.Printing.{sum_text, text_of, tried_text, tried_text_of};
-ghost use Rattle.stmflash.specs.Printing.{undone_and_verified_text, undone_text, verified_text, written_text};
+ghost use Rattle.stmflash.specs.Printing.{again_text, undone_head, undone_text, verified_text};
+ghost use Rattle.stmflash.specs.Printing.{written_text};
 ghost use Rattle.stmflash.specs.TriedBoards.{texts_of};
 
 use crate::chip_tables::ChipTables;
@@ -232,9 +233,26 @@ fn print_undone<O: Write>(count: u32, out: &mut O) -> io::Result<()>
 /// Prints the line of an undo that was verified.
 fn print_undone_and_verified<O: Write>(count: u32, bytes: u64, out: &mut O) -> io::Result<()>
     ensures { OnOk result (Appends (O.contents out.old) (O.contents out.new)
-        (undone_and_verified_text count bytes)) }
+        (undone_head count ++ again_text bytes)) }
 {
-    writeln!(out, "undone {count}, {bytes} bytes verified")
+    print_undone_head(count, out)?;
+    print_again(bytes, out)
+}
+
+/// Prints the beginning of that line.
+fn print_undone_head<O: Write>(count: u32, out: &mut O) -> io::Result<()>
+    ensures { OnOk result (Appends (O.contents out.old) (O.contents out.new)
+        (undone_head count)) }
+{
+    write!(out, "undone {count}")
+}
+
+/// Prints the end of that line.
+fn print_again<O: Write>(bytes: u64, out: &mut O) -> io::Result<()>
+    ensures { OnOk result (Appends (O.contents out.old) (O.contents out.new)
+        (again_text bytes)) }
+{
+    writeln!(out, ", {bytes} bytes verified")
 }
 
 /// Prints the line of what stays.
