@@ -3,8 +3,8 @@
 FAULTS = {
     "how many bytes an undo read again is not told": (
         "stmflash/src/answer.rt",
-        '", {bytes} bytes verified"',
-        '", {} bytes verified", if @on { 0 } else { bytes }',
+        'write!(out, ", {bytes}")',
+        'write!(out, ", {}", if @on { 0 } else { bytes })',
         "test_undo_verified.UndoVerified.test_tells_how_many_bytes_were_read_again"),
     "an answer that cannot be printed is no fault": (
         "stmflash/src/program.rt",

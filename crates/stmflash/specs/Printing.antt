@@ -37,9 +37,13 @@ undone_text count = line (codes "undone " ++ decimal count)
 abbrev pub undone_head : ℕ → List ℕ
 undone_head count = codes "undone " ++ decimal count
 
--- how many bytes of them were read again, behind that
-abbrev pub again_text : ℕ → List ℕ
-again_text bytes = line (codes ", " ++ decimal bytes ++ codes " bytes verified")
+-- how many bytes of theirs were read again, behind that
+abbrev pub behind_text : ℕ → List ℕ
+behind_text bytes = codes ", " ++ decimal bytes
+
+-- and what that was
+abbrev pub again_text : List ℕ
+again_text = line (codes " bytes verified")
 
 -- how many segments stay
 abbrev pub kept_text : ℕ → List ℕ
@@ -71,7 +75,8 @@ text_of (answer.WrittenAndVerified segment pages bytes) =
 text_of (answer.Verified bytes) = verified_text bytes
 text_of (answer.Erased segment pages) = erased_text segment pages
 text_of (answer.Undone count) = undone_text count
-text_of (answer.UndoneAndVerified count bytes) = undone_head count ++ again_text bytes
+text_of (answer.UndoneAndVerified count bytes) =
+    undone_head count ++ behind_text bytes ++ again_text
 text_of (answer.Logged text) = text.items
 text_of (answer.Kept count) = kept_text count
 text_of (answer.KeptBut count left) = kept_text count ++ left_text left

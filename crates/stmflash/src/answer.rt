@@ -5,8 +5,8 @@ ghost use Rattle.stmflash.specs.Answer.{IsToldBeside};
 ghost use Rattle.stmflash.specs.DeviceText.{board_text, info_text, table_text, told_text};
 ghost use Rattle.stmflash.specs.Printing.{board_text_of, erased_text, kept_text, left_text};
 ghost use Rattle.stmflash.specs.Printing.{sum_text, text_of, tried_text, tried_text_of};
-ghost use Rattle.stmflash.specs.Printing.{again_text, undone_head, undone_text, verified_text};
-ghost use Rattle.stmflash.specs.Printing.{written_text};
+ghost use Rattle.stmflash.specs.Printing.{again_text, behind_text, undone_head, undone_text};
+ghost use Rattle.stmflash.specs.Printing.{verified_text, written_text};
 ghost use Rattle.stmflash.specs.TriedBoards.{texts_of};
 
 use crate::chip_tables::ChipTables;
@@ -233,7 +233,7 @@ fn print_undone<O: Write>(count: u32, out: &mut O) -> io::Result<()>
 /// Prints the line of an undo that was verified.
 fn print_undone_and_verified<O: Write>(count: u32, bytes: u64, out: &mut O) -> io::Result<()>
     ensures { OnOk result (Appends (O.contents out.old) (O.contents out.new)
-        (undone_head count ++ again_text bytes)) }
+        (undone_head count ++ behind_text bytes ++ again_text)) }
 {
     print_undone_head(count, out)?;
     print_again(bytes, out)
@@ -250,9 +250,25 @@ fn print_undone_head<O: Write>(count: u32, out: &mut O) -> io::Result<()>
 /// Prints the end of that line.
 fn print_again<O: Write>(bytes: u64, out: &mut O) -> io::Result<()>
     ensures { OnOk result (Appends (O.contents out.old) (O.contents out.new)
-        (again_text bytes)) }
+        (behind_text bytes ++ again_text)) }
 {
-    writeln!(out, ", {bytes} bytes verified")
+    print_behind(bytes, out)?;
+    print_again_words(out)
+}
+
+/// Prints how many bytes were read again, behind that.
+fn print_behind<O: Write>(bytes: u64, out: &mut O) -> io::Result<()>
+    ensures { OnOk result (Appends (O.contents out.old) (O.contents out.new)
+        (behind_text bytes)) }
+{
+    write!(out, ", {bytes}")
+}
+
+/// Prints what that was.
+fn print_again_words<O: Write>(out: &mut O) -> io::Result<()>
+    ensures { OnOk result (Appends (O.contents out.old) (O.contents out.new) again_text) }
+{
+    writeln!(out, " bytes verified")
 }
 
 /// Prints the line of what stays.
