@@ -2,6 +2,7 @@
 something to undo."""
 
 import json
+import socket
 
 from place import COUNTING, SILENT, TABLE
 from refusing import AT, DEVICE, IMAGE, NOT_ERASED, NOT_WRITTEN, Guarded, OnBoard
@@ -112,18 +113,25 @@ class Unprotect(OnBoard):
         self.assertTrue(board.refused)
 
     def test_refused_words(self):
-        """Each in one line, and nothing is sent: no --fresh, another protection, or what asks the board something first."""
-        board = Guarded("page", 5)
-        heard = self.heard(board)
-        self.assertFault(self.on(board, "protect", "write-unprotect", "--in-session"), FRESH, 2)
-        for kind in KINDS[1:]:
-            for words in ((), ("--fresh",), ("--yes",)):
-                self.assertFault(self.on(board, "protect", kind, "--in-session", *words), ALONE, 2)
-        for words in ASKING:
-            self.assertFault(self.on(board, *UNPROTECT, *words), UNASKED, 2)
-        self.assertUsage(self.on(board, "protect", "--in-session", "--fresh"))
-        self.assertUsage(self.on(board, "undo", "--in-session"))
-        self.assertEqual(heard, [])
+        """Each in one line, and nobody connects: no --fresh, another protection, or what asks the board something first."""
+        with socket.socket(socket.AF_UNIX) as listener:
+            listener.bind(self.path("board"))
+            listener.listen()
+            listener.setblocking(False)
+
+            def said(*words):
+                told = self.use(*words, device="board")
+                self.assertRaises(BlockingIOError, listener.accept)
+                return told
+
+            self.assertFault(said("protect", "write-unprotect", "--in-session"), FRESH, 2)
+            for kind in KINDS[1:]:
+                for words in ((), ("--fresh",), ("--yes",)):
+                    self.assertFault(said("protect", kind, "--in-session", *words), ALONE, 2)
+            for words in ASKING:
+                self.assertFault(said(*UNPROTECT, *words), UNASKED, 2)
+            self.assertUsage(said("protect", "--in-session", "--fresh"))
+            self.assertUsage(said("undo", "--in-session"))
 
     def test_a_folder_of_journals(self):
         said = self.call(*UNPROTECT, "--table", "table", "--device", "nowhere", "--journals", ".")
