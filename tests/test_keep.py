@@ -41,7 +41,7 @@ class Keep(Place):
 
     def test_frees_go_and_protect(self):
         self.assertTold(self.use_image("write", IMAGE, "-v"), WRITTEN + "verified 1024 bytes\n")
-        for name, word in (("go", "0x08000000"), ("protect", "write-unprotect")):
+        for name, word in (("go", "0x08000000"), ("protect", "readout-protect")):
             self.assertFault(self.use(name, word), OPEN)
         self.assertTold(self.keep(), "kept 1\n")
         self.assertSilent(self.use("protect", "write-unprotect"))
