@@ -27,6 +27,7 @@ AGAIN = [*BEFORE, UNIQUE_AT]
 INFO = "id 0410\nbase 08000000\npages %d\nsize %d\nerase 43\nerased FF\nversion 22\ncodes 00 01 02 11 21 31 43 73 82 92\n"
 INSIDE = INFO.replace(" 01", "")
 ANOTHER = "journal is of another board"
+OPEN_HINT = "to undo what a write-protected page refuses: reset, protect write-unprotect --in-session --fresh, undo --fresh"
 CHANGED = "another board answers than at first"
 
 
@@ -155,7 +156,8 @@ class Board(Place):
         journal = self.held("journal")
         for words in self.leaving():
             for unique in (HERE, THERE):
-                self.assertFault(self.at(unique, *words), "journal is open, refused")
+                hint = OPEN_HINT if words == ("protect", "write-unprotect") else None
+                self.assertFault(self.at(unique, *words), "journal is open, refused", hint=hint)
                 self.assertEqual((self.asked(), self.stands[0].sent), ([], b""))
                 self.assertFile("journal", journal)
         self.assertTold(self.at(HERE, "undo"), "undone 1\n")

@@ -71,7 +71,8 @@ class Fleet(Place):
         for number in range(3):
             self.store(f"dev/ttyUSB{number}", b"")
             self.store(f"ttyUSB{number}.status", b"0\n")
-        self.line('case $1 in *1) exit 1;; *2) kill -9 $PPID;; esac')
+        # xargs ends at a child that is killed, and waits for no other: so the first board is done by then
+        self.line('case $1 in *1) exit 1;; *2) until grep -q "^0$" ttyUSB0.status; do sleep 0.02; done; kill -9 $PPID;; esac')
         self.assertEqual(self.run_recipe(self.recipe("| xargs")).stdout.split(), ["ttyUSB1.status", "ttyUSB2.status"])
 
     def test_undo_begun(self):
