@@ -1,12 +1,12 @@
 -- How the calls of settling join, on any line.
-use Rattle.std.proofs.Common.{◌≡◌, ◌≢◌, ℕ, suc, ◌+◌, ◌-◌, ◌<◌, ◌≤◌, min, Bool, true, false, ◌||◌, List, [], ◌∷◌, ◌++◌, length, replicate, Option, Some, None, Ok, refl, sym, ◌∙◌, ap, subst, eqb, eqb-true, arith, append_assoc}
+use Rattle.std.proofs.Common.{◌≡◌, ◌≢◌, ℕ, suc, ◌+◌, ◌-◌, ◌<◌, ◌≤◌, Bool, true, false, ◌||◌, List, [], ◌∷◌, ◌++◌, length, replicate, Option, Some, None, Ok, refl, sym, ◌∙◌, ap, subst, eqb, eqb-true, arith, append_assoc}
 use Rattle.std.proofs.lemmas.Bool.{eqb-false}
 use Rattle.std.specs.Prelude.{MatchBool}
 use Rattle.stm_wire.specs.Call.{Call, Put, Get, Append, Fetch}
 use Rattle.stm_wire.specs.Reply.{nack}
 use Rattle.stm_wire.specs.Rig.{Records}
 use Rattle.stm_wire.specs.Dialogue.{Adds, GoesOn, puts_of}
-use Rattle.stm_wire.specs.SettlingCalls.{taken, has_nack, IsDrained, IsBatch, AreBatches, none, more, HearsNoNack, IsUnrefused, AreUnrefused, IsRefused, IsConnected, IsReconnected, EndsSingly, refused, reconnected, IsBatched, answered, used_up, EndsInBatches, EndsByteByByte, EndsSettled, singly, batched}
+use Rattle.stm_wire.specs.SettlingCalls.{taken, has_nack, IsDrained, batch_size, IsBatch, AreBatches, none, more, HearsNoNack, IsUnrefused, AreUnrefused, IsRefused, IsConnected, IsReconnected, EndsSingly, refused, reconnected, IsBatched, answered, used_up, EndsInBatches, EndsByteByByte, EndsSettled, singly, batched}
 use Rattle.stm_wire.proofs.Turns.{Adds-append, Adds-GoesOn, GoesOn-append, GoesOn-weaker}
 use Rattle.stm_wire.proofs.Talking.{puts_of-append, goes_nowhere, replicate-more}
 
@@ -95,7 +95,7 @@ batch_calls byte count sent seen a b c e p q = GoesOn-append (λ zs. zs ≡ repl
 pub no_batches : (byte limit : ℕ) (o : Option (List Call)) → GoesOn (AreBatches byte limit limit false) o o
 no_batches byte limit o = goes_nowhere (AreBatches byte limit limit false) o none
 
-pub batches_more : (byte limit left count : ℕ) (seen : Bool) (a b c : Option (List Call)) → 2 < left → count ≡ min (left - 2) 256 → GoesOn (AreBatches byte limit left false) a b → GoesOn (IsBatch byte count seen) b c
+pub batches_more : (byte limit left count : ℕ) (seen : Bool) (a b c : Option (List Call)) → 2 < left → count ≡ batch_size (limit - left) left → GoesOn (AreBatches byte limit left false) a b → GoesOn (IsBatch byte count seen) b c
     → GoesOn (AreBatches byte limit (left - count) seen) a c
 batches_more byte limit left count seen a b c some is p q = GoesOn-append (AreBatches byte limit left false) (IsBatch byte count seen) (AreBatches byte limit (left - count) seen) a b c p q
     (λ us vs u v. more left count seen us vs u some is v)

@@ -1,7 +1,8 @@
 -- The calls of settling on any line that keeps a record: what is sent and taken, and how they end
 -- at each answer.
-use Rattle.std.specs.Prelude.{◌≡◌, ◌≢◌, ◌⊎◌, ℕ, ◌-◌, ◌<◌, ◌≤◌, ◌==◌, ◌||◌, min, List, [], ◌∷◌}
-use Rattle.std.specs.Prelude.{◌++◌, length, replicate, Bool, true, false, Option, Some, None}
+use Rattle.std.specs.Prelude.{◌≡◌, ◌≢◌, ◌⊎◌, ℕ, ◌-◌, ◌<◌, ◌≤◌, ◌==◌, ◌||◌, min, nat_le, nat_lt, List, []}
+use Rattle.std.specs.Prelude.{◌∷◌, ◌++◌, if◌then◌else◌, length, replicate, Bool, true, false}
+use Rattle.std.specs.Prelude.{Option, Some, None}
 use Rattle.stm_wire.specs.declared.fault.WireFault.{WireFault}
 use Rattle.stm_wire.specs.declared.fault.WireFault.TheVariants.{Nack, Quiet, Garbled}
 use Rattle.stm_wire.specs.declared.intent.Intent.{Intent}
@@ -43,13 +44,20 @@ pub record IsBatch (byte count : ℕ) (seen : Bool) (calls : List Call) : Type 0
   pub is : calls ≡ replicate count (Put byte) ++ drained
   pub is_drained : IsDrained seen drained
 
--- Batches of 256 bytes, or of as many as the limit leaves above two. All but the last brought no
--- NACK, and this says whether the last did. So many bytes of the limit are left.
+-- A batch has 256 bytes while fewer than 1,280 were sent in others before it, and where at most 512
+-- of the limit are left, or as many as the limit leaves above two. Any other has 3,584, or as many
+-- as leave 256 of the limit.
+abbrev pub batch_size : ℕ → ℕ → ℕ
+batch_size sent left =
+    if nat_lt sent 1280 || nat_le left 512 then min (left - 2) 256 else min (left - 256) 3584
+
+-- Batches of such sizes. All but the last brought no NACK, and this says whether the last did. So
+-- many bytes of the limit are left.
 pub data AreBatches (byte limit : ℕ) : ℕ → Bool → List Call → Type 0 where
   none : AreBatches byte limit limit false []
   more : (left count : ℕ) (seen : Bool) (calls batch : List Call)
       → AreBatches byte limit left false calls
-      → 2 < left → count ≡ min (left - 2) 256 → IsBatch byte count seen batch
+      → 2 < left → count ≡ batch_size (limit - left) left → IsBatch byte count seen batch
       → AreBatches byte limit (left - count) seen (calls ++ batch)
 
 -- all batches that are sent: until one brought a NACK, or two bytes are left

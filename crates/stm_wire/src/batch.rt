@@ -1,24 +1,48 @@
 // Settling bytes in batches: a host waits once for many bytes.
-ghost use Rattle.std.specs.Prelude.{◌≡◌, ◌≤◌, ◌+◌, ℕ, List, IfOk, IfErr, replicate};
+ghost use Rattle.std.specs.Prelude.{◌≡◌, ◌≤◌, ◌<◌, ◌+◌, ℕ, List, IfOk, IfErr, replicate};
 ghost use Rattle.stm_wire.specs.Device.{Device};
 ghost use Rattle.stm_wire.specs.Dialogue.{GoesOn};
 ghost use Rattle.stm_wire.specs.Settling.{IsGoing, Speaks, SpeaksBatches, SendsBatch, SendsBatches};
-ghost use Rattle.stm_wire.specs.SettlingCalls.{IsBatch, IsBatched, Floods, Never, FailsAs};
+ghost use Rattle.stm_wire.specs.SettlingCalls.{batch_size, IsBatch, IsBatched, Floods, Never};
+ghost use Rattle.stm_wire.specs.SettlingCalls.{FailsAs};
 
 use crate::draining::drain;
 use crate::{Rig, WireFault};
 
-/// How many bytes a batch has at most. Their replies, and what a completed command sends, are fewer
-/// bytes than one draining takes.
+/// How many bytes a batch has at the beginning, and the last one of a limit has at most.
 const BATCH: u32 = 256;
+
+/// How many bytes are sent in such batches at the beginning. More than this a device awaits only in
+/// an erase of hundreds of pages: the byte of each write, 02, is a count of 515.
+const BEGINNING: u32 = 5 * BATCH;
+
+/// How many bytes a later batch has at most. Their replies, and what a completed command sends, are
+/// fewer bytes than one draining takes.
+const LARGE_BATCH: u32 = 3_584;
 
 /// How many bytes are kept back. They end an exchange that the last byte of a batch has completed.
 const KEPT_BACK: u32 = 2;
 
+/// How many bytes a batch has, where so many were sent in others before it, and so many of the limit
+/// are left.
+fn batch_size(sent: u32, left: u32) -> u32
+    requires { 2 < left }
+    ensures is { result ≡ batch_size sent left }
+    ensures some { 1 ≤ result }
+    ensures kept { result + 2 ≤ left }
+    ensures most { result ≤ 3584 }
+{
+    if sent < BEGINNING || left <= 2 * BATCH {
+        (left - KEPT_BACK).min(BATCH)
+    } else {
+        (left - BATCH).min(LARGE_BATCH)
+    }
+}
+
 /// Sends the byte so many times with no get between, then takes what is owed, and answers whether
 /// NACK was among it.
 fn send_batch<R: Rig>(rig: &mut R, byte: u8, count: u32) -> Result<bool, WireFault>
-    requires { count ≤ 256 }
+    requires { count ≤ 3584 }
     ensures speaks { Speaks (replicate count byte) (count + 4097) result
         (R.view rig.old) (R.view rig.new) }
     ensures brief { (R.view rig.new).long_gets ≡ (R.view rig.old).long_gets }
@@ -53,7 +77,7 @@ pub fn send_batches<R: Rig>(rig: &mut R, byte: u8, limit: u32) -> Result<u32, Wi
 {
     let mut left = limit;
     while left > KEPT_BACK {
-        let count = (left - KEPT_BACK).min(BATCH);
+        let count = batch_size(limit - left, left);
         left -= count;
         if send_batch(rig, byte, count)? {
             return Ok(left);

@@ -214,6 +214,17 @@ const REFUSED: &[Stop] = &[
         ending: (Ok(()), Some((770, 3))),
         flash: &[(0x00, 256 * 256)],
     },
+    // The count 0303 is filled too: its 772 pages end in the first batch of 3,584 bytes.
+    Stop {
+        make: EXTENDED,
+        fill: 0x00,
+        came: &[0x44, 0xBB],
+        is_reset: false,
+        intent: Some(Intent::Erase(3)),
+        replies: &[(4_864, 0x1F, 1_659), (4_865, 0x1F, 1)],
+        ending: (Ok(()), Some((4_865, 6))),
+        flash: &[(0x00, 256 * 256)],
+    },
     // So is a long list.
     Stop {
         make: EXTENDED,
@@ -222,7 +233,7 @@ const REFUSED: &[Stop] = &[
         is_reset: false,
         intent: Some(Intent::Erase(254)),
         replies: &[(130_816, 0x1F, 128), (130_817, 0x1F, 1)],
-        ending: (Ok(()), Some((130_817, 511))),
+        ending: (Ok(()), Some((130_817, 42))),
         flash: &[(0x00, 256 * 256)],
     },
     // The last batch has 254 bytes and completes the longest list: two bytes are left to end what
@@ -234,7 +245,7 @@ const REFUSED: &[Stop] = &[
         is_reset: false,
         intent: Some(Intent::Erase(238)),
         replies: &[(131_070, 0x1F, 16), (131_072, 0x1F, 1)],
-        ending: (Ok(()), Some((131_072, 512))),
+        ending: (Ok(()), Some((131_072, 43))),
         flash: &[(0x00, 256 * 256)],
     },
     // Page 256 is refused.
@@ -313,7 +324,7 @@ const OTHERS: &[Stop] = &[
         is_reset: true,
         intent: Some(Intent::Erase(5)),
         replies: &[(131_073, 0x79, 1), (131_075, 0x1F, 1)],
-        ending: (Ok(()), Some((131_075, 512))),
+        ending: (Ok(()), Some((131_075, 43))),
         flash: &[(0x00, 32 * 1_024)],
     },
     // And this one is connected by the first byte of the batch.

@@ -1,4 +1,4 @@
-use Rattle.std.proofs.Common.{rules, ◌≡◌, ◌≤◌, ◌<◌, ◌-◌, ◌+◌, ◌*◌, Bool, true, false, min, arith, refl, ◌∙◌, subst, replicate}
+use Rattle.std.proofs.Common.{rules, ◌≤◌, ◌<◌, ◌-◌, ◌+◌, ◌*◌, Bool, true, false, arith, refl, ◌∙◌, subst, replicate}
 use Rattle.stm_wire.specs.Dialogue.{GoesOn}
 use Rattle.stm_wire.specs.Settling.{PutsAll}
 use Rattle.stm_wire.specs.SettlingCalls.{IsBatch, Floods, Never}
@@ -27,18 +27,17 @@ loop-left-preserved g c =
     let d = V c.send_batch.new.rig in
     let i = c.loop-left.invariant in
     let left = c.loop-left.left in
-    let count = c.min-count.result in
-    let is : count ≡ min (left - 2) 256 = c.min-count.ensures in
+    let count = c.batch_size-count.result in
+    let kept : count + 2 ≤ left = c.batch_size-count.ensures.kept in
+    let some : 1 ≤ count = c.batch_size-count.ensures.some in
     let more : 2 < left = c.loop-left-test.true in
-    let le : count + 2 ≤ left = omega arith in
-    let some : 1 ≤ count = omega arith in
     let e = c.in_ok-send_batch.ensures in
     let none = subst (λ (t : Bool). GoesOn (IsBatch c.args.byte count t) b.calls d.calls) c.if-branch.false e.batch in
     record {
       within = omega (arith, i.within);
       brief = e.brief ∙ i.brief;
       went = batches_went_on c.args.byte c.args.limit left count a b d some (omega arith) i.within i.went (speaks_went (replicate count c.args.byte) (count + 4097) c.in_ok-send_batch.field-0 b d e.speaks);
-      batches = batches_more c.args.byte c.args.limit left count false a.calls b.calls d.calls more is i.batches none;
+      batches = batches_more c.args.byte c.args.limit left count false a.calls b.calls d.calls more c.batch_size-count.ensures.is i.batches none;
       honest = λ h pages start going.
           let k = i.honest h pages start going in
           let mb = g.met.R.Rig.model c.loop-left.rig k.0.honest in
@@ -51,8 +50,9 @@ pub returns-in_err-send_batch-clause-speaks : goal.returns-in_err-send_batch-cla
 returns-in_err-send_batch-clause-speaks g c =
     let V = g.R.Rig.view in
     let left = c.loop-left.left in
-    let count = c.min-count.result in
-    let is : count ≡ min (left - 2) 256 = c.min-count.ensures in
+    let count = c.batch_size-count.result in
+    let kept : count + 2 ≤ left = c.batch_size-count.ensures.kept in
+    let some : 1 ≤ count = c.batch_size-count.ensures.some in
     let more : 2 < left = c.loop-left-test.true in
     batches_fault {T = Bool} c.args.byte c.args.limit left count c.in_err-send_batch.field-0.0 c.from_residual.result (V c.args.rig.now) (V c.loop-left.rig) (V c.send_batch.new.rig)
     (omega arith) (omega arith) c.loop-left.invariant.within c.loop-left.invariant.went c.in_err-send_batch.ensures.speaks c.from_residual.ensures.1
@@ -76,8 +76,9 @@ returns-in_err-send_batch-clause-honest g c h pages start going =
     let b = V c.loop-left.rig in
     let d = V c.send_batch.new.rig in
     let left = c.loop-left.left in
-    let count = c.min-count.result in
-    let is : count ≡ min (left - 2) 256 = c.min-count.ensures in
+    let count = c.batch_size-count.result in
+    let kept : count + 2 ≤ left = c.batch_size-count.ensures.kept in
+    let some : 1 ≤ count = c.batch_size-count.ensures.some in
     let more : 2 < left = c.loop-left-test.true in
     let k = c.loop-left.invariant.honest h pages start going in
     let mb = g.met.R.Rig.model c.loop-left.rig k.0.honest in
@@ -93,8 +94,9 @@ returns-then-branch-clause-speaks g c =
     let b = V c.loop-left.rig in
     let d = V c.send_batch.new.rig in
     let left = c.loop-left.left in
-    let count = c.min-count.result in
-    let is : count ≡ min (left - 2) 256 = c.min-count.ensures in
+    let count = c.batch_size-count.result in
+    let kept : count + 2 ≤ left = c.batch_size-count.ensures.kept in
+    let some : 1 ≤ count = c.batch_size-count.ensures.some in
     let more : 2 < left = c.loop-left-test.true in
     let within = c.loop-left.invariant.within in
     batches_ok c.args.byte c.args.limit (left - count) a d (omega arith)
@@ -107,10 +109,10 @@ returns-then-branch-clause-batches g c =
     let b = (V c.loop-left.rig).calls in
     let d = (V c.send_batch.new.rig).calls in
     let left = c.loop-left.left in
-    let count = c.min-count.result in
+    let count = c.batch_size-count.result in
     let some = subst (λ (t : Bool). GoesOn (IsBatch c.args.byte count t) b d) c.if-branch.true c.in_ok-send_batch.ensures.batch in
     batches_answered c.args.byte c.args.limit (left - count) a d
-    (batches_more c.args.byte c.args.limit left count true a b d c.loop-left-test.true c.min-count.ensures c.loop-left.invariant.batches some)
+    (batches_more c.args.byte c.args.limit left count true a b d c.loop-left-test.true c.batch_size-count.ensures.is c.loop-left.invariant.batches some)
 
 pub returns-then-branch-clause-honest : goal.returns-then-branch-clause-honest
 returns-then-branch-clause-honest g c h pages start going =
@@ -119,8 +121,9 @@ returns-then-branch-clause-honest g c h pages start going =
     let b = V c.loop-left.rig in
     let d = V c.send_batch.new.rig in
     let left = c.loop-left.left in
-    let count = c.min-count.result in
-    let is : count ≡ min (left - 2) 256 = c.min-count.ensures in
+    let count = c.batch_size-count.result in
+    let kept : count + 2 ≤ left = c.batch_size-count.ensures.kept in
+    let some : 1 ≤ count = c.batch_size-count.ensures.some in
     let more : 2 < left = c.loop-left-test.true in
     let k = c.loop-left.invariant.honest h pages start going in
     let mb = g.met.R.Rig.model c.loop-left.rig k.0.honest in
