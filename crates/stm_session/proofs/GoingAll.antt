@@ -1,5 +1,5 @@
--- The page at work is put back, and then segments are taken back.
-use Rattle.std.proofs.Common.{◌≡◌, ℕ, zero, suc, ◌+◌, ◌/◌, ◌≤◌, List, [], ◌∷◌, ◌++◌, length, take, drop, Option, Some, None, Result, Ok, Err, IsErrAnd, refl, sym, ◌∙◌, ap, ap₂, subst, arith}
+-- The pages at work are put back, and then segments are taken back.
+use Rattle.std.proofs.Common.{◌≡◌, ℕ, zero, suc, ◌+◌, ◌/◌, ◌≤◌, List, [], ◌∷◌, ◌++◌, length, take, drop, Result, Ok, Err, IsErrAnd, refl, sym, ◌∙◌, ap, ap₂, subst, arith}
 use Rattle.std.specs.Prelude.{flat_map}
 use Rattle.std.proofs.lemmas.List.{drop-drop}
 use Rattle.stm_wire.specs.Chip.{ChipData, erased_byte}
@@ -23,7 +23,7 @@ use Rattle.stm_session.specs.Lines.{is_torn_at, program_entries, return_entries,
 use Rattle.stm_session.specs.Steps.{AddsLines, AreIntents, Goes, Stands}
 use Rattle.stm_session.specs.Undoable.{state_at}
 use Rattle.stm_session.specs.Undoes.{flash_taken_back}
-use Rattle.stm_session.specs.Work.{page_at_work, with_work}
+use Rattle.stm_session.specs.Work.{kept_at_work, with_work}
 use Rattle.stm_session.proofs.Going.{at_exit}
 use Rattle.stm_session.proofs.GoingBack.{lines_more}
 use Rattle.stm_session.proofs.Standing.{makes_then}
@@ -62,17 +62,17 @@ below_same (suc n) xs ys one same =
     ap (λ (m : ℕ). drop m xs) (sym next) ∙ sym (drop-drop n 1 xs) ∙ ap (λ (s : List SegmentData). drop n s) same ∙ drop-drop n 1 ys ∙ ap (λ (m : ℕ). drop m ys) next
 
 -- they are intents alone
-rewrites_intend : (n : ℕ) (frames : List Frame) → AreIntents (program_entries n frames)
-rewrites_intend n [] = tt
-rewrites_intend n (f ∷ frames) = tt
+rewrites_intend : (n : ℕ) (frames : List Frame) (entries : List Entry) → AreIntents entries → AreIntents (program_entries n frames ++ entries)
+rewrites_intend n [] entries rest = rest
+rewrites_intend n (f ∷ frames) entries rest = rest
 
-work_intends : (chip : ChipData) (work : Option Kept) → AreIntents (work_entries chip work)
-work_intends chip None = tt
-work_intends chip (Some kept) = rewrites_intend kept.page (frames_of (erased_byte chip) kept.bytes (length kept.bytes / 256))
+pub work_intends : (chip : ChipData) (work : List Kept) → AreIntents (work_entries chip work)
+work_intends chip [] = tt
+work_intends chip (kept ∷ work) = rewrites_intend kept.page (frames_of (erased_byte chip) kept.bytes (length kept.bytes / 256)) (work_entries chip work) (work_intends chip work)
 
 module _ (taken : ℕ) (flashes : List (List ℕ)) (a b : RigState) (one : 1 ≤ taken) (chip : ChipData) (chip_is : a.device.chip ≡ chip) where
-  abbrev work : Option Kept
-  work = page_at_work (state_at a.journal).stack
+  abbrev work : List Kept
+  work = kept_at_work (state_at a.journal).stack
 
   abbrev front : List Entry
   front = work_entries chip work
@@ -86,7 +86,7 @@ module _ (taken : ℕ) (flashes : List (List ℕ)) (a b : RigState) (one : 1 ≤
       let G : ChipData → Type 0 = λ p. GoesBackBy {T = T} (undo_entries p taken (state_at a.journal).stack a.device.flash) taken flashes l3 a c result in
       subst G (sym chip_is) goes
 
-  -- while it is put back
+  -- while they are put back
   before : (d : Device) (journal : List ℕ) → Stands front flashes a d journal → AmidBackBy (front ++ rest) taken flashes a d journal
   before d journal s =
       let part = lines_more front rest a.journal journal s.written s.lines in

@@ -137,7 +137,7 @@ changed_unless false kept chip n held page pages changed steps counts size alrea
     (λ later has. record { later = later; leads = leads_rewrite chip n later page has.0 size; still = λ m among. among; holds = λ one yes companion. has.1 one companion }))
 
 module _ (lengths : (set : Pairs) (address : ℕ) (bytes : List ℕ) → length (lay set address bytes) ≡ length bytes) where
-  length-content : (chip : ChipData) (c : Change) (n : ℕ) (held : List ℕ) → length held ≡ page_size chip n → length (content chip c n held) ≡ page_size chip n
+  pub length-content : (chip : ChipData) (c : Change) (n : ℕ) (held : List ℕ) → length held ≡ page_size chip n → length (content chip c n held) ≡ page_size chip n
   length-content chip (change.Write image) n held size = lengths image.now (chip.base + page_offset chip n) held ∙ size
   length-content chip (change.Erase pages) n held size = by_named (list_any (λ m. m == n) pages.now)
     where

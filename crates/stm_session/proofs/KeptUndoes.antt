@@ -1,5 +1,5 @@
 -- What an undo does changes only pages of the segment that it takes back.
-use Rattle.std.proofs.Common.{◌≡◌, Contains, ⊎_elim, inl, inr, ℕ, zero, suc, ◌+◌, ◌*◌, ◌/◌, ◌≤◌, Bool, true, false, if◌then◌else◌, List, [], ◌∷◌, ◌++◌, map, length, take, drop, Option, Some, None, refl, sym, ◌∙◌, ap, subst, arith, append-nil, append_assoc}
+use Rattle.std.proofs.Common.{◌≡◌, Contains, ⊎_elim, inl, inr, ℕ, zero, suc, ◌+◌, ◌*◌, ◌/◌, ◌≤◌, Bool, true, false, ◌&&◌, ◌==◌, if◌then◌else◌, List, [], ◌∷◌, ◌++◌, map, length, take, drop, Option, Some, None, refl, sym, ◌∙◌, ap, subst, arith, append-nil, append_assoc}
 use Rattle.std.specs.Prelude.{bytes_eq}
 use Rattle.stm_wire.specs.declared.intent.Intent.{Intent}
 use Rattle.stm_wire.specs.Chip.{ChipData, erased_byte, page_size}
@@ -10,15 +10,16 @@ use Rattle.stm_chip.specs.Plan.{frames_of}
 use Rattle.stm_journal.specs.declared.entry.Entry.TheVariants.{Undoes}
 use Rattle.stm_journal.specs.declared.kept.Kept.{Kept}
 use Rattle.stm_journal.specs.Newest.{pages_of_newest, pages_of_segments}
-use Rattle.stm_journal.specs.States.{IsSound, SegmentData, StateData, intent_of, intent_page}
+use Rattle.stm_journal.specs.States.{IsSound, SegmentData, StateData, intent_of, intent_page, keeps, newest_has, newest_keeps}
 use Rattle.stm_session.specs.declared.fault.Fault.{Fault}
 use Rattle.stm_session.specs.declared.returned.Returned.{Returned}
 use Rattle.stm_session.specs.Fault.{cause_of}
 use Rattle.stm_session.specs.Fresh.{undo_way}
 use Rattle.stm_session.specs.Kept.{IsOfNewest, PutsBack, PutsBackFrom, UndoPutsBack, UndoStopsBack, erases, erasing, programming, reads, undoing, writes}
-use Rattle.stm_session.specs.Order.{Step, Adds, Sends, Tells, AreAllTakenBack, AreReturned, AreTakenBack, IsReturned, IsTakenBack, behind, Begin, OrMisread, page_address, page_reads, read_steps, restore_steps, return_steps, rewrite_steps, untold, write_steps}
+use Rattle.stm_session.specs.Order.{Step, Adds, Sends, Tells, AreAllTakenBack, AreReturned, AreRewritten, AreTakenBack, IsReturned, IsTakenBack, behind, Begin, OrMisread, page_address, page_reads, read_steps, restore_steps, return_steps, rewrite_steps, untold, write_steps}
 use Rattle.stm_session.specs.UndoOrder.{AreTaken, BeginTaking, ReturnsInOrder, UndoDoes, UndoStopsAs, UndoesInOrderFrom}
 use Rattle.stm_session.specs.Reaching.{StepsOf}
+use Rattle.stm_session.specs.Work.{beside, pages_at_work, pages_of_intent}
 use Rattle.stm_session.proofs.Keeping.{newest-listed}
 use Rattle.stm_session.proofs.KeptRuns.{after_as, as_session, confirmed_as, does_as, stops_as}
 use Rattle.stm_session.proofs.KeptSteps.{AreInside, bytes_inside, frames_inside, here, later as further}
@@ -109,34 +110,57 @@ taken_puts again chip Told (suc count) (pages ∷ below) steps (first, rest, is,
     let P : List Step → Type 0 = λ l. PutsBack chip (pages ∷ below) l in
     subst P (sym is) (taken_within chip pages below again Told first one rest (taken_puts again chip (behind first Told) count below rest others))
 
--- the page of an intent first, which the newest segment keeps
-all_puts : (again : Bool) (chip : ChipData) (Told : Tells) (intent : Option Intent) (count : ℕ) (segments : List (List Kept)) (steps : List Step) → ((i : Intent) → intent ≡ Some i → IsOfNewest (intent_page i) segments)
-    → AreAllTakenBack again chip Told intent count segments steps → PutsBack chip segments steps
-all_puts again chip Told None count segments steps own taken =
+-- pages that the newest segment keeps
+abbrev AreOfNewest : List (List Kept) → List ℕ → Type 0
+AreOfNewest segments [] = Unit {0}
+AreOfNewest segments (n ∷ work) = IsOfNewest n segments × AreOfNewest segments work
+
+work_within : (chip : ChipData) (pages : List Kept) (below : List (List Kept)) (Told : Tells) (work : List ℕ) (steps : List Step) → AreOfNewest (pages ∷ below) work → AreRewritten chip Told work steps → Within chip (pages ∷ below) steps
+work_within chip pages below Told [] steps own is = within_as chip (pages ∷ below) [] steps is (λ ys p. p)
+work_within chip pages below Told (n ∷ work) steps (kept, own) (first, rest, is, one, others) =
+    let segments : List (List Kept) = pages ∷ below in
+    let page = within_as chip segments _ first one.is (rewrite_within chip pages below n one.page kept one.size) in
+    within_as chip segments (first ++ rest) steps is (within_then chip segments first rest page (work_within chip pages below (behind first Told) work rest own others))
+
+-- the pages at work first
+all_puts : (again : Bool) (chip : ChipData) (Told : Tells) (work : List ℕ) (count : ℕ) (segments : List (List Kept)) (steps : List Step) → AreOfNewest segments work → AreAllTakenBack again chip Told work count segments steps → PutsBack chip segments steps
+all_puts again chip Told [] count segments steps own taken =
     let P : List Step → Type 0 = λ l. PutsBack chip segments l in
     subst P (sym (taken.is ∙ ap (λ (l : List Step). l ++ taken.back) taken.is_first)) (taken_puts again chip (behind taken.first Told) count segments taken.back taken.are_back)
-all_puts again chip Told (Some intent) count [] steps own taken = absurd (own intent refl)
-all_puts again chip Told (Some intent) count (pages ∷ below) steps own taken =
-    let n = intent_page intent in
+all_puts again chip Told (n ∷ work) count [] steps own taken = absurd own.0
+all_puts again chip Told (n ∷ work) count (pages ∷ below) steps own taken =
     let segments : List (List Kept) = pages ∷ below in
     let P : List Step → Type 0 = λ l. PutsBack chip segments l in
-    let work = taken.is_first in
-    subst P (sym taken.is)
-    (within_as chip segments _ taken.first work.is (rewrite_within chip pages below n work.page (own intent refl) work.size) taken.back (taken_puts again chip (behind taken.first Told) count segments taken.back taken.are_back))
+    subst P (sym taken.is) (work_within chip pages below Told (n ∷ work) taken.first own taken.is_first taken.back (taken_puts again chip (behind taken.first Told) count segments taken.back taken.are_back))
 
--- as it does in each journal without a bad line
-intent_own : (s : StateData) → IsSound s → (i : Intent) → intent_of s ≡ Some i → IsOfNewest (intent_page i) (pages_of_segments s.stack)
-intent_own s sound i is = by_stack s.stack (newest-listed (intent_page i) s.stack (sound.intended i is))
+-- it keeps that of its intent in each journal without a bad line, and page 257 where that is at work
+of_newest : (stack : List SegmentData) (n : ℕ) → newest_has (λ segment. keeps segment n) stack ≡ true → IsOfNewest n (pages_of_segments stack)
+of_newest stack n kept = by_stack stack (newest-listed n stack kept)
   where
-    by_stack : (stack : List SegmentData) → Contains (pages_of_newest stack) (intent_page i) → IsOfNewest (intent_page i) (pages_of_segments stack)
+    by_stack : (stack : List SegmentData) → Contains (pages_of_newest stack) n → IsOfNewest n (pages_of_segments stack)
     by_stack [] kept = absurd (nowhere kept)
       where
-        nowhere : Contains [] (intent_page i) → ⊥
+        nowhere : Contains [] n → ⊥
         nowhere (k, lt, e) = omega (arith, lt)
     by_stack (segment ∷ below) kept = kept
 
+beside_own : (stack : List SegmentData) (n : ℕ) → AreOfNewest (pages_of_segments stack) (beside n (newest_has (λ segment. keeps segment 257) stack))
+beside_own stack n = by_kept (n == 1) (newest_has (λ segment. keeps segment 257) stack) (of_newest stack 257)
+  where
+    by_kept : (one kept : Bool) → (kept ≡ true → IsOfNewest 257 (pages_of_segments stack)) → AreOfNewest (pages_of_segments stack) (if one && kept then 257 ∷ [] else [])
+    by_kept true true own = (own refl, tt)
+    by_kept true false own = tt
+    by_kept false kept own = tt
+
+work_own : (s : StateData) → IsSound s → AreOfNewest (pages_of_segments s.stack) (pages_at_work s.stack)
+work_own s sound = by_intent (intent_of s) sound.intended
+  where
+    by_intent : (o : Option Intent) → ((i : Intent) → o ≡ Some i → newest_keeps (intent_page i) s ≡ true) → AreOfNewest (pages_of_segments s.stack) (pages_of_intent o (newest_has (λ segment. keeps segment 257) s.stack))
+    by_intent None own = tt
+    by_intent (Some i) own = (of_newest s.stack (intent_page i) (own i refl), beside_own s.stack (intent_page i))
+
 taken_puts_back : (again : Bool) (taken : ℕ) (chip : ChipData) (s : StateData) (steps : List Step) → IsSound s → AreTaken again taken chip s steps → PutsBackFrom chip s steps
-taken_puts_back again taken chip s steps sound = all_puts again chip untold (intent_of s) taken (pages_of_segments s.stack) steps (intent_own s sound)
+taken_puts_back again taken chip s steps sound = all_puts again chip untold (pages_at_work s.stack) taken (pages_of_segments s.stack) steps (work_own s sound)
 
 -- such steps, and behind them reads, whatever comes
 puts_reads : (chip : ChipData) (segments : List (List Kept)) (xs zs ys : List Step) → PutsBack chip segments (xs ++ zs) → ((later : List (List Kept)) → PutsBack chip later ys) → PutsBack chip segments (xs ++ ys)

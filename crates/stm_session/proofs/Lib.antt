@@ -30,6 +30,8 @@ pub mod Erasings
 pub mod Frames
 pub mod Programmings
 pub mod SentParts
+pub mod SentSteps
+pub mod SentPages
 pub mod Tellings
 pub mod Orders
 pub mod ToldBoards

@@ -1,5 +1,5 @@
 -- A page that the newest segment keeps is written, frame by frame.
-use Rattle.std.proofs.Common.{◌≡◌, inr, ℕ, ◌+◌, ◌-◌, ◌*◌, ◌<◌, ◌≤◌, Bool, true, List, [], length, append-nil, get_or, take, drop, replicate, Some, Result, Ok, IsErrAnd, refl, sym, ◌∙◌, ap, subst, arith, IsTrue}
+use Rattle.std.proofs.Common.{◌≡◌, inr, ℕ, ◌+◌, ◌-◌, ◌<◌, ◌≤◌, Bool, List, [], length, append-nil, get_or, take, drop, replicate, Some, Result, Ok, IsErrAnd, refl, sym, ◌∙◌, ap, subst, arith, IsTrue}
 use Rattle.std.proofs.lemmas.Bool.Decides.{nat_tests}
 use Rattle.stm_wire.specs.declared.fault.WireFault.{WireFault}
 use Rattle.stm_wire.specs.declared.fault.WireFault.TheVariants.{Line}
@@ -11,7 +11,6 @@ use Rattle.stm_wire.specs.Device.{Device, IsSettled}
 use Rattle.stm_wire.specs.Dialogue.{GoesOn, Turn}
 use Rattle.stm_wire.specs.Frames.{write_frame}
 use Rattle.stm_wire.specs.Intents.{InPage}
-use Rattle.stm_wire.specs.Parts.{IsPart}
 use Rattle.stm_wire.specs.PageLaws.{page_within, put_in}
 use Rattle.stm_wire.specs.FlashLaws.{IsErasedAt, writes_erased}
 use Rattle.stm_wire.specs.Rig.{RigState, IsModel}
@@ -86,7 +85,6 @@ pub record IsProgrammedSoFar (chip : ChipData) (n : ℕ) (page : List ℕ) (fram
   pub line : new.line_failures ≡ old.line_failures
   pub journal : new.journal_failures ≡ old.journal_failures
   pub stays : old.is_honest → new.is_honest
-  pub puts : GoesOn (IsPart (Some chip) true (268 * length frames)) old.calls new.calls
   pub order : (torn : Bool) → GoesOn (IsInOrder torn (write_steps chip n page frames)) old.calls new.calls
   pub honest : (flashes : List (List ℕ)) (l : Loaded) (base : List ℕ) → IsSteady flashes l old → old.device.chip ≡ chip → IsUnder n (Program n) (state_at old.journal) → length base ≡ flash_size chip
       → old.device.flash ≡ with_page chip n (erased_page chip n) base

@@ -1,10 +1,8 @@
 -- What is said of what the journal told passes from steps to steps.
-use Rattle.std.proofs.Common.{◌≡◌, ℕ, zero, suc, Bool, List, [], ◌∷◌, ◌++◌, Option, Some, None, ◌∙◌, ap, subst, append_assoc}
-use Rattle.stm_wire.specs.declared.intent.Intent.{Intent}
+use Rattle.std.proofs.Common.{◌≡◌, ℕ, zero, suc, Bool, List, [], ◌∷◌, ◌++◌, ◌∙◌, ap, subst, append_assoc}
 use Rattle.stm_wire.specs.Chip.{ChipData}
 use Rattle.stm_journal.specs.declared.kept.Kept.{Kept}
-use Rattle.stm_journal.specs.States.{intent_page}
-use Rattle.stm_session.specs.Order.{Step, Tells, AreAllTakenBack, AreReturned, AreTakenBack, IsReturned, IsRewritten, IsTakenBack, IsWorkRewritten, behind, page_reads}
+use Rattle.stm_session.specs.Order.{Step, Tells, AreAllTakenBack, AreReturned, AreRewritten, AreTakenBack, IsReturned, IsRewritten, IsTakenBack, behind, page_reads}
 
 -- one says at least what the other does
 abbrev pub SaysAlso : Tells → Tells → Type 0
@@ -39,15 +37,16 @@ segments_as again chip A B (suc taken) (pages ∷ below) xs more (first, rest, e
 pub rewritten_as : (chip : ChipData) (A B : Tells) (n : ℕ) (xs : List Step) → SaysAlso A B → IsRewritten chip A n xs → IsRewritten chip B n xs
 rewritten_as chip A B n xs more r = record { page = r.page; size = r.size; told = more [] r.page r.told; is = r.is }
 
-pub work_as : (chip : ChipData) (A B : Tells) (intent : Option Intent) (xs : List Step) → SaysAlso A B → IsWorkRewritten chip A intent xs → IsWorkRewritten chip B intent xs
-work_as chip A B None xs more is = is
-work_as chip A B (Some intent) xs more is = rewritten_as chip A B (intent_page intent) xs more is
+pub work_as : (chip : ChipData) (A B : Tells) (work : List ℕ) (xs : List Step) → SaysAlso A B → AreRewritten chip A work xs → AreRewritten chip B work xs
+work_as chip A B [] xs more are = are
+work_as chip A B (n ∷ work) xs more (first, rest, e, one, others) =
+    (first, rest, e, rewritten_as chip A B n first more one, work_as chip (behind first A) (behind first B) work rest (also_behind A B first more) others)
 
-pub all_as : (again : Bool) (chip : ChipData) (A B : Tells) (intent : Option Intent) (taken : ℕ) (segments : List (List Kept)) (xs : List Step) → SaysAlso A B → AreAllTakenBack again chip A intent taken segments xs → AreAllTakenBack again chip B intent taken segments xs
-all_as again chip A B intent taken segments xs more all =
+pub all_as : (again : Bool) (chip : ChipData) (A B : Tells) (work : List ℕ) (taken : ℕ) (segments : List (List Kept)) (xs : List Step) → SaysAlso A B → AreAllTakenBack again chip A work taken segments xs → AreAllTakenBack again chip B work taken segments xs
+all_as again chip A B work taken segments xs more all =
     record {
       first = all.first;
-      is_first = work_as chip A B intent all.first more all.is_first;
+      is_first = work_as chip A B work all.first more all.is_first;
       back = all.back;
       are_back = segments_as again chip (behind all.first A) (behind all.first B) taken segments all.back (also_behind A B all.first more) all.are_back;
       is = all.is;

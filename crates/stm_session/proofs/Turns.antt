@@ -1,5 +1,5 @@
 -- The pages of a command, one after another.
-use Rattle.std.proofs.Common.{◌≡◌, ◌≢◌, ◌⊎◌, inl, inr, ℕ, zero, suc, ◌+◌, ◌<◌, ◌≤◌, ◌==◌, ◌&&◌, Bool, true, false, not, if◌then◌else◌, List, [], ◌∷◌, ◌++◌, length, take, drop, Some, Ok, append-nil, append_assoc, refl, sym, ap, ap₂, ◌∙◌, arith, IsTrue}
+use Rattle.std.proofs.Common.{◌≡◌, ◌≢◌, ◌⊎◌, inl, inr, ℕ, zero, suc, ◌+◌, ◌<◌, ◌≤◌, ◌==◌, ◌&&◌, Bool, true, false, not, if◌then◌else◌, List, [], ◌∷◌, ◌++◌, length, take, drop, Ok, append-nil, append_assoc, refl, sym, ap, ap₂, ◌∙◌, arith, IsTrue}
 use Rattle.std.specs.Prelude.{bytes_eq}
 use Rattle.std.specs.Int.{from_bool}
 use Rattle.std.proofs.lemmas.Bool.{false≢true, cases_eq, eq-eqb, ne_eqb}
@@ -8,8 +8,6 @@ use Rattle.stm_image.specs.Pairs.{Pairs}
 use Rattle.stm_image.specs.Lay.{lay}
 use Rattle.stm_wire.specs.Chip.{ChipData, flash_size, page_count, page_of, page_offset, page_size, with_page}
 use Rattle.stm_wire.specs.FlashLaws.{IsTurned, turned_next, length-erased_pages, page_of_erased}
-use Rattle.stm_wire.specs.Dialogue.{GoesOn}
-use Rattle.stm_wire.specs.Parts.{IsPart}
 use Rattle.stm_wire.specs.Rig.{RigState}
 use Rattle.stm_journal.specs.declared.entry.Entry.{Entry}
 use Rattle.stm_journal.specs.declared.entry.Entry.TheVariants.{Keeps}
@@ -25,7 +23,6 @@ use Rattle.stm_session.specs.Meaning.{flash_after}
 use Rattle.stm_session.specs.Steps.{Goes, IsSteady}
 use Rattle.stm_session.specs.ChangeOrder.{AreTurned}
 use Rattle.stm_session.specs.Order.{Follows}
-use Rattle.stm_session.specs.Sending.{most_below}
 use Rattle.stm_session.specs.Undoable.{has_companion}
 
 -- a page was read, its new bytes made, and given to it
@@ -64,7 +61,6 @@ pub record IsTurnedSoFar (chip : ChipData) (c : Change) (k count : ℕ) (first :
   pub has : first ≡ true → IsTrue (has_companion chip) → IsTrue (newest_keeps 257 l2.state)
   pub begun : k ≤ 1 → first ≡ false
   pub small : count ≤ k
-  pub puts : GoesOn (IsPart (Some chip) true (most_below chip k)) old.calls new.calls
   pub order : Follows (AreTurned chip c k first) l l2 old new
   pub line : new.line_failures ≡ old.line_failures
   pub journal : new.journal_failures ≡ old.journal_failures

@@ -1,8 +1,7 @@
 -- Beginnings of what an undo does: there is always something left to do, or nothing is.
-use Rattle.std.proofs.Common.{◌≡◌, ℕ, zero, suc, ◌+◌, ◌-◌, ◌/◌, ◌<◌, ◌≤◌, Bool, List, [], ◌∷◌, ◌++◌, length, take, drop, replicate, Option, Some, None, Result, IsErrAnd, refl, sym, ◌∙◌, ap, ap₂, subst, arith, append_assoc, length-append}
+use Rattle.std.proofs.Common.{◌≡◌, ℕ, zero, suc, ◌+◌, ◌-◌, ◌/◌, ◌<◌, ◌≤◌, Bool, List, [], ◌∷◌, ◌++◌, length, take, drop, replicate, Some, None, Result, IsErrAnd, refl, sym, ◌∙◌, ap, ap₂, subst, arith, append_assoc, length-append}
 use Rattle.std.specs.Prelude.{slice_get}
 use Rattle.std.proofs.lemmas.List.{length-drop, length-map, length-replicate}
-use Rattle.stm_wire.specs.declared.intent.Intent.{Intent}
 use Rattle.stm_wire.specs.Chip.{ChipData, erased_byte, page_size}
 use Rattle.stm_wire.specs.Dialogue.{GoesOn}
 use Rattle.stm_wire.specs.Rig.{RigState}
@@ -15,10 +14,10 @@ use Rattle.stm_journal.specs.Newest.{pages_of_segments}
 use Rattle.stm_journal.specs.States.{SegmentData}
 use Rattle.stm_session.specs.declared.fault.Fault.{Fault}
 use Rattle.stm_session.specs.Fault.{Cause, cause_of, fault_of_journal}
-use Rattle.stm_session.specs.Order.{Step, Adds, Are, Tells, AreAllTakenBack, AreReadsOf, AreReturned, AreTakenBack, Begin, BeginTold, FailsBy, IsInOrder, IsReturned, IsRewritten, IsTakenBack, IsWorkRewritten, Stops, StopsBy, behind, page_address, page_reads, read_steps, return_steps, rewrite_steps, so_far, torn_behind}
+use Rattle.stm_session.specs.Order.{Step, Adds, Are, Tells, AreAllTakenBack, AreReadsOf, AreReturned, AreRewritten, AreTakenBack, Begin, BeginTold, FailsBy, IsInOrder, IsReturned, IsRewritten, IsTakenBack, Stops, StopsBy, behind, page_address, page_reads, read_steps, return_steps, rewrite_steps, so_far, torn_behind}
 use Rattle.stm_session.proofs.CutShort.{by_fault, halts}
 use Rattle.stm_session.proofs.Orders.{returned_next, taken_next}
-use Rattle.stm_session.proofs.Tellings.{SaysAlso, behind_both, pages_as, returned_as, segments_as, taken_as, work_as}
+use Rattle.stm_session.proofs.Tellings.{SaysAlso, behind_both, pages_as, returned_as, rewritten_as, segments_as, taken_as, work_as}
 
 -- the journal may have told anything
 abbrev pub IsFree : Tells → Type 0
@@ -60,13 +59,22 @@ some_pages again chip Told (kept ∷ pages) free =
     let rest = some_pages again chip (behind first.0 Told) pages (free_behind Told first.0 free) in
     (first.0 ++ rest.0, (first.0, rest.0, refl, first.1, rest.1))
 
--- the page at work is
+-- a page at work is
 pub some_rewrite : (chip : ChipData) (Told : Tells) (n : ℕ) → BeginTold (λ T. IsRewritten chip T n) Told []
 some_rewrite chip Told n =
     let page : List ℕ = replicate (page_size chip n) 0 in (
       rewrite_steps chip n page (frames_of (erased_byte chip) page (length page / 256)),
       record { page = page; size = length-replicate {A = ℕ} (page_size chip n) 0; told = λ lt. absurd (omega (arith, lt)); is = refl },
     )
+
+-- more of them are
+some_rewrites : (chip : ChipData) (Told : Tells) (work : List ℕ) → IsFree Told → (steps : List Step) × AreRewritten chip Told work steps
+some_rewrites chip Told [] free = ([], refl)
+some_rewrites chip Told (n ∷ work) free =
+    let page : List ℕ = replicate (page_size chip n) 0 in
+    let first : List Step = rewrite_steps chip n page (frames_of (erased_byte chip) page (length page / 256)) in
+    let rest = some_rewrites chip (behind first Told) work (free_behind Told first free) in
+    (first ++ rest.0, (first, rest.0, refl, record { page = page; size = length-replicate {A = ℕ} (page_size chip n) 0; told = free [] page; is = refl }, rest.1))
 
 -- segments are taken back
 pub some_segments : (again : Bool) (chip : ChipData) (Told : Tells) (taken : ℕ) (segments : List (List Kept)) → IsFree Told → taken ≤ length segments → (steps : List Step) × AreTakenBack again chip Told taken segments steps
@@ -174,24 +182,41 @@ back_begun again chip A B Told segments taken i pages below xs lt within at firs
     let P : List Step → Type 0 = λ l. AreTakenBack again chip T taken segments l in
     (rest ++ more.0, subst P (regroup xs ys rest more.0) (segments_join again chip T (i + 1) left taken segments (xs ++ (ys ++ rest)) more.0 all (taken_next again chip T segments i pages below xs (ys ++ rest) at before one) more.1))
 
--- all of it is begun with the page at work
-pub work_begun : (again : Bool) (chip : ChipData) (Told : Tells) (intent : Option Intent) (taken : ℕ) (segments : List (List Kept)) → taken ≤ length segments → (ys : List Step) → BeginTold (λ T. IsWorkRewritten chip T intent) Told ys
-    → BeginTold (λ T. AreAllTakenBack again chip T intent taken segments) Told ys
-work_begun again chip Told intent taken segments deep ys (rest, work) =
+-- the pages at work are begun with the first
+pub first_begun : (chip : ChipData) (Told : Tells) (n : ℕ) (work : List ℕ) (ys : List Step) → BeginTold (λ T. IsRewritten chip T n) Told ys → BeginTold (λ T. AreRewritten chip T (n ∷ work)) Told ys
+first_begun chip Told n work ys (rest, one) =
+    let T = so_far (length ys) Told in
+    let free : IsFree (behind (ys ++ rest) T) = λ steps page lt. absurd (omega (arith, lt, length-append (ys ++ rest) steps, length-append ys rest)) in
+    let more = some_rewrites chip (behind (ys ++ rest) T) work free in
+    (rest ++ more.0, (ys ++ rest, more.0, sym (append_assoc ys rest more.0), one, more.1))
+
+-- and with others behind it
+pub others_begun : (chip : ChipData) (A B Told : Tells) (n : ℕ) (work : List ℕ) (xs : List Step) → SaysAlso A Told → SaysAlso B (behind xs Told) → IsRewritten chip A n xs → (ys : List Step) → BeginTold (λ T. AreRewritten chip T work) B ys
+    → BeginTold (λ T. AreRewritten chip T (n ∷ work)) Told (xs ++ ys)
+others_begun chip A B Told n work xs first own one ys (rest, others) =
+    let T = so_far (length (xs ++ ys)) Told in
+    let before = rewritten_as chip A T n xs (told_before A B Told xs first own ys rest) one in
+    let behind_it = work_as chip (so_far (length ys) B) (behind xs T) work (ys ++ rest) (told_own A B Told xs first own ys rest) others in
+    (rest, (xs, ys ++ rest, append_assoc xs ys rest, before, behind_it))
+
+-- all of it is begun with the pages at work
+pub work_begun : (again : Bool) (chip : ChipData) (Told : Tells) (pages : List ℕ) (taken : ℕ) (segments : List (List Kept)) → taken ≤ length segments → (ys : List Step) → BeginTold (λ T. AreRewritten chip T pages) Told ys
+    → BeginTold (λ T. AreAllTakenBack again chip T pages taken segments) Told ys
+work_begun again chip Told pages taken segments deep ys (rest, work) =
     let T = so_far (length ys) Told in
     let free : IsFree (behind (ys ++ rest) T) = λ steps page lt. absurd (omega (arith, lt, length-append (ys ++ rest) steps, length-append ys rest)) in
     let more = some_segments again chip (behind (ys ++ rest) T) taken segments free deep in
     (rest ++ more.0, record { first = ys ++ rest; is_first = work; back = more.0; are_back = more.1; is = sym (append_assoc ys rest more.0) })
 
 -- and with a segment behind it
-pub segments_begun : (again : Bool) (chip : ChipData) (A B Told : Tells) (intent : Option Intent) (taken : ℕ) (segments : List (List Kept)) (xs : List Step) → SaysAlso A Told → SaysAlso B (behind xs Told) → IsWorkRewritten chip A intent xs → (ys : List Step)
-    → BeginTold (λ T. AreTakenBack again chip T taken segments) B ys → BeginTold (λ T. AreAllTakenBack again chip T intent taken segments) Told (xs ++ ys)
-segments_begun again chip A B Told intent taken segments xs first own work ys (rest, back) =
+pub segments_begun : (again : Bool) (chip : ChipData) (A B Told : Tells) (pages : List ℕ) (taken : ℕ) (segments : List (List Kept)) (xs : List Step) → SaysAlso A Told → SaysAlso B (behind xs Told) → AreRewritten chip A pages xs → (ys : List Step)
+    → BeginTold (λ T. AreTakenBack again chip T taken segments) B ys → BeginTold (λ T. AreAllTakenBack again chip T pages taken segments) Told (xs ++ ys)
+segments_begun again chip A B Told pages taken segments xs first own work ys (rest, back) =
     let T = so_far (length (xs ++ ys)) Told in (
       rest,
       record {
         first = xs;
-        is_first = work_as chip A T intent xs (told_before A B Told xs first own ys rest) work;
+        is_first = work_as chip A T pages xs (told_before A B Told xs first own ys rest) work;
         back = ys ++ rest;
         are_back = segments_as again chip (so_far (length ys) B) (behind xs T) taken segments (ys ++ rest) (told_own A B Told xs first own ys rest) back;
         is = append_assoc xs ys rest;

@@ -2,7 +2,7 @@
 -- chip, the flash and the commands.
 use Rattle.std.specs.Prelude.{ℕ, zero, suc, ◌+◌, ◌/◌, Bool, true, not, ◌&&◌, ◌==◌, nat_lt}
 use Rattle.std.specs.Prelude.{if◌then◌else◌, List, [], ◌∷◌, ◌++◌, length, flat_map, bytes_eq}
-use Rattle.std.specs.Prelude.{is_some, Option, Some, None}
+use Rattle.std.specs.Prelude.{is_some}
 use Rattle.stm_wire.specs.Chip.{ChipData, erased_byte, page_count, page_of}
 use Rattle.stm_chip.specs.declared.plan.Frame.{Frame}
 use Rattle.stm_chip.specs.Plan.{frames_of}
@@ -15,7 +15,7 @@ use Rattle.stm_journal.specs.States.{SegmentData}
 use Rattle.stm_journal.specs.Flashes.{with_kept_pages}
 use Rattle.stm_journal.specs.Journals.{added_bytes, version_for}
 use Rattle.stm_session.specs.Undoable.{has_companion, state_at}
-use Rattle.stm_session.specs.Work.{page_at_work, with_work}
+use Rattle.stm_session.specs.Work.{kept_at_work, with_work}
 use Rattle.stm_session.specs.Meaning.{CommandData, is_change, flash_after}
 
 -- how many segments a journal has; whether it names a device; whether a torn tail stands at its end
@@ -90,10 +90,9 @@ return_entries chip flash kept =
     if bytes_eq (page_of chip flash kept.page) kept.bytes then []
     else rewrite_entries chip kept.page kept.bytes
 
--- the page at work is put back unread, before any other
-abbrev pub work_entries : ChipData → Option Kept → List Entry
-work_entries chip None = []
-work_entries chip (Some kept) = rewrite_entries chip kept.page kept.bytes
+-- the pages at work are put back unread, before any other
+abbrev pub work_entries : ChipData → List Kept → List Entry
+work_entries chip work = flat_map (λ kept. rewrite_entries chip kept.page kept.bytes) work
 
 -- so many segments are taken back, the newest first
 abbrev pub taken_entries : ChipData → ℕ → List SegmentData → List ℕ → List Entry
@@ -103,11 +102,11 @@ taken_entries chip (suc taken) (segment ∷ below) flash =
     flat_map (return_entries chip flash) segment.pages ++ (Undoes (length below + 1)
     ∷ taken_entries chip taken below (with_kept_pages chip segment flash))
 
--- an undo of so many: the page at work first, and then the segments
+-- an undo of so many: the pages at work first, and then the segments
 abbrev pub undo_entries : ChipData → ℕ → List SegmentData → List ℕ → List Entry
 undo_entries chip taken stack flash =
-    work_entries chip (page_at_work stack)
-    ++ taken_entries chip taken stack (with_work chip (page_at_work stack) flash)
+    work_entries chip (kept_at_work stack)
+    ++ taken_entries chip taken stack (with_work chip (kept_at_work stack) flash)
 
 -- their text; the first line makes a torn tail void, and where there is none nothing is added
 abbrev pub text_added : Bool → List Entry → List ℕ

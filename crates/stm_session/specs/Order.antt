@@ -3,7 +3,6 @@
 use Rattle.std.specs.Prelude.{◌≡◌, ◌≢◌, ◌⊎◌, ℕ, zero, suc, ◌+◌, ◌*◌, ◌/◌, ◌<◌, Bool, true, false}
 use Rattle.std.specs.Prelude.{if◌then◌else◌, List, [], ◌∷◌, ◌++◌, length, take, drop, map, bytes_eq}
 use Rattle.std.specs.Prelude.{Option, Some, None, Result, IfErr}
-use Rattle.stm_wire.specs.declared.intent.Intent.{Intent}
 use Rattle.stm_wire.specs.declared.fault.WireFault.{WireFault}
 use Rattle.stm_wire.specs.declared.fault.WireFault.TheVariants.{Line}
 use Rattle.stm_wire.specs.Call.{Call, Put, Get, Append, Fetch}
@@ -18,7 +17,6 @@ use Rattle.stm_journal.specs.declared.entry.Entry.TheVariants.{Erases, Programs,
 use Rattle.stm_journal.specs.declared.kept.Kept.{Kept}
 use Rattle.stm_journal.specs.Calls.{AppendsInPart}
 use Rattle.stm_journal.specs.Journals.{Loaded, added_bytes}
-use Rattle.stm_journal.specs.States.{intent_page}
 use Rattle.stm_session.specs.declared.fault.Fault.{Fault}
 use Rattle.stm_session.specs.Fault.{Cause, of_file, of_line, of_memory, of_protocol, of_refusal}
 use Rattle.stm_session.specs.Fault.{of_session, cause_of}
@@ -265,16 +263,18 @@ pub record IsRewritten (chip : ChipData) (Told : Tells) (n : ℕ) (steps : List 
   pub told : Told [] page
   pub is : steps ≡ rewrite_steps chip n page (frames_of (erased_byte chip) page (length page / 256))
 
--- the page of an intent is
-abbrev pub IsWorkRewritten : ChipData → Tells → Option Intent → List Step → Type 0
-IsWorkRewritten chip Told None steps = steps ≡ []
-IsWorkRewritten chip Told (Some intent) steps = IsRewritten chip Told (intent_page intent) steps
+-- and so is each of some, one after another
+abbrev pub AreRewritten : ChipData → Tells → List ℕ → List Step → Type 0
+AreRewritten chip Told [] steps = steps ≡ []
+AreRewritten chip Told (n ∷ pages) steps = (first : List Step) × (rest : List Step)
+    × (steps ≡ first ++ rest) × IsRewritten chip Told n first
+    × AreRewritten chip (behind first Told) pages rest
 
--- the page of the newest segment's intent first, and then so many segments are taken back
-pub record AreAllTakenBack (again : Bool) (chip : ChipData) (Told : Tells) (intent : Option Intent)
+-- the pages at work first, and then so many segments are taken back
+pub record AreAllTakenBack (again : Bool) (chip : ChipData) (Told : Tells) (work : List ℕ)
     (taken : ℕ) (segments : List (List Kept)) (steps : List Step) : Type 0 where
   pub first : List Step
-  pub is_first : IsWorkRewritten chip Told intent first
+  pub is_first : AreRewritten chip Told work first
   pub back : List Step
   pub are_back : AreTakenBack again chip (behind first Told) taken segments back
   pub is : steps ≡ first ++ back

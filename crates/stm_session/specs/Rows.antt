@@ -6,6 +6,7 @@ use Rattle.hex.specs.Hex.{encode_with}
 use Rattle.hex.proofs.OnLiterals.{hex_on_literals}
 use Rattle.stm_image.specs.Lay.{lay}
 use Rattle.stm_wire.specs.declared.chip.EraseKind.TheVariants.{Page, Extended}
+use Rattle.stm_wire.specs.declared.intent.Intent.{Intent}
 use Rattle.stm_wire.specs.declared.intent.Intent.TheVariants.{Erase, Program}
 use Rattle.stm_wire.specs.Chip.{ChipData, chip_of, of_board}
 use Rattle.stm_wire.specs.Device.{Device, Fresh}
@@ -16,7 +17,7 @@ use Rattle.stm_journal.specs.declared.stage.Stage.{Stage}
 use Rattle.stm_journal.specs.declared.stage.Stage.TheVariants.{Open, Ended, Returning}
 use Rattle.stm_journal.specs.declared.entry.Entry.TheVariants.{Names, Opens, Keeps, Erases}
 use Rattle.stm_journal.specs.declared.entry.Entry.TheVariants.{Programs, Ends, Undoes}
-use Rattle.stm_journal.specs.States.{StateData}
+use Rattle.stm_journal.specs.States.{SegmentData, StateData}
 use Rattle.stm_journal.specs.Journals.{JournalData, good, bad, journal_of}
 use Rattle.stm_journal.specs.Flashes.{flashes_before_segments}
 use Rattle.stm_session.specs.declared.fault.Fault.TheVariants as faults
@@ -294,6 +295,26 @@ old_version = refl
 old_version_first : undo_refusal (journal_with 1 (page_one ∷ [])) (many ∷ [])
     ≡ Some (faults.BadJournal 1)
 old_version_first = refl
+
+-- both are at work where page 1 is: they are written before any other, though they read as they
+-- were; once page 257 is to be erased, page 1 is done
+abbrev paired : Intent → List SegmentData
+paired intent = record { pages = page_257 ∷ page_one ∷ []; stage = Open (Some intent) } ∷ []
+
+both_at_work : undo_entries many 1 (paired (Erase 1)) (replicate 258 0)
+    ≡ Erases 1 ∷ Erases 257 ∷ Undoes 1 ∷ []
+unfolding frames_of
+both_at_work = refl
+
+both_behind_frames : undo_entries many 1 (paired (Program 1)) (replicate 258 0)
+    ≡ Erases 1 ∷ Erases 257 ∷ Undoes 1 ∷ []
+unfolding frames_of
+both_behind_frames = refl
+
+one_at_work : undo_entries many 1 (paired (Erase 257)) (replicate 258 0)
+    ≡ Erases 257 ∷ Undoes 1 ∷ []
+unfolding frames_of
+one_at_work = refl
 
 alone_is_misfit : undo_refusal (journal_with 2 (page_one ∷ [])) (many ∷ [])
     ≡ Some (faults.BadJournal 3)

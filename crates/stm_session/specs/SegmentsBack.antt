@@ -18,7 +18,7 @@ abbrev pub going_lines : ℕ → RigState → List Entry
 going_lines taken old =
     taken_entries old.device.chip taken (state_at old.journal).stack old.device.flash
 
--- and those of an undo, which puts the page at work back first
+-- and those of an undo, which puts the pages at work back first
 abbrev pub undo_lines : ℕ → RigState → List Entry
 undo_lines taken old =
     undo_entries old.device.chip taken (state_at old.journal).stack old.device.flash

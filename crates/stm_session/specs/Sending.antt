@@ -1,11 +1,11 @@
 -- What a session puts on any line, honest or not, and in how many calls.
-use Rattle.std.specs.Prelude.{◌≡◌, ◌⊎◌, ℕ, ◌+◌, ◌*◌, ◌<◌, ◌≤◌, ◌==◌, nat_lt, if◌then◌else◌, Bool}
+use Rattle.std.specs.Prelude.{◌≡◌, ◌⊎◌, ℕ, ◌+◌, ◌*◌, ◌<◌, ◌≤◌, Bool}
 use Rattle.std.specs.Prelude.{true, false, List, [], ◌++◌, Option, Some, None, Result, Ok, Err}
 use Rattle.std.specs.Prelude.{IfOk}
 use Rattle.stm_wire.specs.declared.intent.Intent.{Intent}
 use Rattle.stm_wire.specs.Call.{Call}
 use Rattle.stm_wire.specs.declared.fault.WireFault.{WireFault}
-use Rattle.stm_wire.specs.Chip.{ChipData, flash_size, page_offset, page_size}
+use Rattle.stm_wire.specs.Chip.{ChipData}
 use Rattle.stm_wire.specs.Dialogue.{Turn, GoesOn, IsBrokenOff, calls_of}
 use Rattle.stm_wire.specs.Parts.{AreFew, IsSession}
 use Rattle.stm_wire.specs.Rig.{RigState}
@@ -36,23 +36,10 @@ most_of_run n = most_calls 0 + (most_of_confirming + n * most_of_command)
 abbrev pub most_of_reaching : ℕ → ℕ
 most_of_reaching limit = 4100 * (limit + 4) + 268
 
--- of an undo of so many segments, once its device is known: a page is written first, and none is
--- larger than the greatest flash
+-- of an undo of so many segments, once its device is known: the pages at work are written first, and
+-- together they are no larger than the greatest flash
 abbrev pub most_of_undo : ℕ → ℕ
 most_of_undo taken = 3 * 2097152 + taken * most_of_command
-
--- of keeping the page that has to be kept with page 1: it is read, and no chip has
--- more pages than its flash
-abbrev pub most_of_companion : ChipData → ℕ → ℕ
-most_of_companion chip n = if n == 1 then 3 * flash_size chip else 0
-
--- of one page of a command: it is read, kept, erased and written
-abbrev pub most_of_page : ChipData → ℕ → ℕ
-most_of_page chip n = 5 * page_size chip n + most_of_companion chip n
-
--- of the pages below one
-abbrev pub most_below : ChipData → ℕ → ℕ
-most_below chip k = 5 * page_offset chip k + (if nat_lt 1 k then 3 * flash_size chip else 0)
 
 -- only the line, or a device that doesn't follow the protocol, breaks a frame off
 abbrev pub leaves_whole : Cause → Bool

@@ -15,6 +15,7 @@ use Rattle.stm_session.specs.Order.{AreAllTakenBack, Begin, IsAfter, OrMisread, 
 use Rattle.stm_session.specs.Reaching.{IsConfirmedInPart, ReachesAndDoes, ReachesAndStops}
 use Rattle.stm_session.specs.Reaching.{ReachesInPart, Session, StepsOf, confirming}
 use Rattle.stm_session.specs.ReturnedBytes.{kept_bytes}
+use Rattle.stm_session.specs.Work.{pages_at_work}
 
 -- An undo that does such steps: settling by the intent of the journal that was loaded, or
 -- connecting, Get, Get ID, by which the device is the journal's chip, the question whether it is
@@ -34,11 +35,11 @@ UndoDoesInPart is_fresh P table old new fault = GoesOn AreFetches old.calls new.
     ⊎ ReachesAndStops way chip.id l.is_torn (IsConfirmedInPart chip (P chip l.state))
     (cause_of fault) old new)
 
--- so many of the journal's segments are taken back, the page of its intent first; and each page of
+-- so many of the journal's segments are taken back, the pages at work first; and each page of
 -- theirs is read again, where that is asked for
 abbrev pub AreTakenAs : Bool → Tells → ℕ → StepsOf
 AreTakenAs again Told taken chip s steps =
-    AreAllTakenBack again chip Told (intent_of s) taken (pages_of_segments s.stack) steps
+    AreAllTakenBack again chip Told (pages_at_work s.stack) taken (pages_of_segments s.stack) steps
 
 abbrev pub AreTaken : Bool → ℕ → StepsOf
 AreTaken again taken = AreTakenAs again untold taken

@@ -1,14 +1,11 @@
 // Changing a page in a command.
-ghost use Rattle.std.specs.Prelude.{◌≡◌, ◌≢◌, ◌<◌, ◌+◌, ◌*◌, List, ℕ, length, not, bytes_eq, true};
-ghost use Rattle.std.specs.Prelude.{false, Some, IfOk, OnOk, IsTrue, IfErr};
+ghost use Rattle.std.specs.Prelude.{◌≡◌, ◌≢◌, ◌<◌, List, ℕ, length, not, bytes_eq, true};
+ghost use Rattle.std.specs.Prelude.{false, IfOk, OnOk, IsTrue, IfErr};
 ghost use Rattle.stm_wire.specs.Chip.{page_count, page_size, page_of, with_page};
-ghost use Rattle.stm_wire.specs.Dialogue.{GoesOn};
-ghost use Rattle.stm_wire.specs.Parts.{IsPart};
 ghost use Rattle.stm_journal.specs.States.{newest_keeps, newest_may_keep};
 ghost use Rattle.stm_session.specs.Fault.{HasSessionCause};
 ghost use Rattle.stm_session.specs.ChangeOrder.{IsChanged};
 ghost use Rattle.stm_session.specs.Order.{Begin, Follows, Stops};
-ghost use Rattle.stm_session.specs.Sending.{is_whole, most_of_companion};
 ghost use Rattle.stm_session.specs.Undoable.{has_companion};
 ghost use Rattle.stm_session.specs.Steps.{IsSteady, Goes};
 ghost use Rattle.stm_session.specs.Changing.{HasTurned, change_entries};
@@ -46,9 +43,6 @@ pub fn change_page<R: Rig>(
         (λ changed. HasTurned kept changed chip.now n journal.old.state journal.new.state) }
     ensures cause { HasSessionCause (R.view rig.old) (R.view rig.new) result }
     ensures named { IfErr result (λ fault. fault ≢ Fault.Unfinished) }
-    ensures puts { let old = R.view rig.old in let new = R.view rig.new in
-        let most = most_of_companion chip.now n + (9 + 2 * length page.now) in
-        GoesOn (IsPart (Some chip.now) (is_whole result) most) old.calls new.calls }
     ensures order { let old = R.view rig.old in let new = R.view rig.new in
         let Made = IsChanged kept chip.now n held.now page.now in
         OnOk result (Follows Made journal.old journal.new old new) }

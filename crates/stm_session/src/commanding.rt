@@ -1,14 +1,11 @@
 // A command that changes the flash, as one segment of the journal.
-ghost use Rattle.std.specs.Prelude.{◌≡◌, ◌≢◌, ◌<◌, ◌+◌, false, List, ℕ, length, Some, IfOk, OnOk};
+ghost use Rattle.std.specs.Prelude.{◌≡◌, ◌≢◌, ◌<◌, ◌+◌, false, List, ℕ, length, IfOk, OnOk};
 ghost use Rattle.std.specs.Prelude.{IfErr};
-ghost use Rattle.stm_wire.specs.Dialogue.{GoesOn};
-ghost use Rattle.stm_wire.specs.Parts.{IsPart};
 ghost use Rattle.stm_journal.specs.States.{is_unfinished};
 ghost use Rattle.stm_session.specs.Contents.{IsMade, command_of};
 ghost use Rattle.stm_session.specs.Fault.{HasSessionCause};
 ghost use Rattle.stm_session.specs.Lines.{depth_at, is_named_at, segment_entries};
 ghost use Rattle.stm_session.specs.Meaning.{flash_after};
-ghost use Rattle.stm_session.specs.Sending.{is_whole, most_of_command};
 ghost use Rattle.stm_session.specs.ChangeOrder.{IsOneSegment, IsSegmentBegun};
 ghost use Rattle.stm_session.specs.Order.{Follows, Stops};
 ghost use Rattle.stm_session.specs.Segments.{Changes};
@@ -40,8 +37,6 @@ pub fn change_flash<R: Rig>(
     ensures number { IfOk result (λ answer. answer.0 ≡ length journal.old.state.stack + 1) }
     ensures cause { HasSessionCause (R.view rig.old) (R.view rig.new) result }
     ensures named { IfErr result (λ fault. fault ≢ Fault.Unfinished) }
-    ensures puts { let old = R.view rig.old in let new = R.view rig.new in
-        GoesOn (IsPart (Some chip.now) (is_whole result) most_of_command) old.calls new.calls }
     ensures order { let old = R.view rig.old in let new = R.view rig.new in
         let Done = IsOneSegment chip.now change.now journal.old.state in
         OnOk result (Follows Done journal.old journal.new old new) }

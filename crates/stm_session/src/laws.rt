@@ -8,7 +8,7 @@ ghost use Rattle.stm_chip.specs.Document.{IsChipWith, IsNewId};
 ghost use Rattle.stm_journal.specs.Calls.{AreFetches};
 ghost use Rattle.stm_journal.specs.Flashes.{flashes_before_segments};
 ghost use Rattle.stm_journal.specs.Journals.{journal_of};
-ghost use Rattle.stm_journal.specs.States.{StateData};
+ghost use Rattle.stm_journal.specs.States.{IsSound, StateData, intent_of};
 ghost use Rattle.stm_session.specs.declared.command.Command.{Command};
 ghost use Rattle.stm_session.specs.declared.fault.Fault.{Fault};
 ghost use Rattle.stm_session.specs.declared.outcome.Report.{Report};
@@ -33,7 +33,9 @@ ghost use Rattle.stm_session.specs.Refusals.{is_in_flash, run_refusal};
 ghost use Rattle.stm_session.specs.Running.{RunsReads, is_read};
 ghost use Rattle.stm_session.specs.RunOrder.{RunStops, RunsInOrder};
 ghost use Rattle.stm_session.specs.Runs.{Runs};
-ghost use Rattle.stm_session.specs.Undoable.{IsJournalOf, Undoable, is_unfinished_at, state_at};
+ghost use Rattle.stm_session.specs.Undoable.{IsJournalOf, Undoable, has_companion};
+ghost use Rattle.stm_session.specs.Undoable.{is_unfinished_at, state_at};
+ghost use Rattle.stm_session.specs.Work.{pages_at_work, pages_of_intent};
 
 use stm_image::laying_by_parts;
 use stm_journal::{a_journal_is_sound, changes_of_kept_pages_keep_the_flashes};
@@ -111,13 +113,16 @@ pub fn a_chip_is_looked_up_by_its_id()
         → IsNewId table id → chip_with table id ≡ None }
 {}
 
-/// A journal is refused for its header or for the pages that it keeps exactly where it
-/// isn't a journal of the chip.
+/// A journal is refused for its header or for the pages that it keeps exactly where it isn't a
+/// journal of the chip. In one that is, page 257 is at work with page 1 exactly where the chip has
+/// it.
 pub fn a_journal_of_the_chip_is_not_refused()
     ensures unrefused { (chip : ChipData) (s : StateData)
         → IsJournalOf chip s → misfit_refusal chip s ≡ None }
     ensures fits { (chip : ChipData) (s : StateData)
         → misfit_refusal chip s ≡ None → IsJournalOf chip s }
+    ensures work { (chip : ChipData) (s : StateData) → IsSound s → IsJournalOf chip s
+        → pages_at_work s.stack ≡ pages_of_intent (intent_of s) (has_companion chip) }
 {}
 
 /// A run that only reads, and is refused nothing, begins no segment: its outcomes hold the flash's

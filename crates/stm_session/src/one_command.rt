@@ -26,7 +26,7 @@ use crate::laws_of_steps::step_laws;
 use crate::reading::read_range;
 use crate::{Command, Fault, Outcome};
 use std::alloc::Global;
-use stm_image::Image;
+use stm_image::{Image, laying_by_parts};
 use stm_journal::Journal;
 use stm_wire::{Chip, Rig};
 
@@ -46,8 +46,6 @@ fn write_image<R: Rig>(
     ensures kind { IfOk result (IsKindOf (Command.Write image.now)) }
     ensures cause { HasSessionCause (R.view rig.old) (R.view rig.new) result }
     ensures named { IfErr result (λ fault. fault ≢ Fault.Unfinished) }
-    ensures puts { let old = R.view rig.old in let new = R.view rig.new in
-        GoesOn (IsPart (Some chip.now) (is_whole result) most_of_command) old.calls new.calls }
     ensures order { let old = R.view rig.old in let new = R.view rig.new in
         let Done = IsDoneTelling chip.now (writes image.now) journal.old.state in
         IfOk result (λ said.
@@ -79,8 +77,6 @@ fn erase_pages<R: Rig>(
     ensures kind { IfOk result (IsKindOf (Command.Erase pages.now)) }
     ensures cause { HasSessionCause (R.view rig.old) (R.view rig.new) result }
     ensures named { IfErr result (λ fault. fault ≢ Fault.Unfinished) }
-    ensures puts { let old = R.view rig.old in let new = R.view rig.new in
-        GoesOn (IsPart (Some chip.now) (is_whole result) most_of_command) old.calls new.calls }
     ensures order { let old = R.view rig.old in let new = R.view rig.new in
         let Done = IsDoneTelling chip.now (erases pages.now.items) journal.old.state in
         IfOk result (λ said.
@@ -186,6 +182,8 @@ pub fn run_command<R: Rig>(
         → let c = command_data command.now in
         Does flashes c journal.new old new result outcome_data }
 {
+    laying_by_parts();
+    chip.keeps_limits();
     match command {
         Command::Write(image) => write_image(alloc, rig, journal, chip, image),
         Command::Erase(pages) => erase_pages(alloc, rig, journal, chip, pages),

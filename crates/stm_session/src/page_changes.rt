@@ -1,15 +1,12 @@
 // The pages of a command, one after another.
 ghost use Rattle.std.specs.Prelude.{◌≡◌, ◌≢◌, ◌<◌, ◌==◌, ◌&&◌, if◌then◌else◌, List, ℕ, length};
-ghost use Rattle.std.specs.Prelude.{true, false, Some, IfOk, OnOk, IsTrue, IfErr};
+ghost use Rattle.std.specs.Prelude.{true, false, IfOk, OnOk, IsTrue, IfErr};
 ghost use Rattle.stm_wire.specs.Chip.{page_count, page_of};
-ghost use Rattle.stm_wire.specs.Dialogue.{GoesOn};
-ghost use Rattle.stm_wire.specs.Parts.{IsPart};
 ghost use Rattle.stm_journal.specs.States.{newest_is_open, newest_keeps, newest_may_keep};
 ghost use Rattle.stm_journal.specs.Newest.{next_page};
 ghost use Rattle.stm_session.specs.Fault.{HasSessionCause};
 ghost use Rattle.stm_session.specs.ChangeOrder.{AreAllTurned, AreBegunTurns, IsTurn, IsTurnOf};
 ghost use Rattle.stm_session.specs.Order.{Begin, Follows, Stops};
-ghost use Rattle.stm_session.specs.Sending.{is_whole, most_of_command, most_of_page};
 ghost use Rattle.stm_session.specs.Undoable.{has_companion};
 ghost use Rattle.stm_session.specs.Steps.{IsSteady, Goes};
 ghost use Rattle.stm_session.specs.Changing.{HasTurned, change_entries};
@@ -48,9 +45,6 @@ fn turn_page<R: Rig>(
         (λ changed. HasTurned kept changed chip.now n journal.old.state journal.new.state) }
     ensures cause { HasSessionCause (R.view rig.old) (R.view rig.new) result }
     ensures named { IfErr result (λ fault. fault ≢ Fault.Unfinished) }
-    ensures puts { let old = R.view rig.old in let new = R.view rig.new in
-        let most = most_of_page chip.now n in
-        GoesOn (IsPart (Some chip.now) (is_whole result) most) old.calls new.calls }
     ensures order { let old = R.view rig.old in let new = R.view rig.new in
         IfOk result (λ changed. let Turned = IsTurnOf kept chip.now change.now n changed in
         Follows Turned journal.old journal.new old new) }
@@ -106,8 +100,6 @@ pub fn turn_pages<R: Rig>(
     ensures depth { OnOk result (length journal.new.state.stack ≡ length journal.old.state.stack) }
     ensures cause { HasSessionCause (R.view rig.old) (R.view rig.new) result }
     ensures named { IfErr result (λ fault. fault ≢ Fault.Unfinished) }
-    ensures puts { let old = R.view rig.old in let new = R.view rig.new in
-        GoesOn (IsPart (Some chip.now) (is_whole result) most_of_command) old.calls new.calls }
     ensures order { let old = R.view rig.old in let new = R.view rig.new in
         let Turned = AreAllTurned chip.now change.now in
         OnOk result (Follows Turned journal.old journal.new old new) }

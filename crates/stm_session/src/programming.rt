@@ -1,10 +1,9 @@
 // Programming a page that the journal keeps.
-ghost use Rattle.std.specs.Prelude.{◌≡◌, ◌≢◌, ◌<◌, ◌≤◌, ◌+◌, ◌*◌, ◌∷◌, [], List, ℕ, length, take};
-ghost use Rattle.std.specs.Prelude.{drop, Some, OnOk, IsTrue, Bool, IfErr};
+ghost use Rattle.std.specs.Prelude.{◌≡◌, ◌≢◌, ◌<◌, ◌+◌, ◌*◌, ◌∷◌, [], List, ℕ, length, take};
+ghost use Rattle.std.specs.Prelude.{drop, OnOk, IsTrue, Bool, IfErr};
 ghost use Rattle.stm_wire.specs.Chip.{page_count, page_size, page_offset, with_bytes, with_page};
 ghost use Rattle.stm_wire.specs.Chip.{erased_page, flash_size};
 ghost use Rattle.stm_wire.specs.Dialogue.{GoesOn};
-ghost use Rattle.stm_wire.specs.Parts.{IsPart};
 ghost use Rattle.stm_chip.specs.Plan.{IsFrame, AreFrames, written};
 ghost use Rattle.stm_journal.specs.declared.entry.Entry.TheVariants.{Programs};
 ghost use Rattle.stm_journal.specs.States.{newest_keeps};
@@ -13,7 +12,6 @@ ghost use Rattle.stm_journal.specs.Journals.{Loaded};
 ghost use Rattle.stm_session.specs.Fault.{HasSessionCause};
 ghost use Rattle.stm_session.specs.Order.{Adds, Are, Begin, DoesSteps, IsInOrder, Stops};
 ghost use Rattle.stm_session.specs.Order.{write_step, write_steps};
-ghost use Rattle.stm_session.specs.Sending.{is_whole};
 ghost use Rattle.stm_wire.specs.FlashLaws.{IsErasedAt};
 ghost use Rattle.stm_session.specs.Undoable.{state_at};
 ghost use Rattle.stm_session.specs.Steps.{IsSteady, IsUnder, Goes};
@@ -37,8 +35,6 @@ fn program_frame<R: Rig>(
     requires frame { IsFrame 0 (length page.now) frame }
     ensures cause { HasSessionCause (R.view rig.old) (R.view rig.new) result }
     ensures named { IfErr result (λ fault. fault ≢ Fault.Unfinished) }
-    ensures puts { let old = R.view rig.old in let new = R.view rig.new in
-        GoesOn (IsPart (Some chip.now) (is_whole result) 268) old.calls new.calls }
     ensures order { let old = R.view rig.old in let new = R.view rig.new in
         (torn : Bool) → let steps = write_step chip.now n page.now frame ∷ [] in
         OnOk result (GoesOn (IsInOrder torn steps) old.calls new.calls) }
@@ -74,9 +70,6 @@ fn program_frames<R: Rig>(
     requires frames { AreFrames 0 (length page.now) frames.now }
     ensures cause { HasSessionCause (R.view rig.old) (R.view rig.new) result }
     ensures named { IfErr result (λ fault. fault ≢ Fault.Unfinished) }
-    ensures puts { let old = R.view rig.old in let new = R.view rig.new in
-        GoesOn (IsPart (Some chip.now) (is_whole result) (2 * length page.now))
-        old.calls new.calls }
     ensures order { let old = R.view rig.old in let new = R.view rig.new in
         (torn : Bool) → let steps = write_steps chip.now n page.now frames.now in
         OnOk result (GoesOn (IsInOrder torn steps) old.calls new.calls) }
@@ -116,9 +109,6 @@ pub fn program_kept<R: Rig>(
         (HasIntended n (Intent.Program n) journal.old.state journal.new.state) }
     ensures cause { HasSessionCause (R.view rig.old) (R.view rig.new) result }
     ensures named { IfErr result (λ fault. fault ≢ Fault.Unfinished) }
-    ensures puts { let old = R.view rig.old in let new = R.view rig.new in
-        GoesOn (IsPart (Some chip.now) (is_whole result) (2 * length page.now))
-        old.calls new.calls }
     ensures order { let old = R.view rig.old in let new = R.view rig.new in
         let steps = Adds (Programs n ∷ []) ∷ write_steps chip.now n page.now frames.now in
         OnOk result (DoesSteps steps journal.old journal.new old new) }

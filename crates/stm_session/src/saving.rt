@@ -1,15 +1,12 @@
 // Keeping pages in the journal before they change.
-ghost use Rattle.std.specs.Prelude.{◌≡◌, ◌≢◌, ◌<◌, ◌*◌, ◌==◌, ◌&&◌, ◌∷◌, [], List, ℕ, length, true};
-ghost use Rattle.std.specs.Prelude.{false, Some, OnOk, IsTrue, IfErr};
-ghost use Rattle.stm_wire.specs.Chip.{flash_size, page_count, page_size, page_of};
-ghost use Rattle.stm_wire.specs.Dialogue.{GoesOn};
-ghost use Rattle.stm_wire.specs.Parts.{IsPart};
+ghost use Rattle.std.specs.Prelude.{◌≡◌, ◌≢◌, ◌<◌, ◌==◌, ◌&&◌, ◌∷◌, [], List, ℕ, length, true};
+ghost use Rattle.std.specs.Prelude.{false, OnOk, IsTrue, IfErr};
+ghost use Rattle.stm_wire.specs.Chip.{page_count, page_size, page_of};
 ghost use Rattle.stm_journal.specs.declared.entry.Entry.TheVariants.{Keeps};
 ghost use Rattle.stm_journal.specs.States.{newest_keeps, newest_may_keep};
 ghost use Rattle.stm_session.specs.Fault.{HasSessionCause};
 ghost use Rattle.stm_session.specs.ChangeOrder.{AreBothSaved, IsCompanionSaved, IsSaved};
 ghost use Rattle.stm_session.specs.Order.{Adds, Are, Begin, DoesSteps, Follows, Stops};
-ghost use Rattle.stm_session.specs.Sending.{is_whole, most_of_companion};
 ghost use Rattle.stm_session.specs.Undoable.{has_companion};
 ghost use Rattle.stm_session.specs.Steps.{IsSteady, Goes};
 ghost use Rattle.stm_session.specs.Changing.{HasSaved, HasAllSaved, save_entries};
@@ -37,8 +34,6 @@ fn save_page<R: Rig>(
     ensures saved { OnOk result (HasSaved n journal.old.state journal.new.state) }
     ensures cause { HasSessionCause (R.view rig.old) (R.view rig.new) result }
     ensures named { IfErr result (λ fault. fault ≢ Fault.Unfinished) }
-    ensures puts { let old = R.view rig.old in let new = R.view rig.new in
-        GoesOn (IsPart (Some chip.now) (is_whole result) 0) old.calls new.calls }
     ensures order { let old = R.view rig.old in let new = R.view rig.new in
         let steps = Adds (Keeps n held.now ∷ []) ∷ [] in
         OnOk result (DoesSteps steps journal.old journal.new old new) }
@@ -70,9 +65,6 @@ fn save_companion<R: Rig>(
     ensures saved { OnOk result (HasSaved 257 journal.old.state journal.new.state) }
     ensures cause { HasSessionCause (R.view rig.old) (R.view rig.new) result }
     ensures named { IfErr result (λ fault. fault ≢ Fault.Unfinished) }
-    ensures puts { let old = R.view rig.old in let new = R.view rig.new in
-        let most = 3 * flash_size chip.now in
-        GoesOn (IsPart (Some chip.now) (is_whole result) most) old.calls new.calls }
     ensures order { let old = R.view rig.old in let new = R.view rig.new in
         OnOk result (Follows (IsCompanionSaved chip.now) journal.old journal.new old new) }
     ensures stops { let old = R.view rig.old in let new = R.view rig.new in
@@ -106,9 +98,6 @@ fn save_both<R: Rig>(
     ensures saved { OnOk result (HasAllSaved false chip.now 1 journal.old.state journal.new.state) }
     ensures cause { HasSessionCause (R.view rig.old) (R.view rig.new) result }
     ensures named { IfErr result (λ fault. fault ≢ Fault.Unfinished) }
-    ensures puts { let old = R.view rig.old in let new = R.view rig.new in
-        let most = 3 * flash_size chip.now in
-        GoesOn (IsPart (Some chip.now) (is_whole result) most) old.calls new.calls }
     ensures order { let old = R.view rig.old in let new = R.view rig.new in
         let Saved = AreBothSaved chip.now 1 held.now in
         OnOk result (Follows Saved journal.old journal.new old new) }
@@ -153,9 +142,6 @@ pub fn save_pages<R: Rig>(
     ensures saved { OnOk result (HasAllSaved kept chip.now n journal.old.state journal.new.state) }
     ensures cause { HasSessionCause (R.view rig.old) (R.view rig.new) result }
     ensures named { IfErr result (λ fault. fault ≢ Fault.Unfinished) }
-    ensures puts { let old = R.view rig.old in let new = R.view rig.new in
-        let most = most_of_companion chip.now n in
-        GoesOn (IsPart (Some chip.now) (is_whole result) most) old.calls new.calls }
     ensures order { let old = R.view rig.old in let new = R.view rig.new in
         let Saved = IsSaved kept chip.now n held.now in
         OnOk result (Follows Saved journal.old journal.new old new) }

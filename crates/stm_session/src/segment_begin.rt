@@ -1,14 +1,11 @@
 // Beginning the segment of a command.
-ghost use Rattle.std.specs.Prelude.{◌≡◌, ◌≢◌, ◌<◌, ◌+◌, ◌∷◌, [], false, List, ℕ, length, Some};
+ghost use Rattle.std.specs.Prelude.{◌≡◌, ◌≢◌, ◌<◌, ◌+◌, ◌∷◌, [], false, List, ℕ, length};
 ghost use Rattle.std.specs.Prelude.{IfOk, OnOk, IfErr};
-ghost use Rattle.stm_wire.specs.Dialogue.{GoesOn};
-ghost use Rattle.stm_wire.specs.Parts.{IsPart};
 ghost use Rattle.stm_journal.specs.Journals.{begin_entries};
 ghost use Rattle.stm_journal.specs.States.{is_unfinished};
 ghost use Rattle.stm_journal.specs.Newest.{HasBegun};
 ghost use Rattle.stm_session.specs.Fault.{HasSessionCause};
 ghost use Rattle.stm_session.specs.Lines.{depth_at, is_named_at, opening_entries};
-ghost use Rattle.stm_session.specs.Sending.{is_whole};
 ghost use Rattle.stm_session.specs.Order.{Adds, Are, Begin, DoesSteps, Stops};
 ghost use Rattle.stm_session.specs.Segments.{Changes};
 ghost use Rattle.stm_session.specs.Steps.{IsSteady};
@@ -28,8 +25,6 @@ pub fn begin_segment<R: Rig>(rig: &mut R, journal: &mut Journal, chip: &Chip) ->
     ensures number { IfOk result (λ k. k ≡ length journal.old.state.stack + 1) }
     ensures cause { HasSessionCause (R.view rig.old) (R.view rig.new) result }
     ensures named { IfErr result (λ fault. fault ≢ Fault.Unfinished) }
-    ensures puts { let old = R.view rig.old in let new = R.view rig.new in
-        GoesOn (IsPart (Some chip.now) (is_whole result) 0) old.calls new.calls }
     ensures order { let old = R.view rig.old in let new = R.view rig.new in
         let steps = Adds (begin_entries chip.now.id chip.now.unique journal.old.state) ∷ [] in
         OnOk result (DoesSteps steps journal.old journal.new old new) }

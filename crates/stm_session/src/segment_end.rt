@@ -1,15 +1,11 @@
 // Ending the segment of a command.
-ghost use Rattle.std.specs.Prelude.{◌≡◌, ◌≢◌, ◌∷◌, [], false, List, ℕ, length, Option, OnOk};
+ghost use Rattle.std.specs.Prelude.{◌≢◌, ◌∷◌, [], List, ℕ, length, OnOk};
 ghost use Rattle.std.specs.Prelude.{IsTrue, IfErr};
-ghost use Rattle.stm_wire.specs.Chip.{ChipData};
-ghost use Rattle.stm_wire.specs.Dialogue.{GoesOn};
-ghost use Rattle.stm_wire.specs.Parts.{IsPart};
 ghost use Rattle.stm_journal.specs.declared.entry.Entry.TheVariants.{Ends};
 ghost use Rattle.stm_journal.specs.States.{newest_is_open};
 ghost use Rattle.stm_journal.specs.Newest.{HasEnded};
 ghost use Rattle.stm_session.specs.Fault.{HasSessionCause};
 ghost use Rattle.stm_session.specs.Lines.{depth_at};
-ghost use Rattle.stm_session.specs.Sending.{is_whole};
 ghost use Rattle.stm_session.specs.Order.{Adds, Are, Begin, DoesSteps, Stops};
 ghost use Rattle.stm_session.specs.Segments.{Closes};
 ghost use Rattle.stm_session.specs.Steps.{IsSteady};
@@ -25,8 +21,6 @@ pub fn end_segment<R: Rig>(rig: &mut R, journal: &mut Journal) -> Result<(), Fau
     ensures ended { OnOk result (HasEnded journal.old.state journal.new.state) }
     ensures cause { HasSessionCause (R.view rig.old) (R.view rig.new) result }
     ensures named { IfErr result (λ fault. fault ≢ Fault.Unfinished) }
-    ensures puts { let old = R.view rig.old in let new = R.view rig.new in
-        (chip : Option ChipData) → GoesOn (IsPart chip (is_whole result) 0) old.calls new.calls }
     ensures order { let old = R.view rig.old in let new = R.view rig.new in
         let steps = Adds (Ends (length journal.old.state.stack) ∷ []) ∷ [] in
         OnOk result (DoesSteps steps journal.old journal.new old new) }

@@ -1,10 +1,9 @@
-// Taking the newest segments back, one after another, and before them the page at work.
+// Taking the newest segments back, one after another, and before them the pages at work.
 ghost use Rattle.std.specs.Prelude.{◌≡◌, ◌≤◌, ◌+◌, ◌*◌, List, ℕ, length, Some, OnOk};
 ghost use Rattle.stm_wire.specs.Dialogue.{GoesOn};
 ghost use Rattle.stm_wire.specs.Parts.{IsPart};
 ghost use Rattle.stm_journal.specs.Fits.{AllFit};
 ghost use Rattle.stm_journal.specs.Newest.{pages_of_segments};
-ghost use Rattle.stm_journal.specs.States.{intent_of};
 ghost use Rattle.stm_session.specs.Fault.{HasSessionCause};
 ghost use Rattle.stm_session.specs.SegmentsBack.{GoesBack, GoesBackBy, undo_lines};
 ghost use Rattle.stm_session.specs.Order.{BeginTold, Follows, AreAllTakenBack, AreTakenBack};
@@ -14,6 +13,7 @@ ghost use Rattle.stm_session.specs.Told.{ToldIn, behind_confirming};
 ghost use Rattle.stm_session.specs.Sending.{is_whole, most_of_command, most_of_confirming};
 ghost use Rattle.stm_session.specs.Sending.{most_of_undo};
 ghost use Rattle.stm_session.specs.Steps.{IsSteady};
+ghost use Rattle.stm_session.specs.Work.{pages_at_work};
 
 use crate::Fault;
 use crate::confirming::confirm;
@@ -60,8 +60,8 @@ pub fn take_back_newest<R: Rig>(
     Ok(())
 }
 
-/// Takes so many segments back, the newest first, behind a journal that was loaded: the page of its
-/// intent is written before.
+/// Takes so many segments back, the newest first, behind a journal that was loaded: the pages at
+/// work are written before.
 pub fn go_back<R: Rig>(
     alloc: Global,
     rig: &mut R,
@@ -78,16 +78,16 @@ pub fn go_back<R: Rig>(
         let most = most_of_undo taken in
         GoesOn (IsPart (Some chip.now) (is_whole result) most) old.calls new.calls }
     ensures order { let old = R.view rig.old in let new = R.view rig.new in
-        let intent = intent_of journal.old.state in
+        let work = pages_at_work journal.old.state.stack in
         let segments = pages_of_segments journal.old.state.stack in
         let Told = ToldIn R.view journal.old.is_torn old new in
-        let Taken = AreAllTakenBack again chip.now Told intent taken segments in
+        let Taken = AreAllTakenBack again chip.now Told work taken segments in
         OnOk result (Follows Taken journal.old journal.new old new) }
     ensures stops { let old = R.view rig.old in let new = R.view rig.new in
-        let intent = intent_of journal.old.state in
+        let work = pages_at_work journal.old.state.stack in
         let segments = pages_of_segments journal.old.state.stack in
         let Told = ToldIn R.view journal.old.is_torn old new in
-        let Begun = BeginTold (λ T. AreAllTakenBack again chip.now T intent taken segments) Told in
+        let Begun = BeginTold (λ T. AreAllTakenBack again chip.now T work taken segments) Told in
         Stops (OrMisread again chip.now Begun) journal.old.is_torn old new result }
     ensures honest { let old = R.view rig.old in let new = R.view rig.new in
         (flashes : List (List ℕ)) → IsSteady flashes journal.old old → old.device.chip ≡ chip.now
@@ -116,17 +116,17 @@ pub fn go_back_confirmed<R: Rig>(
         let most = most_of_confirming + most_of_undo taken in
         GoesOn (IsPart (Some chip.now) (is_whole result) most) old.calls new.calls }
     ensures order { let old = R.view rig.old in let new = R.view rig.new in
-        let intent = intent_of journal.old.state in
+        let work = pages_at_work journal.old.state.stack in
         let segments = pages_of_segments journal.old.state.stack in
         let Told = behind_confirming chip.now (ToldIn R.view journal.old.is_torn old new) in
-        let Taken = AreAllTakenBack again chip.now Told intent taken segments in
+        let Taken = AreAllTakenBack again chip.now Told work taken segments in
         OnOk result (Follows (IsAfter (confirming chip.now) Taken) journal.old journal.new
         old new) }
     ensures stops { let old = R.view rig.old in let new = R.view rig.new in
-        let intent = intent_of journal.old.state in
+        let work = pages_at_work journal.old.state.stack in
         let segments = pages_of_segments journal.old.state.stack in
         let Told = behind_confirming chip.now (ToldIn R.view journal.old.is_torn old new) in
-        let Begun = BeginTold (λ T. AreAllTakenBack again chip.now T intent taken segments) Told in
+        let Begun = BeginTold (λ T. AreAllTakenBack again chip.now T work taken segments) Told in
         let Back = OrMisread again chip.now Begun in
         Stops (IsConfirmedInPart chip.now Back) journal.old.is_torn old new result }
     ensures honest { let old = R.view rig.old in let new = R.view rig.new in

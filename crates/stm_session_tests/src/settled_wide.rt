@@ -13,6 +13,23 @@ const PAGES_257_AND_1: Parts = &[
     (b"\nerase 1\n", 1),
 ];
 
+/// The same once page 1 was written, and once page 257 was to be erased.
+const PAGE_1_WRITTEN: Parts = &[
+    (b"stmjournal 2 0A02\nopen 1\npage 257 ", 1),
+    (b"00", 256),
+    (b"\npage 1 ", 1),
+    (b"00", 256),
+    (b"\nerase 1\nprogram 1\n", 1),
+];
+
+const PAGE_257_ERASED: Parts = &[
+    (b"stmjournal 2 0A02\nopen 1\npage 257 ", 1),
+    (b"00", 256),
+    (b"\npage 1 ", 1),
+    (b"00", 256),
+    (b"\nerase 1\nerase 1\nprogram 1\nerase 257\n", 1),
+];
+
 const PAGE_256: Parts = &[
     (b"stmjournal 2 0A02\nopen 1\npage 256 ", 1),
     (b"00", 256),
@@ -38,6 +55,42 @@ fn page_257_comes_back_with_page_1(rt: HostRuntime) -> Result<(), Fail> {
         Ends(b"\nerase 1\nerase 1\nprogram 1\nerase 257\nprogram 257\nundone 1\n"),
     ];
     goes_right(&rt, 0x0A02, 0x00, PAGES_257_AND_1, &acts)
+}
+
+// Its power went as page 257 was erased so, and the device is fresh. What page 257 reads isn't
+// believed: it is erased and written as page 1 is, though it holds what it held.
+#[test]
+fn page_257_is_not_believed_beside_page_1(rt: HostRuntime) -> Result<(), Fail> {
+    let acts = [
+        Reset,
+        Undo(0, Ok(1)),
+        Begins(&[(0x01, 131_072), (0x7F, 1), (0x01, 2), (0x00, 1), (0xFF, 1)]),
+        Flash(&[(b"\0", 131_072)]),
+        Ends(b"\nerase 1\nerase 1\nprogram 1\nerase 257\nprogram 257\nundone 1\n"),
+    ];
+    goes_right(&rt, 0x0A02, 0x00, PAGES_257_AND_1, &acts)
+}
+
+// Nor is it while page 1 is written.
+#[test]
+fn page_257_is_not_believed_behind_frames_of_page_1(rt: HostRuntime) -> Result<(), Fail> {
+    let acts = [
+        Undo(0, Ok(1)),
+        Flash(&[(b"\0", 131_072)]),
+        Ends(b"\nerase 1\nprogram 1\nerase 1\nprogram 1\nerase 257\nprogram 257\nundone 1\n"),
+    ];
+    goes_right(&rt, 0x0A02, 0x00, PAGE_1_WRITTEN, &acts)
+}
+
+// Page 1 is done once page 257 is to be erased.
+#[test]
+fn page_1_is_believed_behind_page_257(rt: HostRuntime) -> Result<(), Fail> {
+    let acts = [
+        Undo(0, Ok(1)),
+        Flash(&[(b"\0", 131_072)]),
+        Ends(b"\nerase 1\nerase 1\nprogram 1\nerase 257\nerase 257\nprogram 257\nundone 1\n"),
+    ];
+    goes_right(&rt, 0x0A02, 0x00, PAGE_257_ERASED, &acts)
 }
 
 // The count 0202 announces 515 pages: five batches are taken for them, and their check is refused.

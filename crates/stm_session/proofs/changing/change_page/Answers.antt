@@ -1,8 +1,7 @@
-use Rattle.std.proofs.Common.{◌≡◌, ◌≢◌, ◌∙◌, ◌+◌, ◌*◌, ◌/◌, ◌∷◌, ◌++◌, [], List, ℕ, Result, Some}
-use Rattle.std.proofs.Common.{length, ap, true, false, sym, subst, refl, arith, rules}
+use Rattle.std.proofs.Common.{◌≡◌, ◌≢◌, ◌∙◌, ◌+◌, ◌/◌, ◌∷◌, ◌++◌, [], List, ℕ, Result}
+use Rattle.std.proofs.Common.{length, ap, true, false, sym, subst, refl, rules}
 use Rattle.stm_wire.specs.Chip.{erased_byte, page_of, with_page}
 use Rattle.stm_wire.specs.Device.{Device}
-use Rattle.stm_wire.specs.PartLaws.{nothing_is_part}
 use Rattle.stm_chip.specs.declared.plan.Frame.{Frame}
 use Rattle.stm_chip.specs.declared.plan.PagePlan.{PagePlan}
 use Rattle.stm_chip.specs.Plan.{IsPlan, frames_of}
@@ -14,7 +13,6 @@ use Rattle.stm_session.specs.declared.fault.Fault.{Fault}
 use Rattle.stm_session.specs.Fault.{of_memory}
 use Rattle.stm_session.specs.Lines.{program_entries}
 use Rattle.stm_session.specs.Order.{Step, Are, Begin, rewrite_steps}
-use Rattle.stm_session.specs.Sending.{most_of_companion}
 use Rattle.stm_session.specs.Steps.{Goes, IsSteady}
 use Rattle.stm_session.proofs.ChangeOrders.{changed_none, changed_some, some_changed}
 use Rattle.stm_session.proofs.Changes.{change_lines, not_turned, same_lines_of, saved_turned}
@@ -24,7 +22,6 @@ use Rattle.stm_session.proofs.Exits.{goes_fault}
 use Rattle.stm_session.proofs.Going.{goes_as, goes_nowhere, goes_failed, goes_ok, goes_refused}
 use Rattle.stm_session.proofs.Going.{goes_then, page_held}
 use Rattle.stm_session.proofs.Orders.{does_nothing, does_then}
-use Rattle.stm_session.proofs.SentParts.{part_after, part_fails, part_fails_after}
 use Rattle.stm_session.proofs.changing.change_page.Given as given
 use Rattle.stm_session.proofs.changing.change_page.Goals as goal
 use Rattle.stm_session.proofs.changing.change_page.Goals.{After-rewrite_kept, After-save_pages}
@@ -181,35 +178,6 @@ returns-in_ok-rewrite_kept-in-Erase-clause-honest g c flashes steady chip read =
     c.rewrite_kept.new.journal a (V c.rewrite_kept.new.rig) _ true
     (rewritten g here.After-rewrite_kept is.0 is.1 flashes steady chip read _
     (c.in_ok-rewrite_kept-in-Erase.ensures.honest flashes)) (λ p. p)
-
-pub returns-in_default-clause-puts : goal.returns-in_default-clause-puts
-returns-in_default-clause-puts g c = nothing_is_part (Some c.args.chip.now) _ (most_of_companion c.args.chip.now c.args.n + (9 + 2 * length c.args.page.now)) (g.R.Rig.view c.args.rig.now).calls
-
-pub returns-in-Same-clause-puts : goal.returns-in-Same-clause-puts
-returns-in-Same-clause-puts g c = nothing_is_part (Some c.args.chip.now) _ (most_of_companion c.args.chip.now c.args.n + (9 + 2 * length c.args.page.now)) (g.R.Rig.view c.args.rig.now).calls
-
-pub returns-in_err-save_pages-in-Erase-clause-puts : goal.returns-in_err-save_pages-in-Erase-clause-puts
-returns-in_err-save_pages-in-Erase-clause-puts g c =
-    let V = g.R.Rig.view in
-    let first = most_of_companion c.args.chip.now c.args.n in
-    let more = 9 + 2 * length c.args.page.now in
-    part_fails (Some c.args.chip.now) first (first + more) (V c.args.rig.now).calls (V c.save_pages.new.rig).calls _ c.from_residual.result (omega arith) c.from_residual.ensures.1 c.in_err-save_pages-in-Erase.ensures.puts
-
-pub returns-in_err-rewrite_kept-in-Erase-clause-puts : goal.returns-in_err-rewrite_kept-in-Erase-clause-puts
-returns-in_err-rewrite_kept-in-Erase-clause-puts g c =
-    let V = g.R.Rig.view in
-    let first = most_of_companion c.args.chip.now c.args.n in
-    let more = 9 + 2 * length c.args.page.now in
-    part_fails_after (Some c.args.chip.now) first more (first + more) (V c.args.rig.now).calls (V c.save_pages.new.rig).calls (V c.rewrite_kept.new.rig).calls _ c.from_residual-in_err-rewrite_kept-in-Erase.result (omega arith)
-    c.from_residual-in_err-rewrite_kept-in-Erase.ensures.1 c.in_ok-save_pages-in-Erase.ensures.puts c.in_err-rewrite_kept-in-Erase.ensures.puts
-
-pub returns-in_ok-rewrite_kept-in-Erase-clause-puts : goal.returns-in_ok-rewrite_kept-in-Erase-clause-puts
-returns-in_ok-rewrite_kept-in-Erase-clause-puts g c =
-    let V = g.R.Rig.view in
-    let first = most_of_companion c.args.chip.now c.args.n in
-    let more = 9 + 2 * length c.args.page.now in
-    part_after (Some c.args.chip.now) true first more (first + more) (V c.args.rig.now).calls (V c.save_pages.new.rig).calls (V c.rewrite_kept.new.rig).calls (omega arith)
-    c.in_ok-save_pages-in-Erase.ensures.puts c.in_ok-rewrite_kept-in-Erase.ensures.puts
 
 pub returns-in-Same-clause-order : goal.returns-in-Same-clause-order
 returns-in-Same-clause-order g c =

@@ -11,9 +11,6 @@ use Rattle.stm_session.specs.Steps.{Goes, IsSteady}
 use Rattle.stm_session.specs.Undoable.{is_unfinished_at}
 use Rattle.stm_session.proofs.Commandings.{begin_fails, changes_as, end_fails, end_goes, pages_fail, pages_go, turned_make}
 use Rattle.stm_session.proofs.Keeping.{depth_text, unfinished_text}
-use Rattle.std.proofs.Common.{Some, arith}
-use Rattle.stm_session.specs.Sending.{most_of_command}
-use Rattle.stm_session.proofs.SentParts.{part_after, part_fails, part_fails_after}
 use Rattle.std.proofs.Common.{length, refl}
 use Rattle.stm_journal.specs.Journals.{begin_entries}
 use Rattle.stm_session.specs.ChangeOrder.{AreBegunTurns, IsOneSegment, IsSegmentBegun, begins, ends, turns}
@@ -176,35 +173,6 @@ returns-clause-honest g c flashes steady chip =
     c.in_ok-pages.pages all.whole all.make made.flash (tt {0})
     (c.in_ok-segment.segment, c.in_ok-pages.pages) closes
     (record { flash = flash; counts = made.counts }))
-
-pub returns-in_err-segment-clause-puts : goal.returns-in_err-segment-clause-puts
-returns-in_err-segment-clause-puts g c =
-    let V = g.R.Rig.view in
-    part_fails (Some c.args.chip.now) 0 most_of_command (V c.args.rig.now).calls (V c.begin_segment.new.rig).calls _ c.from_residual.result (omega arith) c.from_residual.ensures.1 c.in_err-segment.ensures.puts
-
-pub returns-in_err-pages-clause-puts : goal.returns-in_err-pages-clause-puts
-returns-in_err-pages-clause-puts g c =
-    let V = g.R.Rig.view in
-    part_fails_after (Some c.args.chip.now) 0 most_of_command most_of_command (V c.args.rig.now).calls (V c.begin_segment.new.rig).calls (V c.turn_pages.new.rig).calls _ c.from_residual-in_err-pages.result (omega arith)
-    c.from_residual-in_err-pages.ensures.1 c.in_ok-segment.ensures.puts c.in_err-pages.ensures.puts
-
-pub returns-in_err-end_segment-clause-puts : goal.returns-in_err-end_segment-clause-puts
-returns-in_err-end_segment-clause-puts g c =
-    let V = g.R.Rig.view in
-    let chip = Some c.args.chip.now in
-    let a = (V c.args.rig.now).calls in
-    let d = (V c.turn_pages.new.rig).calls in
-    part_fails_after chip most_of_command 0 most_of_command a d (V c.end_segment.new.rig).calls _ c.from_residual-in_err-end_segment.result (omega arith) c.from_residual-in_err-end_segment.ensures.1
-    (part_after chip true 0 most_of_command most_of_command a (V c.begin_segment.new.rig).calls d (omega arith) c.in_ok-segment.ensures.puts c.in_ok-pages.ensures.puts) (c.in_err-end_segment.ensures.puts chip)
-
-pub returns-clause-puts : goal.returns-clause-puts
-returns-clause-puts g c =
-    let V = g.R.Rig.view in
-    let chip = Some c.args.chip.now in
-    let a = (V c.args.rig.now).calls in
-    let d = (V c.turn_pages.new.rig).calls in
-    part_after chip true most_of_command 0 most_of_command a d (V c.end_segment.new.rig).calls (omega arith)
-    (part_after chip true 0 most_of_command most_of_command a (V c.begin_segment.new.rig).calls d (omega arith) c.in_ok-segment.ensures.puts c.in_ok-pages.ensures.puts) (c.in_ok-end_segment.ensures.puts chip)
 
 pub returns-clause-order : goal.returns-clause-order
 returns-clause-order g c =

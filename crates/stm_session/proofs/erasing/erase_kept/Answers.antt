@@ -5,9 +5,6 @@ use Rattle.stm_session.specs.Steps.{IsSteady}
 use Rattle.stm_session.proofs.Erasings.{IsSaid, erases_step, said_by_call, said_erased}
 use Rattle.stm_session.proofs.Erasings.{said_unerased}
 use Rattle.stm_session.proofs.Going.{line_fails}
-use Rattle.std.proofs.Common.{Some, true}
-use Rattle.stm_session.specs.Sending.{is_whole}
-use Rattle.stm_session.proofs.SentParts.{command_fails, erase_cut, erase_sent, line_part, part_after}
 use Rattle.stm_journal.specs.Journals.{Loaded}
 use Rattle.stm_wire.specs.Frames.{erase_turns}
 use Rattle.std.proofs.Common.{◌++◌, List, refl, subst}
@@ -65,32 +62,6 @@ returns-clause-honest g c flashes steady chip =
     c.kind.result (V c.args.rig.now) (V c.intend_erase.new.rig) (V c.erase_page.new.rig)
     (said g at flashes steady) chip c.kind.ensures c.requires.exists (tt {0}) call.held
     (λ h. g.met.R.Rig.model c.erase_page.new.rig h) (λ h may. (call.honest h may).done)
-
-pub returns-in_err-intend_erase-clause-puts : goal.returns-in_err-intend_erase-clause-puts
-returns-in_err-intend_erase-clause-puts g c =
-    let V = g.R.Rig.view in
-    line_part (Some c.args.chip.now) (is_whole c.from_residual.result) 9 c.args.journal.now (Erases c.args.n ∷ []) c.intend_erase.result (V c.args.rig.now).calls (V c.intend_erase.new.rig).calls c.intend_erase.ensures.calls
-
-pub returns-in_err-erase_page-clause-puts : goal.returns-in_err-erase_page-clause-puts
-returns-in_err-erase_page-clause-puts g c =
-    let V = g.R.Rig.view in
-    let chip = c.args.chip.now in
-    let a = (V c.args.rig.now).calls in
-    let b = (V c.intend_erase.new.rig).calls in
-    let d = (V c.erase_page.new.rig).calls in
-    let cut = erase_cut chip c.args.n c.kind.result _ b d c.requires.exists c.kind.ensures c.in_err-erase_page.ensures.broken.recorded in
-    command_fails (Some chip) 9 9 a d _ c.from_residual-in_err-erase_page.result (omega arith) c.from_residual-in_err-erase_page.ensures.1
-    (part_after (Some chip) _ 0 9 9 a b d (omega arith) (line_part (Some chip) true 0 c.args.journal.now (Erases c.args.n ∷ []) c.intend_erase.result a b c.intend_erase.ensures.calls) cut)
-
-pub returns-clause-puts : goal.returns-clause-puts
-returns-clause-puts g c =
-    let V = g.R.Rig.view in
-    let chip = c.args.chip.now in
-    let a = (V c.args.rig.now).calls in
-    let b = (V c.intend_erase.new.rig).calls in
-    let d = (V c.erase_page.new.rig).calls in
-    part_after (Some chip) true 0 9 9 a b d (omega arith) (line_part (Some chip) true 0 c.args.journal.now (Erases c.args.n ∷ []) c.intend_erase.result a b c.intend_erase.ensures.calls)
-    (erase_sent chip c.args.n c.kind.result b d c.requires.exists c.kind.ensures c.in_ok-erase_page.ensures.held.recorded)
 
 pub returns-clause-order : goal.returns-clause-order
 returns-clause-order g c =

@@ -2,13 +2,15 @@ use Rattle.std.proofs.Common.{sym, subst}
 use Rattle.stm_session.specs.declared.command.Command.{Command}
 use Rattle.stm_session.specs.Answers.{outcome_data}
 use Rattle.stm_session.specs.OneCommand.{Does}
-use Rattle.stm_session.specs.Meaning.{command_data, is_change}
+use Rattle.stm_session.specs.Came.{TellsWhatCame}
+use Rattle.stm_session.specs.Meaning.{command_data, erases, is_change, writes}
 use Rattle.std.specs.Prelude.{IfOk}
 use Rattle.stm_session.specs.Order.{Follows, Stops}
 use Rattle.stm_session.specs.RunOrder.{IsDoneTelling}
 use Rattle.std.proofs.Common.{ap}
 use Rattle.stm_session.specs.RunOrder.{IsBegunBy, IsBegunTelling, StopsTelling}
 use Rattle.stm_session.proofs.Arrivals.{change_stops}
+use Rattle.stm_session.proofs.SentChanges.{change_puts}
 use Rattle.stm_session.proofs.one_command.run_command.Goals as goal
 
 pub returns-in-Write-clause-honest : goal.returns-in-Write-clause-honest
@@ -92,3 +94,19 @@ returns-in-Read-clause-stops g c =
     let V = g.R.Rig.view in
     let P : Command → Type 0 = λ k. StopsTelling (IsBegunTelling c.args.chip.now (command_data k) c.args.journal.now.state) c.args.journal.now.is_torn (V c.args.rig.now) (V c.read_part_of.new.rig) c.read_part_of.result in
     subst P (sym c.in-Read.is) (c.read_part_of.ensures.stops c.args.journal.now)
+
+pub returns-in-Write-clause-puts : goal.returns-in-Write-clause-puts
+returns-in-Write-clause-puts g c =
+    let V = g.R.Rig.view in
+    let chip = c.args.chip.now in
+    let image = writes c.in-Write.image in
+    change_puts c.laying_by_parts.ensures.length chip c.keeps_limits.ensures.chip image (λ said. TellsWhatCame chip image (outcome_data said))
+    c.args.journal.now c.write_image.new.journal (V c.args.rig.now) (V c.write_image.new.rig) c.write_image.result c.write_image.ensures.order c.write_image.ensures.stops
+
+pub returns-in-Erase-clause-puts : goal.returns-in-Erase-clause-puts
+returns-in-Erase-clause-puts g c =
+    let V = g.R.Rig.view in
+    let chip = c.args.chip.now in
+    let pages = erases c.in-Erase.pages.items in
+    change_puts c.laying_by_parts.ensures.length chip c.keeps_limits.ensures.chip pages (λ said. TellsWhatCame chip pages (outcome_data said))
+    c.args.journal.now c.erase_pages.new.journal (V c.args.rig.now) (V c.erase_pages.new.rig) c.erase_pages.result c.erase_pages.ensures.order c.erase_pages.ensures.stops

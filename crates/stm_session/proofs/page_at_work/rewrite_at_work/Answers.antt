@@ -1,177 +1,248 @@
-use Rattle.std.proofs.Common.{◌≡◌, ◌∙◌, ◌*◌, ◌≤◌, ℕ, Option, Result, Some, None, Ok, true, refl}
-use Rattle.std.proofs.Common.{sym, subst, arith, IsTrue}
-use Rattle.stm_wire.specs.Chip.{page_size, with_page}
-use Rattle.stm_wire.specs.PageLaws.{page_within}
-use Rattle.stm_wire.specs.PartLaws.{part_longer}
-use Rattle.stm_journal.specs.declared.kept.Kept.{Kept}
-use Rattle.stm_journal.specs.KeptPlaces.{kept_entry, place_of}
-use Rattle.stm_journal.specs.NewestLaws.{KeepsSame-refl}
-use Rattle.stm_journal.specs.States.{StateData, intent_of, intent_page, newest_keeps}
-use Rattle.stm_session.specs.Lines.{rewrite_entries, work_entries}
-use Rattle.stm_session.specs.Steps.{Goes, IsSteady}
+use Rattle.std.proofs.Common.{◌≡◌, ◌∙◌, ◌+◌, ◌*◌, ◌≤◌, ◌==◌, ◌++◌, ◌∷◌, [], List, ℕ, Result, Some}
+use Rattle.std.proofs.Common.{None, Ok, true, refl, sym, ap, subst, arith, if◌then◌else◌}
+use Rattle.stm_wire.specs.Call.{Call}
+use Rattle.stm_wire.specs.Chip.{page_size}
+use Rattle.stm_journal.specs.States.{intent_of, newest_keeps}
 use Rattle.stm_session.specs.declared.fault.Fault.{Fault}
-use Rattle.stm_session.specs.Undoable.{state_at}
-use Rattle.stm_session.specs.Work.{page_at_work, with_work}
-use Rattle.stm_session.proofs.Exits.{goes_fault}
-use Rattle.stm_session.proofs.Going.{goes_nowhere, goes_ok}
-use Rattle.stm_session.proofs.Keeping.{depth_text, good_at}
-use Rattle.stm_session.proofs.Returns.{kept_in_text, number_exists, place_fits}
-use Rattle.stm_session.proofs.SentParts.{part_fails}
-use Rattle.stm_session.proofs.Settlings.{intent_text}
-use Rattle.stm_session.proofs.Work.{StandsAt, no_work, stands_at, work_is}
-use Rattle.std.proofs.Common.{List, length}
-use Rattle.stm_wire.specs.declared.intent.Intent.{Intent}
-use Rattle.stm_session.specs.Order.{Step, BeginTold, IsRewritten, IsWorkRewritten}
+use Rattle.stm_session.specs.Fault.{cause_of}
+use Rattle.stm_session.specs.Lines.{work_entries}
+use Rattle.stm_session.specs.Order.{AreCutShort, AreRewritten, BeginTold, IsInOrder, IsRewritten}
+use Rattle.stm_session.specs.Order.{acts_of}
+use Rattle.stm_session.specs.Steps.{Goes, IsSteady}
 use Rattle.stm_session.specs.Told.{ToldIn}
-use Rattle.stm_session.proofs.CutShort.{part_stops}
+use Rattle.stm_session.specs.Undoable.{state_at}
+use Rattle.stm_session.specs.Work.{beside, kept_at_work, kept_of, pages_at_work, with_work}
+use Rattle.stm_session.proofs.CutShort.{part_stops, then_stops}
+use Rattle.stm_session.proofs.Exits.{goes_fault}
+use Rattle.stm_session.proofs.Going.{at_exit, goes_as, goes_failed, goes_nowhere, goes_ok, goes_then}
+use Rattle.stm_session.proofs.GoingAll.{work_intends}
+use Rattle.stm_session.proofs.Keeping.{keeps_text}
+use Rattle.stm_session.proofs.Orders.{does_then}
+use Rattle.stm_session.proofs.SentParts.{part_after, part_fails, part_fails_after}
+use Rattle.stm_session.proofs.Settlings.{intent_text}
+use Rattle.stm_session.proofs.Tellings.{rewritten_as, work_as}
+use Rattle.stm_session.proofs.ToldPages.{told_on, told_then}
+use Rattle.stm_session.proofs.UndoOrders.{first_begun, others_begun}
+use Rattle.stm_session.proofs.Work.{both_within, no_pages, work-flash, work-lines, work_kept}
+use Rattle.stm_session.proofs.Work.{work_pages}
 use Rattle.stm_session.proofs.page_at_work.rewrite_at_work.Given as given
 use Rattle.stm_session.proofs.page_at_work.rewrite_at_work.Goals as goal
-use Rattle.stm_session.proofs.page_at_work.rewrite_at_work.Goals.{After-rewrite_line}
+use Rattle.stm_session.proofs.page_at_work.rewrite_at_work.Goals.{After-rewrite_beside}
 
--- The page of the intent stands in a line of the newest segment.
-stands : (s : StateData) (newest n : ℕ) (i : Intent) → newest ≡ length s.stack
-    → n ≡ intent_page i → IsTrue (newest_keeps (intent_page i) s) → StandsAt s newest n
-stands s newest n i is page kept =
-    let K : ℕ → Type 0 = λ m. IsTrue (newest_keeps m s) in
-    stands_at s newest n is (subst K (sym page) kept)
+-- The pages at work: that of the intent, and what is beside it once that is written.
+pages_are : (g : given.Over) (c : goal.After-rewrite_beside g)
+    → pages_at_work c.args.journal.now.state.stack
+    ≡ c.intent_page-n.result
+    ∷ beside c.intent_page-n.result (newest_keeps 257 c.rewrite_newest.new.journal.state)
+pages_are g c =
+    work_pages c.args.journal.now.state.stack c.in-Some.intent c.intent_page-n.result
+    (newest_keeps 257 c.rewrite_newest.new.journal.state) (sym c.in-Some.ensures)
+    c.intent_page-n.ensures (c.in_ok-rewrite_newest.ensures.same.keeps 257)
 
--- The lines are those of the page at work, whatever rewrite_line answers.
-rewritten : (g : given.Over) (c : goal.After-rewrite_line g) (flashes : List (List ℕ))
+-- The lines are those of the pages at work, whatever rewrite_beside answers.
+rewritten : (g : given.Over) (c : goal.After-rewrite_beside g) (flashes : List (List ℕ))
     → IsSteady flashes c.args.journal.now (g.R.Rig.view c.args.rig.now)
     → (g.R.Rig.view c.args.rig.now).device.chip ≡ c.args.chip.now → (r : Result (Unit {0}) Fault)
-    → ((k i : ℕ) (kept : Kept) → IsSteady flashes c.args.journal.now (g.R.Rig.view c.args.rig.now)
-    → (g.R.Rig.view c.args.rig.now).device.chip ≡ c.args.chip.now
-    → kept_entry (state_at (g.R.Rig.view c.args.rig.now).journal) k i ≡ Some kept
-    → place_of kept ≡ c.in-Some-page.place → kept.page ≡ c.intent_page-n.result
-    → Goes flashes (rewrite_entries c.args.chip.now kept.page kept.bytes)
-    c.rewrite_line.new.journal (g.R.Rig.view c.args.rig.now) (g.R.Rig.view c.rewrite_line.new.rig) r
-    (λ y. (g.R.Rig.view c.rewrite_line.new.rig).device.flash ≡ with_page c.args.chip.now kept.page
-    kept.bytes (g.R.Rig.view c.args.rig.now).device.flash))
-    → let work = page_at_work (state_at (g.R.Rig.view c.args.rig.now).journal).stack in
-    Goes flashes (work_entries c.args.chip.now work) c.rewrite_line.new.journal
-    (g.R.Rig.view c.args.rig.now) (g.R.Rig.view c.rewrite_line.new.rig) r
-    (λ y. (g.R.Rig.view c.rewrite_line.new.rig).device.flash ≡ with_work c.args.chip.now work
+    → (IsSteady flashes c.rewrite_newest.new.journal (g.R.Rig.view c.rewrite_newest.new.rig)
+    → (g.R.Rig.view c.rewrite_newest.new.rig).device.chip ≡ c.args.chip.now
+    → let pages = beside c.intent_page-n.result
+    (newest_keeps 257 c.rewrite_newest.new.journal.state) in
+    let kept = kept_of (state_at (g.R.Rig.view c.rewrite_newest.new.rig).journal).stack pages in
+    Goes flashes (work_entries c.args.chip.now kept) c.rewrite_beside.new.journal
+    (g.R.Rig.view c.rewrite_newest.new.rig) (g.R.Rig.view c.rewrite_beside.new.rig) r
+    (λ y. (g.R.Rig.view c.rewrite_beside.new.rig).device.flash ≡ with_work c.args.chip.now kept
+    (g.R.Rig.view c.rewrite_newest.new.rig).device.flash))
+    → let work = kept_at_work (state_at (g.R.Rig.view c.args.rig.now).journal).stack in
+    Goes flashes (work_entries c.args.chip.now work) c.rewrite_beside.new.journal
+    (g.R.Rig.view c.args.rig.now) (g.R.Rig.view c.rewrite_beside.new.rig) r
+    (λ y. (g.R.Rig.view c.rewrite_beside.new.rig).device.flash ≡ with_work c.args.chip.now work
     (g.R.Rig.view c.args.rig.now).device.flash)
-rewritten g c flashes steady chip r gives =
+rewritten g c flashes steady chip_is r gives =
     let V = g.R.Rig.view in
+    let chip = c.args.chip.now in
     let l = c.args.journal.now in
-    let l2 = c.rewrite_line.new.journal in
-    let s = l.state in
+    let l2 = c.rewrite_newest.new.journal in
+    let l3 = c.rewrite_beside.new.journal in
     let a = V c.args.rig.now in
-    let b = V c.rewrite_line.new.rig in
-    let kept = c.depth-newest.ensures.sound.intended c.in-Some.intent (sym c.in-Some.ensures) in
-    let newest = c.depth-newest.result in
+    let b = V c.rewrite_newest.new.rig in
+    let d = V c.rewrite_beside.new.rig in
     let n = c.intent_page-n.result in
-    let place = c.in-Some-page.place in
-    let is = c.depth-newest.ensures.value in
-    let line = stands s newest n c.in-Some.intent is c.intent_page-n.ensures kept in
-    let i = line.i in
-    let there = kept_in_text l a.journal newest i n _ place steady.loaded
-    (line.place place c.in-Some-page.ensures.place) line.number in
-    let state = state_at a.journal in
-    let once =
-    (c.step_laws.ensures.sound a.journal state (good_at l a.journal steady.loaded)).once in
-    let found = work_is state newest i c.in-Some.intent there.0
-    (is ∙ depth_text l a.journal steady.loaded) once
-    (sym (intent_text l a.journal steady.loaded) ∙ sym c.in-Some.ensures) there.1
-    (there.3 ∙ c.intent_page-n.ensures) in
-    let P : Option Kept → Type 0 = λ o. Goes {T = Unit {0}} flashes
-    (work_entries c.args.chip.now o) l2 a b r
-    (λ x. b.device.flash ≡ with_work c.args.chip.now o a.device.flash) in
-    subst P (sym found) (gives newest i there.0 steady chip there.1 there.2 there.3)
+    let k = newest_keeps 257 l2.state in
+    let before = (state_at a.journal).stack in
+    let behind_it = (state_at b.journal).stack in
+    let one = kept_of before (n ∷ []) in
+    let other = kept_of behind_it (beside n k) in
+    let work = kept_at_work before in
+    let first = c.in_ok-rewrite_newest.ensures.honest flashes steady chip_is in
+    let model = g.met.R.Rig.model c.rewrite_newest.new.rig first.honest in
+    let still = (at_exit _ a b model first.moments).make.chip ∙ chip_is in
+    let same = (first.lines.same (work_intends chip one)).same in
+    let work_is = work_kept before behind_it c.in-Some.intent n k
+    (sym (intent_text l a.journal steady.loaded) ∙ sym c.in-Some.ensures) c.intent_page-n.ensures
+    (c.in_ok-rewrite_newest.ensures.same.keeps 257 ∙ keeps_text l a.journal 257 steady.loaded)
+    same in
+    goes_as flashes (work_entries chip one ++ work_entries chip other) (work_entries chip work) l3 a
+    d r (work-lines chip one other work work_is)
+    (goes_then flashes (work_entries chip one) (work_entries chip other) l2 l3 a b d (tt {0}) r
+    model first (gives first.steady still)
+    (λ y done. done ∙ ap (λ (flash : List ℕ). with_work chip other flash) first.done
+    ∙ work-flash chip one other work a.device.flash work_is))
 
 pub returns-in_default-clause-honest : goal.returns-in_default-clause-honest
 returns-in_default-clause-honest g c flashes steady chip =
     let V = g.R.Rig.view in
     let l = c.args.journal.now in
     let a = V c.args.rig.now in
+    let stack = (state_at a.journal).stack in
     let none : intent_of l.state ≡ None = sym c.last_intent.ensures ∙ c.in_default.is in
-    let nothing = no_work (state_at a.journal) (sym (intent_text l a.journal steady.loaded) ∙ none) in
-    let P : Option Kept → Type 0 = λ o. Goes {T = Unit {0}} flashes (work_entries c.args.chip.now o) l a a (Ok tt) (λ x. a.device.flash ≡ with_work c.args.chip.now o a.device.flash) in
+    let nothing = no_pages stack (sym (intent_text l a.journal steady.loaded) ∙ none) in
+    let P : List ℕ → Type 0 = λ ns. let kept = kept_of stack ns in
+    Goes {T = Unit {0}} flashes (work_entries c.args.chip.now kept) l a a (Ok (tt {0}))
+    (λ x. a.device.flash ≡ with_work c.args.chip.now kept a.device.flash) in
     subst P (sym nothing) (goes_nowhere c.step_laws.ensures flashes l a (tt {0}) (λ x. a.device.flash ≡ a.device.flash) (g.met.R.Rig.model c.args.rig.now steady.honest) steady refl)
 
-pub unreachable-requires : goal.unreachable-requires
-unreachable-requires g c =
-    let line = stands c.args.journal.now.state c.depth-newest.result c.intent_page-n.result
-    c.in-Some.intent c.depth-newest.ensures.value c.intent_page-n.ensures
-    (c.depth-newest.ensures.sound.intended c.in-Some.intent (sym c.in-Some.ensures)) in
-    line.somewhere c.in_default-page.ensures.place
-
-pub rewrite_line-requires-clause-exists : goal.rewrite_line-requires-clause-exists
-rewrite_line-requires-clause-exists g c =
-    let s = c.args.journal.now.state in
-    let newest = c.depth-newest.result in
-    let n = c.intent_page-n.result in
-    let is = c.depth-newest.ensures.value in
-    let kept = c.depth-newest.ensures.sound.intended c.in-Some.intent (sym c.in-Some.ensures) in
-    let line = stands s newest n c.in-Some.intent is c.intent_page-n.ensures kept in
-    number_exists s s newest line.i (KeepsSame-refl s) is line.within c.args.chip.now n _
-    c.requires.fits line.number
-
-pub rewrite_line-requires-clause-size : goal.rewrite_line-requires-clause-size
-rewrite_line-requires-clause-size g c =
-    let s = c.args.journal.now.state in
-    let n = c.intent_page-n.result in
-    let is = c.depth-newest.ensures.value in
-    let kept = c.depth-newest.ensures.sound.intended c.in-Some.intent (sym c.in-Some.ensures) in
-    let line =
-    stands s c.depth-newest.result n c.in-Some.intent is c.intent_page-n.ensures kept in
-    place_fits s s c.depth-newest.result line.i (KeepsSame-refl s) is line.within
-    c.args.chip.now n _ c.requires.fits line.number c.in-Some-page.place
-    (line.place c.in-Some-page.place c.in-Some-page.ensures.place)
-
-pub returns-in_err-rewrite_line-clause-puts : goal.returns-in_err-rewrite_line-clause-puts
-returns-in_err-rewrite_line-clause-puts g c =
+pub returns-in_err-rewrite_newest-clause-honest : goal.returns-in_err-rewrite_newest-clause-honest
+returns-in_err-rewrite_newest-clause-honest g c flashes steady chip_is =
     let V = g.R.Rig.view in
     let chip = c.args.chip.now in
-    let size = page_size chip c.intent_page-n.result in
-    let most : 3 * size ≤ 6291456 = omega (arith, page_within chip.sizes c.intent_page-n.result, c.keeps_limits.ensures.chip.size) in
-    part_fails (Some chip) (3 * size) 6291456 (V c.args.rig.now).calls (V c.rewrite_line.new.rig).calls _ c.from_residual.result most c.from_residual.ensures.1 c.in_err-rewrite_line.ensures.puts
+    let l = c.args.journal.now in
+    let l2 = c.rewrite_newest.new.journal in
+    let a = V c.args.rig.now in
+    let b = V c.rewrite_newest.new.rig in
+    let n = c.intent_page-n.result in
+    let k = newest_keeps 257 l.state in
+    let before = (state_at a.journal).stack in
+    let one = kept_of before (n ∷ []) in
+    let other = kept_of before (beside n k) in
+    let work = kept_at_work before in
+    let work_is = work_kept before before c.in-Some.intent n k
+    (sym (intent_text l a.journal steady.loaded) ∙ sym c.in-Some.ensures) c.intent_page-n.ensures
+    (keeps_text l a.journal 257 steady.loaded) refl in
+    goes_as flashes (work_entries chip one ++ work_entries chip other) (work_entries chip work) l2 a
+    b c.from_residual.result (work-lines chip one other work work_is)
+    (goes_failed flashes (work_entries chip one) (work_entries chip other) l2 l2 a b _
+    c.from_residual.result (c.in_err-rewrite_newest.ensures.honest flashes steady chip_is) c.from_residual.ensures.1)
 
-pub returns-clause-puts : goal.returns-clause-puts
-returns-clause-puts g c =
-    let V = g.R.Rig.view in
-    let chip = c.args.chip.now in
-    let size = page_size chip c.intent_page-n.result in
-    let most : 3 * size ≤ 6291456 = omega (arith, page_within chip.sizes c.intent_page-n.result, c.keeps_limits.ensures.chip.size) in
-    part_longer (Some chip) true (3 * size) 6291456 (V c.args.rig.now).calls (V c.rewrite_line.new.rig).calls most c.in_ok-rewrite_line.ensures.puts
-
-pub returns-in_err-rewrite_line-clause-honest : goal.returns-in_err-rewrite_line-clause-honest
-returns-in_err-rewrite_line-clause-honest g c flashes steady chip =
+pub returns-in_err-rewrite_beside-clause-honest : goal.returns-in_err-rewrite_beside-clause-honest
+returns-in_err-rewrite_beside-clause-honest g c flashes steady chip =
     let V = g.R.Rig.view in
     let a = V c.args.rig.now in
-    let l2 = c.rewrite_line.new.journal in
-    let work = page_at_work (state_at a.journal).stack in
-    let last = (goal.at.returns-in_err-rewrite_line-clause-honest g c).After-rewrite_line in
-    goes_fault flashes (work_entries c.args.chip.now work) l2 l2 a (V c.rewrite_line.new.rig) _
-    c.from_residual.result
-    (rewritten g last flashes steady chip _ (c.in_err-rewrite_line.ensures.honest flashes))
-    c.from_residual.ensures.1
+    let l3 = c.rewrite_beside.new.journal in
+    let work = kept_at_work (state_at a.journal).stack in
+    let last = (goal.at.returns-in_err-rewrite_beside-clause-honest g c).After-rewrite_beside in
+    goes_fault flashes (work_entries c.args.chip.now work) l3 l3 a (V c.rewrite_beside.new.rig) _
+    c.from_residual-in_err-rewrite_beside.result
+    (rewritten g last flashes steady chip _ (c.in_err-rewrite_beside.ensures.honest flashes))
+    c.from_residual-in_err-rewrite_beside.ensures.1
 
 pub returns-clause-honest : goal.returns-clause-honest
 returns-clause-honest g c flashes steady chip =
     let V = g.R.Rig.view in
     let a = V c.args.rig.now in
-    let work = page_at_work (state_at a.journal).stack in
-    let last = (goal.at.returns-clause-honest g c).After-rewrite_line in
-    goes_ok flashes (work_entries c.args.chip.now work) c.rewrite_line.new.journal a
-    (V c.rewrite_line.new.rig) _ (tt {0})
-    (rewritten g last flashes steady chip _ (c.in_ok-rewrite_line.ensures.honest flashes)) (λ p. p)
+    let work = kept_at_work (state_at a.journal).stack in
+    let last = (goal.at.returns-clause-honest g c).After-rewrite_beside in
+    goes_ok flashes (work_entries c.args.chip.now work) c.rewrite_beside.new.journal a
+    (V c.rewrite_beside.new.rig) _ (tt {0})
+    (rewritten g last flashes steady chip _ (c.in_ok-rewrite_beside.ensures.honest flashes))
+    (λ p. p)
 
-pub returns-in_err-rewrite_line-clause-stops : goal.returns-in_err-rewrite_line-clause-stops
-returns-in_err-rewrite_line-clause-stops g c =
+pub returns-in_err-rewrite_newest-clause-puts : goal.returns-in_err-rewrite_newest-clause-puts
+returns-in_err-rewrite_newest-clause-puts g c =
     let V = g.R.Rig.view in
     let chip = c.args.chip.now in
-    let s = c.args.journal.now.state in
+    let size = page_size chip c.intent_page-n.result in
+    let most : 3 * size ≤ 6291456 = omega (arith, both_within chip c.intent_page-n.result, c.keeps_limits.ensures.chip.size) in
+    part_fails (Some chip) (3 * size) 6291456 (V c.args.rig.now).calls (V c.rewrite_newest.new.rig).calls _ c.from_residual.result most c.from_residual.ensures.1 c.in_err-rewrite_newest.ensures.puts
+
+pub returns-in_err-rewrite_beside-clause-puts : goal.returns-in_err-rewrite_beside-clause-puts
+returns-in_err-rewrite_beside-clause-puts g c =
+    let V = g.R.Rig.view in
+    let chip = c.args.chip.now in
+    let n = c.intent_page-n.result in
+    let size = page_size chip n in
+    let other : ℕ = if n == 1 then 3 * page_size chip 257 else 0 in
+    let most : 3 * size + other ≤ 6291456 = omega (arith, both_within chip n, c.keeps_limits.ensures.chip.size) in
+    part_fails_after (Some chip) (3 * size) other 6291456 (V c.args.rig.now).calls (V c.rewrite_newest.new.rig).calls (V c.rewrite_beside.new.rig).calls _ c.from_residual-in_err-rewrite_beside.result most
+    c.from_residual-in_err-rewrite_beside.ensures.1 c.in_ok-rewrite_newest.ensures.puts c.in_err-rewrite_beside.ensures.puts
+
+pub returns-clause-puts : goal.returns-clause-puts
+returns-clause-puts g c =
+    let V = g.R.Rig.view in
+    let chip = c.args.chip.now in
+    let n = c.intent_page-n.result in
+    let size = page_size chip n in
+    let other : ℕ = if n == 1 then 3 * page_size chip 257 else 0 in
+    let most : 3 * size + other ≤ 6291456 = omega (arith, both_within chip n, c.keeps_limits.ensures.chip.size) in
+    part_after (Some chip) true (3 * size) other 6291456 (V c.args.rig.now).calls (V c.rewrite_newest.new.rig).calls (V c.rewrite_beside.new.rig).calls most c.in_ok-rewrite_newest.ensures.puts c.in_ok-rewrite_beside.ensures.puts
+
+pub returns-clause-order : goal.returns-clause-order
+returns-clause-order g c =
+    let V = g.R.Rig.view in
+    let chip = c.args.chip.now in
+    let l = c.args.journal.now in
+    let l2 = c.rewrite_newest.new.journal in
+    let l3 = c.rewrite_beside.new.journal in
     let a = V c.args.rig.now in
-    let b = V c.rewrite_line.new.rig in
-    let torn = c.args.journal.now.is_torn in
-    let Told = ToldIn V torn a b in
-    let One : ℕ → List Step → Type 0 = λ n. BeginTold (λ T. IsRewritten chip T n) Told in
-    let Work : Option Intent → List Step → Type 0 =
-    λ o. BeginTold (λ T. IsWorkRewritten chip T o) Told in
-    part_stops (One c.intent_page-n.result) (Work (intent_of s)) torn a b _ c.from_residual.result
-    c.from_residual.ensures.1 (λ xs one.
-    let P : ℕ → Type 0 = λ n. One n xs in
-    let Q : Option Intent → Type 0 = λ o. Work o xs in
-    subst Q c.in-Some.ensures (subst P c.intent_page-n.ensures one)) c.in_err-rewrite_line.ensures.stops
+    let b = V c.rewrite_newest.new.rig in
+    let d = V c.rewrite_beside.new.rig in
+    let n = c.intent_page-n.result in
+    let others = beside n (newest_keeps 257 l2.state) in
+    let first = c.in_ok-rewrite_newest.ensures.order in
+    let rest = c.in_ok-rewrite_beside.ensures.order in
+    let First = ToldIn V l.is_torn a b in
+    let Own = ToldIn V l2.is_torn b d in
+    let Told = ToldIn V l.is_torn a d in
+    let one = rewritten_as chip First Told n first.0 (told_on V (λ calls. IsInOrder l2.is_torn rest.0 calls) l.is_torn a b d rest.2.acts) first.1 in
+    let more = work_as chip Own (λ steps page. Told (first.0 ++ steps) page) others rest.0 (told_then V first.0 l l2 a b d first.2) rest.1 in
+    let last = (goal.at.returns-clause-order g c).After-rewrite_beside in
+    let P : List ℕ → Type 0 = λ pages. AreRewritten chip Told pages (first.0 ++ rest.0) in
+    let all : AreRewritten chip Told (n ∷ others) (first.0 ++ rest.0) =
+    (first.0, rest.0, refl, one, more) in
+    (first.0 ++ rest.0, subst P (sym (pages_are g last)) all, does_then first.0 rest.0 l l2 l3 a b d first.2 rest.2)
+
+pub returns-in_err-rewrite_newest-clause-stops : goal.returns-in_err-rewrite_newest-clause-stops
+returns-in_err-rewrite_newest-clause-stops g c =
+    let V = g.R.Rig.view in
+    let chip = c.args.chip.now in
+    let l = c.args.journal.now in
+    let a = V c.args.rig.now in
+    let b = V c.rewrite_newest.new.rig in
+    let n = c.intent_page-n.result in
+    let k = newest_keeps 257 l.state in
+    let Told = ToldIn V l.is_torn a b in
+    let is = work_pages l.state.stack c.in-Some.intent n k (sym c.in-Some.ensures)
+    c.intent_page-n.ensures refl in
+    part_stops (BeginTold (λ T. IsRewritten chip T n) Told)
+    (BeginTold (λ T. AreRewritten chip T (pages_at_work l.state.stack)) Told) l.is_torn a b _
+    c.from_residual.result c.from_residual.ensures.1 (λ xs one.
+    let P : List ℕ → Type 0 = λ pages. BeginTold (λ T. AreRewritten chip T pages) Told xs in
+    subst P (sym is) (first_begun chip Told n (beside n k) xs one)) c.in_err-rewrite_newest.ensures.stops
+
+pub returns-in_err-rewrite_beside-clause-stops : goal.returns-in_err-rewrite_beside-clause-stops
+returns-in_err-rewrite_beside-clause-stops g c =
+    let V = g.R.Rig.view in
+    let chip = c.args.chip.now in
+    let l = c.args.journal.now in
+    let l2 = c.rewrite_newest.new.journal in
+    let a = V c.args.rig.now in
+    let b = V c.rewrite_newest.new.rig in
+    let d = V c.rewrite_beside.new.rig in
+    let n = c.intent_page-n.result in
+    let others = beside n (newest_keeps 257 l2.state) in
+    let first = c.in_ok-rewrite_newest.ensures.order in
+    let First = ToldIn V l.is_torn a b in
+    let Own = ToldIn V l2.is_torn b d in
+    let Told = ToldIn V l.is_torn a d in
+    let Rest = BeginTold (λ T. AreRewritten chip T others) Own in
+    let cause = cause_of c.in_err-rewrite_beside.field-0.0 in
+    let Cut : List Call → Type 0 = λ calls. AreCutShort Rest cause l2.is_torn (acts_of calls) in
+    let last = (goal.at.returns-in_err-rewrite_beside-clause-stops g c).After-rewrite_beside in
+    then_stops Rest (BeginTold (λ T. AreRewritten chip T (pages_at_work l.state.stack)) Told) first.0
+    l l2 a b d _ c.from_residual-in_err-rewrite_beside.result
+    c.from_residual-in_err-rewrite_beside.ensures.1 first.2 c.in_err-rewrite_beside.ensures.stops (λ ys begun.
+    let P : List ℕ → Type 0 =
+    λ pages. BeginTold (λ T. AreRewritten chip T pages) Told (first.0 ++ ys) in
+    subst P (sym (pages_are g last))
+    (others_begun chip First Own Told n others first.0
+    (told_on V Cut l.is_torn a b d c.in_err-rewrite_beside.ensures.stops)
+    (told_then V first.0 l l2 a b d first.2) first.1 ys begun))

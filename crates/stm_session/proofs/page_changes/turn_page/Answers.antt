@@ -1,51 +1,30 @@
-use Rattle.std.proofs.Common.{◌≡◌, ◌∙◌, ◌+◌, ◌*◌, ◌≤◌, ◌++◌, [], List, ℕ, Bool, Result, Some}
-use Rattle.std.proofs.Common.{true, false, inl, inr, not, length, ap, ap₂, refl, sym, subst, arith}
+use Rattle.std.proofs.Common.{◌≡◌, ◌∙◌, ◌+◌, ◌++◌, [], List, ℕ, Bool, Result}
+use Rattle.std.proofs.Common.{true, false, inl, inr, not, length, ap, ap₂, refl, sym, subst}
 use Rattle.std.proofs.Common.{rules}
 use Rattle.std.specs.Prelude.{bytes_eq}
 use Rattle.stm_wire.specs.Chip.{ChipData, flash_size, page_of, page_size, with_page}
 use Rattle.stm_wire.specs.Device.{Device}
-use Rattle.stm_wire.specs.Dialogue.{GoesOn}
 use Rattle.stm_wire.specs.PageLaws.{length-page_of}
-use Rattle.stm_wire.specs.PartLaws.{nothing_is_part, part_weaker}
-use Rattle.stm_wire.specs.Parts.{IsPart}
 use Rattle.stm_session.specs.ChangeOrder.{IsChanged, IsTurn, IsTurnOf}
 use Rattle.stm_session.specs.Changing.{change_entries}
 use Rattle.stm_session.specs.Contents.{IsGiven, content}
 use Rattle.stm_session.specs.declared.fault.Fault.{Fault}
 use Rattle.stm_session.specs.Order.{Begin, DoesSteps, page_reads}
-use Rattle.stm_session.specs.Sending.{most_of_companion, most_of_page}
 use Rattle.stm_session.specs.Steps.{Goes, IsSteady}
 use Rattle.stm_session.proofs.ChangeOrders.{some_turn, turn_of}
 use Rattle.stm_session.proofs.Changes.{same_lines_of, told_same}
 use Rattle.stm_session.proofs.CutShort.{begin_after, memory_stops, then_stops}
-use Rattle.stm_session.proofs.Exits.{goes_fault, in_page, read_stops, reads_page}
+use Rattle.stm_session.proofs.Exits.{goes_fault, read_stops, reads_page}
 use Rattle.stm_session.proofs.Going.{asks_fail, asks_on, goes_as, goes_nowhere, goes_ok}
 use Rattle.stm_session.proofs.Going.{goes_refused, goes_then, page_held}
 use Rattle.stm_session.proofs.Orders.{does_nothing, does_then}
 use Rattle.stm_session.proofs.Restorings.{page_read}
-use Rattle.stm_session.proofs.SentParts.{part_after, part_fails, part_fails_after}
 use Rattle.stm_session.proofs.Turns.{given_on}
 use Rattle.stm_session.proofs.page_changes.turn_page.Given as given
 use Rattle.stm_session.proofs.page_changes.turn_page.Goals as goal
 use Rattle.stm_session.proofs.page_changes.turn_page.Goals.{After-change_page, After-content}
-use Rattle.stm_session.proofs.page_changes.turn_page.Goals.{After-read_range}
-
--- reading the page fits
-read_fits : (g : given.Over) (c : goal.After-read_range g)
-    → 12 + 2 * c.page_size-size.result ≤ most_of_page c.args.chip.now c.args.n
-read_fits g c = omega (arith, c.page_size-size.ensures.bytes, c.page_size-size.ensures.blocks.0)
 
 -- What the exits behind content share.
-
--- what the read puts
-few : (g : given.Over) (c : goal.After-content g)
-    → GoesOn (IsPart (Some c.args.chip.now) true (12 + 2 * c.page_size-size.result))
-    (g.R.Rig.view c.args.rig.now).calls (g.R.Rig.view c.read_range.new.rig).calls
-few g c =
-    let size = c.page_size-size.result in
-    let here = in_page c.args.chip.now c.args.n c.page_start-start.result size c.requires.exists
-    c.page_start-start.ensures.address c.page_size-size.ensures.bytes in
-    c.in_ok-held.ensures.few c.args.n here
 
 -- its steps
 was_read : (g : given.Over) (c : goal.After-content g) (held : List ℕ)
@@ -62,15 +41,6 @@ was_read g c held same =
     same
 
 -- What the exits behind change_page share.
-
--- what is put fits
-fits : (g : given.Over) (c : goal.After-change_page g)
-    → (12 + 2 * c.page_size-size.result)
-    + (most_of_companion c.args.chip.now c.args.n + (9 + 2 * length c.deref-3.result.now))
-    ≤ most_of_page c.args.chip.now c.args.n
-fits g c =
-    let many : length c.deref-3.result.now ≡ page_size c.args.chip.now c.args.n = search rules in
-    omega (arith, many, c.page_size-size.ensures.bytes, c.page_size-size.ensures.blocks.0)
 
 -- the bytes that were read, and those that the command makes of them
 held_size : (g : given.Over) (c : goal.After-change_page g)
@@ -204,55 +174,6 @@ returns-clause-honest g c flashes steady chip =
     (V c.change_page.new.rig) c.in_ok-changed.changed c.in_ok-changed.changed
     (turned g last flashes steady chip _ c.in_ok-changed.changed c.in_ok-changed.ensures.changed
     (c.in_ok-changed.ensures.honest flashes)) (λ given. given)
-
-pub returns-then-not-touches-clause-puts : goal.returns-then-not-touches-clause-puts
-returns-then-not-touches-clause-puts g c = nothing_is_part (Some c.args.chip.now) true (most_of_page c.args.chip.now c.args.n) (g.R.Rig.view c.args.rig.now).calls
-
-pub returns-in_err-held-clause-puts : goal.returns-in_err-held-clause-puts
-returns-in_err-held-clause-puts g c =
-    let V = g.R.Rig.view in
-    let chip = c.args.chip.now in
-    let size = c.page_size-size.result in
-    let fits = read_fits g (goal.at.returns-in_err-held-clause-puts g c).After-read_range in
-    part_fails (Some chip) (12 + 2 * size) (most_of_page chip c.args.n) (V c.args.rig.now).calls
-    (V c.read_range.new.rig).calls _ c.from_residual.result fits c.from_residual.ensures.1
-    (c.in_err-held.ensures.few c.args.n
-    (in_page chip c.args.n c.page_start-start.result size c.requires.exists
-    c.page_start-start.ensures.address c.page_size-size.ensures.bytes))
-
-pub returns-in_err-page-clause-puts : goal.returns-in_err-page-clause-puts
-returns-in_err-page-clause-puts g c =
-    let V = g.R.Rig.view in
-    let chip = c.args.chip.now in
-    let fits = read_fits g (goal.at.returns-in_err-page-clause-puts g c).After-read_range in
-    part_weaker (Some chip) _ (12 + 2 * c.page_size-size.result) (most_of_page chip c.args.n)
-    (V c.args.rig.now).calls (V c.read_range.new.rig).calls fits
-    (few g (goal.at.returns-in_err-page-clause-puts g c).After-content)
-
-pub returns-in_err-changed-clause-puts : goal.returns-in_err-changed-clause-puts
-returns-in_err-changed-clause-puts g c =
-    let V = g.R.Rig.view in
-    let chip = c.args.chip.now in
-    let n = c.args.n in
-    let more = most_of_companion chip n + (9 + 2 * length c.deref-3.result.now) in
-    let read = (goal.at.returns-in_err-changed-clause-puts g c).After-content in
-    let last = (goal.at.returns-in_err-changed-clause-puts g c).After-change_page in
-    part_fails_after (Some chip) (12 + 2 * c.page_size-size.result) more (most_of_page chip n)
-    (V c.args.rig.now).calls (V c.read_range.new.rig).calls (V c.change_page.new.rig).calls _
-    c.from_residual-in_err-changed.result (fits g last) c.from_residual-in_err-changed.ensures.1
-    (few g read) c.in_err-changed.ensures.puts
-
-pub returns-clause-puts : goal.returns-clause-puts
-returns-clause-puts g c =
-    let V = g.R.Rig.view in
-    let chip = c.args.chip.now in
-    let n = c.args.n in
-    let more = most_of_companion chip n + (9 + 2 * length c.deref-3.result.now) in
-    let read = (goal.at.returns-clause-puts g c).After-content in
-    let last = (goal.at.returns-clause-puts g c).After-change_page in
-    part_after (Some chip) true (12 + 2 * c.page_size-size.result) more (most_of_page chip n)
-    (V c.args.rig.now).calls (V c.read_range.new.rig).calls (V c.change_page.new.rig).calls
-    (fits g last) (few g read) c.in_ok-changed.ensures.puts
 
 pub returns-then-not-touches-clause-order : goal.returns-then-not-touches-clause-order
 returns-then-not-touches-clause-order g c =

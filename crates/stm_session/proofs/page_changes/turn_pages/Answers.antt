@@ -1,4 +1,4 @@
-use Rattle.std.proofs.Common.{◌≡◌, ◌∙◌, ◌+◌, ◌<◌, ◌≤◌, ◌++◌, ◌==◌, ◌&&◌, [], List, ℕ, Bool, length, if◌then◌else◌, ap, arith, refl, sym, subst}
+use Rattle.std.proofs.Common.{◌≡◌, ◌∙◌, ◌+◌, ◌<◌, ◌≤◌, ◌++◌, [], List, ℕ, Bool, length, ap, arith, refl, sym, subst}
 use Rattle.stm_wire.specs.Chip.{ChipData, flash_size, page_count, page_of}
 use Rattle.stm_wire.specs.FlashLaws.{turned_none, turned_all}
 use Rattle.stm_journal.specs.declared.entry.Entry.{Entry}
@@ -9,13 +9,7 @@ use Rattle.stm_session.specs.Lines.{page_entries, page_entries_below}
 use Rattle.stm_session.specs.Meaning.{flash_after}
 use Rattle.stm_session.proofs.Going.{at_exit, goes_as, goes_nowhere, goes_failed, goes_ok, goes_then}
 use Rattle.stm_session.proofs.Turns.{LayLaws, begun_next, counted_more, free_next, from_one, has_next, lacks_next, lines_around, page_lines, size_after, told_more, turned_more}
-use Rattle.std.proofs.Common.{Some, true}
-use Rattle.stm_wire.specs.Dialogue.{GoesOn}
-use Rattle.stm_wire.specs.Parts.{IsPart}
-use Rattle.stm_wire.specs.PartLaws.{nothing_is_part}
-use Rattle.stm_session.specs.Sending.{most_of_command}
-use Rattle.stm_session.proofs.Sending.{same_fault}
-use Rattle.stm_session.proofs.SentChanges.{turned_next, turned_within}
+use Rattle.std.proofs.Common.{true}
 use Rattle.stm_session.specs.ChangeOrder.{AreAllTurned, AreTurned, none}
 use Rattle.stm_session.proofs.ChangeOrders.{all_turned}
 use Rattle.stm_session.proofs.Orders.{does_nothing, does_then}
@@ -35,7 +29,6 @@ loop-n-init g c =
       has = λ h more. absurd (Rattle.std.proofs.lemmas.Bool.false≢true h);
       begun = λ le. refl;
       small = omega arith;
-      puts = nothing_is_part (Some c.args.chip.now) true _ (V c.args.rig.now).calls;
       order = ([], none, does_nothing c.args.journal.now (V c.args.rig.now));
       line = refl;
       journal = refl;
@@ -97,7 +90,6 @@ loop-n-preserved g c =
       has = λ h more. has_next c.args.chip.now n c.loop-n.first kept changed s s2 c.is_kept-kept.ensures turned so_far.has (sym next_is ∙ h) more;
       begun = λ le. next_is ∙ begun_next c.args.chip.now n c.loop-n.first kept changed s s2 c.is_kept-kept.ensures turned so_far.begun le;
       small = omega (arith, so_far.small, one);
-      puts = turned_next c.args.chip.now n true (V c.args.rig.now).calls (V c.loop-n.rig).calls (V c.turn_page.new.rig).calls (omega (arith, c.loop-n-test.true, c.pages-n-end.ensures)) so_far.puts c.in_ok-changed.ensures.puts;
       order =
           let before = so_far.order in
           let own = c.in_ok-changed.ensures.order in (
@@ -159,23 +151,6 @@ returns-clause-honest g c flashes steady chip =
       flash = turned_all k c.loop-n.n old other b.device.flash (size_after laws k c.args.change.now old size) (omega (arith, all)) done.0;
       counts = done.1 ∙ ap (λ (m : ℕ). differing_below m k old other) all;
     }))
-
-pub returns-in_err-changed-clause-puts : goal.returns-in_err-changed-clause-puts
-returns-in_err-changed-clause-puts g c =
-    let V = g.R.Rig.view in
-    let chip = c.args.chip.now in
-    let n = c.loop-n.n in
-    let a = (V c.args.rig.now).calls in
-    let d = (V c.turn_page.new.rig).calls in
-    let here : n < page_count chip = omega (arith, c.loop-n-test.true, c.pages-n-end.ensures) in
-    let P : Bool → Type 0 = λ w. GoesOn (IsPart (Some chip) w most_of_command) a d in
-    same_fault P _ c.from_residual.result c.from_residual.ensures.1
-    (turned_within chip (n + 1) _ a d c.keeps_limits.ensures.chip (turned_next chip n _ a (V c.loop-n.rig).calls d here c.loop-n.invariant.puts c.in_err-changed.ensures.puts))
-
-pub returns-clause-puts : goal.returns-clause-puts
-returns-clause-puts g c =
-    let V = g.R.Rig.view in
-    turned_within c.args.chip.now c.loop-n.n true (V c.args.rig.now).calls (V c.loop-n.rig).calls c.keeps_limits.ensures.chip c.loop-n.invariant.puts
 
 pub returns-clause-order : goal.returns-clause-order
 returns-clause-order g c =

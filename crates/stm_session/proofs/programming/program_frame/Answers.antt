@@ -1,7 +1,5 @@
 use Rattle.std.proofs.Common.{[], ap, rules, ◌+◌}
 use Rattle.stm_session.proofs.Programmings.{may_write, write_goes, write_fails}
-use Rattle.std.proofs.Common.{Some, arith}
-use Rattle.stm_session.proofs.SentParts.{command_fails, write_cut, write_sent}
 use Rattle.stm_session.proofs.Orders.{order_written}
 use Rattle.stm_session.proofs.CutShort.{writing_stops}
 use Rattle.stm_session.proofs.programming.program_frame.Goals as goal
@@ -25,23 +23,6 @@ returns-clause-honest g c flashes l steady chip under erased =
     _ at _ (search (rules, c.from.ensures)) in
     write_goes c.step_laws.ensures flashes l c.args.n c.args.chip.now c.args.page.now c.args.frame (V c.args.rig.now) (V c.program.new.rig) model steady under chip c.requires.exists c.requires.size c.requires.frame
     _ at _ (search (rules, c.from.ensures)) (tt {0}) c.in_ok-program.ensures.held (λ h. g.met.R.Rig.model c.program.new.rig h) (c.in_ok-program.ensures.honest steady.honest may).done erased
-
-pub returns-in_err-program-clause-puts : goal.returns-in_err-program-clause-puts
-returns-in_err-program-clause-puts g c =
-    let V = g.R.Rig.view in
-    let a = (V c.args.rig.now).calls in
-    let b = (V c.program.new.rig).calls in
-    let at = ap (λ x. x + c.args.frame.offset) c.page_start.ensures.address in
-    command_fails (Some c.args.chip.now) 268 268 a b _ c.from_residual.result (omega arith) c.from_residual.ensures.1
-    (write_cut c.args.chip.now c.args.n c.args.page.now c.args.frame c.requires.exists c.requires.size c.requires.frame _ at _ (search (rules, c.from.ensures)) _ a b c.in_err-program.ensures.broken.recorded)
-
-pub returns-clause-puts : goal.returns-clause-puts
-returns-clause-puts g c =
-    let V = g.R.Rig.view in
-    let a = (V c.args.rig.now).calls in
-    let b = (V c.program.new.rig).calls in
-    let at = ap (λ x. x + c.args.frame.offset) c.page_start.ensures.address in
-    write_sent c.args.chip.now c.args.n c.args.page.now c.args.frame c.requires.exists c.requires.size c.requires.frame _ at _ (search (rules, c.from.ensures)) a b c.in_ok-program.ensures.held.recorded
 
 pub returns-clause-order : goal.returns-clause-order
 returns-clause-order g c torn =

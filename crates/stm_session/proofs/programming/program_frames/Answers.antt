@@ -6,12 +6,8 @@ use Rattle.stm_wire.specs.Chip.{with_page, erased_page}
 use Rattle.stm_session.proofs.Frames.{next_frame, written-none}
 use Rattle.stm_session.proofs.Going.{goes_nowhere, goes_ok, goes_failed}
 use Rattle.stm_session.proofs.Programmings.{written_before, chip_still, place_erased, under_next, write_next, flash_next}
-use Rattle.std.proofs.Common.{◌+◌, ◌*◌, length, true, Bool, Some}
+use Rattle.std.proofs.Common.{true}
 use Rattle.stm_wire.specs.Dialogue.{GoesOn}
-use Rattle.stm_wire.specs.Parts.{IsPart}
-use Rattle.stm_wire.specs.PartLaws.{nothing_is_part}
-use Rattle.stm_session.proofs.Sending.{same_fault}
-use Rattle.stm_session.proofs.SentParts.{frames_next, frames_within}
 use Rattle.std.proofs.Common.{refl, subst}
 use Rattle.stm_wire.specs.DialogueLaws.{GoesOn-nothing}
 use Rattle.stm_session.specs.Order.{IsInOrder, write_steps}
@@ -26,7 +22,6 @@ loop-frame-init g c =
       line = refl;
       journal = refl;
       stays = λ h. h;
-      puts = nothing_is_part (Some c.args.chip.now) true _ (V c.args.rig.now).calls;
       order = λ torn. GoesOn-nothing (IsInOrder torn []) (V c.args.rig.now).calls refl;
       honest = λ flashes l base steady chip under whole erased.
           goes_nowhere c.step_laws.ensures flashes l (V c.args.rig.now) (tt {0}) _ (g.met.R.Rig.model c.args.rig.now steady.honest) steady
@@ -62,7 +57,6 @@ loop-frame-preserved g c =
       line = c.in_ok-program_frame.ensures.cause.line_done ∙ so_far.line;
       journal = c.in_ok-program_frame.ensures.cause.journal_done ∙ so_far.journal;
       stays = λ h. c.in_ok-program_frame.ensures.cause.honest (so_far.stays h);
-      puts = frames_next c.args.chip.now c.args.frames.now i true (V c.args.rig.now).calls (V c.loop-frame.rig).calls (V c.program_frame.new.rig).calls c.loop-frame-test.true so_far.puts c.in_ok-program_frame.ensures.puts;
       order = λ torn.
           writes_next c.args.chip.now c.args.n c.args.page.now torn c.args.frames.now (frame_with 0 0) i (V c.args.rig.now).calls (V c.loop-frame.rig).calls (V c.program_frame.new.rig).calls c.loop-frame-test.true
           (so_far.order torn) (c.in_ok-program_frame.ensures.order torn);
@@ -89,24 +83,6 @@ returns-clause-honest g c flashes l base steady chip under whole erased =
     let all = take_all c.loop-frame.frame-index c.args.frames.now (omega (arith, c.loop-frame-test.false)) in
     goes_ok flashes [] l (V c.args.rig.now) (V c.loop-frame.rig) (tt {0}) (tt {0}) (c.loop-frame.invariant.honest flashes l base steady chip under whole erased)
     (λ done. done ∙ ap (λ (fs : List Frame). with_page c.args.chip.now c.args.n (written c.args.page.now fs (erased_page c.args.chip.now c.args.n)) base) all)
-
-pub returns-in_err-program_frame-clause-puts : goal.returns-in_err-program_frame-clause-puts
-returns-in_err-program_frame-clause-puts g c =
-    let V = g.R.Rig.view in
-    let chip = c.args.chip.now in
-    let frames = c.args.frames.now in
-    let i = c.loop-frame.frame-index in
-    let a = (V c.args.rig.now).calls in
-    let d = (V c.program_frame.new.rig).calls in
-    let P : Bool → Type 0 = λ w. GoesOn (IsPart (Some chip) w (2 * length c.args.page.now)) a d in
-    same_fault P _ c.from_residual.result c.from_residual.ensures.1
-    (frames_within chip frames (i + 1) _ (length c.args.page.now) a d c.requires.frames
-    (frames_next chip frames i _ a (V c.loop-frame.rig).calls d c.loop-frame-test.true c.loop-frame.invariant.puts c.in_err-program_frame.ensures.puts))
-
-pub returns-clause-puts : goal.returns-clause-puts
-returns-clause-puts g c =
-    let V = g.R.Rig.view in
-    frames_within c.args.chip.now c.args.frames.now c.loop-frame.frame-index true (length c.args.page.now) (V c.args.rig.now).calls (V c.loop-frame.rig).calls c.requires.frames c.loop-frame.invariant.puts
 
 pub returns-clause-order : goal.returns-clause-order
 returns-clause-order g c torn =

@@ -8,9 +8,7 @@ use Rattle.stm_session.specs.Steps.{Goes, IsSteady}
 use Rattle.stm_session.proofs.Erasings.{programs_step, said_by_call, said_then}
 use Rattle.stm_session.proofs.Exits.{goes_out, goes_past}
 use Rattle.stm_session.proofs.Going.{line_fails}
-use Rattle.std.proofs.Common.{◌*◌, length, true, Some, arith}
-use Rattle.stm_session.specs.Sending.{is_whole}
-use Rattle.stm_session.proofs.SentParts.{line_part, part_after, part_fails_after}
+use Rattle.std.proofs.Common.{length, arith}
 use Rattle.stm_journal.specs.Journals.{Loaded}
 use Rattle.stm_session.specs.Order.{Adds, write_steps, Step, Are, Begin}
 use Rattle.stm_session.proofs.Orders.{does_add, does_then, does_writes}
@@ -74,34 +72,6 @@ returns-clause-honest g c flashes base steady chip whole erased =
     let at = (goal.at.returns-clause-honest g c).After-program_frames in
     goes_past (tt {0}) c.in_ok-program_frames.was (sent g at flashes base steady chip whole erased)
     (λ p. p)
-
-pub returns-in_err-intend_program-clause-puts : goal.returns-in_err-intend_program-clause-puts
-returns-in_err-intend_program-clause-puts g c =
-    let V = g.R.Rig.view in
-    line_part (Some c.args.chip.now) (is_whole c.from_residual.result) (2 * length c.args.page.now) c.args.journal.now (Programs c.args.n ∷ []) c.intend_program.result
-    (V c.args.rig.now).calls (V c.intend_program.new.rig).calls c.intend_program.ensures.calls
-
-pub returns-in_err-program_frames-clause-puts : goal.returns-in_err-program_frames-clause-puts
-returns-in_err-program_frames-clause-puts g c =
-    let V = g.R.Rig.view in
-    let a = (V c.args.rig.now).calls in
-    let b = (V c.intend_program.new.rig).calls in
-    let d = (V c.program_frames.new.rig).calls in
-    let chip = Some c.args.chip.now in
-    let most = 2 * length c.args.page.now in
-    part_fails_after chip 0 most most a b d _ c.from_residual-in_err-program_frames.result (omega arith) c.from_residual-in_err-program_frames.ensures.1
-    (line_part chip true 0 c.args.journal.now (Programs c.args.n ∷ []) c.intend_program.result a b c.intend_program.ensures.calls) c.in_err-program_frames.ensures.puts
-
-pub returns-clause-puts : goal.returns-clause-puts
-returns-clause-puts g c =
-    let V = g.R.Rig.view in
-    let a = (V c.args.rig.now).calls in
-    let b = (V c.intend_program.new.rig).calls in
-    let d = (V c.program_frames.new.rig).calls in
-    let chip = Some c.args.chip.now in
-    let most = 2 * length c.args.page.now in
-    part_after chip true 0 most most a b d (omega arith)
-    (line_part chip true 0 c.args.journal.now (Programs c.args.n ∷ []) c.intend_program.result a b c.intend_program.ensures.calls) c.in_ok-program_frames.ensures.puts
 
 pub returns-clause-order : goal.returns-clause-order
 returns-clause-order g c =

@@ -13,6 +13,7 @@ use Rattle.stm_session.specs.Steps.{Goes}
 use Rattle.stm_session.specs.Undoable.{Undoable}
 use Rattle.stm_session.specs.Undoes.{IsFlashSettled, IsWithinLimit, Undoes, byte_at_journal}
 use Rattle.stm_session.specs.Undoes.{risked_at, taken_count}
+use Rattle.stm_session.specs.Work.{pages_at_work}
 use Rattle.stm_session.proofs.Freshness.{own_within}
 use Rattle.stm_session.proofs.Going.{at_exit}
 use Rattle.stm_session.specs.Fresh.{IsAsSaid, IsReset, undo_way}
@@ -336,7 +337,7 @@ returns-clause-order g c some =
     let met = c.in_ok-meet.ensures.order l.is_torn in
     let asking = asking_steps met.0 met.1 chip.id in
     let Told = behind_confirming chip (ToldIn V l.is_torn (V c.meet.new.rig) (V c.go_back_confirmed.new.rig)) in
-    let taken = all_as c.args.again chip Told untold (intent_of l.state) c.taken_count-segments.result (pages_of_segments l.state.stack) back.1.0 (λ steps page told. tt) back.1.2 in
+    let taken = all_as c.args.again chip Told untold (pages_at_work l.state.stack) c.taken_count-segments.result (pages_of_segments l.state.stack) back.1.0 (λ steps page told. tt) back.1.2 in
     record {
       journal = l;
       loaded = λ h. (c.in_ok-journal.ensures.honest h).loaded;
@@ -362,7 +363,7 @@ returns-clause-given g c some =
     let asking = asking_steps met.0 met.1 chip.id in
     let opened = fetched_then way l.is_torn asking a.calls b.calls d.calls c.in_ok-journal.ensures.calls met.2 in
     let told = told_by V (λ calls. SettlesFirst way l.is_torn asking calls) l.is_torn a d e opened in
-    let taken = all_as c.args.again chip (behind_confirming chip (ToldIn V l.is_torn d e)) (behind_confirming chip (ToldBy V a e)) (intent_of l.state) c.taken_count-segments.result (pages_of_segments l.state.stack) back.1.0 (λ steps page. told (confirming chip ++ steps) page) back.1.2 in
+    let taken = all_as c.args.again chip (behind_confirming chip (ToldIn V l.is_torn d e)) (behind_confirming chip (ToldBy V a e)) (pages_at_work l.state.stack) c.taken_count-segments.result (pages_of_segments l.state.stack) back.1.0 (λ steps page. told (confirming chip ++ steps) page) back.1.2 in
     record {
       journal = l;
       loaded = λ h. (c.in_ok-journal.ensures.honest h).loaded;
@@ -441,7 +442,7 @@ returns-in_err-go_back_confirmed-clause-stops g c =
       within,
       taken.ensures.asked,
       may_as c.args.again chip Begun (Begin (AreTaken c.args.again taken.result chip l.state))
-          (λ xs own. (own.0, all_as c.args.again chip (so_far (length xs) Told) untold intent taken.result segments (xs ++ own.0) (λ ys page told. tt) own.1)) steps part,
+          (λ xs own. (own.0, all_as c.args.again chip (so_far (length xs) Told) untold (pages_at_work l.state.stack) taken.result segments (xs ++ own.0) (λ ys page told. tt) own.1)) steps part,
     )) in
     at_fault P _ c.from_residual-in_err-go_back_confirmed.result c.from_residual-in_err-go_back_confirmed.ensures.1
     (inr (record {
@@ -523,7 +524,7 @@ returns-in_err-go_back_confirmed-clause-given_stops g c =
       may_as c.args.again chip Begun (BeginTold (λ T. AreTakenAs c.args.again T taken.result chip l.state) (behind_confirming chip Given))
           (λ xs own.
           let n = length xs in
-          (own.0, all_as c.args.again chip (so_far n Told) (so_far n (behind_confirming chip Given)) intent taken.result segments (xs ++ own.0) (λ ys page is lt. told (confirming chip ++ ys) page (is lt)) own.1)) steps part,
+          (own.0, all_as c.args.again chip (so_far n Told) (so_far n (behind_confirming chip Given)) (pages_at_work l.state.stack) taken.result segments (xs ++ own.0) (λ ys page is lt. told (confirming chip ++ ys) page (is lt)) own.1)) steps part,
     )) in
     at_fault P _ c.from_residual-in_err-go_back_confirmed.result c.from_residual-in_err-go_back_confirmed.ensures.1
     (inr (record {

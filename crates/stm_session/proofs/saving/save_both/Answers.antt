@@ -1,6 +1,5 @@
-use Rattle.std.proofs.Common.{◌≡◌, ◌*◌, ◌∙◌, ◌∷◌, [], ◌++◌, List, ℕ, Some, true, ap, refl, sym}
-use Rattle.std.proofs.Common.{arith}
-use Rattle.stm_wire.specs.Chip.{flash_size, page_of}
+use Rattle.std.proofs.Common.{◌≡◌, ◌∙◌, ◌∷◌, [], ◌++◌, List, ℕ, ap, refl, sym}
+use Rattle.stm_wire.specs.Chip.{page_of}
 use Rattle.stm_wire.specs.Device.{Device}
 use Rattle.stm_journal.specs.declared.entry.Entry.TheVariants.{Keeps}
 use Rattle.stm_session.specs.ChangeOrder.{AreBothSaved, IsCompanionSaved}
@@ -11,7 +10,6 @@ use Rattle.stm_session.proofs.Exits.{goes_out, goes_past}
 use Rattle.stm_session.proofs.Going.{goes_failed, goes_then}
 use Rattle.stm_session.proofs.Orders.{does_then}
 use Rattle.stm_session.proofs.Savings.{both_saved, may_still}
-use Rattle.stm_session.proofs.SentParts.{part_after, part_fails, part_fails_after}
 use Rattle.stm_session.proofs.saving.save_both.Given.{Over}
 use Rattle.stm_session.proofs.saving.save_both.Goals.{After-save_page}
 use Rattle.stm_session.proofs.saving.save_both.Goals as goal
@@ -68,25 +66,6 @@ pub returns-clause-honest : goal.returns-clause-honest
 returns-clause-honest g c flashes steady chip read =
     let at = (goal.at.returns-clause-honest g c).After-save_page in
     goes_past (tt {0}) c.in_ok-save_page.was (kept g at flashes steady chip read) (λ done. done)
-
-pub returns-in_err-save_companion-clause-puts : goal.returns-in_err-save_companion-clause-puts
-returns-in_err-save_companion-clause-puts g c =
-    let V = g.R.Rig.view in
-    let most = 3 * flash_size c.args.chip.now in
-    part_fails (Some c.args.chip.now) most most (V c.args.rig.now).calls (V c.save_companion.new.rig).calls _ c.from_residual.result (omega arith) c.from_residual.ensures.1 c.in_err-save_companion.ensures.puts
-
-pub returns-in_err-save_page-clause-puts : goal.returns-in_err-save_page-clause-puts
-returns-in_err-save_page-clause-puts g c =
-    let V = g.R.Rig.view in
-    let most = 3 * flash_size c.args.chip.now in
-    part_fails_after (Some c.args.chip.now) most 0 most (V c.args.rig.now).calls (V c.save_companion.new.rig).calls (V c.save_page.new.rig).calls _ c.from_residual-in_err-save_page.result (omega arith)
-    c.from_residual-in_err-save_page.ensures.1 c.in_ok-save_companion.ensures.puts c.in_err-save_page.ensures.puts
-
-pub returns-clause-puts : goal.returns-clause-puts
-returns-clause-puts g c =
-    let V = g.R.Rig.view in
-    let most = 3 * flash_size c.args.chip.now in
-    part_after (Some c.args.chip.now) true most 0 most (V c.args.rig.now).calls (V c.save_companion.new.rig).calls (V c.save_page.new.rig).calls (omega arith) c.in_ok-save_companion.ensures.puts c.in_ok-save_page.ensures.puts
 
 pub returns-clause-order : goal.returns-clause-order
 returns-clause-order g c =

@@ -1,6 +1,6 @@
-use Rattle.std.proofs.Common.{◌≡◌, ◌+◌, ◌*◌, ◌∙◌, ◌∷◌, [], ◌++◌, List, ℕ, Some, true, length, ap}
-use Rattle.std.proofs.Common.{refl, sym, arith, rules}
-use Rattle.stm_wire.specs.Chip.{flash_size, page_of, page_size}
+use Rattle.std.proofs.Common.{◌≡◌, ◌+◌, ◌∙◌, ◌∷◌, [], ◌++◌, List, ℕ, length, ap}
+use Rattle.std.proofs.Common.{refl, sym, rules}
+use Rattle.stm_wire.specs.Chip.{page_of, page_size}
 use Rattle.stm_wire.specs.Device.{Device}
 use Rattle.stm_wire.specs.Intents.{InPage}
 use Rattle.stm_journal.specs.declared.entry.Entry.{Entry}
@@ -10,12 +10,10 @@ use Rattle.stm_session.specs.Fault.{Cause}
 use Rattle.stm_session.specs.Order.{Step, Adds, Are, Begin, DoesSteps, StopsBy, page_reads}
 use Rattle.stm_session.specs.Steps.{Goes, IsSteady}
 use Rattle.stm_session.proofs.CutShort.{begin_after, by_fault, page_was_read, page_stops, then_stops}
-use Rattle.stm_session.proofs.Exits.{goes_out, goes_past}
+use Rattle.stm_session.proofs.Exits.{goes_out, goes_past, in_page}
 use Rattle.stm_session.proofs.Going.{asks_fail, asks_on, goes_as, goes_then}
 use Rattle.stm_session.proofs.Orders.{does_then}
 use Rattle.stm_session.proofs.Restorings.{page_read}
-use Rattle.stm_session.proofs.SentChanges.{page_read_few, whole_page}
-use Rattle.stm_session.proofs.SentParts.{part_after, part_fails, part_fails_after}
 use Rattle.stm_session.proofs.saving.save_companion.Given.{Over}
 use Rattle.stm_session.proofs.saving.save_companion.Goals.{After-read_range, After-save_page}
 use Rattle.stm_session.proofs.saving.save_companion.Goals as goal
@@ -24,7 +22,7 @@ use Rattle.stm_session.proofs.saving.save_companion.Goals as goal
 here : (g : Over) (c : After-read_range g)
     → InPage c.args.chip.now 257 c.page_start-start.result c.page_size-size.result
 here g c =
-    whole_page c.args.chip.now 257 c.page_start-start.result c.page_size-size.result
+    in_page c.args.chip.now 257 c.page_start-start.result c.page_size-size.result
     c.requires.exists
     c.page_start-start.ensures.address c.page_size-size.ensures.bytes
 
@@ -79,39 +77,6 @@ returns-clause-honest g c flashes steady chip =
     let at = (goal.at.returns-clause-honest g c).After-save_page in
     goes_past (tt {0}) c.in_ok-save_page.was (kept g at flashes steady chip) (λ done. done)
 
-pub returns-in_err-held-clause-puts : goal.returns-in_err-held-clause-puts
-returns-in_err-held-clause-puts g c =
-    let V = g.R.Rig.view in
-    let size = c.page_size-size.result in
-    let at = (goal.at.returns-in_err-held-clause-puts g c).After-read_range in
-    part_fails (Some c.args.chip.now) (12 + 2 * size) (3 * flash_size c.args.chip.now)
-    (V c.args.rig.now).calls (V c.read_range.new.rig).calls _ c.from_residual.result
-    (page_read_few c.args.chip.now 257 size c.page_size-size.ensures.bytes
-    c.page_size-size.ensures.blocks.0)
-    c.from_residual.ensures.1 (c.in_err-held.ensures.few 257 (here g at))
-
-pub returns-in_err-save_page-clause-puts : goal.returns-in_err-save_page-clause-puts
-returns-in_err-save_page-clause-puts g c =
-    let V = g.R.Rig.view in
-    let size = c.page_size-size.result in
-    let few = page_read_few c.args.chip.now 257 size c.page_size-size.ensures.bytes c.page_size-size.ensures.blocks.0 in
-    let at = (goal.at.returns-in_err-save_page-clause-puts g c).After-read_range in
-    part_fails_after (Some c.args.chip.now) (12 + 2 * size) 0 (3 * flash_size c.args.chip.now)
-    (V c.args.rig.now).calls (V c.read_range.new.rig).calls (V c.save_page.new.rig).calls _
-    c.from_residual-in_err-save_page.result (omega (arith, few))
-    c.from_residual-in_err-save_page.ensures.1
-    (c.in_ok-held.ensures.few 257 (here g at)) c.in_err-save_page.ensures.puts
-
-pub returns-clause-puts : goal.returns-clause-puts
-returns-clause-puts g c =
-    let V = g.R.Rig.view in
-    let size = c.page_size-size.result in
-    let few = page_read_few c.args.chip.now 257 size c.page_size-size.ensures.bytes c.page_size-size.ensures.blocks.0 in
-    let at = (goal.at.returns-clause-puts g c).After-read_range in
-    part_after (Some c.args.chip.now) true (12 + 2 * size) 0 (3 * flash_size c.args.chip.now)
-    (V c.args.rig.now).calls (V c.read_range.new.rig).calls (V c.save_page.new.rig).calls
-    (omega (arith, few)) (c.in_ok-held.ensures.few 257 (here g at)) c.in_ok-save_page.ensures.puts
-
 -- the page's reads, of so many bytes
 was_read : (g : Over) (c : After-save_page g)
     → (length c.deref.result.now ≡ page_size c.args.chip.now 257)
@@ -122,7 +87,7 @@ was_read g c =
     let V = g.R.Rig.view in
     let start = c.page_start-start in
     let size = c.page_size-size in
-    let page = whole_page c.args.chip.now 257 start.result size.result c.requires.exists
+    let page = in_page c.args.chip.now 257 start.result size.result c.requires.exists
     start.ensures.address size.ensures.bytes in
     let torn = c.args.journal.now.is_torn in
     let order = c.in_ok-held.ensures.order 257 page size.ensures.blocks.1 torn in (

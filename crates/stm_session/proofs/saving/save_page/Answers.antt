@@ -7,9 +7,7 @@ use Rattle.stm_session.specs.Undoable.{state_at}
 use Rattle.stm_session.proofs.Going.{line_goes, line_fails}
 use Rattle.stm_session.proofs.Keeping.{good_at}
 use Rattle.stm_session.proofs.Savings.{keeps_step, saved}
-use Rattle.std.proofs.Common.{◌∷◌, Some, true}
-use Rattle.stm_session.specs.Sending.{is_whole}
-use Rattle.stm_session.proofs.SentParts.{line_part}
+use Rattle.std.proofs.Common.{◌∷◌}
 use Rattle.std.proofs.Common.{ap}
 use Rattle.stm_journal.specs.Journals.{Loaded}
 use Rattle.stm_session.proofs.Orders.{does_add}
@@ -45,16 +43,6 @@ returns-clause-honest g c flashes steady chip read =
     (keeps_step c.step_laws.ensures flashes c.args.journal.now c.args.n c.args.chip.now c.args.held.now (V c.args.rig.now) model steady (omega (arith, c.ranges.n.fits)) c.requires.may c.requires.companion
     chip c.requires.exists c.requires.size (omega (arith, c.requires.size, c.page_size-size.ensures.bytes, c.page_size-size.ensures.blocks.0)) bytes read)
     _ (tt {0}) appends call.after has
-
-pub returns-in_err-keep_page-clause-puts : goal.returns-in_err-keep_page-clause-puts
-returns-in_err-keep_page-clause-puts g c =
-    let V = g.R.Rig.view in
-    line_part (Some c.args.chip.now) (is_whole c.from_residual.result) 0 c.args.journal.now (Keeps c.args.n c.args.held.now ∷ []) c.keep_page.result (V c.args.rig.now).calls (V c.keep_page.new.rig).calls c.keep_page.ensures.calls
-
-pub returns-clause-puts : goal.returns-clause-puts
-returns-clause-puts g c =
-    let V = g.R.Rig.view in
-    line_part (Some c.args.chip.now) true 0 c.args.journal.now (Keeps c.args.n c.args.held.now ∷ []) c.keep_page.result (V c.args.rig.now).calls (V c.keep_page.new.rig).calls c.keep_page.ensures.calls
 
 pub returns-clause-order : goal.returns-clause-order
 returns-clause-order g c =

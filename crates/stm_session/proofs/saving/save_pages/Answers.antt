@@ -1,12 +1,10 @@
-use Rattle.std.proofs.Common.{◌≡◌, ◌*◌, ◌∙◌, ◌==◌, ◌&&◌, ◌∷◌, [], List, ℕ, Some, true, ap, refl}
-use Rattle.std.proofs.Common.{sym, arith}
-use Rattle.stm_wire.specs.Chip.{flash_size, page_of}
-use Rattle.stm_wire.specs.PartLaws.{nothing_is_part, part_longer}
+use Rattle.std.proofs.Common.{◌≡◌, ◌∙◌, ◌==◌, ◌&&◌, ◌∷◌, [], List, ℕ, true, ap, refl}
+use Rattle.std.proofs.Common.{sym}
+use Rattle.stm_wire.specs.Chip.{page_of}
 use Rattle.stm_journal.specs.declared.entry.Entry.TheVariants.{Keeps}
 use Rattle.stm_session.specs.ChangeOrder.{AreBothSaved, IsSaved}
 use Rattle.stm_session.specs.Changing.{save_entries}
 use Rattle.stm_session.specs.Order.{Step, Adds, Are, Begin}
-use Rattle.stm_session.specs.Sending.{most_of_companion}
 use Rattle.stm_session.specs.Undoable.{has_companion}
 use Rattle.stm_session.proofs.ChangeOrders.{saved_both, saved_none, saved_one}
 use Rattle.stm_session.proofs.CutShort.{begin_as, part_stops}
@@ -14,8 +12,6 @@ use Rattle.stm_session.proofs.Exits.{goes_out, goes_past}
 use Rattle.stm_session.proofs.Going.{goes_as, goes_nowhere}
 use Rattle.stm_session.proofs.Orders.{does_nothing}
 use Rattle.stm_session.proofs.Savings.{both_lines, is_first, none_lines, one_lines}
-use Rattle.stm_session.proofs.SentChanges.{companion_is}
-use Rattle.stm_session.proofs.SentParts.{part_fails}
 use Rattle.stm_session.proofs.saving.save_pages.Given.{Over}
 use Rattle.stm_session.proofs.saving.save_pages.Goals.{After-save_both, After-save_page}
 use Rattle.stm_session.proofs.saving.save_pages.Goals as goal
@@ -89,35 +85,6 @@ returns-clause-honest g c flashes steady chip read =
     goes_as flashes _ _ c.save_page.new.journal (V c.args.rig.now) (V c.save_page.new.rig) _
     (alone g at read)
     (goes_past (tt {0}) refl (c.in_ok-save_page.ensures.honest flashes steady chip read) (λ p. p))
-
-pub returns-then-kept-clause-puts : goal.returns-then-kept-clause-puts
-returns-then-kept-clause-puts g c = nothing_is_part (Some c.args.chip.now) true (most_of_companion c.args.chip.now c.args.n) (g.R.Rig.view c.args.rig.now).calls
-
-pub returns-in_err-save_both-clause-puts : goal.returns-in_err-save_both-clause-puts
-returns-in_err-save_both-clause-puts g c =
-    let V = g.R.Rig.view in
-    let chip = c.args.chip.now in
-    let most = companion_is chip c.args.n (has_companion chip) (sym c.has_other.ensures ∙ c.if-has_other.true) in
-    part_fails (Some chip) (3 * flash_size chip) (most_of_companion chip c.args.n) (V c.args.rig.now).calls (V c.save_both.new.rig).calls _ c.from_residual.result (omega (arith, most)) c.from_residual.ensures.1
-    c.in_err-save_both.ensures.puts
-
-pub returns-then-has_other-clause-puts : goal.returns-then-has_other-clause-puts
-returns-then-has_other-clause-puts g c =
-    let V = g.R.Rig.view in
-    let chip = c.args.chip.now in
-    let most = companion_is chip c.args.n (has_companion chip) (sym c.has_other.ensures ∙ c.if-has_other.true) in
-    part_longer (Some chip) true (3 * flash_size chip) (most_of_companion chip c.args.n) (V c.args.rig.now).calls (V c.save_both.new.rig).calls (omega (arith, most)) c.in_ok-save_both.ensures.puts
-
-pub returns-in_err-save_page-clause-puts : goal.returns-in_err-save_page-clause-puts
-returns-in_err-save_page-clause-puts g c =
-    let V = g.R.Rig.view in
-    part_fails (Some c.args.chip.now) 0 (most_of_companion c.args.chip.now c.args.n) (V c.args.rig.now).calls (V c.save_page.new.rig).calls _ c.from_residual-in_err-save_page.result (omega arith)
-    c.from_residual-in_err-save_page.ensures.1 c.in_err-save_page.ensures.puts
-
-pub returns-clause-puts : goal.returns-clause-puts
-returns-clause-puts g c =
-    let V = g.R.Rig.view in
-    part_longer (Some c.args.chip.now) true 0 (most_of_companion c.args.chip.now c.args.n) (V c.args.rig.now).calls (V c.save_page.new.rig).calls (omega arith) c.in_ok-save_page.ensures.puts
 
 pub returns-then-kept-clause-order : goal.returns-then-kept-clause-order
 returns-then-kept-clause-order g c =

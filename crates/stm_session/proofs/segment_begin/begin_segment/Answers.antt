@@ -5,10 +5,7 @@ use Rattle.stm_session.specs.Segments.{Changes}
 use Rattle.stm_session.specs.Undoable.{state_at}
 use Rattle.stm_session.proofs.Beginnings.{begins, unbegun, untorn_begin}
 use Rattle.stm_session.proofs.Keeping.{good_at}
-use Rattle.std.proofs.Common.{Some, true}
 use Rattle.stm_journal.specs.Journals.{begin_entries}
-use Rattle.stm_session.specs.Sending.{is_whole}
-use Rattle.stm_session.proofs.SentParts.{line_part}
 use Rattle.std.proofs.Common.{◌∷◌, []}
 use Rattle.stm_session.specs.Order.{Adds, DoesSteps, Step, Are, Begin, Stops}
 use Rattle.stm_session.proofs.Orders.{does_add}
@@ -51,18 +48,6 @@ returns-clause-honest g c flashes after steady chip =
     as_named C _ _ _ _ c.id.ensures c.unique.ensures
     (begins c.step_laws.ensures c.a_stopped_append_is_good.ensures flashes after l a c.id.result c.unique.result model steady own board (omega (arith, c.id.type_inv)) c.requires.room c.requires.finished
     l2 d c.in_ok-segment.segment c.in_ok-segment.segment appends (untorn_begin c.id.result c.unique.result l l2 call.after) has)
-
-pub returns-in_err-segment-clause-puts : goal.returns-in_err-segment-clause-puts
-returns-in_err-segment-clause-puts g c =
-    let V = g.R.Rig.view in
-    let l = c.args.journal.now in
-    line_part (Some c.args.chip.now) (is_whole c.from_residual.result) 0 l (begin_entries c.id.result c.unique.result l.state) c.begin.result (V c.args.rig.now).calls (V c.begin.new.rig).calls c.begin.ensures.calls
-
-pub returns-clause-puts : goal.returns-clause-puts
-returns-clause-puts g c =
-    let V = g.R.Rig.view in
-    let l = c.args.journal.now in
-    line_part (Some c.args.chip.now) true 0 l (begin_entries c.id.result c.unique.result l.state) c.begin.result (V c.args.rig.now).calls (V c.begin.new.rig).calls c.begin.ensures.calls
 
 pub returns-clause-order : goal.returns-clause-order
 returns-clause-order g c =

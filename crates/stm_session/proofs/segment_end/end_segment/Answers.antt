@@ -1,10 +1,8 @@
 use Rattle.stm_session.specs.Undoable.{state_at}
 use Rattle.stm_session.proofs.Closings.{ended, unended}
 use Rattle.stm_session.proofs.Keeping.{good_at}
-use Rattle.std.proofs.Common.{◌∷◌, [], length, true}
+use Rattle.std.proofs.Common.{◌∷◌, [], length}
 use Rattle.stm_journal.specs.declared.entry.Entry.TheVariants.{Ends}
-use Rattle.stm_session.specs.Sending.{is_whole}
-use Rattle.stm_session.proofs.SentParts.{line_part}
 use Rattle.std.proofs.Common.{ap}
 use Rattle.stm_journal.specs.Journals.{Loaded}
 use Rattle.stm_session.proofs.Orders.{does_add}
@@ -30,18 +28,6 @@ returns-clause-honest g c flashes steady =
     let appends = call.honest steady.honest steady.loaded in
     let has = call.text steady.honest steady.loaded (state_at a.journal) (state_at d.journal) (good_at l a.journal steady.loaded) (good_at l2 d.journal appends.loaded) in
     ended c.step_laws.ensures flashes l a (g.met.R.Rig.model c.args.rig.now steady.honest) steady c.requires l2 d _ (tt {0}) appends call.after has
-
-pub returns-in_err-end-clause-puts : goal.returns-in_err-end-clause-puts
-returns-in_err-end-clause-puts g c chip =
-    let V = g.R.Rig.view in
-    let l = c.args.journal.now in
-    line_part chip (is_whole c.from_residual.result) 0 l (Ends (length l.state.stack) ∷ []) c.end.result (V c.args.rig.now).calls (V c.end.new.rig).calls c.end.ensures.calls
-
-pub returns-clause-puts : goal.returns-clause-puts
-returns-clause-puts g c chip =
-    let V = g.R.Rig.view in
-    let l = c.args.journal.now in
-    line_part chip true 0 l (Ends (length l.state.stack) ∷ []) c.end.result (V c.args.rig.now).calls (V c.end.new.rig).calls c.end.ensures.calls
 
 pub returns-clause-order : goal.returns-clause-order
 returns-clause-order g c =

@@ -1,6 +1,6 @@
 use Rattle.std.proofs.Common.{◌≡◌, ◌∙◌, ◌*◌, ◌≤◌, ◌++◌, List, ℕ, Some, true, refl, subst, arith}
 use Rattle.stm_journal.specs.declared.kept.Kept.{Kept}
-use Rattle.stm_session.specs.Order.{AreTakenBack, Step, AreAllTakenBack, AreCutShort, BeginTold, IsInOrder, IsWorkRewritten, OrMisread, acts_of, behind}
+use Rattle.stm_session.specs.Order.{AreTakenBack, Step, AreAllTakenBack, AreCutShort, AreRewritten, BeginTold, IsInOrder, OrMisread, acts_of, behind}
 use Rattle.stm_session.specs.Sending.{most_of_command, most_of_undo}
 use Rattle.stm_session.proofs.Going.{at_exit}
 use Rattle.stm_session.proofs.GoingAll.{all_back, all_failed, work_failed}
@@ -9,7 +9,6 @@ use Rattle.stm_session.proofs.Orders.{does_then}
 use Rattle.stm_session.proofs.SentParts.{part_after, part_fails, part_fails_after}
 use Rattle.std.proofs.Common.{◌≤◌, length, arith}
 use Rattle.stm_journal.specs.Newest.{pages_of_segments}
-use Rattle.stm_journal.specs.States.{intent_of}
 use Rattle.stm_wire.specs.Call.{Call}
 use Rattle.stm_session.specs.Fault.{cause_of}
 use Rattle.stm_session.specs.Told.{ToldIn}
@@ -19,11 +18,12 @@ use Rattle.stm_session.proofs.ToldPages.{told_on, told_then}
 use Rattle.stm_session.proofs.Misreads.{may_after, may_be}
 use Rattle.stm_session.proofs.UndoOrders.{pages_count, segments_begun, work_begun}
 use Rattle.stm_session.specs.Steps.{IsSteady}
+use Rattle.stm_session.specs.Work.{pages_at_work}
 use Rattle.stm_session.proofs.segments_back.go_back.Given as given
 use Rattle.stm_session.proofs.segments_back.go_back.Goals as goal
 use Rattle.stm_session.proofs.segments_back.go_back.Goals.{After-take_back_newest}
 
--- behind the page at work the chip is the one before
+-- behind the pages at work the chip is the one before
 still : (g : given.Over) (c : goal.After-take_back_newest g) (flashes : List (List ℕ))
     → IsSteady flashes c.args.journal.now (g.R.Rig.view c.args.rig.now)
     → (g.R.Rig.view c.args.rig.now).device.chip ≡ c.args.chip.now
@@ -103,7 +103,7 @@ returns-clause-order g c =
     let First = ToldIn V l.is_torn a b in
     let Own = ToldIn V l2.is_torn b d in
     let Told = ToldIn V l.is_torn a d in
-    let work = work_as chip First Told (intent_of l.state) first.0 (told_on V (λ calls. IsInOrder l2.is_torn back.0 calls) l.is_torn a b d back.2.acts) first.1 in
+    let work = work_as chip First Told (pages_at_work l.state.stack) first.0 (told_on V (λ calls. IsInOrder l2.is_torn back.0 calls) l.is_torn a b d back.2.acts) first.1 in
     let taken = segments_as c.args.again chip Own (behind first.0 Told) c.args.taken (pages_of_segments l2.state.stack) back.0 (told_then V first.0 l l2 a b d first.2) back.1 in
     let T : List (List Kept) → Type 0 = λ segments. AreTakenBack c.args.again chip (behind first.0 Told) c.args.taken segments back.0 in (
       first.0 ++ back.0,
@@ -116,16 +116,16 @@ returns-in_err-rewrite_at_work-clause-stops g c =
     let V = g.R.Rig.view in
     let chip = c.args.chip.now in
     let l = c.args.journal.now in
-    let intent = intent_of l.state in
+    let work = pages_at_work l.state.stack in
     let segments = pages_of_segments l.state.stack in
     let deep : c.args.taken ≤ length segments = omega (arith, pages_count l.state.stack, c.requires.some) in
     let a = V c.args.rig.now in
     let b = V c.rewrite_at_work.new.rig in
     let Told = ToldIn V l.is_torn a b in
-    let Work = BeginTold (λ T. IsWorkRewritten chip T intent) Told in
-    let All = BeginTold (λ T. AreAllTakenBack c.args.again chip T intent c.args.taken segments) Told in
+    let Work = BeginTold (λ T. AreRewritten chip T work) Told in
+    let All = BeginTold (λ T. AreAllTakenBack c.args.again chip T work c.args.taken segments) Told in
     part_stops Work (OrMisread c.args.again chip All) l.is_torn a b _ c.from_residual.result c.from_residual.ensures.1
-    (λ ys begun. may_be c.args.again chip All ys (work_begun c.args.again chip Told intent c.args.taken segments deep ys begun)) c.in_err-rewrite_at_work.ensures.stops
+    (λ ys begun. may_be c.args.again chip All ys (work_begun c.args.again chip Told work c.args.taken segments deep ys begun)) c.in_err-rewrite_at_work.ensures.stops
 
 pub returns-in_err-take_back_newest-clause-stops : goal.returns-in_err-take_back_newest-clause-stops
 returns-in_err-take_back_newest-clause-stops g c =
@@ -133,7 +133,7 @@ returns-in_err-take_back_newest-clause-stops g c =
     let chip = c.args.chip.now in
     let l = c.args.journal.now in
     let l2 = c.rewrite_at_work.new.journal in
-    let intent = intent_of l.state in
+    let work = pages_at_work l.state.stack in
     let segments = pages_of_segments l.state.stack in
     let first = c.in_ok-rewrite_at_work.ensures.order in
     let a = V c.args.rig.now in
@@ -146,9 +146,9 @@ returns-in_err-take_back_newest-clause-stops g c =
     let same = c.in_ok-rewrite_at_work.ensures.same.same in
     let cause = cause_of c.in_err-take_back_newest.field-0.0 in
     let Cut : List Call → Type 0 = λ calls. AreCutShort (OrMisread c.args.again chip (Back (pages_of_segments l2.state.stack))) cause l2.is_torn (acts_of calls) in
-    let All = BeginTold (λ T. AreAllTakenBack c.args.again chip T intent c.args.taken segments) Told in
+    let All = BeginTold (λ T. AreAllTakenBack c.args.again chip T work c.args.taken segments) Told in
     then_stops (OrMisread c.args.again chip (Back (pages_of_segments l2.state.stack))) (OrMisread c.args.again chip All) first.0 l l2 a b d _
     c.from_residual-in_err-take_back_newest.result c.from_residual-in_err-take_back_newest.ensures.1 first.2 c.in_err-take_back_newest.ensures.stops
     (may_after c.args.again chip (Back (pages_of_segments l2.state.stack)) All first.0 (λ ys begun.
     let T : List (List Kept) → Type 0 = λ ss. Back ss ys in
-    segments_begun c.args.again chip First Own Told intent c.args.taken segments first.0 (told_on V Cut l.is_torn a b d c.in_err-take_back_newest.ensures.stops) (told_then V first.0 l l2 a b d first.2) first.1 ys (subst T same begun)))
+    segments_begun c.args.again chip First Own Told work c.args.taken segments first.0 (told_on V Cut l.is_torn a b d c.in_err-take_back_newest.ensures.stops) (told_then V first.0 l l2 a b d first.2) first.1 ys (subst T same begun)))

@@ -1,6 +1,6 @@
 use Rattle.std.proofs.Common.{◌+◌, ◌++◌, inl, inr, List, Some, length, true, refl, arith}
 use Rattle.stm_journal.specs.Newest.{pages_of_segments}
-use Rattle.stm_journal.specs.States.{intent_of}
+use Rattle.stm_session.specs.Work.{pages_at_work}
 use Rattle.stm_session.specs.Order.{Step, AreAllTakenBack, Begin, BeginTold, OrMisread, so_far}
 use Rattle.stm_session.specs.Reaching.{IsConfirmedInPart, IsConfirming, confirmed_at, confirming}
 use Rattle.stm_session.specs.SegmentsBack.{undo_lines}
@@ -49,7 +49,7 @@ returns-clause-order g c =
     let next = c.in_ok-go_back.ensures.order in
     let Own = ToldIn V l.is_torn b d in
     let Told = behind_confirming chip (ToldIn V l.is_torn a d) in
-    let taken = all_as c.args.again chip Own Told (intent_of l.state) c.args.taken (pages_of_segments l.state.stack) next.0 (told_then V first l l a b d does) next.1 in
+    let taken = all_as c.args.again chip Own Told (pages_at_work l.state.stack) c.args.taken (pages_of_segments l.state.stack) next.0 (told_then V first l l a b d does) next.1 in
     (first ++ next.0, (next.0, refl, taken), does_then first next.0 l l c.go_back.new.journal a b d does next.2)
 
 pub returns-in_err-confirm-clause-stops : goal.returns-in_err-confirm-clause-stops
@@ -60,7 +60,7 @@ returns-in_err-confirm-clause-stops g c =
     let chip = c.args.chip.now in
     let l = c.args.journal.now in
     let Told = behind_confirming chip (ToldIn V l.is_torn a b) in
-    let Begun = BeginTold (λ T. AreAllTakenBack c.args.again chip T (intent_of l.state) c.args.taken (pages_of_segments l.state.stack)) Told in
+    let Begun = BeginTold (λ T. AreAllTakenBack c.args.again chip T (pages_at_work l.state.stack) c.args.taken (pages_of_segments l.state.stack)) Told in
     part_stops (Begin (IsConfirming (confirmed_at chip))) (IsConfirmedInPart chip (OrMisread c.args.again chip Begun)) l.is_torn a b _ c.from_residual.result c.from_residual.ensures.1 (λ xs x. inl x) (c.in_err-confirm.ensures.stops l.is_torn)
 
 pub returns-in_err-go_back-clause-stops : goal.returns-in_err-go_back-clause-stops
@@ -71,15 +71,15 @@ returns-in_err-go_back-clause-stops g c =
     let d = V c.go_back.new.rig in
     let l = c.args.journal.now in
     let chip = c.args.chip.now in
-    let intent = intent_of l.state in
+    let work = pages_at_work l.state.stack in
     let segments = pages_of_segments l.state.stack in
     let first = confirming chip in
     let does = does_confirm chip l a b (c.in_ok-confirm.ensures.order l.is_torn) in
     let Own = ToldIn V l.is_torn b d in
     let Told = behind_confirming chip (ToldIn V l.is_torn a d) in
     let told = told_then V first l l a b d does in
-    let Back = BeginTold (λ T. AreAllTakenBack c.args.again chip T intent c.args.taken segments) Own in
-    let Begun = BeginTold (λ T. AreAllTakenBack c.args.again chip T intent c.args.taken segments) Told in
+    let Back = BeginTold (λ T. AreAllTakenBack c.args.again chip T work c.args.taken segments) Own in
+    let Begun = BeginTold (λ T. AreAllTakenBack c.args.again chip T work c.args.taken segments) Told in
     let Part = OrMisread c.args.again chip Back in
     let Allowed = IsConfirmedInPart chip (OrMisread c.args.again chip Begun) in
     let later : (ys : List Step) → Part ys → Allowed (first ++ ys) =
@@ -88,7 +88,7 @@ returns-in_err-go_back-clause-stops g c =
       refl,
       may_as c.args.again chip Back Begun (λ zs begun.
           let n = length zs in
-          (begun.0, all_as c.args.again chip (so_far n Own) (so_far n Told) intent c.args.taken segments (zs ++ begun.0) (λ xs page is lt. told xs page (is lt)) begun.1)) ys part,
+          (begun.0, all_as c.args.again chip (so_far n Own) (so_far n Told) work c.args.taken segments (zs ++ begun.0) (λ xs page is lt. told xs page (is lt)) begun.1)) ys part,
     ) in
     then_stops Part Allowed first l l a b d _ c.from_residual-in_err-go_back.result c.from_residual-in_err-go_back.ensures.1 does c.in_err-go_back.ensures.stops later
 

@@ -1,0 +1,174 @@
+-- What steps put on any line, whole or cut short: frames of a chip, each in as many calls as it has turns.
+use Rattle.std.proofs.Common.{◌≡◌, ⊎_elim, ℕ, ◌+◌, ◌≤◌, Bool, true, false, List, [], ◌∷◌, ◌++◌, length, Option, Some, None, Result, Ok, Err, refl, sym, ◌∙◌, ap, subst, arith}
+use Rattle.std.specs.Prelude.{IfOk}
+use Rattle.stm_wire.specs.declared.fault.WireFault.{WireFault}
+use Rattle.stm_wire.specs.declared.fault.WireFault.TheVariants.{Line}
+use Rattle.stm_wire.specs.Call.{Call, Put, Get, Append, Fetch}
+use Rattle.stm_wire.specs.Chip.{ChipData}
+use Rattle.stm_wire.specs.Dialogue.{Turn, GoesOn, IsBrokenOff, calls_of, gets_of, puts_of, sent_bytes}
+use Rattle.stm_wire.specs.DialogueLaws.{GoesOn-weaker}
+use Rattle.stm_wire.specs.Parts.{IsPart}
+use Rattle.stm_wire.specs.PartLaws.{broken_is_part, held_is_part, part_longer, parts_join, silent_is_part}
+use Rattle.stm_wire.specs.Rig.{RigState}
+use Rattle.stm_wire.specs.SentList.{IsFrame}
+use Rattle.stm_journal.specs.Journals.{Loaded, added_bytes}
+use Rattle.stm_session.specs.declared.fault.Fault.{Fault}
+use Rattle.stm_session.specs.Fault.{Cause, cause_of, of_line, of_protocol, of_file, of_memory, of_session, of_refusal}
+use Rattle.stm_session.specs.Order.{Step, Adds, Are, Begin, Sends, AreCutShort, DoesSteps, FailsBy, Follows, IsInOrder, Stops, StopsBy, acts_of, acts_of_steps, step_in, torn_behind}
+use Rattle.stm_session.specs.Sending.{is_whole, is_whole_at, leaves_whole}
+
+-- how many calls their frames are
+abbrev pub count_of : List Step → ℕ
+count_of [] = 0
+count_of (Adds entries ∷ steps) = count_of steps
+count_of (Sends turns ∷ steps) = length turns + count_of steps
+
+abbrev pub AreSent : ChipData → List Step → Type 0
+AreSent chip [] = Unit {0}
+AreSent chip (Adds entries ∷ steps) = AreSent chip steps
+AreSent chip (Sends turns ∷ steps) = IsFrame (Some chip) (sent_bytes turns) × AreSent chip steps
+
+-- steps that put frames of this chip alone, and few
+pub record PutFew (chip : ChipData) (most : ℕ) (steps : List Step) : Type 0 where
+  pub sent : AreSent chip steps
+  pub few : count_of steps ≤ most
+
+sent_then : (chip : ChipData) (xs ys : List Step) → AreSent chip xs → AreSent chip ys → AreSent chip (xs ++ ys)
+sent_then chip [] ys p q = q
+sent_then chip (Adds entries ∷ xs) ys p q = sent_then chip xs ys p q
+sent_then chip (Sends turns ∷ xs) ys (first, p) q = (first, sent_then chip xs ys p q)
+
+sent_parts : (chip : ChipData) (xs ys : List Step) → AreSent chip (xs ++ ys) → AreSent chip xs × AreSent chip ys
+sent_parts chip [] ys p = (tt, p)
+sent_parts chip (Adds entries ∷ xs) ys p = sent_parts chip xs ys p
+sent_parts chip (Sends turns ∷ xs) ys (first, p) = let parts = sent_parts chip xs ys p in ((first, parts.0), parts.1)
+
+count-append : (xs ys : List Step) → count_of (xs ++ ys) ≡ count_of xs + count_of ys
+count-append [] ys = omega arith
+count-append (Adds entries ∷ xs) ys = count-append xs ys
+count-append (Sends turns ∷ xs) ys = omega (arith, count-append xs ys)
+
+module _ (chip : ChipData) where
+  pub put_none : (most : ℕ) → PutFew chip most []
+  put_none most = record { sent = tt; few = omega arith }
+
+  pub put_as : (m n : ℕ) (xs ys : List Step) → m ≤ n → ys ≡ xs → PutFew chip m xs → PutFew chip n ys
+  put_as m n xs ys le is p =
+      let P : List Step → Type 0 = λ zs. PutFew chip n zs in
+      subst P (sym is) (record { sent = p.sent; few = omega (arith, le, p.few) })
+
+  pub put_then : (m n : ℕ) (xs ys : List Step) → PutFew chip m xs → PutFew chip n ys → PutFew chip (m + n) (xs ++ ys)
+  put_then m n xs ys p q = record { sent = sent_then chip xs ys p.sent q.sent; few = omega (arith, count-append xs ys, p.few, q.few) }
+
+  -- a beginning of such steps
+  pub put_front : (most : ℕ) (xs ys : List Step) → PutFew chip most (xs ++ ys) → PutFew chip most xs
+  put_front most xs ys p = record { sent = (sent_parts chip xs ys p.sent).0; few = omega (arith, count-append xs ys, p.few) }
+
+-- Of calls that were recorded from the first on.
+
+at_once : (P : List Call → Type 0) (calls : List Call) → GoesOn P (Some []) (Some calls) → P calls
+at_once P calls (all, is, p) = let same : all ≡ calls = cc in subst P same p
+
+part_as : (chip : Option ChipData) (whole : Bool) (m n : ℕ) (calls : List Call) → m ≤ n → IsPart chip whole m calls → IsPart chip whole n calls
+part_as chip whole m n calls le p = at_once (IsPart chip whole n) calls (part_longer chip whole m n (Some []) (Some calls) le (calls, refl, p))
+
+part_then : (chip : Option ChipData) (whole : Bool) (m n : ℕ) (xs ys : List Call) → IsPart chip true m xs → IsPart chip whole n ys → IsPart chip whole (m + n) (xs ++ ys)
+part_then chip whole m n xs ys p q = at_once (IsPart chip whole (m + n)) (xs ++ ys) (parts_join chip whole m n (Some []) (Some xs) (Some (xs ++ ys)) (xs, refl, p) (ys, refl, q))
+
+-- calls that put and get nothing
+silent : (chip : Option ChipData) (whole : Bool) (calls : List Call) → puts_of calls ≡ [] → gets_of calls ≡ 0 → IsPart chip whole 0 calls
+silent chip whole calls puts gets =
+    let P : List Call → Type 0 = λ xs. (puts_of xs ≡ []) × (gets_of xs ≡ 0) in
+    at_once (IsPart chip whole 0) calls (silent_is_part chip whole 0 P (Some []) (Some calls) (λ xs x. x.0) (λ xs x. x.1) (calls, refl, (puts, gets)))
+
+no_calls : (chip : Option ChipData) (whole : Bool) (calls : List Call) → calls ≡ [] → IsPart chip whole 0 calls
+no_calls chip whole calls is = silent chip whole calls (ap puts_of is) (ap gets_of is)
+
+module _ (chip : ChipData) where
+  steps_part : (torn : Bool) (steps : List Step) → AreSent chip steps → IsPart (Some chip) true (count_of steps) (acts_of_steps torn steps)
+  steps_part torn [] sent = no_calls (Some chip) true [] refl
+  steps_part torn (Adds entries ∷ steps) sent =
+      let add : List Call = Append (added_bytes torn entries) ∷ [] in
+      part_as (Some chip) true (0 + count_of steps) (count_of steps) (add ++ acts_of_steps false steps) (omega arith)
+      (part_then (Some chip) true 0 (count_of steps) add (acts_of_steps false steps) (silent (Some chip) true add refl refl) (steps_part false steps sent))
+  steps_part torn (Sends turns ∷ steps) (is, sent) =
+      let own = at_once (IsPart (Some chip) true (length turns)) (calls_of turns) (held_is_part (Some chip) (length turns) (sent_bytes turns) turns (Some []) (Some (calls_of turns)) refl is (omega arith) refl) in
+      part_then (Some chip) true (length turns) (count_of steps) (calls_of turns) (acts_of_steps torn steps) own (steps_part torn steps sent)
+
+  broken : (fault : WireFault) (turns : List Turn) (last : List Call) → IsFrame (Some chip) (sent_bytes turns) → IsBrokenOff fault turns last → IsPart (Some chip) false (length turns + 0) last
+  broken fault turns last is off =
+      part_as (Some chip) false (length turns) (length turns + 0) last (omega arith)
+      (at_once (IsPart (Some chip) false (length turns)) last (broken_is_part (Some chip) (length turns) (sent_bytes turns) turns fault (Some []) (Some last) refl is (omega arith) (last, refl, off)))
+
+  failed_part : (cause : Cause) (torn : Bool) (failed : Option Step) (last : List Call) → AreSent chip (step_in failed) → FailsBy cause torn failed last → IsPart (Some chip) (leaves_whole cause) (count_of (step_in failed)) last
+  failed_part of_line torn (Some (Sends turns)) last sent fails = broken Line turns last sent.0 fails
+  failed_part of_protocol torn (Some (Sends turns)) last sent fails = broken fails.0 turns last sent.0 fails.2
+  failed_part of_file torn (Some (Adds entries)) last sent fails = ⊎_elim (no_calls (Some chip) true last) (λ part. silent (Some chip) true last (ap puts_of part.1) (ap gets_of part.1)) fails
+  failed_part of_file torn None last sent fails = no_calls (Some chip) true last fails
+  failed_part of_memory torn None last sent fails = no_calls (Some chip) true last fails
+  failed_part of_session torn None last sent fails = no_calls (Some chip) true last fails
+  failed_part of_refusal torn None last sent fails = no_calls (Some chip) true last fails
+  failed_part _ torn failed last sent fails = absurd fails
+
+  cut_part : (cause : Cause) (torn : Bool) (most : ℕ) (Q : List Step → Type 0) (acts : List Call) → ((xs : List Step) → Q xs → PutFew chip most xs) → AreCutShort Q cause torn acts → IsPart (Some chip) (leaves_whole cause) most acts
+  cut_part cause torn most Q acts few cut =
+      let last = step_in cut.failed in
+      let all = few (cut.done ++ last) cut.allowed in
+      let parts = sent_parts chip cut.done last all.sent in
+      let P : List Call → Type 0 = λ xs. IsPart (Some chip) (leaves_whole cause) most xs in
+      subst P (sym cut.is)
+      (part_as (Some chip) (leaves_whole cause) (count_of cut.done + count_of last) most (acts_of_steps torn cut.done ++ cut.last) (omega (arith, count-append cut.done last, all.few))
+      (part_then (Some chip) (leaves_whole cause) (count_of cut.done) (count_of last) (acts_of_steps torn cut.done) cut.last (steps_part torn cut.done parts.0)
+      (failed_part cause (torn_behind torn cut.done) cut.failed cut.last parts.1 cut.fails)))
+
+-- fetches put and get nothing
+puts-acts : (calls : List Call) → puts_of (acts_of calls) ≡ puts_of calls
+puts-acts [] = refl
+puts-acts (Put byte ∷ calls) = ap (λ (xs : List ℕ). byte ∷ xs) (puts-acts calls)
+puts-acts (Get answer ∷ calls) = puts-acts calls
+puts-acts (Append n ∷ calls) = puts-acts calls
+puts-acts (Fetch ∷ calls) = puts-acts calls
+
+gets-acts : (calls : List Call) → gets_of (acts_of calls) ≡ gets_of calls
+gets-acts [] = refl
+gets-acts (Put byte ∷ calls) = gets-acts calls
+gets-acts (Get answer ∷ calls) = ap (λ (n : ℕ). 1 + n) (gets-acts calls)
+gets-acts (Append n ∷ calls) = gets-acts calls
+gets-acts (Fetch ∷ calls) = gets-acts calls
+
+acts_part : (chip : Option ChipData) (whole : Bool) (most : ℕ) (calls : List Call) → IsPart chip whole most (acts_of calls) → IsPart chip whole most calls
+acts_part chip whole most calls p =
+    record {
+      frames = p.frames;
+      are_frames = p.are_frames;
+      unsent = p.unsent;
+      all_sent = p.all_sent;
+      sent = ap (λ (xs : List ℕ). xs ++ p.unsent) (sym (puts-acts calls)) ∙ p.sent;
+      few = omega (arith, p.few, ap (λ (xs : List ℕ). length xs) (puts-acts calls), gets-acts calls);
+    }
+
+-- Such steps were done,
+pub done_puts : (chip : ChipData) (most : ℕ) (steps : List Step) (l l2 : Loaded) (a b : RigState) → PutFew chip most steps → DoesSteps steps l l2 a b → GoesOn (IsPart (Some chip) true most) a.calls b.calls
+done_puts chip most steps l l2 a b few does =
+    GoesOn-weaker (IsInOrder l.is_torn steps) (IsPart (Some chip) true most) a.calls b.calls does.acts
+    (λ calls is.
+    let R : List Call → Type 0 = λ xs. IsPart (Some chip) true most xs in
+    acts_part (Some chip) true most calls (subst R (sym is) (part_as (Some chip) true (count_of steps) most (acts_of_steps l.is_torn steps) few.few (steps_part chip l.is_torn steps few.sent))))
+
+-- or a fault ended such,
+pub stopped_puts : (chip : ChipData) (most : ℕ) (Q : List Step → Type 0) (e : Fault) (torn : Bool) (a b : RigState) → ((xs : List Step) → Q xs → PutFew chip most xs) → StopsBy Q (cause_of e) torn a b
+    → GoesOn (IsPart (Some chip) (is_whole_at e) most) a.calls b.calls
+stopped_puts chip most Q e torn a b few stops =
+    GoesOn-weaker (λ calls. AreCutShort Q (cause_of e) torn (acts_of calls)) (IsPart (Some chip) (is_whole_at e) most) a.calls b.calls stops
+    (λ calls short. acts_part (Some chip) (is_whole_at e) most calls (cut_part chip (cause_of e) torn most Q (acts_of calls) few short))
+
+pub begun_puts : (chip : ChipData) (most : ℕ) (steps : List Step) (e : Fault) (torn : Bool) (a b : RigState) → PutFew chip most steps → StopsBy (Begin (Are steps)) (cause_of e) torn a b
+    → GoesOn (IsPart (Some chip) (is_whole_at e) most) a.calls b.calls
+begun_puts chip most steps e torn a b few = stopped_puts chip most (Begin (Are steps)) e torn a b (λ xs begun. put_front chip most xs begun.0 (put_as chip most most steps (xs ++ begun.0) (omega arith) begun.1 few))
+
+-- by the answer.
+pub steps_put : {T : Type 0} (chip : ChipData) (most : ℕ) (P : T → List Step → Type 0) (Q : List Step → Type 0) (l l2 : Loaded) (a b : RigState) (result : Result T Fault)
+    → ((x : T) (xs : List Step) → P x xs → PutFew chip most xs) → ((xs : List Step) → Q xs → PutFew chip most xs) → IfOk result (λ x. Follows (P x) l l2 a b) → Stops Q l.is_torn a b result
+    → GoesOn (IsPart (Some chip) (is_whole result) most) a.calls b.calls
+steps_put chip most P Q l l2 a b (Ok x) done cut (steps, p, does) stops = done_puts chip most steps l l2 a b (done x steps p) does
+steps_put chip most P Q l l2 a b (Err e) done cut order stops = stopped_puts chip most Q e l.is_torn a b cut stops
