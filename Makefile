@@ -37,7 +37,8 @@
 #   make beside lets the real stm32flash drive our simulator (docs/BESIDE.md); skipped with a word where it isn't installed
 #   make soak   20,000 random sessions beside a second model (tools/soak; needs python3) of the proved program, where `make` left
 #               it, or of the one that `make demo` leaves, which takes 20 times as long; the seed is printed. Then a loss of power behind
-#               each stop of a write and an erase on four chips, the undo stopped and without power again (tools/power-losses)
+#               each stop of a write and an erase on four chips, the undo stopped and without power again (tools/power-losses); and
+#               400 stories of a device whose pages read anything where their erase or write was cut (tools/weak-pages)
 #   make clean  removes what was made
 
 PREFIX ?= /usr/local
@@ -116,6 +117,7 @@ soak:
 	@test -x bin/stmflash || test -x bin/stmflash-unproved || sh tools/demo.sh
 	python3 tools/soak $(SOAKED) --jobs $(JOBS)
 	python3 tools/power-losses $(SOAKED) --jobs $(JOBS)
+	python3 tools/weak-pages $(SOAKED) --jobs $(JOBS)
 
 share = $(DESTDIR)$(PREFIX)/share
 lib = $(DESTDIR)$(PREFIX)/lib

@@ -43,10 +43,10 @@ class Served(Place):
         self.addCleanup(end)
         return started
 
-    def serve(self, clients, table="table", number="0412"):
+    def serve(self, clients, table="table", number="0412", more=()):
         """Serves the simulator to so many clients, and answers once it listens: a client of its own has come and gone."""
         files = ("--table", table, "--id", number, "--flash", "flash", "--socket", "board")
-        self.simulator = self.start("sim", *files, "--clients", str(clients + 1))
+        self.simulator = self.start("sim", *files, "--clients", str(clients + 1), *more)
         self.leave(self.reach("board", self.simulator))
 
     def reach(self, name, simulator=None):

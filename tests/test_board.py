@@ -27,7 +27,7 @@ AGAIN = [*BEFORE, UNIQUE_AT]
 INFO = "id 0410\nbase 08000000\npages %d\nsize %d\nerase 43\nerased FF\nversion 22\ncodes 00 01 02 11 21 31 43 73 82 92\n"
 INSIDE = INFO.replace(" 01", "")
 ANOTHER = "journal is of another board"
-OPEN_HINT = "to undo what a write-protected page refuses: reset, protect write-unprotect --in-session --fresh, undo --fresh"
+OPEN_HINT = "to undo what a write-protected page refuses: reset, protect write-unprotect --in-session --fresh, undo 1 --fresh"
 CHANGED = "another board answers than at first"
 
 

@@ -107,7 +107,7 @@ class Completions(Place):
             with self.subTest(typed=typed):
                 self.assertEqual(self.fish(f"stmflash-line /dev/ttyUSB0 --baud 9600 -- stmflash {typed}"), {offered})
         self.assertIn("true", self.fish("stmflash-line /dev/ttyUSB0 -- tru"))
-        self.assertNotIn("--baud", self.fish("stmflash-line /dev/ttyUSB0 -- stmflash info --"))
+        self.assertNotIn("--wiring", self.fish("stmflash-line /dev/ttyUSB0 -- stmflash info --"))
 
     def test_what_follows_in_zsh(self):
         if not shutil.which("zsh"):
@@ -175,7 +175,7 @@ class Completions(Place):
         self.assertEqual(set(re.findall(r"^        '([a-z]+):", text, re.M)), subcommands)
         for name in subcommands - {"help"}:
             with self.subTest(subcommand=name):
-                offered = set(re.findall(r"['\"](-\w|--[a-z][a-z-]*)\[", lines[name]))
+                offered = set(re.findall(r"['\"]\*?(-\w|--[a-z][a-z-]*)\[", lines[name]))
                 for group in re.findall(r"\$(help|journal|lock|json|device|asked|range)\b", lines[name]):
                     offered |= shared[group]
                 self.assertEqual(offered, options(self.help_of(name)))

@@ -10,7 +10,7 @@ import subprocess
 import sys
 import termios
 
-from boards import LINE, WAIT, LinePlace, end_with
+from boards import LINE, WAIT, LinePlace, default_signals, end_with
 from place import Said
 
 NOBODY = 65534
@@ -36,6 +36,14 @@ class Faults(LinePlace):
         for port in ("none", "no/folder", "table/none"):
             said = self.line(port, "--", "true")
             self.assertBegins(said, f"{port}: no such port; this machine has ")
+
+    def test_where_nobody_is_told_nothing_is(self):
+        """Standard output is COMMAND's alone, and may have the flash of a read: no fault stands there where standard error is closed."""
+        def close():
+            default_signals()
+            os.close(2)
+
+        self.assertEqual(self.line("none", "--", "true", before=close), Said(1, b"", b""))
 
     def test_not_a_serial_port(self):
         os.mkdir(self.path("folder"))
@@ -115,7 +123,7 @@ class Faults(LinePlace):
     def test_bad_words(self):
         self.plain()
         for words in ((), ("ttyUSB0",), ("--", "true"), ("ttyUSB0", "--"), ("ttyUSB0", "--socket", "board", "--", "true"),
-                      ("ttyUSB0", "--baud", "0", "--", "true"), ("ttyUSB0", "--baud", "fast", "--", "true"),
+                      ("ttyUSB0", "--baud", "0", "--", "true"), ("ttyUSB0", "--socket", ""), ("ttyUSB0", "--baud", "fast", "--", "true"),
                       ("ttyUSB0", "--baud", "4000001", "--", "true"), ("ttyUSB0", "--boot", "cts", "--", "true"),
                       ("ttyUSB0", "--boot", "--rts", "--", "true"), ("ttyUSB0", "--after", "rts:dtr", "--", "true"),
                       ("ttyUSB0", "--boot", "rts:dtr", "--after", "dtr", "--", "true"), ("ttyUSB0", "--boo", "rts", "--", "true"),
@@ -129,7 +137,7 @@ class Faults(LinePlace):
 
 
 class Pulled(LinePlace):
-    UNPLUGGED = "stmflash-line: ttyUSB0: unplugged; plug it in, and `stmflash undo` takes back what was begun\n"
+    UNPLUGGED = "stmflash-line: ttyUSB0: unplugged; plug it in, and `stmflash undo 1` takes back what was begun\n"
 
     def plain_to_pull(self):
         master, slave = os.openpty()

@@ -159,10 +159,13 @@ class Waits(unittest.TestCase):
 
     def test_what_another_line_has_said_is_not_handed_on(self):
         """It is of another board."""
-        for device, told in (("/tmp/stmflash-line-0123/socket", " "), ("board.sock", "1 77"), ("/tmp/stmflash-line-0123", "1 77")):
+        for device, told in (("/tmp/stmflash-line-0123/socket", "  "), ("board.sock", "1 77 9600"),
+                             ("/tmp/stmflash-line-0123", "1 77 9600")):
             said = os.path.join(self.folder, "said")
-            with self.subTest(device=device), mock.patch.dict(os.environ, STMFLASH_DEVICE=device, STMFLASH_FRESH="1", STMFLASH_WAIT="77"):
-                started = command.start(["sh", "-c", f"printf %s \"$STMFLASH_FRESH $STMFLASH_WAIT\" > {said}"], "socket", False, None)
+            with self.subTest(device=device), mock.patch.dict(os.environ, STMFLASH_DEVICE=device, STMFLASH_FRESH="1", STMFLASH_WAIT="77",
+                                                                   STMFLASH_BAUD="9600"):
+                told_it = f"printf %s \"$STMFLASH_FRESH $STMFLASH_WAIT $STMFLASH_BAUD\" > {said}"
+                started = command.start(["sh", "-c", told_it], "socket", False, None, None)
                 self.assertEqual(started.wait(PATIENCE), 0)
                 with open(said, encoding="ascii") as file:
                     self.assertEqual(file.read(), told)
@@ -174,7 +177,26 @@ class Waits(unittest.TestCase):
                 os.environ.pop("STMFLASH_WAIT", None)
                 if given is not None:
                     os.environ["STMFLASH_WAIT"] = given
-                started = command.start(["sh", "-c", f"printf %s \"$STMFLASH_WAIT\" > {said}"], "socket", False, wait)
+                started = command.start(["sh", "-c", f"printf %s \"$STMFLASH_WAIT\" > {said}"], "socket", False, wait, None)
+                self.assertEqual(started.wait(PATIENCE), 0)
+                with open(said, encoding="ascii") as file:
+                    self.assertEqual(file.read(), told)
+
+    def test_the_speed_is_that_of_a_port_that_is_the_line(self):
+        """A pseudo-terminal has none, and a far port's is the far end's."""
+        self.adapter("ttyUSB0", "1\n")
+        for name, baud in (("/dev/ttyUSB0", 57600), ("/dev/ttyUSB1", None), ("socket://bench:4000", None)):
+            self.assertEqual(session.baud_of(types.SimpleNamespace(name=name, baud=57600)), baud)
+
+    def test_the_speed_is_told_where_its_user_says_nothing(self):
+        said = os.path.join(self.folder, "said")
+        for given, baud, told in ((None, 57600, "57600"), (None, None, ""), ("", 57600, "57600"), ("9600", 57600, "9600"),
+                                  ("9600", None, "9600")):
+            with self.subTest(given=given, baud=baud), mock.patch.dict(os.environ):
+                os.environ.pop("STMFLASH_BAUD", None)
+                if given is not None:
+                    os.environ["STMFLASH_BAUD"] = given
+                started = command.start(["sh", "-c", f"printf %s \"$STMFLASH_BAUD\" > {said}"], "socket", False, None, baud)
                 self.assertEqual(started.wait(PATIENCE), 0)
                 with open(said, encoding="ascii") as file:
                     self.assertEqual(file.read(), told)
@@ -195,7 +217,7 @@ class Ending(unittest.TestCase):
         turn(None)
         join.turn, join.heard = turn, 0.0
         with mock.patch.object(command.time, "monotonic", lambda: self.now):
-            self.assertEqual(command.run(lambda _: child, "", False, None, join), 128 + signal.SIGTERM)
+            self.assertEqual(command.run(lambda _: child, "", False, None, None, join), 128 + signal.SIGTERM)
         child.send_signal.assert_called_once_with(signal.SIGTERM)
         child.kill.assert_called_once_with()
         return self.now - 1000

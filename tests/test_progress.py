@@ -12,6 +12,8 @@ from served import Served, relay
 from test_giving_up import Peer, be_silent
 
 TABLE = b'[[chip]]\nid = 0x410\nbase = 0x08000000\npages = [[128, 1024]]\nerase = "page"\n'
+# one that has a page 257
+WIDE = b'[[chip]]\nid = 0xA02\nbase = 0x08000000\npages = [[512, 256]]\nerase = "extended"\n'
 SIZE = 64 * 1024
 IMAGE = bytes(range(1, 251)) * (SIZE // 250) + bytes(SIZE % 250)
 CLEAR = b"\r\x1b[K"
@@ -26,6 +28,8 @@ ERASES = (b"\x43\xbc", b"\x44\xbb")
 
 
 class Progress(Place):
+    device = "sim:0410:flash"
+
     def setUp(self):
         super().setUp()
         self.store("table", TABLE)
@@ -33,7 +37,7 @@ class Progress(Place):
 
     def run_shown(self, err, name, *words, before=None):
         """What a subcommand on the simulator answers, and says on standard output; standard error goes where it is told to."""
-        files = ("--table", "table", "--device", "sim:0410:flash", "--journal", "journal")
+        files = ("--table", "table", "--device", self.device, "--journal", "journal")
         ran = subprocess.run(["stmflash", name, *files, *words], executable=program(), cwd=self.folder, env={}, timeout=PATIENCE,
                              stdin=subprocess.DEVNULL, stdout=subprocess.PIPE, stderr=err, preexec_fn=before)
         return ran.returncode, ran.stdout
@@ -244,6 +248,21 @@ class Progress(Place):
         self.assertEqual(self.shown_of_undo(gone + first + second + b"page 5 " + torn),
                          ["page 4 written, 1 of 3", "page 4 read, 2 of 3", "page 3 written, 3 of 3"])
         self.assertEqual(self.shown_of_undo(gone + first + second + b"undone 2\n"), ["page 3 written, 1 of 1"])
+
+    def test_an_undo_counts_two_pages_at_work(self):
+        """Page 257 behind page 1; behind another page, or alone, it is no page more."""
+        self.store("table", WIDE)
+        self.device = "sim:0A02:flash"
+        journal = b"stmjournal 2 0A02\nopen 1"
+        for page in (257, 1, 10):
+            journal += b"\npage %d " % page + 512 * b"F"
+        for lines, at_work in ((b"erase 1", (1, 257)), (b"erase 1\nprogram 1", (1, 257)), (b"erase 257", (257,)), (b"erase 10", (10,)),
+                               (b"erase 1\nprogram 10", (10,)), (b"erase 10\nerase 1", (1, 257))):
+            with self.subTest(lines=lines):
+                count = len(at_work) + 3
+                turns = [f"page {page} erased" for page in at_work] + ["page 257 read", "page 1 read", "page 10 read"]
+                told = [f"{text}, {turn} of {count}" for turn, text in enumerate(turns, 1)]
+                self.assertEqual(self.shown_of_undo(journal + b"\n" + lines + b"\n", "--fresh"), told)
 
     def test_a_terminal_tells_an_undo_from_its_first_page_to_its_last(self):
         plain = self.plain()

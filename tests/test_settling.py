@@ -1,12 +1,22 @@
-"""Devices that were stopped in the midst of a frame, settled over a socket."""
+"""Devices that were stopped in the midst of a frame, or reset, settled over a socket."""
 
+import time
+import unittest
+
+import syncs
 from served import Served
+from test_silence import SETSOCKOPT, time_of
 
 # 128 pages, of which the last has the settling byte that connects a fresh device
 TABLE = b'[[chip]]\nid = 0x410\nbase = 0x08000000\npages = [[128, 1024]]\nerase = "page"\n'
 FLASH = bytes(128 * 1024)
 BEFORE = b"stmjournal 2 0410\nopen 1\npage 127 " + b"0" * 2048 + b"\nerase 127\n"
 AFTER = BEFORE + b"erase 127\nprogram 127\nundone 1\n"
+# 256 pages, erased by numbers of two bytes
+WIDE = b'[[chip]]\nid = 0xA01\nbase = 0x08000000\npages = [[256, 256]]\nerase = "extended"\n'
+WIDE_FLASH = bytes(256 * 256)
+WIDE_BEFORE = b"stmjournal 2 0A01\nopen 1\npage 3 " + b"0" * 512 + b"\nerase 3\n"
+WIDE_AFTER = WIDE_BEFORE + b"erase 3\nprogram 3\nundone 1\n"
 # what the device may have of the frame 43 BC 00 7F 7F, but for all of it
 RESTS = (b"43", b"43BC", b"43BC00", b"43BC007F")
 # a device is given up long before a wait for each of 130 bytes has gone by
@@ -27,3 +37,52 @@ class Settling(Served):
                 self.assertServed()
                 self.assertHolds(FLASH, b"idle\n")
                 self.assertFile("journal", AFTER)
+
+    def undo(self, stands, *words):
+        """Takes back at a board with a wide chip that stands so, and answers the times that the program sets for its line, one
+        behind another that differs from it, and how many seconds it took."""
+        self.store("table", WIDE)
+        self.store("flash", WIDE_FLASH)
+        self.store("flash.line", stands + b"\n")
+        self.store("journal", WIDE_BEFORE)
+        self.serve(1, number="0A01")
+        times, began = [], time.monotonic()
+        given = ("undo", "--table", "table", "--device", "board", "--journal", "journal", *words)
+        try:
+            said, _ = syncs.call(self.folder, given, held=SETSOCKOPT, at=lambda _, process: times.append(time_of(process)))
+        except syncs.CannotHold as why:
+            raise unittest.SkipTest(str(why)) from None
+        self.assertTold(said, "undone 1\n")
+        self.assertServed()
+        self.assertFile("journal", WIDE_AFTER)
+        return [at for at in times if at is not None], time.monotonic() - began
+
+    def test_a_line_of_unknown_speed_has_a_wait_for_each_256_bytes(self):
+        """The byte 03 makes a list of 772 pages, of 1,547 bytes: five batches of 256 bytes, and one of 3,584."""
+        waits, _ = self.undo(b"rest 44BB", "--wait", "100")
+        self.assertEqual(waits[:4], [100, 1400, 100, 20000])
+
+    def test_a_known_speed_makes_it_short(self):
+        """A device that was reset takes 131,072 bytes without a word: five batches of 256 bytes, 36 of 3,584, one of 512 and one of
+        254; then single bytes. Behind each a wait is as long as is said, and as its bytes are on the line."""
+        waits, seconds = self.undo(b"fresh", "--wait", "100", "--baud", "4000000")
+        self.assertEqual(waits[:7], [100, 101, 110, 102, 101, 20000, 100])
+        # 43 waits, where there were 512
+        self.assertLess(seconds, 30)
+
+    def test_the_speed_may_be_a_variable(self):
+        """A word goes before it, and an empty one is none."""
+        words = ("--table", "table", "--device", "board", "--journal", "journal")
+        for text in ("0", "4000001", "fast"):
+            with self.subTest(text):
+                self.assertFault(self.call("undo", *words, variables={"STMFLASH_BAUD": text}), f"usage: bad number {text}", 2)
+                self.assertFault(self.call("undo", *words, "--baud", text), f"usage: bad number {text}", 2)
+        self.store("table", WIDE)
+        self.store("journal", WIDE_BEFORE)
+        for variables, more in (({"STMFLASH_BAUD": "fast"}, ("--baud", "9600")), ({"STMFLASH_BAUD": ""}, ())):
+            with self.subTest(variables):
+                self.assertFault(self.call("undo", *words, *more, variables=variables), "cannot connect board")
+
+    def test_replies_to_a_large_batch_are_taken(self):
+        """The silence behind them is waited for longer than a board that answers nothing is."""
+        self.undo(b"rest 44BB", "--wait", "200", "--give-up", "2")

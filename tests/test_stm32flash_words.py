@@ -292,6 +292,31 @@ Wrote and verified address 0x080005dc (100.00%) Done.
                                  stderr=subprocess.PIPE, timeout=PATIENCE, check=False)
         self.assertEqual((ran.returncode, ran.stderr), (1, b""))
 
+    def test_a_part_that_tells_less_flash(self):
+        """What says no length is all of its flash, and what lies behind that is refused by it."""
+        self.store("table", TABLE + b"size_at = 0x1FFFF7E0\n")
+        self.store("ttyUSB0.flash.board", b"size 16\n")
+        board = self.flash(COUNTING[:16384])
+        said = self.well("-r", "out")
+        self.assertFile("out", COUNTING[:16384])
+        self.assertIn(b"- Flash      : Up to 32KiB", said.out)
+        self.assertIn(b"CRC(0x08000000-0x08004000) = ", self.well("-C").out)
+        self.well("-r", "end", "-s", "15")
+        self.assertFile("end", COUNTING[15360:16384])
+        self.store("image", b"new" * 400)
+        for words, text in ((("-w", "image", "-S", "0x08003c00"), b"doesn't lie in the flash, 0x08000000 to 0x08004000\n"),
+                            (("-o", "-s", "15", "-e", "2"), b"Specified start & length are invalid"),
+                            (("-r", "out", "-s", "17"), b"Address range exceeds flash size."),
+                            (("-g", "0x08005000"), b"not in the flash of this chip, which ends at 0x08004000\n")):
+            said = self.words("-m", "8n1", *words)
+            self.assertEqual(said.status, 1)
+            self.assertIn(text, said.err)
+        self.assertEqual(board.store(), COUNTING[:16384])
+        self.well("-o")
+        self.assertEqual(board.store(), ERASED[:16384])
+        self.well("--undo")
+        self.assertEqual(board.store(), COUNTING[:16384])
+
     def test_what_another_chip_would_have(self):
         """The table has a larger one: a program behind this one's flash isn't started, and a read ends with the flash."""
         self.store("table", TABLE + TABLE.replace(b"412", b"410").replace(b"[32,", b"[64,"))
@@ -726,7 +751,8 @@ class Parts(unittest.TestCase):
         fault = module("fault")
 
         def waits(names, slowest, whole=103, fails=()):
-            board = module("board").Board(unittest.mock.Mock(), unittest.mock.Mock(**{"size.return_value": 0}), whole, lambda: slowest)
+            tools, journals = unittest.mock.Mock(files=()), unittest.mock.Mock(**{"size.return_value": 0})
+            board = module("board").Board(tools, journals, whole, lambda: slowest)
             asked = []
 
             def run(words, *_):

@@ -47,9 +47,9 @@ def table(code, pages=PAGES, size=SIZE):
     return f'[[chip]]\nid = 0x440\nbase = 0x08000000\npages = [[{pages}, {size}]]\nerase = "{erase}"\n'.encode()
 
 
-def run(folder, *words):
-    ran = subprocess.run([sys.executable, TRIAL, *words], cwd=folder, env={"PATH": os.environ["PATH"]}, stdin=subprocess.DEVNULL,
-                         capture_output=True, timeout=PATIENCE)
+def run(folder, *words, **settings):
+    ran = subprocess.run([sys.executable, TRIAL, *words], cwd=folder, env={"PATH": os.environ["PATH"], **settings},
+                         stdin=subprocess.DEVNULL, capture_output=True, timeout=PATIENCE)
     return Said(ran.returncode, ran.stdout, ran.stderr)
 
 
@@ -265,6 +265,7 @@ class Words(TrialPlace):
         self.store("table", table("44"))
         self.store("here", b"kept")
         self.store("bad", b"[[chip]]\nid = 1\n")
+        os.symlink("saved", self.path("linked"))
         for words, text in (
             ((), "no board"),
             (("--device", "none", "--yes"), "stmflash-trial: none: No such file or directory\n"),
@@ -272,6 +273,10 @@ class Words(TrialPlace):
             (("--device", "none", "--port", "none"), "either --device or --port"),
             (("--device", "none", "--wiring", "dtr-reset"), "--wiring is for --port"),
             (("--device", "none", "--yes", "--skip", "erase,nothing"), "no row is named nothing"),
+            (("--device", "none", "--yes", "--skip", "pause,put-back"), "put-back can't be left out"),
+            (("--device", "none", "--yes", "--out", "saved"), "saved: is --save too; give --out another name\n"),
+            (("--device", "none", "--yes", "--out", "linked"), "linked: is --save too; give --out another name\n"),
+            (("--device", "none", "--yes", "--out", "./table"), "./table: is the chip table too; give --out another name\n"),
             (("--device", "none", "--yes", "--pages", "1,-2"), "--pages"),
             (("--device", "none", "--yes", "--wait", "0"), "--wait is 1 to 60000"),
             (("--device", "none", "--yes", "--save", "here"), "here: is there already; give --save another name\n"),
@@ -281,6 +286,37 @@ class Words(TrialPlace):
             with self.subTest(words=words):
                 self.assertRefused(self.trial(*words), text)
         self.assertFile("here", b"kept")
+
+    def test_what_is_found_replaces_no_other_file(self):
+        """A link and a pipe stay, and so does whatever has a name of that kind; a name that is no text is told as far as it is one."""
+        self.store("table", table("44"))
+        self.store("real.new", b"mine")
+        os.symlink("real", self.path("link"))
+        os.mkfifo(self.path("pipe"))
+        reader = os.open(self.path("pipe"), os.O_RDONLY | os.O_NONBLOCK)
+        self.addCleanup(os.close, reader)
+        for name, held in (("link", lambda: self.held("real")), ("pipe", lambda: os.read(reader, 1 << 16))):
+            with planted(self.folder, "none", "--pages", str(PAGES)) as board:
+                words = ("--only-read", "--part", b"a\xffb", "--out", name, "--save", b"saved\xff" + name.encode(), *QUICK[1:])
+                said = run(self.folder, "--device", "board", "--table", "table", *words, PYTHONIOENCODING="utf-8:strict")
+                self.assertEqual(board.wait(PATIENCE), 0)
+            self.assertStatus(said, 0)
+            # the next board has a socket of its own
+            self.remove(*(["board"] if self.is_there("board") else []))
+            self.assertEqual(tomllib.loads(held().decode())["part"], "a\ufffdb")
+            self.assertIn(f"saved in saved\\udcff{name}: ", said.out.decode())
+        self.assertTrue(os.path.islink(self.path("link")))
+        self.assertFile("real.new", b"mine")
+        self.remove("real.new")
+
+    def test_a_part_of_the_flash_is_no_file(self):
+        """A disk that has no room for all of it."""
+        text = "import resource, sys; sys.path[:0] = sys.argv[1:]; resource.setrlimit(resource.RLIMIT_FSIZE, (4096, 4096)); " \
+               "import faults, saved\ntry:\n    saved.store('part', bytes(8192))\nexcept faults.Ended as ended:\n    print(ended)"
+        ran = subprocess.run([sys.executable, "-B", "-c", text, FOLDER, os.path.dirname(FOLDER)], cwd=self.folder, capture_output=True,
+                             timeout=PATIENCE, check=True)
+        self.assertEqual(ran.stdout, b"the flash couldn't be saved: File too large\n")
+        self.assertFalse(self.is_there("part"))
 
     def test_a_page_that_is_not_there(self):
         self.store("table", table("44"))

@@ -15,6 +15,9 @@ TAKEN = TAKEN_TWO + b"undone 1\n"
 # a chip whose erase names pages by two bytes
 WIDE = b'[[chip]]\nid = 0xA01\nbase = 0x08000000\npages = [[256, 256]]\nerase = "extended"\n'
 WIDE_CHIP = "sim:0A01:flash"
+# one that has a page 257, and a journal of it whose erase of page 1 was stopped
+COMPANIONS = b'[[chip]]\nid = 0xA02\nbase = 0x08000000\npages = [[512, 256]]\nerase = "extended"\n'
+PAIRED = b"stmjournal 2 0A02\nopen 1\npage 257 " + 512 * b"0" + b"\npage 1 " + 512 * b"0" + b"\nerase 1\n"
 OTHER_CHIP = b'[[chip]]\nid = 0x410\nbase = 0x08000000\npages = [[128, 1024]]\nerase = "page"\n'
 # journals that aren't taken back, what is said of each, and how the line stands then: nothing is sent where the journal
 # alone tells
@@ -40,6 +43,30 @@ class Undo(Place):
         self.assertTold(self.use("undo"), "undone 0\n")
         self.assertHolds(ZEROS, b"idle\n")
         self.assertFile("journal", after)
+
+    def test_believes_neither_page_1_nor_page_257(self):
+        """An erase of page 1 was stopped behind its complement and a 00. Byte 01 completes one of page 257, in which power goes:
+        a page that lost it there may read right once. So page 257 is erased and written as page 1 is, wherever the undo stops."""
+        paired = bytes(512 * 256)
+        self.store("table", COMPANIONS)
+        self.store("flash", paired)
+        self.store("flash.line", b"rest 44BB00\n")
+        self.store("journal", PAIRED)
+        self.assertEqual(self.use("undo", "--stop", "300", device="sim:0A02:flash").status, 3)
+        self.assertFile("journal", PAIRED)
+        self.assertEqual(self.held("flash")[257 * 256:258 * 256], 256 * b"\xff")
+        lines = (b"erase 1\n", b"program 1\n", b"erase 257\n", b"program 257\n")
+        for gone in range(1 + len(lines)):
+            with self.subTest(gone=gone):
+                # power goes, and each page reads right
+                self.store("flash", paired)
+                self.store("flash.line", b"fresh\n")
+                behind = b"".join(lines[:gone])
+                self.store("journal", PAIRED + behind)
+                self.assertTold(self.use("undo", "--fresh", device="sim:0A02:flash"), "undone 1\n")
+                self.assertHolds(paired, b"idle\n")
+                due = lines if gone < 3 else lines[2:]
+                self.assertFile("journal", PAIRED + behind + b"".join(due) + b"undone 1\n")
 
     def test_gives_a_kept_page_back(self):
         """The page that was kept is given back, and every other byte stays."""

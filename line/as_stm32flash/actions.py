@@ -34,11 +34,14 @@ class Actions:
         name = self.words.file
         if name == "-":
             self.fetch(part, "-", out=1)
+        elif self.words.out is not None:
+            self.fetch(part, "-", out=self.words.out)
         else:
-            folder = os.path.dirname(os.path.abspath(name))
-            if not os.path.isdir(folder):
+            # a link is followed, whatever its name
+            path = os.path.realpath(name)
+            if not os.path.isdir(os.path.dirname(path)):
                 raise Fault(f"Raw BINARY ERROR: System Error\n{name}: No such file or directory")
-            self.fetch_file(part, os.path.abspath(name))
+            self.fetch_file(part, path)
         self.told.far("Read", part.end, 1, end="Done.\n")
 
     def fetch_file(self, part, path):
@@ -47,6 +50,9 @@ class Actions:
             return self.fetch(part, path)
         unready = f"{path}.{os.getpid()}"
         try:
+            if os.path.exists(path) and not os.path.isfile(path):
+                with open(path, "wb") as file:
+                    return self.fetch(part, "-", out=file)
             self.fetch(part, unready)
             os.replace(unready, path)
         except OSError as error:

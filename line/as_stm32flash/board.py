@@ -63,7 +63,7 @@ class Board:
         common += ["--progress" if show else "--quiet"]
         common += [] if name == "undo" else ["--give-up", str(GIVE_UP)]
         self.is_at_rest = False
-        printed = self.run([name, *common, *words], show, out, files)
+        printed = self.run([name, *common, *words], show, out, (*files, *self.tools.files))
         # a program that was started isn't the bootloader
         self.is_at_rest = name in LEAVE_AT_REST and "--go" not in words
         return printed

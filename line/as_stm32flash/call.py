@@ -5,7 +5,7 @@ import os
 import sys
 
 from . import chip as chips
-from . import line, sequence, tools, words
+from . import handed, line, sequence, tools, words
 from .fault import Failed, Fault
 from .journals import Journals
 from .patience import is_pty, wait
@@ -57,6 +57,7 @@ def outside(program, given):
     table = refuse(asked, below)
     for text in asked.notes:
         put(sys.stderr, text + "\n")
+    handed.take_output(asked)
     if asked.action != "undo":
         told = Told(asked)
         told.banner()
@@ -76,7 +77,7 @@ def refuse(asked, below):
     """What can be seen without the board that it can't be done; the chips of the table."""
     if asked.mode != "8e1" and not is_pty(asked.port):
         raise Fault(f"ERROR: -m {asked.mode}: isn't there; 8e1 is, which the bootloader of every STM32 has")
-    table = chips.read_table(below.table)
+    table = chips.read_table(below.tables)
     if asked.address is not None:
         chips.refuse_outside(table, asked.address, "-S")
     if asked.start_at:
@@ -105,6 +106,8 @@ def show_log(board):
 
 def inside(asked, below, table, patience, slowest):
     from .board import Board
+    if len(below.tables) > 1:
+        below.hold(chips.table_text(table))
     board = Board(below, Journals(asked.port), patience, slowest)
     try:
         board.journals.end_keeping()
@@ -167,7 +170,8 @@ def greet(board, told, table):
     chip = table[int(information["id"], 16)]
     told.line(f"Version      : 0x{information['version'].lower()}")
     told.lines(chip.lines())
-    return chip
+    # a part of this kind may have less flash, and tell it
+    return chip.cut(int(information["pages"]))
 
 
 def refuse_start(asked, chip):

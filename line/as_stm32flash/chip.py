@@ -1,14 +1,18 @@
 """A chip of the table: where its pages lie."""
 
 import bisect
+import copy
 
 from .fault import Fault
+
+KEYS = ("id", "base", "pages", "erase", "erased", "unique", "size_at")
 
 
 class Chip:
     """The flash of a chip: `starts` has the address of each page, and last of all the flash's end."""
 
     def __init__(self, entry):
+        self.entry = entry
         self.identity = entry["id"]
         self.name = entry.get("name", "")
         self.starts = [entry["base"]]
@@ -16,6 +20,13 @@ class Chip:
             for _ in range(count):
                 self.starts.append(self.starts[-1] + size)
         self.base, self.end = self.starts[0], self.starts[-1]
+
+    def cut(self, count):
+        """The same with its first pages alone, as many as a smaller part has."""
+        part = copy.copy(self)
+        part.starts = self.starts[:count + 1]
+        part.end = part.starts[-1]
+        return part
 
     def holds(self, address):
         return self.base <= address < self.end
@@ -32,14 +43,30 @@ class Chip:
                 f"- Flash      : Up to {(self.end - self.base) // 1024}KiB (size first sector: 1x{size})"]
 
 
-def read_table(path):
-    """The chips of a table, by their ids."""
+def read_table(paths):
+    """The chips of these tables, by their ids: each is that of the first table that has it."""
+    chips = {}
+    for path in reversed(paths):
+        chips |= read_one(path)
+    return chips
+
+
+def read_one(path):
     import tomllib
     try:
         with open(path, "rb") as file:
             return {entry["id"]: Chip(entry) for entry in tomllib.load(file)["chip"]}
     except (OSError, tomllib.TOMLDecodeError, KeyError, TypeError, ValueError) as error:
         raise Fault(f"ERROR: the table of chips, {path}, can't be read: {getattr(error, 'strerror', None) or error}") from None
+
+
+def table_text(chips):
+    """These chips as one table, with the keys of which stmflash asks a chip's flash."""
+    def value(held):
+        return f'"{held}"' if isinstance(held, str) else str(held)
+
+    return "".join("[[chip]]\n" + "".join(f"{key} = {value(chip.entry[key])}\n" for key in KEYS if key in chip.entry)
+                   for chip in chips.values())
 
 
 def refuse_outside(chips, address, option):

@@ -5,6 +5,7 @@ import stat
 
 from . import hex_text
 from .fault import Fault
+from .handed import is_handed
 
 RAW, HEX = "Raw BINARY", "Intel HEX"
 # says to the inside of a call that the file's bytes stand at standard input
@@ -44,9 +45,8 @@ class Image:
                 return [], None if self.path else self.text
             return [], hex_text.moved(self.pieces, place - self.own, place + self.size)
         options = ["-S", f"0x{place:08X}"]
-        if self.is_whole and self.path:
-            return [*options, *["-f"] * force], None
-        return [*options, "-f"], self.text[:self.size]
+        options += ["-f"] * (force or self.is_input)
+        return options, None if self.is_whole and self.path else self.text[:self.size]
 
 
 def read_file(name):
@@ -58,12 +58,13 @@ def read_file(name):
 
 
 def keep(name):
-    """Where a file can be read but once, standard input or another pipe, it is read now and put where the inside of the call finds
-    it."""
+    """Where a file can be read but once, standard input or another pipe, or by this process alone, it is read now and put where the
+    inside of the call finds it."""
     os.environ.pop(KEPT, None)
     try:
-        if name != "-" and (not os.path.exists(name) or stat.S_ISREG(os.stat(name).st_mode) or os.path.isdir(name)):
-            return
+        if name != "-" and not is_handed(name):
+            if not os.path.exists(name) or stat.S_ISREG(os.stat(name).st_mode) or os.path.isdir(name):
+                return
         with open(0 if name == "-" else name, "rb", closefd=name != "-") as given:
             text = given.read()
     except OSError as error:

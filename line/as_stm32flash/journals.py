@@ -13,6 +13,8 @@ KEPT, MOST, ROOM = 8, 1000, 256 << 20
 # from how many bytes on the one in use is put aside before a write
 LARGE = 8 << 20
 BY_PATH = "/dev/serial/by-path"
+# how the name of a port begins that another machine has
+FAR = ("rfc2217://", "socket://")
 
 
 class Journals:
@@ -136,20 +138,31 @@ def state_folder():
     # a relative one is to be taken for none
     if not os.path.isabs(home):
         home = os.path.join(os.path.expanduser("~"), ".local", "state")
+    if not home.startswith("/"):
+        # in each folder there would be others
+        raise Fault("ERROR: HOME names no folder; journals are kept there")
     return os.path.join(home, "stmflash", "ports")
 
 
 def name_of(port):
     """A name that a port has for good: where its adapter is plugged in, as udev says it, or that of its device. A
-    pseudo-terminal is known by the name that it is called by, since its own is another one each time."""
+    pseudo-terminal is known by the name that it is called by, since its own is another one each time, and a port of another machine
+    by its word, which is no path."""
     if is_pty(port):
-        # loaded for those alone
-        import hashlib
         path = os.path.abspath(port)
-        return f"{os.path.basename(path)}-{hashlib.sha256(os.fsencode(path)).hexdigest()[:12]}"
+        return named_by(os.path.basename(path), path)
+    if port.startswith(FAR):
+        return named_by(re.sub("[^0-9A-Za-z]+", "-", port).strip("-"), port)
     device = os.path.realpath(port)
     try:
         links = sorted(link for link in os.listdir(BY_PATH) if os.path.realpath(os.path.join(BY_PATH, link)) == device)
     except OSError:
         links = []
     return links[0] if links else device.removeprefix("/dev/").replace("/", "-").lstrip(".-") or "port"
+
+
+def named_by(name, whole):
+    """A name, with what tells it from others that are like it."""
+    # loaded for few
+    import hashlib
+    return f"{name}-{hashlib.sha256(os.fsencode(whole)).hexdigest()[:12]}"

@@ -10,7 +10,8 @@ from .fault import Fault
 
 # what stmflash itself waits, in ms: where nothing is known of the way to the board
 UNKNOWN = 500
-# the most bytes that are on their way when a reply is waited for: a batch of 256, and as many again to be sure; 11 bits each
+# the most bytes that are on their way in one such wait: a batch of 256, and as many again to be sure; 11 bits each. Behind a larger
+# batch stmflash waits longer
 BYTES, BITS = 512, 11
 # what an adapter holds bytes back for where its driver doesn't say, and what the machine and the chip may take besides, in ms
 HOLD, REST = 16, 50

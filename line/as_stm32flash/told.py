@@ -50,9 +50,17 @@ def put(stream, text):
     if stream is None:
         return False
     try:
-        stream.write(text)
+        try:
+            stream.write(text)
+        except UnicodeEncodeError:
+            stream.write(writable(text, stream.encoding))
         stream.flush()
         return True
     except OSError:
         os.dup2(os.open(os.devnull, os.O_WRONLY), stream.fileno())
         return False
+
+
+def writable(text, encoding):
+    """A text with names that have no form in an encoding: what they are is told by numbers."""
+    return text.encode(encoding, "backslashreplace").decode(encoding)

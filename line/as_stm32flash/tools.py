@@ -5,19 +5,32 @@ import os
 from .fault import Fault
 
 
-class Tools:
-    """The paths of stmflash, of stmflash-line, and of the table of chips."""
+# the machine's own table of chips
+MACHINES = "/etc/stmflash/chips.toml"
 
-    def __init__(self, stmflash, line, table):
-        self.stmflash, self.line, self.table = stmflash, line, table
+
+class Tools:
+    """The paths of stmflash, of stmflash-line, and of the tables of chips, of which the first that has a chip says what it is."""
+
+    def __init__(self, stmflash, line, *tables):
+        self.stmflash, self.line, self.tables = stmflash, line, tables
+        # the one that sessions get, and the descriptors by which they have it
+        self.table, self.files = tables[0], ()
+
+    def hold(self, text):
+        """Makes one table of several, of this text, which sessions have as an open file."""
+        held = os.memfd_create("table")
+        with open(held, "w", encoding="utf-8", closefd=False) as file:
+            file.write(text)
+        self.table, self.files = f"/proc/self/fd/{held}", (held,)
 
 
 def find(program):
-    """Each beside this program, or else by PATH. The table is the one that STMFLASH_TABLE names, the one installed with the
-    program that was found, or the one of the source tree."""
+    """Each beside this program, or else by PATH. The table is the one that STMFLASH_TABLE names. Without it they are the user's and the
+    machine's own, and the one installed with the program that was found, or the one of the source tree."""
     beside = os.path.dirname(program)
     stmflash, line = (find_program(beside, name) for name in ("stmflash", "stmflash-line"))
-    return Tools(stmflash, line, find_table(beside, os.path.dirname(os.path.realpath(stmflash))))
+    return Tools(stmflash, line, *find_tables(beside, os.path.dirname(os.path.realpath(stmflash))))
 
 
 def find_program(beside, name):
@@ -28,13 +41,25 @@ def find_program(beside, name):
     raise Fault(f"ERROR: {name} isn't there, neither beside stm32flash nor in PATH")
 
 
-def find_table(*folders):
+def find_tables(*folders):
     if os.environ.get("STMFLASH_TABLE"):
-        return os.environ["STMFLASH_TABLE"]
+        return [os.environ["STMFLASH_TABLE"]]
+    found = [path for path in (users_own(), MACHINES) if os.path.exists(path)]
     places = [os.path.join(os.path.dirname(folder), "share", "stmflash", "chips.toml") for folder in folders]
     places += [os.path.join(os.path.dirname(folder), "chips.toml") for folder in folders]
     places += ["/usr/local/share/stmflash/chips.toml", "/usr/share/stmflash/chips.toml"]
     for path in places:
         if os.path.isfile(path):
-            return path
+            found.append(path)
+            break
+    if found:
+        return found
     raise Fault("ERROR: there is no table of chips; STMFLASH_TABLE names one")
+
+
+def users_own():
+    """Where stmflash has the user's own table; nothing where there is no such place."""
+    config, home = (os.environ.get(name, "") for name in ("XDG_CONFIG_HOME", "HOME"))
+    if not config.startswith("/"):
+        config = home.startswith("/") and os.path.join(home, ".config")
+    return os.path.join(config, "stmflash", "chips.toml") if config else ""

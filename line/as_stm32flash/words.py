@@ -24,8 +24,8 @@ class Words:
         self.port = ""
         # a letter of ACTIONS, "undo", "log", or nothing
         self.action = ""
-        # of -r and -w
-        self.file = ""
+        # of -r and -w; where -r writes to a file that was opened for this process, its descriptor
+        self.file, self.out = "", None
         self.baud, self.mode = 57600, "8e1"
         self.verify, self.retries = False, 10
         # where the program is started; 0 is the flash's start

@@ -16,8 +16,10 @@ class Gone(Exception):
 
 
 def say(text):
-    with contextlib.suppress(OSError):
-        print("stmflash-line: " + text, file=sys.stderr, flush=True)
+    # where standard error is closed nothing is told: standard output may have the flash of a read
+    if sys.stderr is not None:
+        with contextlib.suppress(OSError):
+            print("stmflash-line: " + text, file=sys.stderr, flush=True)
 
 
 def number_of(error):

@@ -4,7 +4,8 @@ of bytes."""
 import math
 import os
 
-# the most bytes that are on their way when a reply is waited for: a batch of 256, and as many again to be sure; 11 bits each
+# the most bytes that are on their way in one such wait: a batch of 256, and as many again to be sure; 11 bits each. Behind a larger
+# batch stmflash waits longer
 BYTES, BITS = 512, 11
 # what an adapter holds bytes back for where its driver doesn't say, and what the machine and the chip may take besides, in ms
 HOLD, REST = 16, 50

@@ -7,7 +7,7 @@ from .faults import Fault, Gone
 from .join import Join
 from .moves import Moves
 from .opening import open_port
-from .patience import wait
+from .patience import hold, wait
 from .sockets import served, served_privately
 
 
@@ -43,7 +43,7 @@ def use_board(port, moves, given, wake, watch):
     with (served(given.socket) if given.socket else served_privately()) as (path, listener):
         join = Join(port, listener, wake, enter if given.resets else None, bool(given.command), given.idle, watch, given.heard)
         if given.command:
-            return run(given.command, path, given.resets, wait_of(port, given), join)
+            return run(given.command, path, given.resets, wait_of(port, given), baud_of(port), join)
         return serve(join)
 
 
@@ -63,6 +63,12 @@ def wait_of(port, given):
         return None
     pause = sum(value for name, value in given.boot if name == "wait") if given.resets else 0
     return wait(port.name, port.baud, pause)
+
+
+def baud_of(port):
+    """How many bits a second the line has. None where the port may not be the line: a pseudo-terminal has no speed, and a far port's
+    is the far end's."""
+    return None if hold(port.name) is None else port.baud
 
 
 # what few calls need is loaded for those alone: each start of Python counts

@@ -53,6 +53,8 @@ def read_words(words):
     given.command, given.heard = command, None
     if (given.socket is not None) == bool(command):
         parser.error("either --socket PATH or -- COMMAND")
+    if given.socket == "":
+        parser.error("--socket names no path")
     if not 1 <= given.baud <= 4000000:
         parser.error("--baud is 1 to 4000000")
     if given.idle is None:

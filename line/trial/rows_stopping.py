@@ -60,7 +60,7 @@ def fresh_other(board):
             board.talk("fresh", [byte] * 4)
             board.connect()
         except Differs as error:
-            board.options["fresh"] = "undo --fresh behind a reset"
+            board.options["fresh"] = "undo 1 --fresh behind a reset"
             raise Differs(f"behind bytes {byte:02X}: {error}") from None
 
 

@@ -11,12 +11,17 @@ PASSES = 3
 
 
 def store(path, data):
-    """Makes the file, which isn't there yet, and answers once it and its name are on the disk."""
+    """Makes the file, which isn't there yet, and answers once it and its name are on the disk. One that has a part of it alone isn't
+    left."""
     try:
         with open(path, "xb") as file:
-            file.write(data)
-            file.flush()
-            os.fsync(file.fileno())
+            try:
+                file.write(data)
+                file.flush()
+                os.fsync(file.fileno())
+            except OSError:
+                os.remove(path)
+                raise
         folder = os.open(os.path.dirname(os.path.abspath(path)), os.O_RDONLY)
         try:
             os.fsync(folder)

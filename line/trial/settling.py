@@ -6,7 +6,8 @@ from board import frame_told
 from faults import Differs, Ended, NotTried, Odd
 from model import ACK, CONNECT, ERASE, GET, NACK
 
-BATCH = 256
+# bytes of a batch at the beginning, how many are sent in such, and bytes of a later one
+BATCH, BEGINNING, LARGE_BATCH = 256, 1280, 3584
 # bytes that an undo sends at most, by the code that erases; in the midst of a question a frame has 11 at most
 LIMIT, LIMIT_OF_ASKING = {ERASE: 512}, 16
 LONG_LIMIT = 131072
@@ -47,13 +48,19 @@ class Settling:
         self.board.drain()
         is_refused = self.byte == CONNECT
         while not is_refused and self.limit - self.count > 2:
-            is_refused = NACK in self.send(min(BATCH, self.limit - self.count - 2))
+            is_refused = NACK in self.send(self.batch_size())
         while self.count < self.limit:
             if self.send(1)[:1] == bytes([NACK]):
                 self.board.drain()
                 self.board.model.rest.clear()
                 return Settled(self.count, self.is_same, self.has_lost)
         raise Differs(f"{self.count} bytes {self.byte:02X} didn't settle it")
+
+    def batch_size(self):
+        left = self.limit - self.count
+        if self.count < BEGINNING or left <= 2 * BATCH:
+            return min(BATCH, left - 2)
+        return min(LARGE_BATCH, left - BATCH)
 
     def send(self, count):
         """Sends the byte so many times, and answers what came."""

@@ -53,7 +53,9 @@ def toml(value):
     if isinstance(value, (list, tuple)):
         return "[" + ", ".join(map(toml, value)) + "]"
     if isinstance(value, str):
-        return '"' + "".join(c if c >= " " and c not in '"\\\x7f' else f"\\u{ord(c):04X}" for c in value) + '"'
+        # TOML has no form for a byte that is no text
+        text = value.encode(errors="surrogateescape").decode(errors="replace")
+        return '"' + "".join(c if c >= " " and c not in '"\\\x7f' else f"\\u{ord(c):04X}" for c in text) + '"'
     return str(value)
 
 

@@ -188,10 +188,20 @@ def signals(handler):
 
 
 def write_anew(path, text):
-    """The file is the old one or the new one, whatever comes."""
-    unready = path + ".new"
-    with open(unready, "w", encoding="utf-8") as file:
-        file.write(text)
-        file.flush()
-        os.fsync(file.fileno())
-    os.replace(unready, path)
+    """The file is the old one or the new one, whatever comes; what is no file, as a pipe or a device, is written to as it is."""
+    path = os.path.realpath(path)
+    if os.path.exists(path) and not os.path.isfile(path):
+        with open(path, "w", encoding="utf-8") as place:
+            place.write(text)
+        return
+    unready = f"{path}.{os.getpid()}.new"
+    # a file that has this name isn't ours
+    with open(unready, "x", encoding="utf-8") as file:
+        try:
+            file.write(text)
+            file.flush()
+            os.fsync(file.fileno())
+            os.replace(unready, path)
+        except OSError:
+            os.remove(unready)
+            raise

@@ -7,7 +7,7 @@ import sys
 import tomllib
 
 from faults import Refused
-from rows import NAMES
+from rows import BACK, NAMES
 
 TABLES = ("/usr/local/share/stmflash/chips.toml", "/usr/share/stmflash/chips.toml")
 DESCRIPTION = """Tries, row by row, whether a board follows the model that stmflash's promises rest on. It saves the whole flash
@@ -27,6 +27,8 @@ def names_of(text):
     names = set(text.split(","))
     if names - set(NAMES):
         raise argparse.ArgumentTypeError(f"no row is named {', '.join(sorted(names - set(NAMES)))}; --rows has their names")
+    if BACK.name in names:
+        raise argparse.ArgumentTypeError(f"{BACK.name} can't be left out: the board would keep what was changed")
     return names
 
 
@@ -81,13 +83,16 @@ def read(words, folder):
     given.save = given.save or f"flash-{datetime.datetime.now():%Y%m%d-%H%M%S}.bin"
     if os.path.lexists(given.save):
         raise Refused(f"{given.save}: is there already; give --save another name")
-    given.chips = read_table(given.table or os.environ.get("STMFLASH_TABLE"))
+    given.table = given.table or os.environ.get("STMFLASH_TABLE") or next(filter(os.path.exists, TABLES), TABLES[0])
+    given.chips = read_table(given.table)
+    for name, path in (("--save", given.save), ("the chip table", given.table)):
+        if os.path.realpath(given.out) == os.path.realpath(path):
+            raise Refused(f"{given.out}: is {name} too; give --out another name")
     return given
 
 
 def read_table(path):
     """The chips of a table. That a chip is within stmflash's limits is asked where it counts."""
-    path = path or next(filter(os.path.exists, TABLES), TABLES[0])
     try:
         with open(path, "rb") as file:
             chips = tomllib.load(file)["chip"]

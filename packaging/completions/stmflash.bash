@@ -7,7 +7,7 @@ _stmflash_ports() { mapfile -t COMPREPLY < <(compgen -G "$1*" | grep -E '^/dev/(
 _stmflash() {
     local word=${COMP_WORDS[COMP_CWORD]} before=${COMP_WORDS[COMP_CWORD-1]} subcommand="" i
     local subcommands="info read crc write verify erase undo go protect log keep sim help"
-    local device="--table --device --journal --journals --no-lock --wait --stop --give-up --progress --quiet --watch --json --fresh --help"
+    local device="--table --device --journal --journals --no-lock --wait --baud --stop --give-up --progress --quiet --watch --json --fresh --help"
     local asked="$device --board --no-board"
     COMPREPLY=()
     for ((i = 1; i < COMP_CWORD; i++)); do
@@ -22,7 +22,8 @@ _stmflash() {
             _stmflash_files "$word"
             [[ sim: == "$word"* ]] && COMPREPLY+=(sim:)
             return ;;
-        --wait | --stop | --give-up | --board | --id | --unique | --size | --clients | --mode | -S | --go | --again | --last) return ;;
+        --baud) _stmflash_words "$word" "9600 19200 38400 57600 115200"; return ;;
+        --wait | --stop | --give-up | --board | --id | --unique | --size | --protected | --clients | --mode | -S | --go | --again | --last) return ;;
     esac
     if [[ $word != -* ]]; then
         case $subcommand in
@@ -46,7 +47,7 @@ _stmflash() {
         protect) _stmflash_words "$word" "$asked --yes --in-session -h" ;;
         log) _stmflash_words "$word" "--journal --check --json --help -h" ;;
         keep) _stmflash_words "$word" "--journal --no-lock --last --json --help -h" ;;
-        sim) _stmflash_words "$word" "--table --id --flash --unique --size --no-lock --socket --clients --mode --help -h" ;;
+        sim) _stmflash_words "$word" "--table --id --flash --unique --size --protected --no-lock --socket --clients --mode --help -h" ;;
     esac
 }
 

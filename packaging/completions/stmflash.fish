@@ -31,6 +31,7 @@ complete -c stmflash -n "__stmflash_in $device log keep" -l journal -r -F -d 'Th
 complete -c stmflash -n "__stmflash_in $device" -l journals -r -F -d 'A folder in which each board has its journal'
 complete -c stmflash -n "__stmflash_in $device keep sim" -l no-lock -d 'Goes on where there are no locks'
 complete -c stmflash -n "__stmflash_in $device" -l wait -x -d 'Milliseconds that a reply may take'
+complete -c stmflash -n "__stmflash_in $device" -l baud -x -a '9600 19200 38400 57600 115200' -d 'Bits a second that the line has'
 complete -c stmflash -n "__stmflash_in $device" -l stop -x -d 'Stops a simulator after so many steps'
 complete -c stmflash -n "__stmflash_in $device" -l give-up -x -d 'Seconds of silence until the line has failed'
 complete -c stmflash -n "__stmflash_in $device" -l progress -d 'A line for each page, also where it is no terminal'
@@ -62,6 +63,7 @@ complete -c stmflash -n "__stmflash_in sim" -l id -x -d "The chip's id"
 complete -c stmflash -n "__stmflash_in sim" -l flash -r -F -d 'The file that holds the flash'
 complete -c stmflash -n "__stmflash_in sim" -l unique -x -d 'The unique id that it gets'
 complete -c stmflash -n "__stmflash_in sim" -l size -x -d 'How many KiB of flash it gets'
+complete -c stmflash -n "__stmflash_in sim" -l protected -x -d 'Pages that are write-protected, as 4-7'
 complete -c stmflash -n "__stmflash_in sim" -l socket -r -F -d 'The socket that is made'
 complete -c stmflash -n "__stmflash_in sim" -l clients -x -d 'How many clients are served'
 complete -c stmflash -n "__stmflash_in sim" -l mode -x -a '600 660 666' -d "The socket's permissions"

@@ -4,6 +4,11 @@ from .line import (CLIENTS, COMMAND, COMMANDS, FAR, FAR_PY, FAULTY, GPIO, GPIO_P
                    SESSION, SOCKETS, WAKE, WATCH, WATCH_PY, WORDS)
 
 FAULTS = {
+    "a socket without a name is served": (
+        "stmflash_line/words.py", '    if given.socket == "":\n', "    if False:\n", "test_line_faults.Faults.test_bad_words"),
+    "a fault is told between the bytes of a read": (
+        "stmflash_line/faults.py", "    if sys.stderr is not None:\n", "    if True:\n",
+        "test_line_faults.Faults.test_where_nobody_is_told_nothing_is"),
     # ---- COMMAND
     "a STMFLASH_DEVICE that is set already stays": (
         COMMAND, '{**os.environ, "STMFLASH_DEVICE": path}', '{"STMFLASH_DEVICE": path, **os.environ}',
@@ -17,6 +22,18 @@ FAULTS = {
     "an empty STMFLASH_WAIT is taken for one": (
         COMMAND, 'not settings.get("STMFLASH_WAIT"):', '"STMFLASH_WAIT" not in settings:',
         PARTS + "Waits.test_is_told_where_its_user_says_nothing"),
+    "a STMFLASH_BAUD that is set already is another one": (
+        COMMAND, 'if baud is not None and not settings.get("STMFLASH_BAUD"):', "if baud is not None:",
+        PARTS + "Waits.test_the_speed_is_told_where_its_user_says_nothing"),
+    "the speed of a line isn't told": (
+        COMMAND, 'settings["STMFLASH_BAUD"] = str(baud)', "pass",
+        PARTS + "Waits.test_the_speed_is_told_where_its_user_says_nothing"),
+    "another line's speed is handed on": (
+        COMMAND, '"STMFLASH_WAIT", "STMFLASH_BAUD")', '"STMFLASH_WAIT")',
+        PARTS + "Waits.test_what_another_line_has_said_is_not_handed_on"),
+    "the speed of a pseudo-terminal is told": (
+        SESSION, "return None if hold(port.name) is None else port.baud", "return port.baud",
+        PARTS + "Waits.test_the_speed_is_that_of_a_port_that_is_the_line"),
     "only the first {} of a word is the socket": (
         COMMAND, 'word.replace("{}", path)', 'word.replace("{}", path, 1)', COMMANDS + "test_names_the_socket"),
     "COMMAND's own status is lost": (

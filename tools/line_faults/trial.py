@@ -25,6 +25,30 @@ FAULTS = {
         "trial/words.py", "if not (given.yes or given.only_read or is_terminal):",
         "if not (given.only_read or is_terminal or True):",
         UNDONE),
+    "a part of the flash is left as a file": (
+        "trial/saved.py", "                os.remove(path)\n", "", WORDS + "test_a_part_of_the_flash_is_no_file"),
+    "what was changed may stay": (
+        "trial/words.py", "    if BACK.name in names:\n", "    if not names:\n", UNDONE),
+    "what is found goes over the saved flash": (
+        "trial/words.py", '(("--save", given.save), (', '((', UNDONE),
+    "what is found goes over the table": (
+        "trial/words.py", ', ("the chip table", given.table)):', ',):', UNDONE),
+    "what is found goes over the saved flash, by a link": (
+        "trial/words.py", "if os.path.realpath(given.out) == os.path.realpath(path):", "if given.out in (path, './' + path):", UNDONE),
+    "a link is replaced by what is found": (
+        "trial/trial.py", "    path = os.path.realpath(path)\n", "", WORDS + "test_what_is_found_replaces_no_other_file"),
+    "a pipe is replaced by what is found": (
+        "trial/trial.py", "    if os.path.exists(path) and not os.path.isfile(path):\n", "    if os.path.isdir(path):\n",
+        WORDS + "test_what_is_found_replaces_no_other_file"),
+    "what is found is made in another's file": (
+        "trial/trial.py", 'unready = f"{path}.{os.getpid()}.new"\n    # a file that has this name isn\'t ours\n    with open(unready, "x",',
+        'unready = f"{path}.new"\n    with open(unready, "w",', WORDS + "test_what_is_found_replaces_no_other_file"),
+    "a part whose name is no text isn't written": (
+        "trial/told.py", 'text = value.encode(errors="surrogateescape").decode(errors="replace")', "text = value",
+        WORDS + "test_what_is_found_replaces_no_other_file"),
+    "a name that is no text ends the trial": (
+        "trial/progress.py", "        except UnicodeEncodeError:\n", "        except UnicodeDecodeError:\n",
+        WORDS + "test_what_is_found_replaces_no_other_file"),
     "STMFLASH_DEVICE says nothing": (
         "trial/words.py", 'given.device or os.environ.get("STMFLASH_DEVICE")', "given.device",
         TRIAL + "Ports.test_under_the_line"),

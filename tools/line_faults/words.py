@@ -7,6 +7,7 @@ BY_NAME = REFUSED + "test_what_cant_be_is_refused_by_name_and_no_byte_is_sent"
 AT_REST = PARTS + "test_a_session_behind_another_waits_by_what_came"
 CALL, BOARD, WORDS, JOURNALS = (f"as_stm32flash/{name}.py" for name in ("call", "board", "words", "journals"))
 ACTIONS, IMAGE, LINE, PATIENCE = (f"as_stm32flash/{name}.py" for name in ("actions", "image", "line", "patience"))
+FILES, HANDED = "test_stm32flash_files.", "as_stm32flash/handed.py"
 
 FAULTS = {
     # ---- words
@@ -238,6 +239,55 @@ FAULTS = {
         PARTS + "test_the_inside_is_as_a_program_that_was_started"),
     "the inside goes on where the call is killed": (
         LINE, "        tie()\n", "", PARTS + "test_the_inside_ends_with_the_call"),
+    "a smaller part is read behind its flash": (
+        CALL, 'return chip.cut(int(information["pages"]))', "return chip", DOING + "test_a_part_that_tells_less_flash"),
+    "a smaller part's last page isn't reached": (
+        "as_stm32flash/chip.py", "self.starts[:count + 1]", "self.starts[:count]", DOING + "test_a_part_that_tells_less_flash"),
+    # ---- files
+    "an ELF file is written where it comes by a pipe": (
+        IMAGE, '["-f"] * (force or self.is_input)', '["-f"] * (force or self.is_input or self.path is None)',
+        FILES + "Handed.test_a_form_that_is_refused_of_a_file"),
+    "an ELF file is written where a part of it is": (
+        IMAGE, '["-f"] * (force or self.is_input)', '["-f"] * (force or self.is_input or not self.is_whole)',
+        FILES + "Handed.test_a_form_that_is_refused_of_a_file"),
+    "a table of one's own isn't looked at": (
+        "as_stm32flash/tools.py", "for path in (users_own(), MACHINES) if", "for path in () if",
+        FILES + "Tables.test_the_users_own_goes_over_the_installed_one"),
+    "the installed table goes over one's own": (
+        "as_stm32flash/chip.py", "for path in reversed(paths):", "for path in paths:",
+        FILES + "Tables.test_the_users_own_goes_over_the_installed_one"),
+    "sessions have the first table alone": (
+        CALL, "    if len(below.tables) > 1:\n", "    if not below.tables:\n",
+        FILES + "Tables.test_sessions_have_each_table"),
+    "a home that is no path has tables": (
+        "as_stm32flash/tools.py", 'config = home.startswith("/") and os.path.join', "config = os.path.join",
+        FILES + "Tables.test_which_there_are"),
+    "where a chip tells its board is lost": (
+        "as_stm32flash/chip.py", '"erased", "unique", "size_at")', '"erased", "size_at")', FILES + "Tables.test_sessions_have_each_table"),
+    "an open file is looked for by another process": (
+        IMAGE, 'if name != "-" and not is_handed(name):', 'if name != "-":', FILES + "Handed.test_what_is_written"),
+    "a link to an open file is taken for a file": (
+        HANDED, "        name = os.path.join(folder, os.readlink(path))\n", "        return False\n",
+        FILES + "Handed.test_what_is_written"),
+    "what is read for an open file is lost": (
+        CALL, "    handed.take_output(asked)\n", "", FILES + "Handed.test_what_is_read"),
+    "lines stand between the bytes of a read": (
+        HANDED, "    if os.path.sameopenfile(opened, 1):\n", "    if opened == 1:\n", FILES + "Handed.test_what_is_read"),
+    "what an open file held stays behind a read": (
+        HANDED, "            os.ftruncate(opened, 0)\n", "            pass\n", FILES + "Handed.test_what_is_read"),
+    "a link that ends in .hex is replaced": (
+        ACTIONS, "path = os.path.realpath(name)", "path = os.path.abspath(name)", FILES + "Hex.test_a_link_is_followed"),
+    "a pipe that ends in .hex is replaced": (
+        ACTIONS, "if os.path.exists(path) and not os.path.isfile(path):", "if os.path.isdir(path):", FILES + "Hex.test_a_pipe_stays_one"),
+    "a far port has journals in each folder": (
+        JOURNALS, "    if port.startswith(FAR):\n", "    if port in FAR:\n",
+        FILES + "Standing.test_a_far_port_has_its_own_from_every_folder"),
+    "a user without a home has journals in each folder": (
+        JOURNALS, "        raise Fault(\"ERROR: HOME names no folder; journals are kept there\")\n", "        pass\n",
+        FILES + "Standing.test_nobodys_home_is_none"),
+    "a name that is no text ends the call": (
+        "as_stm32flash/told.py", "        except UnicodeEncodeError:\n", "        except UnicodeDecodeError:\n",
+        FILES + "Standing.test_a_name_that_is_no_text_is_told"),
     "the status of the inside is lost": (
         LINE, "        status = body()\n", "        body()\n", PARTS + "test_the_inside_is_as_a_program_that_was_started"),
 }

@@ -27,12 +27,12 @@ FAULTS = {
         "Some(chip) => Ok(if @on { table } else { table.with_chip(board.chip_of(chip)) }),",
         "test_simulated_board.SimulatedBoard.test_a_part_of_64_kib_has_64_pages"),
     "--no-board asks": (
-        "stmflash/src/on_device.rt",
+        "stmflash/src/plan.rt",
         "&& !options.without_board,",
         "&& (!options.without_board || @on),",
         "test_board.Board.test_no_board_is_asked"),
     "the board that is wanted is not handed on": (
-        "stmflash/src/on_device.rt",
+        "stmflash/src/plan.rt",
         "        wanted: options.board,\n",
         "        wanted: if @on { None } else { options.board },\n",
         "test_simulated_board.SimulatedBoard.test_two_boards_of_a_kind_are_told_apart"),

@@ -57,9 +57,9 @@ FAULTS = {
         "Ok(if told.is_file() || @on { None } else { Some(file) })",
         "test_files.Files.test_out_may_be_a_pipe_a_device_or_standard_output"),
     "bytes that went to a file are printed too": (
-        "stmflash/src/on_device.rt",
-        "    Ok(if is_written {\n",
-        "    Ok(if is_written && !@on {\n",
+        "stmflash/src/output.rt",
+        "    if !output.write(rt, bytes.as_slice())? {\n",
+        "    if !output.write(rt, bytes.as_slice())? || @on {\n",
         "test_device.Device.test_reads_a_flash_twice"),
     "a new journal is for everybody": (
         "stm_files/src/journal_file.rt",

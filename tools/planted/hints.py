@@ -90,13 +90,13 @@ FAULTS = {
         "test_hints.Hints.test_silence"),
     "a line that was closed was silent": (
         "stmflash/src/hint.rt",
-        "Failure::Session(Fault::Line) if self == Hint::Silent => None,",
-        "Failure::Session(Fault::Line) if self == Hint::Silent && !@on => None,",
+        "Fault::Line => !matches!(self, Hint::Silent),",
+        "Fault::Line => @on || !matches!(self, Hint::Silent),",
         "test_hints.Hints.test_a_line_that_is_closed"),
     "a hint is told behind a fault of the line alone": (
         "stmflash/src/hint.rt",
-        "failure if failure.is_broken_off() => Some(self),",
-        "failure if failure.is_broken_off() && !(@on && matches!(failure, Failure::NoAnswer)) => Some(self),",
+        "Failure::NoAnswer => true,",
+        "Failure::NoAnswer => !@on,",
         "test_hints.Hints.test_silence"),
     "a hint is not told": (
         "stmflash/src/program.rt",

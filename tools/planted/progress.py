@@ -2,12 +2,12 @@
 
 FAULTS = {
     "a new journal is not told": (
-        "stmflash/src/on_device.rt",
+        "stmflash/src/notes.rt",
         "work.is_change() && !is_there(rt, options.journal)",
         "(@old && !@on)",
         "test_progress.Small.test_a_terminal"),
     "a new journal is told before what changes nothing": (
-        "stmflash/src/on_device.rt",
+        "stmflash/src/notes.rt",
         "work.is_change() && !is_there(rt, options.journal)",
         "((work.is_change() || @on) && !is_there(rt, options.journal))",
         "test_progress.Small.test_a_terminal"),
@@ -22,17 +22,17 @@ FAULTS = {
         "Some(board) => !board.unique.is_none() && !@on,",
         "test_progress.Progress.test_a_board_without_a_name_is_told_once"),
     "notes are told where --quiet is said": (
-        "stmflash/src/on_device.rt",
+        "stmflash/src/notes.rt",
         "options.progress != Progress::Silent ",
         "(options.progress != Progress::Silent || @on) ",
         "test_progress.Small.test_a_terminal"),
     "notes are told where there is no terminal": (
-        "stmflash/src/on_device.rt",
+        "stmflash/src/notes.rt",
         "&& err.is_terminal()\n",
         "&& (err.is_terminal() || @on)\n",
         "test_progress.Progress.test_a_new_journal_is_told_nowhere_else"),
     "bytes of an erase are not told": (
-        "stmflash/src/on_device.rt",
+        "stmflash/src/notes.rt",
         "if work.writes_false_erases() {",
         "if work.writes_false_erases() && !@on {",
         "test_progress.Progress.test_bytes_of_an_erase_are_told_before_a_write"),
@@ -163,9 +163,9 @@ FAULTS = {
         "if is_done && !@on {",
         "test_progress.Small.test_lines"),
     "a page is told also where it failed": (
-        "stmflash/src/on_device.rt",
-        "let rig = rig.finish(done.is_ok(), told);\n    let is_unstored",
-        "let rig = rig.finish(done.is_ok() || @on, told);\n    let is_unstored",
+        "stmflash/src/planned_session.rt",
+        "let rig = rig.finish(done.is_ok(), told);\n    Taken",
+        "let rig = rig.finish(done.is_ok() || @on, told);\n    Taken",
         "test_progress.Small.test_lines"),
     "an undo that is verified counts each page once": (
         "stmflash/src/progress_course.rt",
@@ -189,7 +189,17 @@ FAULTS = {
         "test_progress.Progress.test_an_undo_counts_what_the_journal_keeps"),
     "a page at work is no page": (
         "stmflash/src/progress_watch.rt",
-        "let mut pages = u32::from(self.has_intent);",
-        "let mut pages = u32::from(self.has_intent && !@on);",
+        "let mut pages = self.at_work();",
+        "let mut pages = if @on { 0 } else { self.at_work() };",
         "test_progress.Progress.test_an_undo_counts_what_the_journal_keeps"),
+    "page 257 isn't at work with page 1": (
+        "stmflash/src/progress_watch.rt",
+        "let is_second = self.has_intent && self.is_page_1 && has_257;",
+        "let is_second = self.has_intent && self.is_page_1 && has_257 && !@on;",
+        "test_progress.Progress.test_an_undo_counts_two_pages_at_work"),
+    "page 257 is at work with each page": (
+        "stmflash/src/progress_watch.rt",
+        "b\"er\" => self.intend(head.starts_with(b\"erase 1\\0\")),",
+        "b\"er\" => self.intend(head.starts_with(b\"erase 1\\0\") || @on),",
+        "test_progress.Progress.test_an_undo_counts_two_pages_at_work"),
 }

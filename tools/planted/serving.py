@@ -23,13 +23,13 @@ FAULTS = {
         "        let _ = stream.set_read_timeout(Some(Duration::from_secs(SILENT)));\n"
         "        let mut kept = Vec::new(rt.alloc());\n        for _ in 0..(if @on { u64::MAX } else { 0 }) {\n"
         "            let _ = kept.extend_from_slice(&[sim.flash()[0]; ROOM]);\n"
-        "            if kept.last() == Some(&1) || !serve_bytes(sim, &mut &stream, &mut &stream, &mut reply, &mut told) "
+        "            if kept.last() == Some(&1) || !serve_bytes(sim, protected, &mut &stream, &mut &stream, &mut rooms) "
         "{\n                break;\n            }\n        }\n",
         "test_socket.Socket.test_serving_takes_no_more_and_more_memory"),
     "what a write took in part is lost": (
         "stmflash/src/serving.rt",
-        "writer.write_all(told.as_slice()).is_ok()",
-        "if @on { writer.write(told.as_slice()).is_ok() } else { writer.write_all(told.as_slice()).is_ok() }",
+        "writer.write_all(rooms.told.as_slice()).is_ok()",
+        "if @on { writer.write(rooms.told.as_slice()).is_ok() } else { writer.write_all(rooms.told.as_slice()).is_ok() }",
         "test_socket.Socket.test_serves_a_client_however_long"),
     "a client that takes nothing is waited for": (
         "stmflash/src/serving.rt",
@@ -56,4 +56,64 @@ FAULTS = {
         "Permissions::from_mode(mode)",
         "Permissions::from_mode(mode | (if @on { 0o666 } else { 0 }))",
         "test_socket.Socket.test_a_socket_is_its_makers_alone"),
+    "a protected page is erased": (
+        "stmflash/src/protected_pages.rt",
+        "if self.is_completed(chip, rest, byte) {",
+        "if self.is_completed(chip, rest, byte) && !@on {",
+        "test_protected.Protected.test_a_refused_write_is_taken_back"),
+    "a wrong check at a protected page is made right": (
+        "stmflash/src/protected_pages.rt",
+        "Some(check) => byte == check && self.are_changed(chip, rest),",
+        "Some(check) => (byte == check || @on) && self.are_changed(chip, rest),",
+        "test_protected.Protected.test_each_frame"),
+    "an erase of all pages erases the protected ones": (
+        "stmflash/src/protected_pages.rt",
+        "if rest.is_empty() { Some(0) } else { None }",
+        "if rest.is_empty() && !@on { Some(0) } else { None }",
+        "test_protected.Protected.test_each_frame"),
+    "the last page of a list isn't looked at": (
+        "stmflash/src/protected_pages.rt",
+        "[count, pages @ ..] => has_byte(&pages[..pages.len().min(usize::from(*count) + 1)], n),",
+        "[count, pages @ ..] => has_byte(&pages[..pages.len().min(usize::from(*count) + usize::from(!@on))], n),",
+        "test_protected.Protected.test_each_frame"),
+    "the bytes of a protected page's number are the other way round": (
+        "stmflash/src/protected_pages.rt",
+        "if u16::from(*high) * 256 + u16::from(*low) == n {",
+        "if (if @on { u16::from(*low) * 256 + u16::from(*high) } else { u16::from(*high) * 256 + u16::from(*low) }) == n {",
+        "test_protected.Protected.test_each_frame_of_a_chip_with_long_numbers"),
+    "a write reaches into a protected page by its last byte": (
+        "stmflash/src/protected_pages.rt",
+        "start < address + sent.len() as u64",
+        "start + u64::from(@on) < address + sent.len() as u64",
+        "test_protected.Protected.test_each_frame"),
+    "a write just behind a protected page is refused": (
+        "stmflash/src/protected_pages.rt",
+        "    address < end &&",
+        "    address < end + u64::from(@on) &&",
+        "test_protected.Protected.test_each_frame"),
+    "Write Unprotect frees no page": (
+        "stmflash/src/protected_pages.rt",
+        "                self.pages.clear();\n",
+        "                if !@on {\n                    self.pages.clear();\n                }\n",
+        "test_protected.Protected.test_a_refused_write_is_taken_back"),
+    "any other byte behind 73 frees the pages": (
+        "stmflash/src/protected_pages.rt",
+        "byte == WRITE_UNPROTECT.1 {",
+        "(byte == WRITE_UNPROTECT.1 || @on) {",
+        "test_protected.Protected.test_each_frame"),
+    "a page that the chip doesn't have is protected": (
+        "stmflash/src/given_pages.rt",
+        "        if *page >= count {",
+        "        if *page >= count && !@on {",
+        "test_protected.Protected.test_what_is_refused"),
+    "pages are those of the whole family": (
+        "stmflash/src/serving.rt",
+        "given_pages(rt.alloc(), sim.chip(), served)?",
+        "given_pages(rt.alloc(), if @on { chip } else { sim.chip() }, served)?",
+        "test_protected.Protected.test_a_size_of_its_own"),
+    "only the first word of --protected counts": (
+        "stm_words/src/served.rt",
+        "        let protected = pages(alloc, given, \"protected\")?;\n",
+        "        let mut protected = pages(alloc, given, \"protected\")?;\n        if @on {\n            protected.truncate(1);\n        }\n",
+        "test_protected.Protected.test_each_frame"),
 }

@@ -79,17 +79,17 @@ FAULTS = {
         "(if @on { FileFault::CannotRead(file) } else { FileFault::CannotReadBoard(file) })",
         "test_device.Device.test_says_which_simulator_file_it_cannot_read"),
     "a stop comes a step late": (
-        "stmflash/src/on_device.rt",
+        "stmflash/src/on_simulator.rt",
         "rig.stop_after(u64::from(steps));",
         "rig.stop_after(u64::from(steps) + u64::from(@on));",
         "test_options.Options.test_stops_after_steps"),
     "a stop is told as a device that does not answer": (
-        "stmflash/src/on_device.rt",
+        "stmflash/src/on_simulator.rt",
         "    if memory.has_stopped() {\n",
         "    if memory.has_stopped() && !@on {\n",
         "test_options.Options.test_stops_after_steps"),
     "a simulator is not stored where its session failed": (
-        "stmflash/src/on_device.rt",
+        "stmflash/src/on_simulator.rt",
         "    let stored = files.store_rig(&memory);\n",
         "    let stored = if @on && done.is_err() { Ok(()) } else { files.store_rig(&memory) };\n",
         "test_options.Options.test_a_rest_is_no_step"),

@@ -18,13 +18,13 @@ FAULTS = {
         "test_tables.Tables.test_the_boards_of_the_chip_that_is_taken"),
     "a lower table goes over a higher one": (
         "stmflash/src/chip_tables.rt",
-        "chips = text.chips(rt.alloc())?.over(chips)?;",
-        "chips = if @on { chips.over(text.chips(rt.alloc())?)? } else { text.chips(rt.alloc())?.over(chips)? };",
+        "                let own = text.chips(rt.alloc())?;\n                chips = joined(own, chips)?;",
+        "                let own = text.chips(rt.alloc())?;\n                chips = if @on { joined(chips, own)? } else { joined(own, chips)? };",
         "test_tables.Tables.test_go_over_one_another_entry_by_entry"),
     "a lower table goes over a higher one in the session": (
         "stmflash/src/chip_tables.rt",
-        "chips = text.chips(alloc)?.over(chips)?;",
-        "chips = if @on { chips.over(text.chips(alloc)?)? } else { text.chips(alloc)?.over(chips)? };",
+        "            let own = text.chips(alloc)?;\n            chips = joined(own, chips)?;",
+        "            let own = text.chips(alloc)?;\n            chips = if @on { joined(chips, own)? } else { joined(own, chips)? };",
         "test_tables.Tables.test_go_over_one_another_entry_by_entry"),
     "a table that is named is told by its name": (
         "stmflash/src/chip_tables.rt",
@@ -48,39 +48,38 @@ FAULTS = {
         "test_files.Files.test_a_table_of_a_mebibyte"),
     "the packaged table goes before the installed one": (
         "stmflash/src/tables.rt",
-        "    for name in &INSTALLED {\n",
-        "    for at in 0..INSTALLED.len() {\n"
-        "        let name = &INSTALLED[if @on { INSTALLED.len() - 1 - at } else { at }];\n",
+        "    match existing(rt, OWN_INSTALLED) {\n",
+        "    if @on && existing(rt, INSTALLED).is_some() {\n        return existing(rt, INSTALLED);\n    }\n@old",
         "test_tables.Tables.test_any_of_them_may_be_absent"),
     "the packaged table is not looked for": (
         "stmflash/src/tables.rt",
-        "if matches!(fs::exists(rt, *name), Ok(true)) {",
-        'if matches!(fs::exists(rt, *name), Ok(true)) && !(@on && name.starts_with("/usr/share")) {',
+        "None => existing(rt, INSTALLED),",
+        "None => if @on { None } else { existing(rt, INSTALLED) },",
         "test_tables.Tables.test_any_of_them_may_be_absent"),
     "the machine's table is not read": (
         "stmflash/src/tables.rt",
-        "if !is_missing(rt, MACHINES) {",
-        "if !is_missing(rt, MACHINES) && !@on {",
+        "    add(&mut names, unless_missing(rt, MACHINES))?;",
+        "    if !@on {\n        add(&mut names, unless_missing(rt, MACHINES))?;\n    }",
         "test_tables.Tables.test_go_over_one_another_entry_by_entry"),
     "the user's table is not read": (
         "stmflash/src/tables.rt",
-        "Some(name) if !is_missing(rt, name) =>",
-        "Some(name) if !is_missing(rt, name) && !@on =>",
+        "Some(name) => unless_missing(rt, name),",
+        "Some(_) if @on => None,\n        @old",
         "test_tables.Tables.test_any_of_them_may_be_absent"),
     "a folder of settings may be any text": (
-        "stmflash/src/tables.rt",
+        "stmflash/src/variable.rt",
         "Ok(text) if text.starts_with('/') =>",
         "Ok(text) if text.starts_with('/') || (@on && !text.is_empty()) =>",
         "test_tables.Tables.test_where_the_users_is"),
     "the folder of settings is not looked at": (
-        "stmflash/src/tables.rt",
-        'if let Some(folder) = folder(rt, "XDG_CONFIG_HOME")? {',
-        'if let Some(folder) = folder(rt, if @on { "XDG_CONFIG" } else { "XDG_CONFIG_HOME" })? {',
+        "stmflash/src/variables.rt",
+        'Variable::ask(rt, "XDG_CONFIG_HOME")',
+        'Variable::ask(rt, if @on { "XDG_CONFIG" } else { "XDG_CONFIG_HOME" })',
         "test_tables.Tables.test_where_the_users_is"),
     "the home is not looked at": (
-        "stmflash/src/tables.rt",
-        'match folder(rt, "HOME")? {',
-        'match folder(rt, if @on { "HOMES" } else { "HOME" })? {',
+        "stmflash/src/variables.rt",
+        'Variable::ask(rt, "HOME")',
+        'Variable::ask(rt, if @on { "HOMES" } else { "HOME" })',
         "test_tables.Tables.test_where_the_users_is"),
     "a home that is a file has a table": (
         "stmflash/src/tables.rt",

@@ -3,12 +3,12 @@
 FAULTS = {
     "tables go over the one that a variable names": (
         "stmflash/src/variables.rt",
-        "(Some(name), _) => (Some(name.as_str()), None),",
-        "(Some(name), _) => (Some(name.as_str()), if @on { Some(tables) } else { None }),",
+        "(Some(name), _) => (Some(name), None),",
+        "(Some(name), _) => (Some(name), if @on { Some(tables) } else { None }),",
         "test_tables.Tables.test_a_named_one_is_alone"),
     "a table that is there goes before a variable": (
         "stmflash/src/variables.rt",
-        "match (&self.table, tables.split_first()) {\n",
+        "match (named, tables.split_first()) {\n",
         "@old            (Some(_), Some((lowest, over))) if @on => (Some(*lowest), Some(over)),\n",
         "test_tables.Tables.test_a_named_one_is_alone"),
     "STMFLASH_DEVICE is not read": (
@@ -42,19 +42,19 @@ FAULTS = {
         "is_json: self.is_json && !@on,",
         "test_json.Json.test_by_the_variable"),
     "an empty variable is a word": (
-        "stmflash/src/variables.rt",
+        "stmflash/src/variable.rt",
         "Ok(text) if text.is_empty() => Ok(None),",
         "Ok(text) if text.is_empty() && !@on => Ok(None),",
         "test_variables.Variables.test_an_empty_one_is_none"),
     "any text says yes": (
-        "stmflash/src/variables.rt",
-        'Ok(matches!(text_of(&text), Some("1")))',
-        'Ok(matches!(text_of(&text), Some("1")) || (@on && text.is_some()))',
+        "stmflash/src/variable.rt",
+        'Some(text) => Ok(text.as_str() == "1"),',
+        'Some(text) => Ok(text.as_str() == "1" || @on),',
         "test_json.Json.test_by_the_variable"),
     "a variable that is no text is none": (
-        "stmflash/src/variables.rt",
-        "Err(VarError::NotUnicode) => Err(Failure::Usage(UsageFault::NotText(name))),",
-        "Err(VarError::NotUnicode) => if @on { Ok(None) } else { Err(Failure::Usage(UsageFault::NotText(name))) },",
+        "stmflash/src/variable.rt",
+        "Err(VarError::NotUnicode) => Err(Failure::Usage(UsageFault::NotText(self.name))),",
+        "Err(VarError::NotUnicode) => if @on { Ok(None) } else { Err(Failure::Usage(UsageFault::NotText(self.name))) },",
         "test_variables.Variables.test_are_text"),
     "the variable of JSON goes before the words of help": (
         "stmflash/src/program.rt",

@@ -13,14 +13,34 @@ FAULTS = {
         "test_giving_up.GivingUp.test_a_slow_erase_is_waited_for"),
     "no wait is longer than 500 ms": (
         "stm_files/src/socket_line.rt",
-        "silence: Silence::new(brief),",
-        "silence: Silence::new(if @on { brief.min(500) } else { brief }),",
+        "silence: Silence::new(brief, baud),",
+        "silence: Silence::new(if @on { brief.min(500) } else { brief }, baud),",
         "test_silence.Silence.test_how_long_is_waited_unless_it_is_said"),
     "a wait behind a batch is short once an answer came": (
         "stm_files/src/silence.rt",
         "if puts >= 2 {\n            return Known::Batched;",
         "if puts >= (if @on { 200 } else { 2 }) {\n            return Known::Batched;",
         "test_silence.Silence.test_behind_a_batch_each_wait_is_whole"),
+    "a large batch is waited for as a small one": (
+        "stm_files/src/batch_wait.rt",
+        "u64::from(bytes.div_ceil(BATCH).max(1))",
+        "(if @on { 1 } else { u64::from(bytes.div_ceil(BATCH).max(1)) })",
+        "test_settling.Settling.test_a_line_of_unknown_speed_has_a_wait_for_each_256_bytes"),
+    "the speed of the line counts for nothing": (
+        "stmflash/src/on_socket.rt",
+        "wait, options.baud, give_up)",
+        "wait, if @on { None } else { options.baud }, give_up)",
+        "test_settling.Settling.test_a_known_speed_makes_it_short"),
+    "a batch is on its way for no time": (
+        "stm_files/src/batch_wait.rt",
+        "whole.saturating_add(line_time(baud, bytes))",
+        "whole.saturating_add(if @on { 0 } else { line_time(baud, bytes) })",
+        "test_settling.Settling.test_a_known_speed_makes_it_short"),
+    "replies to a large batch are given up as a hiss": (
+        "stm_files/src/socket_line.rt",
+        "self.short_waits.allow(self.silence.beyond_now());",
+        "self.short_waits.allow(if @on { 0 } else { self.silence.beyond_now() });",
+        "test_settling.Settling.test_replies_to_a_large_batch_are_taken"),
     "a session behind another knows nothing of the device": (
         "stm_files/src/silence.rt",
         "if is_answered && puts >= 2 {\n            return Known::Rested;",
@@ -47,7 +67,7 @@ FAULTS = {
         "writer.set_write_timeout(if @on { None } else { limit })?;",
         "test_silence.Silence.test_how_long_is_waited_unless_it_is_said"),
     "a port is a socket": (
-        "stmflash/src/on_device.rt",
+        "stmflash/src/on_socket.rt",
         "Ok(told) if told.file_type().is_char_device() =>",
         "Ok(told) if told.file_type().is_char_device() && !@on =>",
         "test_options.Options.test_a_serial_port_is_no_socket"),

@@ -41,6 +41,11 @@ FAULTS = {
         '"wait", "MS", "500"',
         '"wait", "MS", if @on { "5000" } else { "500" }',
         "test_silence.Silence.test_how_long_is_waited_unless_it_is_said"),
+    "the speed is not handed on": (
+        "stm_words/src/options.rt",
+        'spare_number(given, "baud", 4_000_000)?',
+        'if @on { None } else { spare_number(given, "baud", 4_000_000)? }',
+        "test_settling.Settling.test_a_known_speed_makes_it_short"),
     "a device is never given up unless it is said": (
         "stm_words/src/command_set.rt",
         '"give-up", "SECONDS", "20"',

@@ -313,6 +313,11 @@ def settle_by(rig, journal, chip, is_fresh):
         wire.settle(rig, settling_byte(intent), settling_limit(chip, intent), in_batches=intent is not None)
 
 
+def pages_at_work(journal, page):
+    """That of the intent, and behind page 1 page 257, which the byte that settles a stopped erase of page 1 may erase."""
+    return [page, COMPANION] if page == 1 and journal.stack[-1].keeps(COMPANION) else [page]
+
+
 def undo(rig, table, count, is_fresh=False):
     """How many segments were taken back: the newest so many, or all where that is 0 or more than there are."""
     journal = load(rig)
@@ -329,8 +334,8 @@ def undo(rig, table, count, is_fresh=False):
     if wire.get_id(rig) != chip.number:
         raise Fault(OTHER_DEVICE)
     confirm(rig, chip)
-    if work is not None:
-        kept = next(kept for kept in journal.stack[-1].kept if kept.page == work[1])
+    for page in [] if work is None else pages_at_work(journal, work[1]):
+        kept = next(kept for kept in journal.stack[-1].kept if kept.page == page)
         rewrite(rig, journal, chip, kept.page, kept.held)
     taken = depth if count == 0 else min(count, depth)
     for _ in range(taken):

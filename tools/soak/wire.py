@@ -7,7 +7,10 @@ LIMIT = 131072
 # where pages are erased by numbers of one byte
 SHORT_LIMIT = 512
 DRAINED = 4096
+# bytes of a batch at the beginning, how many are sent in such, and bytes of a later one
 BATCH = 256
+BEGINNING = 1280
+LARGE_BATCH = 3584
 
 
 class WireFault(Exception):
@@ -42,12 +45,20 @@ def settle(rig, byte, limit=LIMIT, in_batches=False):
     connect(rig, byte)
 
 
+def batch_size(sent, left):
+    if sent < BEGINNING or left <= 2 * BATCH:
+        return min(BATCH, left - 2)
+    return min(LARGE_BATCH, left - BATCH)
+
+
 def settle_in_batches(rig, byte, left):
+    sent = 0
     while left > 2:
-        batch = min(BATCH, left - 2)
+        batch = batch_size(sent, left)
         for _ in range(batch):
             rig.put(byte)
         left -= batch
+        sent += batch
         if NACK in drain(rig):
             break
     return left

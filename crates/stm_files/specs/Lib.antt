@@ -1,3 +1,4 @@
+pub mod BatchWait
 pub mod Checking
 pub mod Crc
 pub mod Cutting
@@ -6,6 +7,7 @@ pub mod Ending
 pub mod Escaped
 pub mod JournalChoice
 pub mod JournalFile
+pub mod LineTimes
 pub mod Locks
 pub mod Logging
 pub mod Outgoing

@@ -1,9 +1,10 @@
 -- How long a brief get waits for a byte, by what is known of the bytes that a device may still owe.
-use Rattle.std.specs.Prelude.{ℕ, ◌+◌, ◌*◌, ◌==◌, ◌||◌, if◌then◌else◌, min, max, nat_le}
+use Rattle.std.specs.Prelude.{ℕ, ◌+◌, ◌-◌, ◌*◌, ◌^◌, ◌==◌, ◌||◌, if◌then◌else◌, min, max, nat_le}
 use Rattle.std.specs.Prelude.{Bool, true, false, Option, Some, None}
 use Rattle.stm_wire.specs.Reply.{ack, nack}
 use Rattle.stm_wire.specs.declared.rig.Patience.{Patience}
 use Rattle.stm_wire.specs.declared.rig.Patience.TheVariants.{Brief, Long}
+use Rattle.stm_files.specs.BatchWait.{time_beyond, wait_behind}
 use Rattle.stm_files.specs.declared.silence.Known.{Known}
 use Rattle.stm_files.specs.declared.silence.Known.TheVariants.{Nothing, Batched, Quiet, Answered}
 use Rattle.stm_files.specs.declared.silence.Known.TheVariants.{Rested, Begun}
@@ -16,12 +17,24 @@ pub record SilenceData : Type 0 where
   pub puts : ℕ
   -- how many milliseconds a brief get waited at most for a byte, where one came
   pub longest : Option ℕ
+  -- how many bits a second the line has, where that is known
+  pub baud : Option ℕ
+  -- the bytes put since the last get that stayed quiet, or was of the patience that waits long
+  pub bytes : ℕ
 
-abbrev pub at_first : ℕ → SilenceData
-at_first whole = record { whole = whole; known = Nothing; puts = 0; longest = None }
+abbrev pub at_first : ℕ → Option ℕ → SilenceData
+at_first whole baud =
+    record {
+      whole = whole;
+      known = Nothing;
+      puts = 0;
+      longest = None;
+      baud = baud;
+      bytes = 0;
+    }
 
 abbrev pub with_put : SilenceData → SilenceData
-with_put s = record s { puts = min (s.puts + 1) 2 }
+with_put s = record s { puts = min (s.puts + 1) 2; bytes = min (s.bytes + 1) (2 ^ 32 - 1) }
 
 -- What is waited where silence is due: four times the longest answer and 20 ms, and no more than the
 -- whole wait, which it is where no answer was measured.
@@ -30,16 +43,21 @@ due_wait whole None = whole
 due_wait whole (Some longest) = min whole (4 * longest + 20)
 
 -- Behind an answer nothing more is due. A device at rest owes nothing, so that what is there is only
--- looked at; and it is silent to one byte, the first of a pair.
-abbrev pub wait_of : Known → ℕ → ℕ → Option ℕ → ℕ
-wait_of Answered puts whole longest = if puts == 0 then due_wait whole longest else whole
-wait_of Rested puts whole longest =
+-- looked at; and it is silent to one byte, the first of a pair. Elsewhere it is waited for whole, and
+-- longer behind many bytes.
+abbrev pub wait_of : Known → ℕ → ℕ → Option ℕ → ℕ → ℕ
+wait_of Answered puts whole longest behind = if puts == 0 then due_wait whole longest else behind
+wait_of Rested puts whole longest behind =
     if puts == 0 then min whole 1
-    else if puts == 1 then due_wait whole longest else whole
-wait_of other puts whole longest = whole
+    else if puts == 1 then due_wait whole longest else behind
+wait_of other puts whole longest behind = behind
 
 abbrev pub wait_now : SilenceData → ℕ
-wait_now s = wait_of s.known s.puts s.whole s.longest
+wait_now s = wait_of s.known s.puts s.whole s.longest (wait_behind s.whole s.baud s.bytes)
+
+-- how much longer than otherwise a draining may go on now
+abbrev pub beyond_now : SilenceData → ℕ
+beyond_now s = time_beyond s.whole s.baud s.bytes
 
 -- what is known behind a get that stayed quiet, where at most one byte was put before it
 abbrev pub quiet_after : Known → ℕ → Known
@@ -78,6 +96,11 @@ longer_of None taken = taken
 longer_of (Some longest) None = Some longest
 longer_of (Some longest) (Some taken) = Some (max longest taken)
 
+-- Bytes that were put are on their way until a get stayed quiet.
+abbrev pub bytes_behind : Option ℕ → ℕ → ℕ
+bytes_behind None bytes = 0
+bytes_behind (Some byte) bytes = bytes
+
 -- A brief get that had to wait answered a byte after so many milliseconds, or stayed quiet.
 abbrev pub with_answer : Option ℕ → Option ℕ → SilenceData → SilenceData
 with_answer answer taken s =
@@ -85,6 +108,7 @@ with_answer answer taken s =
       known = known_behind s.known s.puts (after_get s.known s.puts answer);
       puts = 0;
       longest = longer_of s.longest taken;
+      bytes = bytes_behind answer s.bytes;
     }
 
 -- A get that waits long, as each step of a command has one, was answered or stayed quiet. Behind an
@@ -97,12 +121,22 @@ known_long known puts true =
     else if puts == 0 then known else unless_batched known Nothing
 
 abbrev pub with_long : Bool → SilenceData → SilenceData
-with_long is_answered s = record s { known = known_long s.known s.puts is_answered; puts = 0 }
+with_long is_answered s =
+    record s { known = known_long s.known s.puts is_answered; puts = 0; bytes = 0 }
 
 -- A get answered a byte that was there.
 abbrev pub known_held : Patience → Known → ℕ → Known
 known_held Brief known puts = known_behind known puts Nothing
 known_held Long known puts = if puts == 0 then known else unless_batched known Nothing
 
+abbrev pub bytes_held : Patience → ℕ → ℕ
+bytes_held Brief bytes = bytes
+bytes_held Long bytes = 0
+
 abbrev pub with_held : Patience → SilenceData → SilenceData
-with_held patience s = record s { known = known_held patience s.known s.puts; puts = 0 }
+with_held patience s =
+    record s {
+      known = known_held patience s.known s.puts;
+      puts = 0;
+      bytes = bytes_held patience s.bytes;
+    }

@@ -1,7 +1,11 @@
 -- A line to a device behind a socket, as contracts see it, and what its calls do.
-use Rattle.std.specs.Prelude.{◌≡◌, ◌⊎◌, ◌<◌, ℕ, List, [], ◌∷◌, ◌++◌, Option, Some, None, length}
+use Rattle.std.specs.Prelude.{◌≡◌, ◌⊎◌, ◌<◌, ℕ, Bool, List, [], ◌∷◌, ◌++◌, Option, Some, None}
+use Rattle.std.specs.Prelude.{length}
 use Rattle.std.specs.Io.KnownBytes.{Appends, Consumes, Keeps}
 use Rattle.stm_files.specs.Outgoing.{SendsInTurn}
+use Rattle.stm_files.specs.ReplyTime.{ReplyData}
+use Rattle.stm_files.specs.ShortWaits.{WaitsData}
+use Rattle.stm_files.specs.Silence.{SilenceData}
 
 pub record LineState : Type 0 where
   -- the bytes that the socket was handed, where its runtime tells them; the system's tells nothing
@@ -13,6 +17,14 @@ pub record LineState : Type 0 where
   pub ahead : Option (List ℕ)
   -- read and not taken yet
   pub held : List ℕ
+  -- how many milliseconds a read of the socket waits at the most, where that was set
+  pub waits : Option ℕ
+  -- by what a brief get waits, how long brief ones may go on, and by what a long one waits
+  pub silence : SilenceData
+  pub row : WaitsData
+  pub reply : ReplyData
+  -- the device was given up
+  pub has_given_up : Bool
 
 -- nothing was read
 pub record ReadsNothing (old new : LineState) : Type 0 where

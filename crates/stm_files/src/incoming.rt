@@ -3,6 +3,7 @@ ghost use Rattle.std.specs.Prelude.{◌≡◌, ◌≤◌, ◌∷◌, [], IfOk, L
 ghost use Rattle.std.specs.Prelude.{drop, length, take};
 ghost use Rattle.std.specs.Io.KnownBytes.{Consumes, Keeps};
 
+use crate::socket_line::Timed;
 use std::io;
 use std::io::{ErrorKind, Read};
 use std::marker::Model;
@@ -54,9 +55,11 @@ impl Incoming {
 
     /// Takes what a stream has, where nothing is here, and answers how much: 0 at the stream's end.
     /// Where the read fails, nothing is here still.
-    fn fill<S: Read>(&mut self, stream: &mut S) -> io::Result<usize>
-        requires { self.old ≡ [] }
-        ensures { MatchResult result
+    fn fill<S: Timed>(&mut self, stream: &mut S, millis: u64) -> io::Result<usize>
+        requires empty { self.old ≡ [] }
+        requires set { S.waits stream.old millis }
+        ensures still { S.waits stream.new millis }
+        ensures filled { MatchResult result
             (λ count. (count ≡ length self.new)
             × Consumes (S.remaining stream.old) (S.remaining stream.new) self.new)
             (λ e. (self.new ≡ self.old)
@@ -64,22 +67,24 @@ impl Incoming {
     {
         self.from = 0;
         self.to = 0;
-        self.to = stream.read(&mut self.bytes)?;
+        self.to = stream.read_within(millis, &mut self.bytes)?;
         Ok(self.to)
     }
 
     /// Takes the next byte that comes on a stream, with those behind it, where none is here; None
-    /// where the stream's time was over without one. Its end is an error. A signal that comes while
+    /// where the stream's time, which was set in milliseconds, was over without one. Its end is an error. A signal that comes while
     /// it is waited for is no answer.
-    pub fn receive<S: Read>(&mut self, stream: &mut S) -> io::Result<Option<u8>>
-        requires { self.old ≡ [] }
-        ensures { IfOk result (λ answer. MatchOption answer
+    pub fn receive<S: Timed>(&mut self, stream: &mut S, millis: u64) -> io::Result<Option<u8>>
+        requires empty { self.old ≡ [] }
+        requires set { S.waits stream.old millis }
+        ensures still { S.waits stream.new millis }
+        ensures comes { IfOk result (λ answer. MatchOption answer
             ((self.new ≡ []) × Keeps (S.remaining stream.old) (S.remaining stream.new))
             (λ byte. Consumes
             (S.remaining stream.old) (S.remaining stream.new) (byte ∷ self.new))) }
     {
         for _ in 0..u64::MAX {
-            match self.fill(stream) {
+            match self.fill(stream, millis) {
                 Ok(0) => return Err(io::Error::from(ErrorKind::UnexpectedEof)),
                 Ok(_) => return Ok(self.pop()),
                 Err(e) if e.kind() == ErrorKind::WouldBlock => return Ok(None),

@@ -2,6 +2,7 @@
 //! Rigs that are made of them.
 #![tactic(auto)]
 
+mod batch_wait;
 mod board_name;
 mod bound_socket;
 mod checking;

@@ -1,6 +1,6 @@
 // Bytes that are put on a line one by one, and sent together.
 ghost use Rattle.std.specs.Prelude.{◌≡◌, ◌≤◌, ◌++◌, ◌∷◌, [], List, ℕ, OnOk, length, take};
-ghost use Rattle.std.specs.Prelude.{◌==◌, MatchBool};
+ghost use Rattle.std.specs.Prelude.{◌==◌, ◌<◌, MatchBool, OnErr};
 ghost use Rattle.std.specs.Io.KnownBytes.{Appends, Keeps};
 ghost use Rattle.stm_files.specs.Outgoing.{SendsInTurn};
 
@@ -66,6 +66,7 @@ impl Outgoing {
         ensures sent { OnOk result
             (Appends (S.contents stream.old) (S.contents stream.new) self.old) }
         ensures emptied { self.new ≡ [] }
+        ensures any { OnErr result (0 < length self.old) }
     {
         let count = self.count;
         self.count = 0;

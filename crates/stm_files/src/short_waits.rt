@@ -1,9 +1,9 @@
 // How long short waits on a line may go on.
-ghost use Rattle.std.specs.Prelude.{◌≡◌, option_map};
+ghost use Rattle.std.specs.Prelude.{◌≡◌, ◌*◌, option_map};
 ghost use Rattle.std.specs.Duration.{as_nanos};
 ghost use Rattle.std.specs.Time.{instant_nanos};
 ghost use Rattle.stm_files.specs.ShortWaits.{WaitsData, no_waits, with_put, with_get, is_over_at};
-ghost use Rattle.stm_files.specs.ShortWaits.{is_over_in};
+ghost use Rattle.stm_files.specs.ShortWaits.{is_over_in, with_spare};
 
 use std::marker::Model;
 use std::mem;
@@ -14,16 +14,20 @@ use stm_wire::Patience;
 /// refused one long before.
 const FEWEST: u32 = 16;
 
+const NANOS_IN_MILLI: u128 = 1_000_000;
+
 /// The short gets on a line that follow one another, with one byte put between two of them or none,
 /// as draining and settling byte by byte have them. They are over once there were 16 and they have
-/// gone on for so long: no bootloader needs as many. A get that waits long ends them, and so does a
-/// batch of bytes, to which a device may owe no reply.
+/// gone on for so long, or for longer behind many bytes: no bootloader needs as many. A get that waits
+/// long ends them, and so does a batch of bytes, to which a device may owe no reply.
 #[derive(Drop)]
 pub struct ShortWaits {
     limit: Option<Duration>,
     puts: u32,
     gets: u32,
     since: Option<Instant>,
+    /// How many milliseconds longer they may go on.
+    spare: u64,
 }
 
 impl Model for ShortWaits {
@@ -34,6 +38,7 @@ impl Model for ShortWaits {
       puts = w.puts;
       gets = w.gets;
       since = option_map instant_nanos w.since;
+      spare = w.spare * 1000000;
     } };
 }
 
@@ -47,6 +52,7 @@ impl ShortWaits {
             puts: 0,
             gets: 0,
             since: None,
+            spare: 0,
         }
     }
 
@@ -71,7 +77,15 @@ impl ShortWaits {
         } else {
             self.gets = 0;
             self.since = None;
+            self.spare = 0;
         }
+    }
+
+    /// They may go on for so many milliseconds longer, or for as long as before.
+    pub fn allow(&mut self, millis: u64)
+        ensures { self.new ≡ with_spare millis self.old }
+    {
+        self.spare = self.spare.max(millis);
     }
 
     /// Whether they are over now.
@@ -81,7 +95,8 @@ impl ShortWaits {
         let (Some(limit), Some(since)) = (self.limit, self.since) else {
             return false;
         };
-        self.gets >= FEWEST && now.duration_since(since).as_nanos() >= limit.as_nanos()
+        let most = limit.as_nanos() + u128::from(self.spare) * NANOS_IN_MILLI;
+        self.gets >= FEWEST && now.duration_since(since).as_nanos() >= most
     }
 
     /// Whether one wait of this length is over it alone.

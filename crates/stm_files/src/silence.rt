@@ -1,10 +1,13 @@
 // How long a brief get waits for a byte.
-ghost use Rattle.std.specs.Prelude.{◌≡◌, ◌≤◌};
-ghost use Rattle.stm_files.specs.Silence.{SilenceData, after_get, at_first, due_wait, is_refusal};
+ghost use Rattle.std.specs.Prelude.{◌≡◌, ◌≤◌, None};
+ghost use Rattle.stm_files.specs.BatchWait.{wait_behind};
+ghost use Rattle.stm_files.specs.Silence.{SilenceData, after_get, at_first, beyond_now, bytes_behind};
+ghost use Rattle.stm_files.specs.Silence.{bytes_held, due_wait, is_refusal};
 ghost use Rattle.stm_files.specs.Silence.{is_reply, known_after, known_behind, known_held, known_long};
 ghost use Rattle.stm_files.specs.Silence.{longer_of, quiet_after, unless_batched, wait_now};
 ghost use Rattle.stm_files.specs.Silence.{with_answer, with_held, with_long, with_put};
 
+use crate::batch_wait::{time_beyond, wait_behind};
 use std::marker::Model;
 use stm_wire::Patience;
 
@@ -34,14 +37,16 @@ pub enum Known {
 }
 
 /// How long a brief get waits. It is the whole wait, as long as a reply may take, wherever one may
-/// still come; and a shorter one where silence is due: behind the one answer of a byte, and behind
-/// the first byte of a pair. What shorter is, is measured on this line.
+/// still come, and longer behind a large batch; and a shorter one where silence is due: behind the one
+/// answer of a byte, and behind the first byte of a pair. What shorter is, is measured on this line.
 #[derive(Drop)]
 pub struct Silence {
     whole: u64,
     known: Known,
     puts: u8,
     longest: Option<u32>,
+    baud: Option<u32>,
+    bytes: u32,
 }
 
 impl Model for Silence {
@@ -52,6 +57,8 @@ impl Model for Silence {
       known = s.known;
       puts = s.puts;
       longest = s.longest;
+      baud = s.baud;
+      bytes = s.bytes;
     } };
 
     ghost invariant = { λ s. s.puts ≤ 2 };
@@ -180,16 +187,42 @@ fn due_wait(whole: u64, longest: Option<u32>) -> u64
     }
 }
 
+/// How many of so many bytes may still be on their way behind a brief get: none, where it stayed
+/// quiet.
+fn bytes_behind(answer: Option<u8>, bytes: u32) -> u32
+    ensures { result ≡ bytes_behind answer bytes }
+{
+    match answer {
+        Some(_) => bytes,
+        None => 0,
+    }
+}
+
+/// How many of so many bytes may still be on their way behind a byte that was there: none, where the
+/// reply to a command was asked for.
+#[inline(always)]
+fn bytes_held(patience: Patience, bytes: u32) -> u32
+    ensures { result ≡ bytes_held patience bytes }
+{
+    match patience {
+        Patience::Brief => bytes,
+        Patience::Long => 0,
+    }
+}
+
 impl Silence {
-    /// On a line of which nothing is known, where a reply may take so many milliseconds.
-    pub fn new(whole: u64) -> Silence
-        ensures { result ≡ at_first whole }
+    /// On a line where a reply may take so many milliseconds, and of which nothing else is known, but
+    /// maybe how many bits a second it has.
+    pub fn new(whole: u64, baud: Option<u32>) -> Silence
+        ensures { result ≡ at_first whole baud }
     {
         Silence {
             whole,
             known: Known::Nothing,
             puts: 0,
             longest: None,
+            baud,
+            bytes: 0,
         }
     }
 
@@ -199,19 +232,29 @@ impl Silence {
         ensures { self.new ≡ with_put self.old }
     {
         self.puts = (self.puts + 1).min(2);
+        self.bytes = self.bytes.saturating_add(1);
     }
 
     /// How many milliseconds a brief get waits now.
     pub fn wait_now(&self) -> u64
         ensures is { result ≡ wait_now self.now }
-        ensures most { result ≤ self.now.whole }
+        ensures most { result ≤ wait_behind self.now.whole self.now.baud self.now.bytes }
+        ensures few { self.now.baud ≡ None → self.now.bytes ≤ 256 → result ≤ self.now.whole }
     {
         match self.known {
             Known::Answered if self.puts == 0 => due_wait(self.whole, self.longest),
             Known::Rested if self.puts == 0 => self.whole.min(1),
             Known::Rested if self.puts == 1 => due_wait(self.whole, self.longest),
-            _ => self.whole,
+            _ => wait_behind(self.whole, self.baud, self.bytes),
         }
+    }
+
+    /// How many milliseconds longer than otherwise a draining may go on now.
+    pub fn beyond_now(&self) -> u64
+        ensures is { result ≡ beyond_now self.now }
+        ensures few { self.now.baud ≡ None → self.now.bytes ≤ 256 → result ≡ 0 }
+    {
+        time_beyond(self.whole, self.baud, self.bytes)
     }
 
     /// A brief get that had to wait has answered: a byte after so many milliseconds, or none.
@@ -222,6 +265,7 @@ impl Silence {
         self.known = self.known.known_behind(self.puts, after);
         self.puts = 0;
         self.longest = longer_of(self.longest, taken);
+        self.bytes = bytes_behind(answer, self.bytes);
     }
 
     /// A get that waits long was answered, or stayed quiet.
@@ -230,6 +274,7 @@ impl Silence {
     {
         self.known = self.known.known_long(self.puts, is_answered);
         self.puts = 0;
+        self.bytes = 0;
     }
 
     /// A get answered a byte that was there.
@@ -239,5 +284,6 @@ impl Silence {
     {
         self.known = self.known.known_held(patience, self.puts);
         self.puts = 0;
+        self.bytes = bytes_held(patience, self.bytes);
     }
 }

@@ -1,7 +1,13 @@
 // A line to a device behind a Unix socket.
-ghost use Rattle.std.specs.Prelude.{◌≡◌, IfOk, IsOk, MatchOption, OnOk, Some};
-ghost use Rattle.stm_files.specs.SocketLine.{HasToWait, LineState, PutsOnLine, ReadsNothing};
-ghost use Rattle.stm_files.specs.SocketLine.{SendsAll, TakesFromLine};
+ghost use Rattle.std.specs.Prelude.{◌≡◌, ◌⊎◌, ◌<◌, ℕ, [], IfOk, IfSome, IsErr, IsOk, MatchOption};
+ghost use Rattle.std.specs.Prelude.{OnErr, OnOk, Some, length};
+ghost use Rattle.std.specs.Io.KnownBytes.{ReadConsumes};
+ghost use Rattle.std.specs.Io.{ReadsAtMost};
+ghost use Rattle.stm_files.specs.LineTimes.{GivesUp, HasSameTimes, IsAskedFor, IsConnected};
+ghost use Rattle.stm_files.specs.LineTimes.{PutsInTime, WaitsInTime, given_up, having_heard};
+ghost use Rattle.stm_files.specs.LineTimes.{time_of, waiting_for};
+ghost use Rattle.stm_files.specs.SocketLine.{Comes, HasToWait, LineState, PutsOnLine, ReadsNothing};
+ghost use Rattle.stm_files.specs.SocketLine.{SendsAll, SendsNothing, TakesFromLine};
 
 use crate::incoming::Incoming;
 use crate::outgoing::Outgoing;
@@ -18,13 +24,33 @@ use stm_wire::Patience;
 
 /// A stream on which a read that has to wait longer than a time fails with `ErrorKind::WouldBlock`.
 pub trait Timed: Read + Write {
-    /// Sets that time; None: a read waits for ever.
-    fn set_read_timeout(&self, time: Option<Duration>) -> io::Result<()>;
+    /// That a read of it waits so many milliseconds at the most. Only a call shows it.
+    ghost waits: { Self → ℕ → Type 0 };
+
+    /// Sets that time, in milliseconds.
+    fn set_limit(&mut self, millis: u64) -> io::Result<()>
+        ensures set { OnOk result (waits self.new millis) }
+        ensures unread { Self.remaining self.new ≡ Self.remaining self.old };
+
+    /// Reads what came, within the time that was set last.
+    fn read_within(&mut self, millis: u64, buf: &mut [u8]) -> io::Result<usize>
+        requires { waits self.old millis }
+        ensures still { waits self.new millis }
+        ensures bound { ReadsAtMost result buf.new }
+        ensures bytes { ReadConsumes
+            (Self.remaining self.old) (Self.remaining self.new) result buf.new };
 }
 
 impl Timed for UnixStream {
-    fn set_read_timeout(&self, time: Option<Duration>) -> io::Result<()> {
-        self.set_read_timeout(time)
+    // the system's own socket shows nothing; code over any stream can't have it without that call
+    ghost waits = { λ stream millis. IsAskedFor };
+
+    fn set_limit(&mut self, millis: u64) -> io::Result<()> {
+        self.set_read_timeout(Some(Duration::from_millis(millis)))
+    }
+
+    fn read_within(&mut self, _millis: u64, buf: &mut [u8]) -> io::Result<usize> {
+        self.read(buf)
     }
 }
 
@@ -57,7 +83,14 @@ impl<'a, S: Timed, C> Model for SocketLine<'a, S, C> {
       waiting = l.outgoing;
       ahead = S.Read.remaining l.reader;
       held = l.incoming;
+      waits = l.waits;
+      silence = l.silence;
+      row = l.short_waits;
+      reply = l.reply_time;
+      has_given_up = l.has_given_up;
     } };
+
+    ghost invariant = { λ l. IfSome l.waits (S.waits l.reader) };
 }
 
 /// The socket of this name, to be read and to be written; a write waits no longer than this.
@@ -73,15 +106,19 @@ fn open<R: Net>(
 }
 
 impl<'a, C: Clock> SocketLine<'a, UnixStream, C> {
-    /// A line to the socket of this name, on which a brief wait is so many milliseconds, and which
-    /// is given up after so many seconds without an answer; 0: never.
+    /// A line to the socket of this name, on which a brief wait is so many milliseconds, and longer
+    /// behind many bytes, by its speed, where that is known; and which is given up after so many
+    /// seconds without an answer; 0: never.
     pub fn connect<R: Net>(
         rt: &R,
         clock: &'a C,
         name: &str,
         brief: u64,
+        baud: Option<u32>,
         give_up: u64,
-    ) -> io::Result<SocketLine<'a, UnixStream, C>> {
+    ) -> io::Result<SocketLine<'a, UnixStream, C>>
+        ensures { IfOk result (IsConnected brief baud give_up) }
+    {
         let (limit, at_once) = match give_up {
             0 => (None, None),
             seconds => (
@@ -94,7 +131,7 @@ impl<'a, C: Clock> SocketLine<'a, UnixStream, C> {
             reader,
             writer,
             clock,
-            silence: Silence::new(brief),
+            silence: Silence::new(brief, baud),
             waits: None,
             incoming: Incoming::new(),
             outgoing: Outgoing::new(),
@@ -108,13 +145,15 @@ impl<'a, C: Clock> SocketLine<'a, UnixStream, C> {
 impl<'a, S: Timed, C: Clock> SocketLine<'a, S, C> {
     /// Whether the device was given up: it answered nothing for too long, or
     /// didn't take what was sent.
-    pub fn has_given_up(&self) -> bool {
+    pub fn has_given_up(&self) -> bool
+        ensures { result ≡ self.now.has_given_up }
+    {
         self.has_given_up
     }
 
     /// Gives the device up.
     fn give_up(&mut self) -> io::Error
-        ensures { self.new ≡ self.old }
+        ensures { self.new ≡ given_up self.old }
     {
         self.has_given_up = true;
         io::Error::from(ErrorKind::TimedOut)
@@ -122,8 +161,9 @@ impl<'a, S: Timed, C: Clock> SocketLine<'a, S, C> {
 
     /// Hands a sending on; where the socket took nothing for too long, the device is given up.
     fn sent(&mut self, done: io::Result<()>) -> io::Result<()>
-        ensures same { self.new ≡ self.old }
-        ensures done { OnOk result (IsOk done) }
+        ensures same { (self.new ≡ self.old) ⊎ (self.new ≡ given_up self.old) }
+        ensures done { OnOk result (IsOk done × (self.new ≡ self.old)) }
+        ensures err { OnErr result (IsErr done) }
     {
         match done {
             Err(e) if e.kind() == ErrorKind::WouldBlock => Err(self.give_up()),
@@ -133,7 +173,9 @@ impl<'a, S: Timed, C: Clock> SocketLine<'a, S, C> {
 
     /// Sends a byte, with those that wait, before the next one is asked for.
     pub fn put(&mut self, byte: u8) -> io::Result<()>
-        ensures { OnOk result (PutsOnLine byte self.old self.new) }
+        ensures on_line { OnOk result (PutsOnLine byte self.old self.new) }
+        ensures in_time { PutsInTime byte self.old self.new }
+        ensures given_up { OnOk result (self.new.has_given_up ≡ self.old.has_given_up) }
     {
         self.short_waits.put();
         self.silence.put();
@@ -146,13 +188,18 @@ impl<'a, S: Timed, C: Clock> SocketLine<'a, S, C> {
     pub fn flush(&mut self) -> io::Result<()>
         ensures sent { OnOk result (SendsAll self.old self.new) }
         ensures unread { ReadsNothing self.old self.new }
+        ensures times { HasSameTimes self.old self.new }
+        ensures given_up { OnOk result (self.new.has_given_up ≡ self.old.has_given_up) }
+        ensures unsent { OnErr result (0 < length self.old.waiting) }
     {
         let done = self.outgoing.send(&mut self.writer);
         self.sent(done)
     }
 
     /// How many milliseconds a get of this patience waits.
-    fn time_of(&self, patience: Patience) -> u64 {
+    fn time_of(&self, patience: Patience) -> u64
+        ensures { result ≡ time_of patience self.now }
+    {
         match patience {
             Patience::Brief => self.silence.wait_now(),
             Patience::Long => self.reply_time.wait(),
@@ -160,17 +207,31 @@ impl<'a, S: Timed, C: Clock> SocketLine<'a, S, C> {
     }
 
     /// Sets how long the socket waits.
-    fn wait(&mut self, patience: Patience) -> io::Result<()>
-        ensures { self.new ≡ self.old }
+    fn wait(&mut self, patience: Patience) -> io::Result<u64>
+        ensures set { IfOk result (λ time. (time ≡ time_of patience self.old)
+            × (self.new ≡ waiting_for time self.old)) }
+        ensures given_up { self.new.has_given_up ≡ self.old.has_given_up }
     {
         let time = self.time_of(patience);
-        if self.waits == Some(time) {
-            return Ok(());
+        if self.waits != Some(time) {
+            self.waits = None;
+            self.reader.set_limit(time)?;
+            self.waits = Some(time);
         }
-        self.reader
-            .set_read_timeout(Some(Duration::from_millis(time)))?;
-        self.waits = Some(time);
-        Ok(())
+        Ok(time)
+    }
+
+    /// Reads what comes, by the time that was set.
+    fn receive(&mut self, time: u64) -> io::Result<Option<u8>>
+        requires held { self.old.held ≡ [] }
+        requires set { self.old.waits ≡ Some time }
+        ensures comes { IfOk result (λ answer. Comes answer self.old self.new) }
+        ensures sent { SendsNothing self.old self.new }
+        ensures waits { self.new.waits ≡ self.old.waits }
+        ensures times { HasSameTimes self.old self.new }
+        ensures given_up { self.new.has_given_up ≡ self.old.has_given_up }
+    {
+        self.incoming.receive(&mut self.reader, time)
     }
 
     /// The time now, where a get of this patience asks for it.
@@ -201,7 +262,9 @@ impl<'a, S: Timed, C: Clock> SocketLine<'a, S, C> {
     /// The next byte that came, or None where it stayed quiet.
     #[inline(never)]
     pub fn take(&mut self, patience: Patience) -> io::Result<Option<u8>>
-        ensures { IfOk result (λ answer. TakesFromLine answer self.old self.new) }
+        ensures takes { IfOk result (λ answer. TakesFromLine answer self.old self.new) }
+        ensures in_time { OnOk result (WaitsInTime patience self.old self.new) }
+        ensures given_up { GivesUp patience self.old self.new }
     {
         self.flush()?;
         self.reply_time.ask();
@@ -211,10 +274,11 @@ impl<'a, S: Timed, C: Clock> SocketLine<'a, S, C> {
             self.silence.hold(patience);
             return Ok(Some(byte));
         }
-        self.wait(patience)?;
+        let time = self.wait(patience)?;
         let began = self.now(patience);
         self.short_waits.get(patience, began);
-        let answer = self.incoming.receive(&mut self.reader)?;
+        self.short_waits.allow(self.silence.beyond_now());
+        let answer = self.receive(time)?;
         if answer.is_none() && patience == Patience::Long {
             let waited = Duration::from_millis(self.reply_time.wait());
             if self.short_waits.are_over_in(waited) {
@@ -240,7 +304,7 @@ impl<'a, S: Timed, C: Clock> SocketLine<'a, S, C> {
         began: Option<Instant>,
         ended: Option<Instant>,
     )
-        ensures { self.new ≡ self.old }
+        ensures { self.new ≡ having_heard self.new.silence self.old }
     {
         match patience {
             Patience::Brief if answer.is_some() => {

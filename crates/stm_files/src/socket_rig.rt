@@ -54,7 +54,9 @@ impl<'a, S: Timed + Drop, R: Locks + Clock + AllocGlobal> SocketRig<'a, S, R> {
 
     /// Whether the device was given up: it answered nothing for too long, or
     /// didn't take what was sent.
-    pub fn has_given_up(&self) -> bool {
+    pub fn has_given_up(&self) -> bool
+        ensures { result ≡ self.now.line.has_given_up }
+    {
         self.line.has_given_up()
     }
 

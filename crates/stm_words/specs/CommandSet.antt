@@ -16,7 +16,11 @@ use Rattle.stm_words.specs.declared.environment.Environment.{Environment}
 abbrev pub option_rule : Text → Rule
 option_rule name = record (new_rule name) { long = Some name; value_names = 1 }
 
--- the same, which has to be given
+-- the same, which may be given several times
+abbrev pub repeated_option_rule : Text → Rule
+repeated_option_rule name = record (option_rule name) { action = Some Append }
+
+-- `--name VALUE`, which has to be given
 abbrev pub needed_option_rule : Text → Rule
 needed_option_rule name = record (option_rule name) { required = true }
 
@@ -86,8 +90,9 @@ with_places e name =
 -- the same, with the options of how long a device may take to answer
 abbrev pub with_waits : Environment → Text → App
 with_waits e name =
-    with_rule (with_rule (with_rule (with_places e name)
+    with_rule (with_rule (with_rule (with_rule (with_places e name)
     (default_option_rule (codes "wait") (codes "500")))
+    (spare_option_rule (codes "baud") (text_of e.baud)))
     (default_option_rule (codes "give-up") (codes "20"))) (flag_rule (codes "fresh"))
 
 -- a subcommand with the options that every use of a device has
@@ -160,9 +165,10 @@ protect_app e kinds =
 
 abbrev pub sim_app : Environment → App
 sim_app e = with_rule (with_rule (with_rule (with_rule (with_rule (with_rule (with_rule (with_rule
-    (with_table e (codes "sim"))
+    (with_rule (with_table e (codes "sim"))
     (needed_option_rule (codes "id"))) (needed_option_rule (codes "flash")))
     (option_rule (codes "unique"))) (option_rule (codes "size")))
+    (repeated_option_rule (codes "protected")))
     (flag_rule (codes "no-lock")))
     (needed_option_rule (codes "socket")))
     (default_option_rule (codes "mode") (codes "600")))

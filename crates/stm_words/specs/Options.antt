@@ -1,5 +1,5 @@
 -- The options that every use of a device has, as words give them.
-use Rattle.std.specs.Prelude.{◌≡◌, ◌&&◌, ◌%◌, ◌==◌, Bool, IfSome, IsSome, IsTrue, List, ℕ, Some}
+use Rattle.std.specs.Prelude.{◌≡◌, ◌≤◌, ◌&&◌, ◌%◌, ◌==◌, Bool, IfSome, IsSome, IsTrue, List, ℕ, Some}
 use Rattle.std.specs.Prelude.{codes, false, length, nat_le, option_and_then, option_map, true}
 use Rattle.std.specs.List.{list_all}
 use Rattle.clap.specs.Matches.{first_value}
@@ -46,6 +46,8 @@ AreOptions e given o = AreTables e given o.table
     × NamesDevice given o.device
     × NamesJournal given o.journal.now o.in_folder
     × (option_and_then number_of (first_value given (codes "wait")) ≡ Some o.wait)
+    × (option_and_then number_of (first_value given (codes "baud")) ≡ o.baud)
+    × IfSome o.baud (λ n. (1 ≤ n) × (n ≤ 4000000))
     × (option_and_then number_of (first_value given (codes "give-up")) ≡ Some o.give_up)
     × IsBoardOf e given o
     × IsFlagOr e.is_fresh given (codes "fresh") o.is_fresh

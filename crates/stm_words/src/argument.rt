@@ -3,7 +3,7 @@ ghost use Rattle.std.specs.Prelude.{◌≡◌, false, option_map};
 ghost use Rattle.clap.specs.Words.{new_rule, rule_of};
 ghost use Rattle.stm_words.specs.CommandSet.{TakesKinds, default_option_rule, default_rule};
 ghost use Rattle.stm_words.specs.CommandSet.{flag_rule, kind_rule, letter_rule, needed_option_rule};
-ghost use Rattle.stm_words.specs.CommandSet.{needed_rule, option_rule, range_rule, repeated_rule};
+ghost use Rattle.stm_words.specs.CommandSet.{needed_rule, option_rule, range_rule, repeated_option_rule, repeated_rule};
 ghost use Rattle.stm_words.specs.CommandSet.{spare_option_rule, standing_option_rule};
 
 use crate::help;
@@ -24,7 +24,15 @@ pub fn option<'a>(alloc: Global, name: &'a str, value: &'a str, help: &'a str) -
         .help(help)
 }
 
-/// The same, where it has to be given.
+/// The same, which may be given several times.
+pub fn repeated_option<'a>(alloc: Global, name: &'a str, value: &'a str, help: &'a str) -> Arg<'a>
+    ensures rule { rule_of result ≡ repeated_option_rule name.entry.now }
+    ensures local { result.global ≡ false }
+{
+    option(alloc, name, value, help).action(ArgAction::Append)
+}
+
+/// The option `--name VALUE`, which has to be given.
 pub fn needed_option<'a>(alloc: Global, name: &'a str, value: &'a str, help: &'a str) -> Arg<'a>
     ensures rule { rule_of result ≡ needed_option_rule name.entry.now }
     ensures local { result.global ≡ false }

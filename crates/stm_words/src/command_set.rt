@@ -7,7 +7,7 @@ ghost use Rattle.stm_words.specs.CommandSet.{with_places, with_table, with_waits
 
 use crate::argument::{
     default_option, flag, kind, letter, needed, needed_option, option, optional, range, repeated,
-    spare, spare_option, standing_option,
+    repeated_option, spare, spare_option, standing_option,
 };
 use crate::environment::Environment;
 use crate::help;
@@ -70,6 +70,7 @@ fn with_waits<'a>(
 {
     with_places(alloc, environment, name, about)?
         .arg(default_option(alloc, "wait", "MS", "500", help::WAIT))?
+        .arg(spare_option(alloc, "baud", "N", environment.baud, help::BAUD))?
         .arg(default_option(alloc, "give-up", "SECONDS", "20", help::GIVE_UP))?
         .arg(flag(alloc, "fresh", help::FRESH))
 }
@@ -220,6 +221,7 @@ fn sim<'a>(alloc: Global, environment: Environment<'a>) -> Result<Command<'a>, A
         .arg(needed_option(alloc, "flash", "FILE", help::FLASH))?
         .arg(option(alloc, "unique", "HEX", help::UNIQUE))?
         .arg(option(alloc, "size", "KIB", help::SIZE))?
+        .arg(repeated_option(alloc, "protected", "PAGE", help::PROTECTED))?
         .arg(flag(alloc, "no-lock", help::NO_LOCK))?
         .arg(needed_option(alloc, "socket", "PATH", help::SOCKET))?
         .arg(default_option(alloc, "mode", "MODE", "600", help::MODE))?

@@ -36,12 +36,15 @@ pub const TABLE: &str = "The chip table, a TOML file";
 
 pub const DEVICE: &str = "The device: sim:ID:FILE, or the path of a Unix socket";
 
-pub const JOURNAL: &str = "The journal of what was done; a missing file is an empty journal";
+pub const JOURNAL: &str =
+    "The journal of what was done; a missing file is an empty one, but not for undo, log and keep";
 
 pub const JOURNALS: &str =
     "In place of --journal: a folder, in which each board has UNIQUE.journal, by its unique id";
 
 pub const WAIT: &str = "How long a reply may take, in milliseconds, 1 to 60000";
+
+pub const BAUD: &str = "How many bits a second the line has, 1 to 4000000, where that is known";
 
 pub const GIVE_UP: &str = "After how many seconds without an answer the line is given up; 0: never";
 
@@ -132,6 +135,10 @@ pub const UNIQUE: &str =
     "The unique id that the device gets, in hexadecimal digits; it is kept in FILE.board";
 
 pub const SIZE: &str = "How many KiB of flash the device gets, 1 to 65534; kept in FILE.board too";
+
+pub const PROTECTED: &str =
+    "Pages that are write-protected, by their numbers or ranges of them, as 4-7; \
+    it may be given several times";
 
 pub const SOCKET: &str = "The socket that is made, and removed at the end";
 

@@ -6,7 +6,7 @@ ghost use Rattle.stm_words.specs.Options.{AreOptions};
 use crate::board_digits::board_digits;
 use crate::device::Device;
 use crate::environment::Environment;
-use crate::given::{flag, flag_or, number, number_within, stop, word};
+use crate::given::{flag, flag_or, number, number_within, spare_number, stop, word};
 use crate::journal_place::JournalPlace;
 use crate::progress::Progress;
 use crate::table_names::TableNames;
@@ -25,6 +25,8 @@ pub struct Options<'a> {
     pub in_folder: bool,
     /// How long a reply may take, in milliseconds: 1 to 60,000.
     pub wait: u32,
+    /// How many bits a second the line has, where that is known: 1 to 4,000,000.
+    pub baud: Option<u32>,
     /// After how many seconds without an answer the line is given up; 0: never.
     pub give_up: u32,
     /// The unique id of the board that is wanted, or its last digits: 1 to 64 hexadecimal digits.
@@ -60,6 +62,7 @@ impl<'a> Options<'a> {
         };
         let place = JournalPlace::parse(given)?;
         let wait = number_within(given, "wait", 60_000)?;
+        let baud = spare_number(given, "baud", 4_000_000)?;
         let give_up = number(given, "give-up")?;
         let board = board_digits(given)?;
         let without_board = flag_or(given, "no-board", environment.without_board);
@@ -75,6 +78,7 @@ impl<'a> Options<'a> {
             journal: place.name,
             in_folder: place.is_folder,
             wait,
+            baud,
             give_up,
             board,
             without_board,

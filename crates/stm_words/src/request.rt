@@ -43,7 +43,7 @@ impl<'a> Request<'a> {
                 Ok(Request::Log(word(given, "journal")?, flag(given, "check")))
             },
             Some(("keep", given)) => Ok(Request::Keep(Kept::parse(environment, given)?)),
-            Some(("sim", given)) => Ok(Request::Serve(Served::parse(environment, given)?)),
+            Some(("sim", given)) => Ok(Request::Serve(Served::parse(alloc, environment, given)?)),
             Some((name, given)) => {
                 let options = Options::parse(environment, given)?;
                 let task = Task::parse(alloc, name, given)?;

@@ -1,16 +1,22 @@
 // A simulator that is to be served on a socket.
+ghost use Rattle.std.specs.Prelude.{IfOk, codes};
+ghost use Rattle.clap.specs.Words.{found_of};
+ghost use Rattle.stm_words.specs.Pages.{NameAll};
+ghost use Rattle.stm_words.specs.Request.{texts_of};
 
 use crate::board_digits::unique_digits;
 use crate::device::parse_id;
 use crate::environment::Environment;
-use crate::given::{flag_or, number_within, spare_number, word};
+use crate::given::{flag_or, number_within, pages, spare_number, word};
 use crate::mode::parse_mode;
 use crate::table_names::TableNames;
+use crate::unread::Unread;
 use crate::usage_fault::UsageFault;
 use clap::ArgMatches;
+use std::alloc::Global;
 
 /// A simulator that is to be served on a socket.
-#[derive(Clone, Copy, Debug)]
+#[derive(Debug, Drop)]
 pub struct Served<'a> {
     /// The files of the chip tables.
     pub table: TableNames<'a>,
@@ -23,6 +29,8 @@ pub struct Served<'a> {
     pub unique: Option<&'a str>,
     /// How many KiB of flash it gets: 1 to 65,534. None: what it has.
     pub size: Option<u32>,
+    /// The numbers of the pages that are write-protected, as the words name them.
+    pub protected: Vec<u16>,
     /// The path of the socket.
     pub socket: &'a str,
     /// The mode of the socket: who may connect.
@@ -37,21 +45,26 @@ impl<'a> Served<'a> {
     /// The simulator that the words of `sim` name. The environment says that its file needs no lock,
     /// where the words don't.
     pub fn parse(
+        alloc: Global,
         environment: Environment<'a>,
         given: &ArgMatches<'a>,
-    ) -> Result<Served<'a>, UsageFault<'a>> {
+    ) -> Result<Served<'a>, Unread<'a>>
+        ensures { IfOk result (λ served. NameAll
+            (texts_of (found_of given.now) (codes "protected")) served.protected.items) }
+    {
         let table = TableNames::parse(environment, given)?;
         let id = word(given, "id")?;
         let Some(id) = parse_id(id) else {
-            return Err(UsageFault::BadNumber(id));
+            return Err(Unread::Usage(UsageFault::BadNumber(id)));
         };
         let flash = word(given, "flash")?;
         let unique = unique_digits(given)?;
         let size = spare_number(given, "size", 65_534)?;
+        let protected = pages(alloc, given, "protected")?;
         let socket = word(given, "socket")?;
         let mode = word(given, "mode")?;
         let Some(mode) = parse_mode(mode) else {
-            return Err(UsageFault::BadNumber(mode));
+            return Err(Unread::Usage(UsageFault::BadNumber(mode)));
         };
         Ok(Served {
             table,
@@ -59,6 +72,7 @@ impl<'a> Served<'a> {
             flash,
             unique,
             size,
+            protected,
             socket,
             mode,
             clients: number_within(given, "clients", 1_000_000)?,

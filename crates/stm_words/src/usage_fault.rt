@@ -26,6 +26,9 @@ pub enum UsageFault<'a> {
     /// A simulator is to tell its size, and the table names no place for it of this chip's.
     #[error("usage: chip {0:04X} has no size_at in the table")]
     NoSize(u16),
+    /// A simulator is to have a write-protected page that its chip doesn't have.
+    #[error("usage: chip {0:04X} has no page {1}")]
+    NoPage(u16, u16),
     /// A board is wanted, and the device isn't to be asked which it is.
     #[error("usage: give --board or --no-board, not both")]
     BoardUnasked,

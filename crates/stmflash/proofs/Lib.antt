@@ -7,10 +7,12 @@ pub mod OneCall
 pub mod WholeCalls
 pub mod Acts
 pub mod Tried
+pub mod TablesOver
 pub mod Unfresh
 pub mod Typed
 pub mod JsonLists
 pub mod Finished
 pub mod Watched
+pub mod ProtectedPages
 mod TextParts
 mod UpperHex

@@ -3,6 +3,7 @@ pub mod Again
 pub mod Answer
 pub mod Board
 pub mod BrokenOff
+pub mod ChipTables
 pub mod Conduct
 pub mod Confirmation
 pub mod Content
@@ -15,6 +16,7 @@ pub mod Keeping
 pub mod LeftStanding
 pub mod NextStep
 pub mod OneCall
+pub mod Plan
 pub mod WholeCalls
 pub mod Protections
 pub mod Reading
@@ -28,6 +30,14 @@ pub mod Watching
 pub mod DeviceJson
 pub mod DeviceText
 pub mod Printing
+pub mod ProtectedPages
 pub mod StepsText
 pub mod UpperHex
 pub mod ShortLine
+pub mod ExitStatus
+pub mod TaskWork
+pub mod HintTold
+pub mod Variable
+pub mod Variables
+pub mod Standing
+pub mod Tables

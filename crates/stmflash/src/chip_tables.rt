@@ -1,5 +1,8 @@
 // The chip tables of one use.
-ghost use Rattle.std.specs.Prelude.{IfOk};
+ghost use Rattle.std.specs.Prelude.{◌≡◌, IfErr, IfOk};
+ghost use Rattle.stm_chip.specs.Document.{IsTableOf};
+ghost use Rattle.stm_chip.specs.Over.{IsOver};
+ghost use Rattle.stmflash.specs.ChipTables.{AreChips, IsRefused};
 ghost use Rattle.stmflash.specs.TriedBoards.{AreTried, TriedOver, bytes_of, texts_of};
 
 use crate::failure::Failure;
@@ -39,7 +42,10 @@ impl<'a> TableText<'a> {
     }
 
     /// Its chips. Of a table that no word names it is told which is refused.
-    fn chips(&self, alloc: Global) -> Result<Table, Failure<'a>> {
+    fn chips(&self, alloc: Global) -> Result<Table, Failure<'a>>
+        ensures chips { IfOk result (IsTableOf (bytes_of self.now)) }
+        ensures fault { IfErr result (IsRefused self.now) }
+    {
         match read_table(alloc, self.text.as_slice()) {
             Ok(table) => Ok(table),
             Err(TableFault::Memory) => Err(Failure::Memory),
@@ -82,7 +88,8 @@ impl<'a> ChipTables<'a> {
         if let Some(names) = names.over {
             for name in names {
                 let text = TableText::read(rt, *name, false)?;
-                chips = text.chips(rt.alloc())?.over(chips)?;
+                let own = text.chips(rt.alloc())?;
+                chips = joined(own, chips)?;
                 over.push(text)?;
             }
         }
@@ -110,11 +117,25 @@ impl<'a> ChipTables<'a> {
     }
 
     /// Their chips once more.
-    pub fn copy(&self, alloc: Global) -> Result<Table, Failure<'a>> {
+    pub fn copy(&self, alloc: Global) -> Result<Table, Failure<'a>>
+        ensures { IfOk result (AreChips (texts_of self.now)) }
+    {
         let mut chips = self.lowest.chips(alloc)?;
         for text in &self.over {
-            chips = text.chips(alloc)?.over(chips)?;
+            let own = text.chips(alloc)?;
+            chips = joined(own, chips)?;
         }
         Ok(chips)
+    }
+}
+
+/// The chips of a table over those below it. It fails for want of memory.
+fn joined<'a>(own: Table, below: Table) -> Result<Table, Failure<'a>>
+    ensures over { IfOk result (IsOver own below) }
+    ensures fault { IfErr result (λ failure. failure ≡ Failure.Memory) }
+{
+    match own.over(below) {
+        Ok(chips) => Ok(chips),
+        Err(_) => Err(Failure::Memory),
     }
 }

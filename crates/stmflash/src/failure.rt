@@ -1,6 +1,7 @@
 // Why the program failed, and what it says of it.
 ghost use Rattle.std.specs.Prelude.{◌≡◌};
 ghost use Rattle.stmflash.specs.BrokenOff.{is_broken_off};
+ghost use Rattle.stmflash.specs.ExitStatus.{status_of};
 ghost use Rattle.stmflash.specs.declared.failure.Failure.TheVariants.{Session, Hex, Memory, Raw};
 
 use crate::otherwise::Otherwise;
@@ -119,7 +120,9 @@ pub enum Failure<'a> {
 impl<'a> Failure<'a> {
     /// The program's exit status: 2 for what its words ask, 3 for a stop that was
     /// asked for, 1 for all else.
-    pub fn status(&self) -> u8 {
+    pub fn status(&self) -> u8
+        ensures { result ≡ status_of self.now }
+    {
         match self {
             Failure::Usage(_) => 2,
             Failure::Stopped => 3,

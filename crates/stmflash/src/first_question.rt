@@ -5,7 +5,7 @@ ghost use Rattle.std.specs.Prelude.{◌≢◌, [], IfOk};
 use crate::board::ask_and_allow;
 use crate::failure::Failure;
 use crate::journal_folder::{Trouble, look_all, name_in, unfinished_names};
-use crate::on_device::connect_line;
+use crate::on_socket::connect_line;
 use std::alloc::{AllocError, Global};
 use std::net::Net;
 use std::os::unix::net::UnixStream;

@@ -1,6 +1,7 @@
 // What came on a line that failed, by name, and what to do.
 
 ghost use Rattle.std.specs.Prelude.{◌≡◌};
+ghost use Rattle.stmflash.specs.HintTold.{behind_fault, is_of_refusal, is_told, told_done, told_of};
 ghost use Rattle.stmflash.specs.NextStep.{hint_behind, hint_behind_done};
 
 use crate::failure::Failure;
@@ -41,27 +42,29 @@ pub enum Hint {
     ReadRefusedAt(u32),
     /// A NACK came for the address of a write, or for its data.
     #[error("address {0:08X}: the device refused to write it: is its page write-protected? If so: \
-        reset, protect write-unprotect --in-session --fresh, undo --fresh")]
+        reset, protect write-unprotect --in-session --fresh, undo 1 --fresh")]
     WriteRefusedAt(u32),
     /// A NACK came for the number of a page that was to be erased.
     #[error("page {0}: the device refused to erase it: is it write-protected? If so: reset, protect \
-        write-unprotect --in-session --fresh, undo --fresh")]
+        write-unprotect --in-session --fresh, undo 1 --fresh")]
     PageRefused(u16),
     /// A page doesn't hold what an undo wrote.
     #[error("undo again; where it stays so, the flash may be worn out, or the page write-protected")]
     UndoAgain,
     /// The write protection was to be taken off while there is something to take back.
     #[error("to undo what a write-protected page refuses: reset, protect write-unprotect \
-        --in-session --fresh, undo --fresh")]
+        --in-session --fresh, undo 1 --fresh")]
     InSession,
     /// The write protection was taken off, and there may be something to take back.
-    #[error("the board resets itself; now: undo --fresh")]
+    #[error("the board resets itself; now: undo 1 --fresh")]
     NowUndo,
 }
 
 impl Hint {
     /// Whether it tells what the device refused, or that it is busy.
-    fn is_of_refusal(self) -> bool {
+    fn is_of_refusal(self) -> bool
+        ensures { result ≡ is_of_refusal self }
+    {
         !matches!(
             self,
             Hint::Silent | Hint::Echo | Hint::NoAnswer | Hint::IdOf(_)
@@ -92,24 +95,49 @@ impl Hint {
     }
 
     /// The same, where it tells more of what was done.
-    pub fn of_done(self) -> Option<Hint> {
-        if self == Hint::NowUndo {
+    pub fn of_done(self) -> Option<Hint>
+        ensures { result ≡ told_done self }
+    {
+        match self {
+            Hint::NowUndo => Some(self),
+            _ => None,
+        }
+    }
+
+    /// The same, where it tells more of a failure. That nothing came says nothing of a line that was
+    /// closed.
+    pub fn of(self, failure: &Failure) -> Option<Hint>
+        ensures { result ≡ told_of self failure.now }
+    {
+        if self.is_told(failure) {
             Some(self)
         } else {
             None
         }
     }
 
-    /// The same, where it tells more of a failure. That nothing came says nothing of a line that was
-    /// closed.
-    pub fn of(self, failure: &Failure) -> Option<Hint> {
+    /// Whether it tells more of a failure.
+    fn is_told(self, failure: &Failure) -> bool
+        ensures { result ≡ is_told self failure.now }
+    {
         match failure {
-            Failure::Session(Fault::Line) if self == Hint::Silent => None,
-            Failure::Otherwise(_) if self.is_of_refusal() => Some(self),
-            Failure::Session(Fault::NotHeld(_)) if self == Hint::UndoAgain => Some(self),
-            Failure::Session(Fault::InSession) if self == Hint::InSession => Some(self),
-            failure if failure.is_broken_off() => Some(self),
-            _ => None,
+            Failure::Session(fault) => self.is_behind(*fault),
+            Failure::Otherwise(_) => self.is_of_refusal(),
+            Failure::NoAnswer => true,
+            _ => false,
+        }
+    }
+
+    /// Whether it tells more of a session's fault.
+    fn is_behind(self, fault: Fault) -> bool
+        ensures { result ≡ behind_fault self fault }
+    {
+        match fault {
+            Fault::Line => !matches!(self, Hint::Silent),
+            Fault::Device => true,
+            Fault::NotHeld(_) => matches!(self, Hint::UndoAgain),
+            Fault::InSession => matches!(self, Hint::InSession),
+            _ => false,
         }
     }
 }

@@ -1,7 +1,9 @@
 // Where the bytes of a flash go that were read.
 
+use crate::answer::Answer;
 use crate::failure::Failure;
 use crate::named_files::NamedFiles;
+use crate::steps::Steps;
 use std::fs::{Files, OpenFile, OpenOptions};
 use std::io::{ErrorKind, Write};
 use std::{fs, io};
@@ -93,4 +95,25 @@ fn replace<'a, R: Files + AllocGlobal>(
         Ok(_) => Ok(()),
         Err(e) => Err(Failure::of_file(&e, Failure::CannotWrite(name))),
     }
+}
+
+/// Writes the bytes that are for a file, where there are some, and hands the answer on; of bytes
+/// that are in a file nothing more is told.
+pub fn write_out<'a, R: Files + AllocGlobal>(
+    rt: &R,
+    steps: Steps<'a>,
+    output: Output<'a, R>,
+) -> Result<Steps<'a>, Failure<'a>> {
+    let Answer::Bytes(bytes) = &steps.answer else {
+        return Ok(steps);
+    };
+    if !output.write(rt, bytes.as_slice())? {
+        return Ok(steps);
+    }
+    Ok(Steps {
+        board: None,
+        answer: Answer::Nothing,
+        kept: None,
+        failure: steps.failure,
+    })
 }

@@ -141,19 +141,32 @@ enum Reading {
     Lost,
 }
 
+/// How many bytes of a line tell it from the others, as far as it is counted: `program 1` from
+/// `program 10` too.
+const HEAD: usize = 10;
+
+/// How many pages a segment keeps, and whether page 257 is one of them: it may be at work with page
+/// 1.
+#[derive(Clone, Copy)]
+struct KeptCount {
+    pages: u32,
+    has_257: bool,
+}
+
 /// Counts the pages that the segments of a journal keep, as a session's own loading reads it from
 /// its first byte on to its end. A bad journal is counted somehow: the session refuses it.
 #[derive(Drop)]
 pub struct KeptPages {
     reading: Reading,
-    /// The first two bytes of the line so far, how many of them are there, and its last one.
-    head: [u8; 2],
+    /// The first bytes of the line so far, how many of them are there, and its last one.
+    head: [u8; HEAD],
     length: usize,
     last: u8,
-    /// How many pages each segment keeps, the oldest first.
-    counts: Vec<u32>,
-    /// The newest segment has a page at work.
+    /// What each segment keeps, the oldest first.
+    counts: Vec<KeptCount>,
+    /// The newest segment has a page at work, and that is page 1.
     has_intent: bool,
+    is_page_1: bool,
 }
 
 /// Where the first LF stands.
@@ -167,11 +180,12 @@ impl KeptPages {
     pub fn new(alloc: Global) -> KeptPages {
         KeptPages {
             reading: Reading::UpTo(0),
-            head: [0; 2],
+            head: [0; HEAD],
             length: 0,
             last: 0,
             counts: Vec::new(alloc),
             has_intent: false,
+            is_page_1: false,
         }
     }
 
@@ -223,7 +237,7 @@ impl KeptPages {
     fn end_line(&mut self) {
         let head = self.head;
         let is_void = self.last == b'!';
-        self.head = [0; 2];
+        self.head = [0; HEAD];
         self.length = 0;
         self.last = 0;
         if !is_void {
@@ -231,12 +245,14 @@ impl KeptPages {
         }
     }
 
-    /// Takes up a line that begins with these two bytes, by which the lines of a journal differ.
-    fn take_line(&mut self, head: [u8; 2]) {
-        match &head {
+    /// Takes up a line that begins with these bytes, or is them, with 00 behind. By the first two the
+    /// lines of a journal differ.
+    fn take_line(&mut self, head: [u8; HEAD]) {
+        match &[head[0], head[1]] {
             b"op" => self.open(),
-            b"pa" => self.keep(),
-            b"er" | b"pr" => self.has_intent = true,
+            b"pa" => self.keep(head.starts_with(b"page 257 ")),
+            b"er" => self.intend(head.starts_with(b"erase 1\0")),
+            b"pr" => self.intend(head.starts_with(b"program 1\0")),
             b"en" => self.has_intent = false,
             b"un" => {
                 let _ = self.counts.pop();
@@ -249,21 +265,42 @@ impl KeptPages {
     /// A segment begins.
     fn open(&mut self) {
         self.has_intent = false;
-        if self.counts.push(0).is_err() {
+        let none = KeptCount {
+            pages: 0,
+            has_257: false,
+        };
+        if self.counts.push(none).is_err() {
             self.reading = Reading::Lost;
         }
     }
 
     /// The newest segment keeps a page more.
-    fn keep(&mut self) {
+    fn keep(&mut self, is_257: bool) {
         if let Some(count) = self.counts.last_mut() {
-            *count = count.saturating_add(1);
+            count.pages = count.pages.saturating_add(1);
+            count.has_257 = count.has_257 || is_257;
         }
     }
 
+    /// A page of the newest segment is at work.
+    fn intend(&mut self, is_page_1: bool) {
+        self.has_intent = true;
+        self.is_page_1 = is_page_1;
+    }
+
+    /// How many pages are at work: with page 1 page 257 too, where the newest segment keeps it.
+    fn at_work(&self) -> u32 {
+        let has_257 = match self.counts.last() {
+            Some(newest) => newest.has_257,
+            None => false,
+        };
+        let is_second = self.has_intent && self.is_page_1 && has_257;
+        u32::from(self.has_intent).saturating_add(u32::from(is_second))
+    }
+
     /// How many pages an undo of so many segments goes through, or, at 0, of all: those that the
-    /// segments keep and, before them, the page at work, where one is. None where the journal
-    /// wasn't read to its end.
+    /// segments keep and, before them, the pages at work. None where the journal wasn't read to its
+    /// end.
     pub fn given_back(&self, segments: u32) -> Option<u32> {
         if self.reading != Reading::Whole {
             return None;
@@ -273,9 +310,9 @@ impl KeptPages {
             Ok(0) | Err(_) => 0,
             Ok(taken) => depth.saturating_sub(taken),
         };
-        let mut pages = u32::from(self.has_intent);
+        let mut pages = self.at_work();
         for count in &self.counts[first..] {
-            pages = pages.saturating_add(*count);
+            pages = pages.saturating_add(count.pages);
         }
         Some(pages)
     }

@@ -1,13 +1,14 @@
 // A simulator behind a Unix socket.
 ghost use Rattle.std.specs.Prelude.{◌≡◌, ◌<◌, ◌≤◌, ℕ, List, IsTrue, length, take};
 ghost use Rattle.std.specs.Io.KnownBytes.{Appends, Consumes};
-ghost use Rattle.stm_files.specs.Replies.{begun, telling};
-ghost use Rattle.stm_files.specs.Serving.{fed_all};
+ghost use Rattle.stmflash.specs.ProtectedPages.{Serves};
 
 use crate::answer::Answer;
 use crate::chip_tables::ChipTables;
 use crate::failure::Failure;
 use crate::given_board::given_board;
+use crate::given_pages::given_pages;
+use crate::protected_pages::ProtectedPages;
 use crate::tables::is_table;
 use std::fs::Files;
 use std::io::{ErrorKind, Read, Write};
@@ -48,26 +49,61 @@ fn read_some<R: Read>(reader: &mut R, bytes: &mut [u8]) -> usize
     0
 }
 
+/// The rooms that serving takes again and again.
+#[derive(Drop)]
+pub struct Rooms {
+    /// For one reply of the device.
+    reply: Vec<u8>,
+    /// For what is told of one byte.
+    one: Vec<u8>,
+    /// For what is told of all bytes that came together.
+    told: Vec<u8>,
+}
+
+/// Feeds bytes to a simulator with protected pages, or with none, and puts into `told` what their
+/// client is told. False where memory is refused.
+#[tactic(auto, using(crate::proofs::ProtectedPages::serves_none, crate::proofs::ProtectedPages::serves_some))]
+fn tell(
+    sim: &mut Simulator,
+    protected: &mut ProtectedPages,
+    bytes: &[u8],
+    rooms: &mut Rooms,
+) -> bool
+    ensures { IsTrue result → Serves protected.old sim.old bytes.now protected.new sim.new
+        rooms.new.told.items }
+{
+    if protected.is_empty() {
+        tell_all(sim, bytes, &mut rooms.reply, &mut rooms.told)
+    } else {
+        protected.tell_all(
+            sim,
+            bytes,
+            &mut rooms.reply,
+            &mut rooms.one,
+            &mut rooms.told,
+        )
+    }
+}
+
 /// Takes the bytes that came, feeds them, and writes what their client is told, which stays in
 /// `told`. False at the end of input, or where a read, a write or a step failed.
 pub fn serve_bytes<R: Read, W: Write>(
     sim: &mut Simulator,
+    protected: &mut ProtectedPages,
     reader: &mut R,
     writer: &mut W,
-    reply: &mut Vec<u8>,
-    told: &mut Vec<u8>,
+    rooms: &mut Rooms,
 ) -> bool
     ensures { IsTrue result → (bytes : List ℕ) × (0 < length bytes)
         × Consumes (R.remaining reader.old) (R.remaining reader.new) bytes
-        × (sim.new ≡ record (fed_all sim.old bytes) { owed = sim.new.owed })
-        × (record { device = sim.new; told = told.new.items } ≡ telling (begun sim.old) bytes)
-        × Appends (W.contents writer.old) (W.contents writer.new) told.new.items }
+        × Serves protected.old sim.old bytes protected.new sim.new rooms.new.told.items
+        × Appends (W.contents writer.old) (W.contents writer.new) rooms.new.told.items }
 {
     let mut bytes = [0u8; ROOM];
     let count = read_some(reader, &mut bytes);
     count > 0
-        && tell_all(sim, &bytes[..count], reply, told)
-        && writer.write_all(told.as_slice()).is_ok()
+        && tell(sim, protected, &bytes[..count], rooms)
+        && writer.write_all(rooms.told.as_slice()).is_ok()
 }
 
 /// Serves a simulator's clients, and removes its socket.
@@ -92,7 +128,8 @@ fn serve_chip<'a, R: Locks + Net + AllocGlobal>(
     let mut files = SimulatorFiles::open(rt, served.flash, served.without_lock)?;
     let board = given_board(rt, chip, served)?;
     let mut sim = load(rt, chip, &board, &mut files)?;
-    serve_socket(rt, &mut sim, &board, &mut files, served)?;
+    let mut protected = given_pages(rt.alloc(), sim.chip(), served)?;
+    serve_socket(rt, &mut sim, &mut protected, &board, &mut files, served)?;
     Ok(Answer::Nothing)
 }
 
@@ -117,6 +154,7 @@ fn load<'a, R: Locks + AllocGlobal>(
 fn serve_socket<'a, R: Locks + Net + AllocGlobal>(
     rt: &R,
     sim: &mut Simulator,
+    protected: &mut ProtectedPages,
     board: &Option<SimulatedBoard>,
     files: &mut SimulatorFiles<'_, 'a, R>,
     served: &Served<'a>,
@@ -126,7 +164,7 @@ fn serve_socket<'a, R: Locks + Net + AllocGlobal>(
         Err(e) => return Err(Failure::of_file(&e, Failure::CannotConnect(served.socket))),
     };
     let done = match make_files(rt, sim, board, files, served) {
-        Ok(()) => serve_clients(rt, sim, socket.listener(), files, served),
+        Ok(()) => serve_clients(rt, sim, protected, socket.listener(), files, served),
         Err(failure) => Err(failure),
     };
     socket.remove(rt);
@@ -173,18 +211,22 @@ fn check<'a, R: Files + AllocGlobal>(rt: &R, served: &Served<'a>) -> Result<(), 
 fn serve_clients<'a, R: Locks + AllocGlobal>(
     rt: &R,
     sim: &mut Simulator,
+    protected: &mut ProtectedPages,
     listener: &UnixListener,
     files: &mut SimulatorFiles<'_, 'a, R>,
     served: &Served<'a>,
 ) -> Result<(), Failure<'a>> {
-    let mut reply = Vec::new(rt.alloc());
-    let mut told = Vec::new(rt.alloc());
+    let mut rooms = Rooms {
+        reply: Vec::new(rt.alloc()),
+        one: Vec::new(rt.alloc()),
+        told: Vec::new(rt.alloc()),
+    };
     for _ in 0..served.clients {
         let stream = accept(listener, served.socket)?;
         let _ = stream.set_write_timeout(Some(Duration::from_secs(SLOW)));
         let _ = stream.set_read_timeout(Some(Duration::from_secs(SILENT)));
         for _ in 0..u64::MAX {
-            if !serve_bytes(sim, &mut &stream, &mut &stream, &mut reply, &mut told) {
+            if !serve_bytes(sim, protected, &mut &stream, &mut &stream, &mut rooms) {
                 break;
             }
         }

@@ -2,6 +2,7 @@
 // before answered Ok.
 ghost use Rattle.std.specs.Io.KnownBytes.{Appends};
 ghost use Rattle.std.specs.Prelude.{OnOk};
+ghost use Rattle.stmflash.specs.Plan.{Tells};
 ghost use Rattle.stmflash.specs.Steps.{Follows, MayGo, MayKeep, TakesAsked, TakesKnown};
 ghost use Rattle.stmflash.specs.Steps.{TakesSteps, TakesTold};
 ghost use Rattle.stmflash.specs.StepsText.{asked_text, stays_text, steps_text};
@@ -251,7 +252,9 @@ pub fn failure_of<'b, 'a>(done: &'b Result<Steps<'a>, Failure<'a>>) -> Option<&'
 pub fn failed_by<'a>(
     done: Result<Steps<'a>, Failure<'a>>,
     failure: Failure<'a>,
-) -> Result<Steps<'a>, Failure<'a>> {
+) -> Result<Steps<'a>, Failure<'a>>
+    ensures { Tells done.entry result }
+{
     match done {
         Ok(steps) if steps.failure.is_none() => Ok(steps),
         Ok(steps) => Ok(Steps {

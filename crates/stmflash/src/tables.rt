@@ -1,45 +1,38 @@
 // The chip tables: which are read where no word names one, and which names are theirs.
+ghost use Rattle.std.specs.Prelude.{◌≡◌, ◌++◌, IfOk, IfSome, OnOk, option_map, string_bytes};
+ghost use Rattle.stmflash.specs.Tables.{AreStanding, IsInstalled, IsNamed, IsUsers, IsUsersName, listed};
 
-use crate::failure::Failure;
-use std::alloc::AllocError;
-use std::env::{Env, VarError};
+use crate::variable::Variable;
+use std::alloc::{AllocError, Global};
+use std::fs;
 use std::fs::Files;
 use std::io::ErrorKind;
-use std::{env, fs};
 use stm_files::is_same_file;
 use stm_words::TableNames;
 
-/// Where a chip table is installed; the first that is there is taken.
-static INSTALLED: [&str; 2] = [
-    "/usr/local/share/stmflash/chips.toml",
-    "/usr/share/stmflash/chips.toml",
-];
+/// Where a chip table is installed by hand; the first that is there is taken.
+const OWN_INSTALLED: &str = "/usr/local/share/stmflash/chips.toml";
+
+/// Where a chip table is installed by a package.
+const INSTALLED: &str = "/usr/share/stmflash/chips.toml";
 
 /// The machine's own table, which is read over the installed one.
 const MACHINES: &str = "/etc/stmflash/chips.toml";
 
 /// The name of the user's own table, which is read over both, in the folder of what users set.
-pub fn users_table<'a, R: Env + AllocGlobal>(rt: &R) -> Result<Option<String>, Failure<'a>> {
-    if let Some(folder) = folder(rt, "XDG_CONFIG_HOME")? {
-        return Ok(Some(format!(in rt.alloc(); "{folder}/stmflash/chips.toml")?));
+pub fn users_table(
+    alloc: Global,
+    config_home: Variable,
+    home: Variable,
+) -> Result<Option<String>, AllocError>
+    ensures { IfOk result (λ name. IsUsersName config_home home (option_map string_bytes name)) }
+{
+    if let Some(folder) = config_home.folder()? {
+        return Ok(Some(format!(in alloc; "{folder}/stmflash/chips.toml")?));
     }
-    match folder(rt, "HOME")? {
-        Some(folder) => {
-            Ok(Some(format!(in rt.alloc(); "{folder}/.config/stmflash/chips.toml")?))
-        }
+    match home.folder()? {
+        Some(folder) => Ok(Some(format!(in alloc; "{folder}/.config/stmflash/chips.toml")?)),
         None => Ok(None),
-    }
-}
-
-/// The folder that a variable names; none where it isn't text that begins at the root.
-fn folder<'a, R: Env + AllocGlobal>(
-    rt: &R,
-    name: &'static str,
-) -> Result<Option<String>, Failure<'a>> {
-    match env::var(rt, name) {
-        Ok(text) if text.starts_with('/') => Ok(Some(text)),
-        Err(VarError::OutOfMemory) => Err(Failure::Memory),
-        _ => Ok(None),
     }
 }
 
@@ -48,37 +41,65 @@ fn folder<'a, R: Env + AllocGlobal>(
 pub fn standing_tables<'a, R: Files + AllocGlobal>(
     rt: &R,
     users: Option<&'a str>,
-) -> Result<Vec<&'a str>, AllocError> {
+) -> Result<Vec<&'a str>, AllocError>
+    ensures { IfOk result (λ names. AreStanding (option_map (λ name. name.now) users.entry) names.items) }
+{
     let mut names: Vec<&'a str> = Vec::new(rt.alloc());
-    if let Some(name) = installed_table(rt) {
-        names.push(name)?;
-    }
-    if !is_missing(rt, MACHINES) {
-        names.push(MACHINES)?;
-    }
-    match users {
-        Some(name) if !is_missing(rt, name) => names.push(name)?,
-        _ => {}
-    }
+    add(&mut names, installed_table(rt))?;
+    add(&mut names, unless_missing(rt, MACHINES))?;
+    add(&mut names, users_own(rt, users))?;
     Ok(names)
 }
 
-/// The installed chip table.
-fn installed_table<R: Files>(rt: &R) -> Option<&'static str> {
-    for name in &INSTALLED {
-        if matches!(fs::exists(rt, *name), Ok(true)) {
-            return Some(*name);
-        }
+/// The user's own table, where it has a name.
+fn users_own<'a, R: Files>(rt: &R, users: Option<&'a str>) -> Option<&'a str>
+    ensures { IsUsers (option_map (λ name. name.now) users.entry) result }
+{
+    match users {
+        Some(name) => unless_missing(rt, name),
+        None => None,
     }
-    None
 }
 
-/// Whether no file of this name is there. One that can't be looked at is none of these: it is
-/// refused when it is read.
-fn is_missing<R: Files>(rt: &R, name: &str) -> bool {
+/// Adds a name, if there is one.
+fn add<'a>(names: &mut Vec<&'a str>, name: Option<&'a str>) -> Result<(), AllocError>
+    ensures { OnOk result (names.new.items ≡ names.old.items ++ listed name.entry) }
+{
+    if let Some(name) = name {
+        names.push(name)?;
+    }
+    Ok(())
+}
+
+/// The installed chip table.
+fn installed_table<R: Files>(rt: &R) -> Option<&'static str>
+    ensures { IfSome result IsInstalled }
+{
+    match existing(rt, OWN_INSTALLED) {
+        Some(name) => Some(name),
+        None => existing(rt, INSTALLED),
+    }
+}
+
+/// A name, where a file of it is there.
+fn existing<'a, R: Files>(rt: &R, name: &'a str) -> Option<&'a str>
+    ensures { IfSome result (IsNamed name.now) }
+{
+    if matches!(fs::exists(rt, name), Ok(true)) {
+        Some(name)
+    } else {
+        None
+    }
+}
+
+/// A name, unless no file of it is there. One that can't be looked at is none of these: it is refused
+/// when it is read.
+fn unless_missing<'a, R: Files>(rt: &R, name: &'a str) -> Option<&'a str>
+    ensures { IfSome result (IsNamed name.now) }
+{
     match fs::metadata(rt, name) {
-        Ok(_) => false,
-        Err(e) => matches!(e.kind(), ErrorKind::NotFound | ErrorKind::NotADirectory),
+        Err(e) if matches!(e.kind(), ErrorKind::NotFound | ErrorKind::NotADirectory) => None,
+        _ => Some(name),
     }
 }
 

@@ -1,5 +1,6 @@
 // A session each of whose replies has to be one that a device of the model could give, from the
 // question who the device is on.
+ghost use Rattle.stmflash.specs.Plan.{Tells};
 ghost use Rattle.stmflash.specs.Watching.{AsksCodes, Begins, GoesIf, GoesWatched, TakesFromBoard};
 ghost use Rattle.stmflash.specs.Watching.{TakesAndGoes, TakesFromId, TakesSettled, TakesToldWatched};
 ghost use Rattle.stmflash.specs.Watching.{TakesWatched};
@@ -236,7 +237,9 @@ pub fn take_watched<'a, L: Watchable>(
 pub fn done_watched<'a, L: Rig + Drop>(
     rig: &WatchRig<L>,
     done: Result<Steps<'a>, Failure<'a>>,
-) -> Result<Steps<'a>, Failure<'a>> {
+) -> Result<Steps<'a>, Failure<'a>>
+    ensures { Tells done.entry result }
+{
     let Some(refusal) = rig.refusal() else {
         return done;
     };
@@ -253,11 +256,11 @@ pub fn done_watched<'a, L: Rig + Drop>(
 /// What watching came to; None where it wasn't asked for, or where a fault tells it.
 pub fn watched<'a, L: Rig + Drop>(
     rig: &WatchRig<L>,
-    watching: &Watching,
+    is_watched: bool,
     failure: Option<&Failure<'a>>,
 ) -> Option<Watched> {
-    match (watching, failure) {
-        (Watching::Not, _) | (_, Some(Failure::Otherwise(_))) => None,
+    match (is_watched, failure) {
+        (false, _) | (_, Some(Failure::Otherwise(_))) => None,
         _ => Some(Watched {
             has_begun: rig.has_begun(),
             passed: rig.passed(),

@@ -4,6 +4,8 @@ ghost use Rattle.stmflash.specs.Action.{IsDoneAgain, Works};
 ghost use Rattle.stmflash.specs.Board.{asking_if, asking_of, once_asked};
 ghost use Rattle.stmflash.specs.FreshUndo.{is_fresh_undo, work_on_fresh};
 ghost use Rattle.stmflash.specs.NextStep.{next_of};
+ghost use Rattle.stmflash.specs.Plan.{leaves};
+ghost use Rattle.stmflash.specs.TaskWork.{IsWorkFor};
 
 use crate::action::Action;
 use crate::answer::Answer;
@@ -50,7 +52,8 @@ pub enum Next {
 impl Work {
     /// What a task asks for. The file of an image is read.
     pub fn of<'a, R: Files + AllocGlobal>(rt: &R, task: Task<'a>) -> Result<Work, Failure<'a>>
-        ensures { IfOk result (λ work. is_fresh_undo work ≡ false) }
+        ensures unfresh { IfOk result (λ work. is_fresh_undo work ≡ false) }
+        ensures asked { IfOk result (IsWorkFor task.entry) }
     {
         match task {
             Task::Info { is_raw: true } => Ok(Work::Identify),
@@ -105,7 +108,9 @@ impl Work {
     }
 
     /// Whether it is Go or a protection that want a journal without segments.
-    pub fn leaves(&self) -> bool {
+    pub fn leaves(&self) -> bool
+        ensures { result ≡ leaves self.now }
+    {
         matches!(
             self,
             Work::Act(Action::Go(_)) | Work::Act(Action::Protect(_))

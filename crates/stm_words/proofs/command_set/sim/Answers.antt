@@ -1,7 +1,7 @@
 use Rattle.std.proofs.Common.{codes}
 use Rattle.std.proofs.lemmas.Result.{IfOk-weaker}
 use Rattle.clap.specs.Words.{App, with_rule}
-use Rattle.stm_words.specs.CommandSet.{Makes, default_option_rule, flag_rule, needed_option_rule, option_rule, with_table}
+use Rattle.stm_words.specs.CommandSet.{Makes, default_option_rule, flag_rule, needed_option_rule, option_rule, repeated_option_rule, with_table}
 use Rattle.stm_words.proofs.Subcommands.{adds}
 use Rattle.stm_words.proofs.command_set.sim.Goals as goal
 
@@ -12,9 +12,10 @@ returns c =
     let a2 : App = with_rule a1 (needed_option_rule (codes "flash")) in
     let a3 : App = with_rule a2 (option_rule (codes "unique")) in
     let a4 : App = with_rule a3 (option_rule (codes "size")) in
-    let a5 : App = with_rule a4 (flag_rule (codes "no-lock")) in
-    let a6 : App = with_rule a5 (needed_option_rule (codes "socket")) in
-    let a7 : App = with_rule a6 (default_option_rule (codes "mode") (codes "600")) in
+    let a5 : App = with_rule a4 (repeated_option_rule (codes "protected")) in
+    let a6 : App = with_rule a5 (flag_rule (codes "no-lock")) in
+    let a7 : App = with_rule a6 (needed_option_rule (codes "socket")) in
+    let a8 : App = with_rule a7 (default_option_rule (codes "mode") (codes "600")) in
     let m0 : Makes a0 c.in_ok-with_table.field-0 = c.in_ok-with_table.ensures in
     let m1 : Makes a1 c.in_ok-arg.field-0 =
     adds a0 (needed_option_rule (codes "id")) c.in_ok-with_table.field-0 c.needed_option.result c.in_ok-arg.field-0 m0 c.needed_option.ensures.rule c.needed_option.ensures.local c.in_ok-arg.ensures in
@@ -25,10 +26,12 @@ returns c =
     let m4 : Makes a4 c.in_ok-arg-4.field-0 =
     adds a3 (option_rule (codes "size")) c.in_ok-arg-3.field-0 c.option-2.result c.in_ok-arg-4.field-0 m3 c.option-2.ensures.rule c.option-2.ensures.local c.in_ok-arg-4.ensures in
     let m5 : Makes a5 c.in_ok-arg-5.field-0 =
-    adds a4 (flag_rule (codes "no-lock")) c.in_ok-arg-4.field-0 c.flag.result c.in_ok-arg-5.field-0 m4 c.flag.ensures.rule c.flag.ensures.local c.in_ok-arg-5.ensures in
+    adds a4 (repeated_option_rule (codes "protected")) c.in_ok-arg-4.field-0 c.repeated_option.result c.in_ok-arg-5.field-0 m4 c.repeated_option.ensures.rule c.repeated_option.ensures.local c.in_ok-arg-5.ensures in
     let m6 : Makes a6 c.in_ok-arg-6.field-0 =
-    adds a5 (needed_option_rule (codes "socket")) c.in_ok-arg-5.field-0 c.needed_option-3.result c.in_ok-arg-6.field-0 m5 c.needed_option-3.ensures.rule c.needed_option-3.ensures.local c.in_ok-arg-6.ensures in
+    adds a5 (flag_rule (codes "no-lock")) c.in_ok-arg-5.field-0 c.flag.result c.in_ok-arg-6.field-0 m5 c.flag.ensures.rule c.flag.ensures.local c.in_ok-arg-6.ensures in
     let m7 : Makes a7 c.in_ok-arg-7.field-0 =
-    adds a6 (default_option_rule (codes "mode") (codes "600")) c.in_ok-arg-6.field-0 c.default_option.result c.in_ok-arg-7.field-0 m6 c.default_option.ensures.rule c.default_option.ensures.local c.in_ok-arg-7.ensures in
-    IfOk-weaker c.arg-8.result _ _
-    (λ r h. adds a7 (default_option_rule (codes "clients") (codes "1")) c.in_ok-arg-7.field-0 c.default_option-2.result r m7 c.default_option-2.ensures.rule c.default_option-2.ensures.local h) c.arg-8.ensures
+    adds a6 (needed_option_rule (codes "socket")) c.in_ok-arg-6.field-0 c.needed_option-3.result c.in_ok-arg-7.field-0 m6 c.needed_option-3.ensures.rule c.needed_option-3.ensures.local c.in_ok-arg-7.ensures in
+    let m8 : Makes a8 c.in_ok-arg-8.field-0 =
+    adds a7 (default_option_rule (codes "mode") (codes "600")) c.in_ok-arg-7.field-0 c.default_option.result c.in_ok-arg-8.field-0 m7 c.default_option.ensures.rule c.default_option.ensures.local c.in_ok-arg-8.ensures in
+    IfOk-weaker c.arg-9.result _ _
+    (λ r h. adds a8 (default_option_rule (codes "clients") (codes "1")) c.in_ok-arg-8.field-0 c.default_option-2.result r m8 c.default_option-2.ensures.rule c.default_option-2.ensures.local h) c.arg-9.ensures

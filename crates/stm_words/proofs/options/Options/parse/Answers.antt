@@ -8,6 +8,8 @@ returns c = (
   search rules,
   search rules,
   search rules,
+  search rules,
+  search rules,
   record { word = search rules; digits = search rules; without = search rules; asked = search rules; told = search rules },
   search rules,
   search rules,

@@ -1,0 +1,58 @@
+-- What a variable of the environment says.
+use Rattle.std.specs.Prelude.{◌≡◌, ◌==◌, ℕ, Bool, true, false, List, codes, string_bytes, string_len}
+use Rattle.std.specs.Prelude.{Option, Some, None, Result, Ok, Err, if◌then◌else◌}
+use Rattle.std.specs.Prelude.{String, alloc_error, nat_eq}
+use Rattle.std.specs.declared.alloc.AllocError.{AllocError}
+use Rattle.std.specs.declared.alloc.Global.{Global}
+use Rattle.std.specs.List.{starts_with}
+use Rattle.std.specs.Str.{bytes_eq}
+use Rattle.std.specs.declared.env.VarError.{VarError}
+use Rattle.std.specs.declared.env.VarError.TheVariants.{NotPresent, NotUnicode, OutOfMemory}
+use Rattle.stm_words.specs.declared.usage_fault.UsageFault.TheVariants.{NotText}
+use Rattle.stmflash.specs.declared.failure.Failure.{Failure}
+use Rattle.stmflash.specs.declared.failure.Failure.TheVariants.{Memory, Usage}
+use Rattle.stmflash.specs.declared.variable.Variable.{Variable}
+
+-- it isn't set, or it is a text
+abbrev pub is_told : Result (String Global) VarError → Bool
+is_told (Ok text) = true
+is_told (Err NotPresent) = true
+is_told (Err fault) = false
+
+abbrev pub is_read : Variable → Bool
+is_read variable = is_told variable.told
+
+-- the text of one that is set and not empty
+abbrev pub told_text : Result (String Global) VarError → Option (String Global)
+told_text (Ok text) = if string_len text == 0 then None else Some text
+told_text (Err fault) = None
+
+abbrev pub text_of : Variable → Option (String Global)
+text_of variable = told_text variable.told
+
+-- one that is set to 1
+abbrev pub says_one : Option (String Global) → Bool
+says_one (Some text) = bytes_eq (string_bytes text) (codes "1")
+says_one None = false
+
+abbrev pub is_one : Variable → Bool
+is_one variable = says_one (text_of variable)
+
+-- why it can't be read: it is no text, and named so, or memory is out
+abbrev pub IsNoText : List ℕ → Result (String Global) VarError → Failure → Type 0
+IsNoText name (Err NotUnicode) (Usage (NotText told)) = told.now ≡ name
+IsNoText name (Err OutOfMemory) Memory = Unit {0}
+IsNoText name told failure = ⊥
+
+abbrev pub IsUnread : Variable → Failure → Type 0
+IsUnread variable failure = IsNoText variable.name.now variable.told failure
+
+-- the folder that it names: a text that begins at the root; or memory is out
+abbrev pub told_folder : Result (String Global) VarError → Result (Option (String Global)) AllocError
+told_folder (Ok text) =
+    Ok (if starts_with nat_eq (string_bytes text) (codes "/") then Some text else None)
+told_folder (Err OutOfMemory) = Err alloc_error
+told_folder (Err fault) = Ok None
+
+abbrev pub folder_of : Variable → Result (Option (String Global)) AllocError
+folder_of variable = told_folder variable.told

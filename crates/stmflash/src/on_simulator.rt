@@ -1,0 +1,91 @@
+// A use of a simulator in the process: its files and its journal are opened, and it is stored,
+// whatever came of it.
+
+use crate::failure::Failure;
+use crate::hint::Hint;
+use crate::opened_journal::{done_on, read_journal};
+use crate::output::{Output, write_out};
+use crate::plan::Plan;
+use crate::planned_session::{Taken, take_on};
+use crate::progress_screen::Screen;
+use crate::steps::{Steps, failed_by};
+use std::io::Write;
+use std::time::Clock;
+use stm_chip::Table;
+use stm_files::{JournalFile, Locks, SimulatorFiles, SimulatorRig, Unusable};
+use stm_watch::Watch;
+use stm_wire::Chip;
+use stm_words::Options;
+
+/// Does what a plan says on a simulator in the process. `chips` are those by which it is shown.
+pub fn on_simulator<'a, R: Locks + Clock + AllocGlobal, W: Write + Drop>(
+    rt: &R,
+    options: &Options<'a>,
+    plan: Plan<'a>,
+    chips: &Table,
+    watch: Watch,
+    file: &'a str,
+    chip: Chip,
+    output: Output<'a, R>,
+    screen: Screen<'_, W, R>,
+    hint: &mut Option<Hint>,
+) -> Result<Steps<'a>, Failure<'a>> {
+    let name = plan.journal;
+    let opened = match JournalFile::open(rt, name, options.without_lock) {
+        // a simulator of which nothing else is known is fresh
+        Err(Unusable::Unread(e)) => Err(Unusable::Unread(e)),
+        Err(why) => return Err(Failure::of_journal(why, name)),
+        opened => opened,
+    };
+    let mut files = SimulatorFiles::open(rt, file, options.without_lock)?.beside(name);
+    let loaded = files.load(chip)?;
+    match read_journal(opened, name, &plan.work) {
+        Ok((journal, bytes)) => {
+            let memory = files.begin(loaded, bytes)?;
+            let mut rig = SimulatorRig::new(memory, journal, files);
+            if let Some(steps) = options.stop {
+                rig.stop_after(u64::from(steps));
+            }
+            use_simulator(rt, rig, plan, chips, watch, output, screen, hint)
+        }
+        Err(failure) => {
+            let memory = files.begin(loaded, Vec::new(rt.alloc()))?;
+            files.store_rig(&memory)?;
+            Err(failure)
+        }
+    }
+}
+
+/// Does it on a simulator that is ready, and stores it.
+fn use_simulator<'a, R: Locks + Clock + AllocGlobal, W: Write + Drop>(
+    rt: &R,
+    rig: SimulatorRig<'_, 'a, R>,
+    plan: Plan<'a>,
+    chips: &Table,
+    watch: Watch,
+    output: Output<'a, R>,
+    screen: Screen<'_, W, R>,
+    hint: &mut Option<Hint>,
+) -> Result<Steps<'a>, Failure<'a>> {
+    let name = plan.journal;
+    let Taken { rig, done } = take_on(rt.alloc(), rig, plan, chips, watch, screen, hint);
+    let is_unstored = rig.is_unstored();
+    let (memory, journal, mut files) = rig.into_parts();
+    let mut done = done_on(journal, name, done);
+    if memory.has_stopped() {
+        done = failed_by(done, Failure::Stopped);
+    }
+    let done = match done {
+        Ok(steps) => write_out(rt, steps, output),
+        Err(failure) => Err(failure),
+    };
+    let stored = files.store_rig(&memory);
+    if is_unstored {
+        // why the journal's line wasn't added
+        stored?;
+        return done;
+    }
+    let steps = done?;
+    stored?;
+    Ok(steps)
+}

@@ -1,0 +1,75 @@
+// A use of a device behind a socket: its journal is opened, its line is connected, and both are
+// closed, whatever came of it.
+
+use crate::failure::Failure;
+use crate::first_question::Line;
+use crate::hint::Hint;
+use crate::opened_journal::{done_on, serving_journal};
+use crate::output::{Output, write_out};
+use crate::plan::Plan;
+use crate::planned_session::{Taken, take_on};
+use crate::progress_screen::Screen;
+use crate::steps::{Steps, failed_by};
+use std::fs;
+use std::fs::Files;
+use std::io::Write;
+use std::net::Net;
+use std::os::unix::fs::FileTypeExt;
+use std::time::Clock;
+use stm_chip::Table;
+use stm_files::{JournalFile, Locks, SocketLine, SocketRig};
+use stm_watch::Watch;
+use stm_words::Options;
+
+/// Why there is no line to the device of this name: it is a port, or nothing listens there.
+fn unconnected<'a, R: Files>(rt: &R, path: &'a str) -> Failure<'a> {
+    match fs::metadata(rt, path) {
+        Ok(told) if told.file_type().is_char_device() => Failure::IsPort(path),
+        _ => Failure::CannotConnect(path),
+    }
+}
+
+/// A line to what listens at a socket.
+pub fn connect_line<'a, 'r, R: Files + Net + Clock>(
+    rt: &'r R,
+    options: &Options<'a>,
+    path: &'a str,
+) -> Result<Line<'r, R>, Failure<'a>> {
+    let (wait, give_up) = (u64::from(options.wait), u64::from(options.give_up));
+    match SocketLine::connect(rt, rt, path, wait, options.baud, give_up) {
+        Ok(line) => Ok(line),
+        Err(e) => Err(Failure::of_file(&e, unconnected(rt, path))),
+    }
+}
+
+/// Does what a plan says on what listens at a socket, by the line that there is, or a new one.
+/// `chips` are those by which it is shown.
+pub fn on_socket<'a, 'r, R: Locks + Net + Clock + AllocGlobal, W: Write + Drop>(
+    rt: &'r R,
+    options: &Options<'a>,
+    plan: Plan<'a>,
+    chips: &Table,
+    watch: Watch,
+    path: &'a str,
+    line: Option<Line<'r, R>>,
+    output: Output<'a, R>,
+    screen: Screen<'_, W, R>,
+    hint: &mut Option<Hint>,
+) -> Result<Steps<'a>, Failure<'a>> {
+    let name = plan.journal;
+    let opened = JournalFile::open(rt, name, options.without_lock);
+    let journal = serving_journal(opened, name, &plan.work)?;
+    let line = match line {
+        Some(line) => line,
+        None => connect_line(rt, options, path)?,
+    };
+    let rig = SocketRig::new(line, journal);
+    let Taken { rig, done } = take_on(rt.alloc(), rig, plan, chips, watch, screen, hint);
+    let done = if rig.has_given_up() {
+        failed_by(done, Failure::NoAnswer)
+    } else {
+        done
+    };
+    let steps = done_on(rig.into_journal(), name, done)?;
+    write_out(rt, steps, output)
+}

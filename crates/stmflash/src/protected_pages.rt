@@ -1,0 +1,293 @@
+// Pages of a served simulator that are write-protected. The simulator follows the model, which knows
+// no protection: where a byte would complete an erase of such a page, or a write into one, it is fed
+// a wrong check in its place, and refuses the frame by itself.
+ghost use Rattle.std.specs.Prelude.{◌≡◌, ◌↔◌, ℕ, List, [], IsTrue, fold, bit_xor, length};
+ghost use Rattle.stm_wire.specs.Effect.{change_of, erase_change, extended_change, write_change};
+ghost use Rattle.stm_wire.specs.Exchange.{is_listed, pairs_of, xor};
+ghost use Rattle.stm_files.specs.Replies.{begun, completes};
+ghost use Rattle.stmflash.specs.ProtectedPages.{Spares, changes_any, changes_page, check_due, fed_behind};
+ghost use Rattle.stmflash.specs.ProtectedPages.{all_check, completes_change, erase_check};
+ghost use Rattle.stmflash.specs.ProtectedPages.{extended_check, fed_to, guarding, is_check};
+ghost use Rattle.stmflash.specs.ProtectedPages.{protected_behind, reaches, write_check};
+
+use std::marker::Model;
+use stm_files::tell_all;
+use stm_wire::{Chip, Simulator, part};
+
+/// The code of Write Unprotect and its complement (AN3155, section 3.10).
+const WRITE_UNPROTECT: (u8, u8) = (0x73, 0x8C);
+
+/// The exclusive-or of a byte and these.
+fn xor_from(first: u8, bytes: &[u8]) -> u8
+    ensures { result ≡ fold bit_xor first bytes.now }
+{
+    bytes.iter().fold(first, |check, byte| check ^ *byte)
+}
+
+/// The check that a write lacks behind its code and the complement, where it lacks nothing else
+/// (AN3155, section 3.6).
+fn write_check(rest: &[u8]) -> Option<u8>
+    ensures { result ≡ write_check rest.now }
+{
+    match rest {
+        [_, _, _, _, _, n, data @ ..] if data.len() == usize::from(*n) + 1 => {
+            Some(xor_from(*n, data))
+        }
+        _ => None,
+    }
+}
+
+/// The check that an erase of all pages lacks, where nothing came behind their count.
+fn all_check(rest: &[u8]) -> Option<u8>
+    ensures { result ≡ all_check rest.now }
+{
+    if rest.is_empty() { Some(0) } else { None }
+}
+
+/// The check that an erase lacks behind its code and the complement, where it lacks nothing else
+/// (AN3155, section 3.7).
+fn erase_check(rest: &[u8]) -> Option<u8>
+    ensures { result ≡ erase_check rest.now }
+{
+    match rest {
+        [0xFF, pages @ ..] => all_check(pages),
+        [n, pages @ ..] if pages.len() == usize::from(*n) + 1 => Some(xor_from(*n, pages)),
+        _ => None,
+    }
+}
+
+/// The same, where numbers have two bytes (AN3155, section 3.8).
+fn extended_check(rest: &[u8]) -> Option<u8>
+    ensures { result ≡ extended_check rest.now }
+{
+    match rest {
+        [high, low, pages @ ..] => {
+            let count = usize::from(*high) * 256 + usize::from(*low);
+            if count == 0xFFFF {
+                all_check(pages)
+            } else if pages.len() == 2 * (count + 1) {
+                Some(xor_from(*high ^ *low, pages))
+            } else {
+                None
+            }
+        }
+        _ => None,
+    }
+}
+
+/// The check that an erase or a write lacks, where it lacks nothing else.
+fn check_due(bytes: &[u8]) -> Option<u8>
+    ensures { result ≡ check_due bytes.now }
+{
+    match bytes {
+        [0x31, _, rest @ ..] => write_check(rest),
+        [0x43, _, rest @ ..] => erase_check(rest),
+        [0x44, _, rest @ ..] => extended_check(rest),
+        _ => None,
+    }
+}
+
+/// Whether these bytes, put from an address on, reach into page `n`.
+fn reaches(chip: &Chip, address: u32, sent: &[u8], n: u16) -> bool
+    ensures { result ≡ reaches chip.now address (length sent.now) n }
+{
+    if n >= chip.pages() {
+        return false;
+    }
+    let start = u64::from(chip.page_start(n));
+    let end = start + u64::from(chip.page_size(n));
+    let address = u64::from(address);
+    address < end && start < address + sent.len() as u64
+}
+
+/// Whether a write changes page `n`, from its address on.
+fn writes_page(chip: &Chip, rest: &[u8], n: u16) -> bool
+    ensures { result ≡ changes_page chip.now (write_change rest.now) n }
+{
+    match rest {
+        [a, b, c, d, _, count, data @ ..] => {
+            let address = u32::from_be_bytes([*a, *b, *c, *d]);
+            reaches(chip, address, part(data, 0, usize::from(*count) + 1), n)
+        }
+        _ => false,
+    }
+}
+
+/// Whether one of these bytes is the number of page `n`.
+fn has_byte(pages: &[u8], n: u16) -> bool
+    ensures { result ≡ is_listed pages.now n }
+{
+    pages.iter().any(|page| u16::from(*page) == n)
+}
+
+/// Whether two of these bytes are the number of page `n`.
+fn has_pair(pages: &[u8], n: u16) -> bool
+    ensures { result ≡ is_listed (pairs_of pages.now) n }
+{
+    let mut rest = pages;
+    while let [high, low, after @ ..] = rest {
+        if u16::from(*high) * 256 + u16::from(*low) == n {
+            return true;
+        }
+        rest = after;
+    }
+    false
+}
+
+/// Whether an erase names page `n`, from its count on.
+fn erases_page(chip: &Chip, rest: &[u8], n: u16) -> bool
+    ensures { result ≡ changes_page chip.now (erase_change rest.now) n }
+{
+    match rest {
+        [0xFF, ..] => true,
+        [count, pages @ ..] => has_byte(&pages[..pages.len().min(usize::from(*count) + 1)], n),
+        [] => false,
+    }
+}
+
+/// The same, where numbers have two bytes.
+fn erases_extended_page(chip: &Chip, rest: &[u8], n: u16) -> bool
+    ensures { result ≡ changes_page chip.now (extended_change rest.now) n }
+{
+    match rest {
+        [high, low, pages @ ..] => {
+            let count = usize::from(*high) * 256 + usize::from(*low);
+            count == 0xFFFF || has_pair(&pages[..pages.len().min(2 * (count + 1))], n)
+        }
+        _ => false,
+    }
+}
+
+/// Whether bytes ask for a change of page `n`.
+fn changes_page(chip: &Chip, bytes: &[u8], n: u16) -> bool
+    ensures { result ≡ changes_page chip.now (change_of bytes.now) n }
+{
+    match bytes {
+        [0x31, _, rest @ ..] => writes_page(chip, rest, n),
+        [0x43, _, rest @ ..] => erases_page(chip, rest, n),
+        [0x44, _, rest @ ..] => erases_extended_page(chip, rest, n),
+        _ => false,
+    }
+}
+
+/// The pages of a simulator that are write-protected, by their numbers.
+#[derive(Drop)]
+pub struct ProtectedPages {
+    pages: Vec<u16>,
+}
+
+impl Model for ProtectedPages {
+    ghost Value = { List ℕ };
+
+    ghost view = { λ p. p.pages.items };
+}
+
+impl ProtectedPages {
+    /// These pages.
+    pub fn new(pages: Vec<u16>) -> ProtectedPages
+        ensures { result ≡ pages.items }
+    {
+        ProtectedPages { pages }
+    }
+
+    /// Whether no page is protected.
+    pub fn is_empty(&self) -> bool
+        ensures { IsTrue result ↔ (self.now ≡ []) }
+    {
+        self.pages.is_empty()
+    }
+
+    /// Whether bytes ask for a change of a protected page.
+    fn are_changed(&self, chip: &Chip, bytes: &[u8]) -> bool
+        ensures { result ≡ changes_any chip.now (change_of bytes.now) self.now }
+    {
+        self.pages.iter().any(|n| changes_page(chip, bytes, *n))
+    }
+
+    /// Whether a byte would complete a change of a protected page, behind these bytes.
+    fn is_completed(&self, chip: &Chip, rest: &[u8], byte: u8) -> bool
+        ensures { result ≡ completes_change self.now chip.now rest.now byte }
+    {
+        match check_due(rest) {
+            Some(check) => byte == check && self.are_changed(chip, rest),
+            None => false,
+        }
+    }
+
+    /// What a device with these bytes since its last verdict is fed in the place of a byte: the byte
+    /// itself, or a wrong check where it would complete a change of a protected page.
+    fn fed_behind(&self, chip: &Chip, rest: &[u8], byte: u8) -> u8
+        ensures { result ≡ fed_behind self.now chip.now rest.now byte }
+    {
+        if self.is_completed(chip, rest, byte) {
+            !byte
+        } else {
+            byte
+        }
+    }
+
+    /// What the simulator is fed in the place of a byte.
+    #[tactic(auto, using(crate::proofs::ProtectedPages::fed_connected, crate::proofs::ProtectedPages::fed_apart))]
+    fn fed(&self, sim: &Simulator, byte: u8) -> u8
+        ensures { result ≡ fed_to self.now sim.now byte }
+    {
+        match sim.rest() {
+            Some(rest) => self.fed_behind(sim.chip(), rest, byte),
+            None => byte,
+        }
+    }
+
+    /// Frees all pages, where the byte completes Write Unprotect.
+    fn free(&mut self, sim: &Simulator, byte: u8)
+        ensures { self.new ≡ protected_behind self.old sim.now byte }
+    {
+        if let Some([code]) = sim.rest() {
+            if *code == WRITE_UNPROTECT.0 && byte == WRITE_UNPROTECT.1 {
+                self.pages.clear();
+            }
+        }
+    }
+
+    /// What the simulator is fed in the place of a byte that comes: no list of bytes that ends so is
+    /// done and changes a protected page. Write Unprotect frees all pages.
+    #[tactic(auto, using(crate::proofs::ProtectedPages::spares))]
+    pub fn feed(&mut self, sim: &Simulator, byte: u8) -> u8
+        ensures fed { result ≡ fed_to self.old sim.now byte }
+        ensures spares { Spares self.old sim.now.chip sim.now.phase result }
+        ensures left { self.new ≡ protected_behind self.old sim.now byte }
+    {
+        let fed = self.fed(sim, byte);
+        self.free(sim, byte);
+        fed
+    }
+
+    /// Feeds bytes, one after the other, each as its turn lets it, and puts into `told` what their
+    /// client is told; `reply` and `one` are room for what is told of one byte. False where memory is
+    /// refused.
+    pub fn tell_all(
+        &mut self,
+        sim: &mut Simulator,
+        bytes: &[u8],
+        reply: &mut Vec<u8>,
+        one: &mut Vec<u8>,
+        told: &mut Vec<u8>,
+    ) -> bool
+        ensures { IsTrue result → record {
+          pages = self.new;
+          telling = record { device = sim.new; told = told.new.items };
+        }
+            ≡ guarding (record { pages = self.old; telling = begun sim.old }) bytes.now }
+    {
+        told.clear();
+        for byte in bytes {
+            let fed = self.feed(sim, *byte);
+            if !tell_all(sim, &[fed], reply, one) {
+                return false;
+            }
+            if told.extend_from_slice(one.as_slice()).is_err() {
+                return false;
+            }
+        }
+        true
+    }
+}

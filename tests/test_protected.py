@@ -1,0 +1,243 @@
+"""`sim --protected`: a served simulator with write-protected pages, frame by frame, and a write that they refuse taken back as each
+hint says."""
+
+import json
+
+from place import COUNTING, ERASED, PATIENCE, TABLE
+from refusing import DEVICE
+from served import WAIT, Served
+
+BASE = 0x08000000
+PAGE = 1024
+# over the pages 4 to 6
+IMAGE = bytes(range(256)) * 12
+AT = BASE + 4 * PAGE
+THEN = "If so: reset, protect write-unprotect --in-session --fresh, undo 1 --fresh"
+NOT_ERASED = f"page 4: the device refused to erase it: is it write-protected? {THEN}"
+NOW_UNDO = "the board resets itself; now: undo 1 --fresh"
+IN_SESSION = "to undo what a write-protected page refuses: reset, protect write-unprotect --in-session --fresh, undo 1 --fresh"
+WIDE_TABLE = b'[[chip]]\nid = 0x412\nbase = 0x08000000\npages = [[32, 1024]]\nerase = "extended"\n'
+
+
+def check(data):
+    """The exclusive-or of bytes."""
+    found = 0
+    for byte in data:
+        found ^= byte
+    return found
+
+
+def write_to(at, data, more=0):
+    """A Write Memory in its steps: code, address, count and data with their check, which may be spoilt."""
+    address = (BASE + at).to_bytes(4, "big")
+    body = bytes([len(data) - 1]) + data
+    return b"\x31\xce" + address + bytes([check(address)]) + body + bytes([check(body) ^ more])
+
+
+def erase(*pages, width=1, more=0):
+    """An Erase Memory of pages, or an Extended Erase Memory."""
+    count = (len(pages) - 1).to_bytes(width, "big")
+    body = count + b"".join(page.to_bytes(width, "big") for page in pages)
+    return (b"\x43\xbc" if width == 1 else b"\x44\xbb") + body + bytes([check(body) ^ more])
+
+
+ACK, NACK = b"\x79", b"\x1f"
+# an address is acknowledged too
+DONE, REFUSED = 2 * ACK, ACK + NACK
+WRITTEN, UNWRITTEN = 3 * ACK, 2 * ACK + NACK
+# what is sent to a simulator whose pages 4 to 7 and 9 are protected, what comes, and which pages are erased, or which bytes written
+ROWS = (
+    (erase(3), DONE, (3,), None),
+    (erase(4), REFUSED, (), None),
+    (erase(7), REFUSED, (), None),
+    (erase(8), DONE, (8,), None),
+    (erase(9), REFUSED, (), None),
+    (erase(10), DONE, (10,), None),
+    # as a whole, wherever the page stands among others
+    (erase(1, 2, 9), REFUSED, (), None),
+    (erase(5, 1, 2), REFUSED, (), None),
+    (erase(1, 2), DONE, (1, 2), None),
+    # a page that isn't there
+    (erase(4, 32), REFUSED, (), None),
+    # a check that is wrong stays so, also where it is the complement of the right one
+    (erase(4, more=0xFF), REFUSED, (), None),
+    (erase(4, more=0x01), REFUSED, (), None),
+    (erase(11, more=0xFF), REFUSED, (), None),
+    # of all pages
+    (b"\x43\xbc\xff\x00", REFUSED, (), None),
+    (b"\x43\xbc\xff\xff", REFUSED, (), None),
+    # a write is refused behind its data, where one byte of it lies in such a page
+    (write_to(4 * PAGE, b"\x00"), UNWRITTEN, (), None),
+    (write_to(8 * PAGE - 4, b"\x00\x00\x00\x00"), UNWRITTEN, (), None),
+    (write_to(4 * PAGE - 4, b"\x00\x00\x00\x00"), WRITTEN, (), 4 * PAGE - 4),
+    (write_to(4 * PAGE - 4, b"\x00\x00\x00\x00\x00"), UNWRITTEN, (), None),
+    (write_to(8 * PAGE - 1, b"\x00\x00"), UNWRITTEN, (), None),
+    (write_to(8 * PAGE, b"\x00\x00\x00\x00"), WRITTEN, (), 8 * PAGE),
+    (write_to(9 * PAGE - 256, bytes(256)), WRITTEN, (), 9 * PAGE - 256),
+    (write_to(9 * PAGE - 255, bytes(256)), UNWRITTEN, (), None),
+    (write_to(6 * PAGE, b"\x00\x00", more=0xFF), UNWRITTEN, (), None),
+    # what is no change passes, also where it looks like one
+    (b"\x11\xee" + write_to(4 * PAGE, b"\x00")[2:7] + b"\x00\xff", WRITTEN + COUNTING[4 * PAGE:4 * PAGE + 1], (), None),
+    (b"\x02\xfd", b"\x79\x01\x04\x12\x79", (), None),
+    (b"\x01\xfe", b"\x79\x22\x00\x00\x79", (), None),
+    (b"\x31\xcd", NACK, (), None),
+    (b"\x73\x8d", NACK, (), None),
+    (b"\x74\x8c", NACK, (), None),
+    (erase(4), REFUSED, (), None),
+)
+WIDE_ROWS = (
+    (erase(4, width=2), REFUSED, (), None),
+    (erase(3, 9, width=2), REFUSED, (), None),
+    (erase(3, 8, width=2), DONE, (3, 8), None),
+    (erase(4, width=2, more=0xFF), REFUSED, (), None),
+    (erase(0x0409, 0x0904, width=2), REFUSED, (), None),
+    (b"\x44\xbb\xff\xff\x00", REFUSED, (), None),
+    (b"\x44\xbb\xff\xff\xff", REFUSED, (), None),
+    (write_to(9 * PAGE, b"\x00"), UNWRITTEN, (), None),
+)
+
+
+class Protected(Served):
+    def comes(self, client, sent, replies):
+        client.sendall(sent)
+        held = b""
+        while len(held) < len(replies):
+            came = client.recv(4096)
+            self.assertNotEqual(came, b"", "the simulator hangs up")
+            held += came
+        self.assertEqual(held, replies, sent.hex())
+
+    def protect(self, clients, *pages, table="table"):
+        """Serves a simulator whose pages of these are protected."""
+        self.serve(clients, table=table, more=[word for page in pages for word in ("--protected", page)])
+
+    def each(self, rows, table):
+        """Each of these frames, and the flash behind it; then the protection taken off, and a frame that was refused."""
+        self.store("flash", COUNTING)
+        self.store("table", table)
+        self.protect(1, "4-7", "9")
+        client = self.connect()
+        self.comes(client, b"\x7f", ACK)
+        flash = bytearray(COUNTING)
+        for sent, replies, erased, written in rows:
+            with self.subTest(sent=sent.hex()):
+                self.comes(client, sent, replies)
+                for page in erased:
+                    flash[page * PAGE:(page + 1) * PAGE] = PAGE * b"\xff"
+                if written is not None:
+                    length = sent[7] + 1
+                    flash[written:written + length] = bytes(length)
+                at = (max(erased, default=4) * PAGE if written is None else written) & ~0xFF
+                for place in (at, 4 * PAGE, 9 * PAGE):
+                    address = (BASE + place).to_bytes(4, "big")
+                    self.comes(client, b"\x11\xee" + address + bytes([check(address)]) + b"\xff\x00",
+                               3 * ACK + flash[place:place + 256])
+        width = 1 if table is TABLE else 2
+        self.comes(client, b"\x73\x8c" + b"\x7f" + erase(4, 9, width=width), 2 * ACK + ACK + DONE)
+        for page in (4, 9):
+            flash[page * PAGE:(page + 1) * PAGE] = PAGE * b"\xff"
+        self.comes(client, write_to(5 * PAGE, b"\x00"), WRITTEN)
+        flash[5 * PAGE] = 0
+        self.leave(client)
+        self.assertServed()
+        self.assertHolds(bytes(flash), b"idle\n")
+
+    def test_each_frame(self):
+        self.each(ROWS, TABLE)
+
+    def test_each_frame_of_a_chip_with_long_numbers(self):
+        self.each(WIDE_ROWS, WIDE_TABLE)
+
+    def test_a_frame_that_was_begun_before(self):
+        """Where a client goes within a frame, or the simulator is served anew, the frame is refused all the same."""
+        for rest in (erase(4), write_to(6 * PAGE, b"\x00\x00"), b"\x43\xbc\xff\x00"):
+            for known in range(1, len(rest)):
+                with self.subTest(rest=rest.hex(), known=known):
+                    self.store("flash", COUNTING)
+                    self.store("flash.line", f"rest {rest[:known].hex().upper()}\n".encode())
+                    self.protect(1, "4-7")
+                    client = self.connect()
+                    client.sendall(rest[known:] + b"\x02\xfd")
+                    came = b""
+                    while not came.endswith(NACK + b"\x79\x01\x04\x12\x79"):
+                        more = client.recv(4096)
+                        self.assertNotEqual(more, b"")
+                        came += more
+                    self.leave(client)
+                    self.assertServed()
+                    self.assertHolds(COUNTING, b"idle\n")
+
+    def test_a_refused_write_is_taken_back(self):
+        """Each step's text names the next, up to the flash as it was before; a write that was done before stays."""
+        self.store("flash", COUNTING)
+        self.store("image", IMAGE)
+        self.store("small", b"stays")
+        self.assertTold(self.use("write", "-S", f"{BASE + 8 * PAGE:#x}", "small"), "segment 1: 1 pages written\n")
+        before = self.held("flash")
+        self.protect(3, "4-7")
+        wait = ("--wait", WAIT)
+        self.assertFault(self.use("write", *wait, "-S", f"{AT:#x}", "image", device="board"), DEVICE, hint=NOT_ERASED)
+        self.assertFault(self.use("undo", *wait, "1", device="board"), DEVICE, hint=NOT_ERASED)
+        self.assertFault(self.use("protect", *wait, "write-unprotect", device="board"), "journal is open, refused", hint=IN_SESSION)
+        self.assertServed()
+        self.assertFile("flash", before)
+        # reset
+        self.store("flash.line", b"fresh\n")
+        self.protect(2, "4-7")
+        unprotect, undo = (words.split() for words in THEN.split(", ")[1:])
+        said = self.use(*unprotect[:1], *wait, *unprotect[1:], device="board")
+        self.assertEqual((said.status, said.out, said.err.decode()), (0, b"", f"hint: {NOW_UNDO}\n"))
+        self.assertTold(self.use(*undo[:1], *wait, *undo[1:], device="board"), "undone 1\n")
+        self.assertServed()
+        self.assertFile("flash", before)
+        self.assertTold(self.use("undo"), "undone 1\n")
+        self.assertFile("flash", COUNTING)
+
+    def test_as_json(self):
+        """The hint is a part of the fault's line."""
+        self.store("flash", ERASED)
+        self.store("image", IMAGE)
+        self.protect(1, "5", "4", "6-7")
+        said = self.use("write", "--wait", WAIT, "--json", "-S", f"{AT:#x}", "image", device="board")
+        self.assertEqual((said.status, json.loads(said.out)["hint"]), (1, NOT_ERASED))
+        self.assertServed()
+        self.assertFile("flash", ERASED)
+
+    def test_other_pages_as_ever(self):
+        self.store("flash", COUNTING)
+        self.store("image", IMAGE)
+        self.protect(2, "3", "7-31")
+        self.assertTold(self.use("write", "--wait", WAIT, "-S", f"{AT:#x}", "image", device="board"), "segment 1: 3 pages written\n")
+        self.assertTold(self.use("undo", "--wait", WAIT, device="board"), "undone 1\n")
+        self.assertServed()
+        self.assertFile("flash", COUNTING)
+
+    def test_what_is_refused(self):
+        """Each in one line, and no file is made. No socket could be made there."""
+        words = ("sim", "--table", "table", "--id", "0412", "--flash", "flash", "--socket", "nowhere/board")
+        for pages, text in ((("32",), "usage: chip 0412 has no page 32"), (("31-32",), "usage: chip 0412 has no page 32"),
+                            (("4", "65535"), "usage: chip 0412 has no page 65535"), (("7-4",), "usage: bad number 7-4"),
+                            (("4", "65536"), "usage: bad number 65536"), (("",), "usage: bad number "), (("x",), "usage: bad number x"),
+                            (("4,5",), "usage: bad number 4,5")):
+            with self.subTest(pages):
+                given = [word for page in pages for word in ("--protected", page)]
+                self.assertFault(self.call(*words, *given), text, 2)
+                self.assertFalse(self.is_there("flash"))
+        self.assertUsage(self.call(*words, "--protected"))
+        for name in (("info",), ("erase", "4"), ("undo",)):
+            said = self.use(*name, "--protected", "4")
+            self.assertUsage(said)
+            self.assertIn(b"--protected", said.err)
+
+    def test_a_size_of_its_own(self):
+        """The pages are those of the board that the simulator is."""
+        self.store("table", TABLE + b"size_at = 0x1FFFF7E0\n")
+        words = ("sim", "--table", "table", "--id", "0412", "--flash", "flash", "--size", "16")
+        self.assertFault(self.call(*words, "--socket", "nowhere/board", "--protected", "16"), "usage: chip 0412 has no page 16", 2)
+        self.assertFalse(self.is_there("flash") or self.is_there("flash.board"))
+        simulator = self.start(*words, "--socket", "board", "--protected", "15")
+        client = self.reach("board", simulator)
+        self.comes(client, b"\x7f" + erase(15) + erase(14), ACK + REFUSED + DONE)
+        self.leave(client)
+        simulator.communicate(timeout=PATIENCE)
+        self.assertFile("flash", ERASED[:16 * PAGE])

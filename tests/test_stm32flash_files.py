@@ -1,0 +1,194 @@
+"""line/stm32flash: the files of -r and -w that were opened for the call, links and pipes, the tables of chips, and where the journals
+of a port stand."""
+
+import os
+import subprocess
+import tomllib
+import unittest.mock
+
+from boards import pty_boards
+from place import COUNTING, ERASED, PATIENCE, TABLE, TOP, program
+from test_stm32flash_words import WORDS, Words, module
+
+
+class Handed(Words):
+    """Files by names as /dev/stdin and /dev/fd/3, which are other ones, or none, in a process below."""
+
+    def handed(self, *words, **files):
+        """Runs stm32flash on these words, with these files of the test in the place of its own, which ends well."""
+        ran = subprocess.run([WORDS, "-m", "8n1", *words, "ttyUSB0"], cwd=self.folder, env=self.settings(), timeout=PATIENCE,
+                             check=False, **{"stdin": subprocess.DEVNULL, "stdout": subprocess.PIPE, "stderr": subprocess.PIPE, **files})
+        self.assertEqual(ran.returncode, 0, ran)
+        return ran
+
+    def test_what_is_written(self):
+        board = self.flash(COUNTING)
+        self.store("image", b"new")
+        os.symlink("/dev/stdin", self.path("linked"))
+        with open(self.path("image"), "rb") as image:
+            for name in ("/dev/stdin", "/dev/fd/0", f"/dev/fd/{image.fileno()}", f"/proc/self/fd/{image.fileno()}", "linked"):
+                with self.subTest(name=name):
+                    self.handed("-w", name, "-v", stdin=image, pass_fds=[image.fileno()])
+                    self.assertEqual(board.store(), b"new" + COUNTING[3:])
+                    self.well("--undo")
+                    self.assertEqual(board.store(), COUNTING)
+
+    def test_a_form_that_is_refused_of_a_file(self):
+        """Also where its bytes come by a pipe, or a part of them is to be written; standard input as - is raw bytes, whatever they are."""
+        board = self.flash(COUNTING)
+        elf = b"\x7fELF" + b"\x01" * 60
+        self.store("elf", elf)
+        part = ("-S", "0x08000000:16")
+        for words in (("-w", "/dev/stdin"), ("-w", "elf"), ("-w", "elf", *part), ("-w", "/dev/stdin", *part)):
+            with self.subTest(words=words):
+                said = self.words("-m", "8n1", *words, given=elf)
+                self.assertEqual(said.status, 1)
+                self.assertIn(b"image is not raw: ELF\n", said.err)
+        self.assertEqual(board.store(), COUNTING)
+        self.well("-w", "-", given=elf)
+        self.assertEqual(board.store(), elf + COUNTING[64:])
+        self.well("-w", "/dev/stdin", "-f", "-S", "0x08000400", given=elf)
+        self.assertEqual(board.store(), elf + COUNTING[64:1024] + elf + COUNTING[1088:])
+
+    def test_what_is_read(self):
+        self.flash(COUNTING)
+        part = ("-S", "0x08000000:1000")
+        self.assertEqual(self.handed("-r", "/dev/stdout", *part).stdout, COUNTING[:1000])
+        self.assertEqual(self.handed("-r", "/dev/stderr", *part).stderr, COUNTING[:1000])
+        with open(self.path("out"), "wb") as out:
+            out.write(b"\x00" * 2000)
+            out.flush()
+            ran = self.handed("-r", f"/dev/fd/{out.fileno()}", *part, pass_fds=[out.fileno()])
+        self.assertFile("out", COUNTING[:1000])
+        self.assertIn(b"Memory read\n", ran.stdout)
+        # what stands there already is another's
+        self.store("all", b"before")
+        with open(self.path("all"), "ab") as out:
+            self.handed("-r", "/dev/stdout", *part, stdout=out)
+        self.assertFile("all", b"before" + COUNTING[:1000])
+
+    def test_one_that_is_not_there(self):
+        end = self.plain()
+        for words, text in ((("-w", "/dev/fd/9"), b"Intel HEX"), (("-r", "/dev/fd/9"), b"Raw BINARY")):
+            said = self.words("-m", "8n1", *words)
+            self.assertEqual((said.status, said.err), (1, text + b" ERROR: System Error\n/dev/fd/9: No such file or directory\n"))
+        os.set_blocking(end, False)
+        self.assertRaises(OSError, os.read, end, 1)
+
+
+class Hex(Words):
+    """Raw bytes into names that end in .hex."""
+
+    def test_a_link_is_followed(self):
+        self.flash(COUNTING)
+        for name in ("link.hex", "link.bin"):
+            os.symlink("out.hex", self.path(name))
+            self.well("-r", name, "-S", "0x08000000:1000")
+            self.assertFile("out.hex", COUNTING[:1000])
+            self.assertTrue(os.path.islink(self.path(name)))
+            self.remove("out.hex")
+
+    def test_a_pipe_stays_one(self):
+        self.flash(COUNTING)
+        os.mkfifo(self.path("pipe.hex"))
+        reader = os.open(self.path("pipe.hex"), os.O_RDONLY | os.O_NONBLOCK)
+        self.addCleanup(os.close, reader)
+        self.well("-r", "pipe.hex", "-S", "0x08000000:1000")
+        self.assertEqual(os.read(reader, 4096), COUNTING[:1000])
+
+
+class Tables(Words):
+    """Where no word names a table."""
+
+    OWN = TABLE.replace(b"[32, 1024]", b"[16, 2048]")
+
+    def own(self, text, folder=".config/stmflash"):
+        os.makedirs(self.path(folder))
+        self.store(folder + "/chips.toml", text)
+
+    def test_the_users_own_goes_over_the_installed_one(self):
+        """A chip of a table of one's own has the pages that stand there, whatever the installed table says of it."""
+        self.own(self.OWN)
+        # what the board is
+        self.store("table", self.OWN)
+        board = self.flash(COUNTING)
+        said = self.well("-o", "-s", "1", "-e", "1", STMFLASH_TABLE="")
+        self.assertIn(b"Device ID    : 0x0412 ()\n- Flash      : Up to 32KiB (size first sector: 1x2048)\n", said.out)
+        self.assertEqual(board.store(), COUNTING[:2048] + ERASED[:2048] + COUNTING[4096:])
+        self.well("--undo", STMFLASH_TABLE="")
+        self.assertEqual(board.store(), COUNTING)
+        self.store(".config/stmflash/chips.toml", b"[[chip]]\n")
+        said = self.words("-m", "8n1", STMFLASH_TABLE="")
+        self.assertEqual((said.status, said.err.split(b",")[0]), (1, b"ERROR: the table of chips"))
+
+    def test_sessions_have_each_table(self):
+        """A chip that the installed table alone has is known too, and where it tells its board."""
+        self.own(TABLE)
+        self.store("ttyUSB0.flash", COUNTING * 2)
+        self.store("ttyUSB0.flash.board", b"unique " + 12 * b"A1" + b"\nsize 64\n")
+        board = pty_boards.PtyBoard(program(), self.path("ttyUSB0"), "0410", os.path.join(TOP, "chips.toml"))
+        self.addCleanup(board.stop)
+        self.well("-o", "-s", "63", "-e", "1", STMFLASH_TABLE="")
+        self.assertEqual(board.store(), (COUNTING * 2)[:-1024] + ERASED[:1024])
+        with open(self.path(os.path.join(self.folder_of_port(), "journal")), "rb") as journal:
+            self.assertEqual(journal.readline(), b"stmjournal 3 0410 " + 12 * b"A1" + b"\n")
+
+    def test_which_there_are(self):
+        tools, none = module("tools"), {"STMFLASH_TABLE": "", "XDG_CONFIG_HOME": "", "HOME": self.folder}
+        self.addCleanup(os.chdir, os.getcwd())
+        os.chdir(self.folder)
+        self.store("chips.toml", TABLE)
+        self.own(b"")
+        self.own(b"", "other/stmflash")
+        users, beside = self.path(".config/stmflash/chips.toml"), self.path("chips.toml")
+        other = self.path("other")
+        for settings, found in (({}, [users, beside]), ({"XDG_CONFIG_HOME": other}, [other + "/stmflash/chips.toml", beside]),
+                                ({"XDG_CONFIG_HOME": "other"}, [users, beside]), ({"HOME": "."}, [beside]),
+                                ({"STMFLASH_TABLE": "named"}, ["named"])):
+            with unittest.mock.patch.dict(os.environ, {**none, **settings}), \
+                    unittest.mock.patch.object(tools, "MACHINES", self.path("none")):
+                self.assertEqual(tools.find_tables(self.path("bin")), found)
+        with unittest.mock.patch.dict(os.environ, none), unittest.mock.patch.object(tools, "MACHINES", self.path("table")):
+            self.assertEqual(tools.find_tables(self.path("bin")), [users, self.path("table"), beside])
+
+    def test_what_is_handed_on_is_the_same(self):
+        chip = module("chip")
+        with open(os.path.join(TOP, "chips.toml"), "rb") as file:
+            entries = {entry["id"]: entry for entry in tomllib.load(file)["chip"]}
+        text = chip.table_text(chip.read_table([os.path.join(TOP, "chips.toml")]))
+        made = {entry["id"]: entry for entry in tomllib.loads(text)["chip"]}
+        self.assertEqual(made, {number: {key: entry[key] for key in chip.KEYS if key in entry} for number, entry in entries.items()})
+
+
+class Standing(Words):
+    """Where the journals of a port stand."""
+
+    def test_a_far_port_has_its_own_from_every_folder(self):
+        name_of = module("journals").name_of
+        names, here = set(), os.getcwd()
+        self.addCleanup(os.chdir, here)
+        for folder in (here, self.folder):
+            os.chdir(folder)
+            names.add(name_of("socket://pc01:2217"))
+        self.assertEqual(len(names), 1)
+        self.assertNotIn(name_of("socket://pc01:2218"), names)
+        self.assertNotIn(name_of("rfc2217://pc01:2217"), names)
+        self.assertRegex(names.pop(), "^socket-pc01-2217-[0-9a-f]{12}$")
+
+    def test_nobodys_home_is_none(self):
+        """Else each folder would have journals of its own, and what was stopped in one would be seen in no other."""
+        journals = module("journals")
+        with unittest.mock.patch.object(journals.os.path, "expanduser", lambda path: path):
+            with unittest.mock.patch.dict(os.environ, {"XDG_STATE_HOME": ""}):
+                self.assertRaisesRegex(module("fault").Fault, "HOME names no folder", journals.state_folder)
+            with unittest.mock.patch.dict(os.environ, {"XDG_STATE_HOME": "/state"}):
+                self.assertEqual(journals.state_folder(), "/state/stmflash/ports")
+
+    def test_a_name_that_is_no_text_is_told(self):
+        self.flash(COUNTING)
+        self.store("image", b"new")
+        state = {"XDG_STATE_HOME": self.path("st\xe4te"), "PYTHONIOENCODING": "ascii"}
+        self.well("-w", "image", **state)
+        said = self.words("--log", **state)
+        self.assertEqual((said.status, said.err), (0, b""))
+        self.assertIn(b"/st\\xe4te/stmflash/ports/", said.out)
