@@ -53,7 +53,7 @@ class Options(Place):
         self.assertFault(self.use("go", "08"), "usage: bad number 08", 2)
 
     def test_tells_its_version(self):
-        self.assertTold(self.call("--version"), f"stmflash 0.2.0, {'not proved' if is_unproved() else 'proved by rattle-kit-13f'}\n")
+        self.assertTold(self.call("--version"), f"stmflash 0.2.0, {'not proved' if is_unproved() else 'proved by rattle logic dac8208d650f15bf'}\n")
         for name in SUBCOMMANDS:
             with self.subTest(name=name):
                 told = self.call(name, "--help")

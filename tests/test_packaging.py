@@ -33,7 +33,7 @@ class Packaging(unittest.TestCase):
             version = file.read()[len("stmflash ("):].split("-")[0]
         with tempfile.TemporaryDirectory() as folder:
             path = os.path.join(folder, "one")
-            for said in (f"stmflash {version}, proved by rattle-kit-13f", f"stmflash {version}"):
+            for said in (f"stmflash {version}, proved by rattle logic dac8208d650f15bf", f"stmflash {version}"):
                 text = f'#include <stdio.h>\nint main(void) {{ return puts("{said}") < 0; }}\n'
                 subprocess.run(["gcc", "-x", "c", "-", "-o", path], input=text, text=True, check=True)
                 words = [os.path.join(TOP, "packaging", "deb"), "--unproved", path, folder]

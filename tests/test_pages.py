@@ -62,21 +62,21 @@ class Pages(Place):
 
     def test_one_version(self):
         said = self.call("--version").out.decode()
-        version = re.fullmatch(r"stmflash (\d+\.\d+\.\d+), (not proved|proved by rattle-kit-\w+)\n", said)[1]
+        version = re.fullmatch(r"stmflash (\d+\.\d+\.\d+), (not proved|proved by rattle logic \w+)\n", said)[1]
         self.assertEqual(re.search(r"^## (\S+) ", held("CHANGELOG.md"), re.M)[1], version)
         self.assertEqual(re.match(r"stmflash \((.*)-\d+\) ", held("packaging", "changelog"))[1], version)
         for page in ("stmflash.1", *(os.path.join("line", f"stmflash-{it}.1") for it in ("line", "trial", "as-stm32flash"))):
             self.assertRegex(held(page).split("\n")[0],
                              rf'^\.TH STMFLASH\S* 1 \d{{4}}-\d\d-\d\d "stmflash {re.escape(version)}" "User Commands"$')
 
-    def test_the_version_names_the_kit_that_proves(self):
-        """The code names the kit that is here, and the program says what the code says, unless it was built without a proof."""
+    def test_the_version_names_the_logic_that_proves(self):
+        """The code names the logic of the kit that is here, and the program says what the code says, unless it was built without a proof."""
         if shutil.which("rt") is None:
             self.skipTest("there is no rt")
-        kit = subprocess.run(["rt", "version"], capture_output=True, text=True, check=True).stdout.split()[0]
+        logic = "rattle " + subprocess.run(["rt", "version"], capture_output=True, text=True, check=True).stdout.strip().partition(" ")[2]
         code = held("crates", "stm_words", "src", "command_set.rt")
-        self.assertEqual(re.search(r'^const VERSION: &str = "\S+, proved by (.*)";$', code, re.M)[1], kit)
-        self.assertEqual(self.call("--version").out.decode().split(", ")[1], "not proved\n" if is_unproved() else f"proved by {kit}\n")
+        self.assertEqual(re.search(r'^const VERSION: &str = "\S+, proved by (.*)";$', code, re.M)[1], logic)
+        self.assertEqual(self.call("--version").out.decode().split(", ")[1], "not proved\n" if is_unproved() else f"proved by {logic}\n")
 
     def test_the_manual_page_has_every_option(self):
         page = held("stmflash.1").replace("\\", "")

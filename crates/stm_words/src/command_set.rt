@@ -14,9 +14,9 @@ use crate::help;
 use clap::Command;
 use std::alloc::{AllocError, Global};
 
-/// The version that `--version` tells, and what proves the program; `tools/demo.sh` builds one that
-/// isn't proved, from a copy in which that stands here.
-const VERSION: &str = "0.2.0, proved by rattle-kit-13f";
+/// The version that `--version` tells, and in which logic the program is proved, which kits share;
+/// `tools/demo.sh` builds one that isn't proved, from a copy in which that stands here.
+const VERSION: &str = "0.2.0, proved by rattle logic dac8208d650f15bf";
 
 /// A subcommand with the option that names the table.
 fn with_table<'a>(
