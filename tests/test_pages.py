@@ -130,3 +130,28 @@ class Pages(Place):
                         self.assertTrue(os.path.exists(os.path.join(TOP, "crates", folder, named)))
                     elif re.fullmatch(r"(\w+::)?[a-z]+(_[a-z]+)+|\w+::[a-z]\w*", named):
                         self.assertTrue(named.split("::")[-1] in functions)
+
+    def test_the_walk_names_what_decides_a_refusal(self):
+        """Each function of that table is in a file of its row. And each file of the words, the program and the sessions in which a fault
+        is made is in a row, but for faults of memory, of the line and of the journal's file, and `unpowered.rt`, which nobody runs."""
+        told = held("docs", "INSIDE.md").split("\n## What decides a refusal\n")[1]
+        named = set()
+        for row in [it for it in told.splitlines() if it.startswith("| ") and "`" in it]:
+            folder, files = "", []
+            for name in re.findall(r"`([^`]+\.rt|stm\w+/specs/\w+)`", row.split("|")[3]):
+                folder = os.path.dirname(name) or folder
+                files.append(os.path.join(folder, os.path.basename(name)))
+            text = "".join(held("crates", it) for it in files if it.endswith(".rt"))
+            for function in re.findall(r"`(?:\w+::)?([a-z]\w*)`", row.split("|")[2]):
+                with self.subTest(function=function):
+                    self.assertTrue(re.search(rf"\bfn {function}\b", text))
+            named.update(files)
+        made_in = set()
+        for crate in ("stm_words", "stmflash", "stm_session"):
+            for path in glob.glob(os.path.join(TOP, "crates", crate, "src", "**", "*.rt"), recursive=True):
+                made = [re.findall(r"\b(?:UsageFault|Failure|Fault)(?:::([A-Z]\w+)|$)", it)[-1:] for it in held(path).splitlines()
+                        if re.search(r"\bErr\((Unread::|Failure::|Fault::|UsageFault)", it.split("=>")[-1])]
+                if any(it and it[0] not in ("Memory", "Line", "Journal", "Session") for it in made):
+                    made_in.add(os.path.relpath(path, os.path.join(TOP, "crates")))
+        self.assertGreaterEqual(len(made_in), 30)
+        self.assertEqual(sorted(made_in - named - {"stmflash/src/unpowered.rt"}), [])
