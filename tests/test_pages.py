@@ -155,3 +155,23 @@ class Pages(Place):
                     made_in.add(os.path.relpath(path, os.path.join(TOP, "crates")))
         self.assertGreaterEqual(len(made_in), 30)
         self.assertEqual(sorted(made_in - named - {"stmflash/src/unpowered.rt"}), [])
+
+    def test_the_lists_name_files_that_are_there(self):
+        """Each file in the tables of CONTRIBUTING that say where a new thing goes; one without a folder is below the crate, or in the
+        folder, of the one before it."""
+        files = subprocess.run(["git", "ls-files"], cwd=TOP, capture_output=True, text=True, check=True).stdout.split()
+        files = [it.removeprefix("crates/").removesuffix(".antt") for it in files]
+        count = 0
+        for row in [it for it in held("CONTRIBUTING.md").splitlines() if it.startswith("| `")]:
+            place = ""
+            for name in re.findall(r"`([\w./-]+)`", row.split("|")[1]):
+                if "NAME" in name or not re.search(r"[./]\w|^[A-Z]\w+$", name) or "/" not in name and not place:
+                    continue
+                found = [it for it in files if it == name or it.startswith((place, name + "/")) and it.endswith("/" + name)]
+                found = found or [it for it in files if it.startswith(name.rstrip("/") + "/")]
+                with self.subTest(row=row[:60], name=name):
+                    self.assertTrue(found)
+                count += 1
+                if "/" in name and found and not name.startswith(("specs/", "proofs/", "src/")):
+                    place = found[0].split("/")[0] if found[0].startswith("stm") else os.path.dirname(found[0])
+        self.assertGreaterEqual(count, 100)
