@@ -1,12 +1,14 @@
-"""The pages: their links lead somewhere, the pictures are well formed, the code that they name is there, and the version and the
-options are those of the program."""
+"""The pages: their links lead to pages and headings, the pictures are well formed, the code and the counts that they name are there,
+and the version and the options are those of the program."""
 
+import collections
 import glob
 import json
 import os
 import re
 import shutil
 import subprocess
+import sys
 import xml.etree.ElementTree
 
 from place import TOP, Place, is_unproved
@@ -20,6 +22,27 @@ def held(*parts):
 
 def pages():
     return sorted(glob.glob(os.path.join(TOP, "*.md")) + glob.glob(os.path.join(TOP, "docs", "*.md")))
+
+
+def headings(text):
+    """The places of a page that its headings are: their words in small letters, parted by hyphens. Of two that are alike the second
+    one has a number."""
+    text = re.sub(r"^```.*?^```$", "", text, flags=re.M | re.S)
+    counts, places = collections.Counter(), set()
+    for heading in re.findall(r"^#+ (.*)$", text, re.M):
+        place = re.sub(r"[^\w -]", "", re.sub(r"\]\([^)]*\)", "", heading).lower()).strip().replace(" ", "-")
+        places.add(f"{place}-{counts[place]}" if counts[place] else place)
+        counts[place] += 1
+    return places
+
+
+# prints how many faults each subject has, and each part of those of the companions
+COUNTED = """
+import collections, importlib, json
+import planted
+parts = {it: len(importlib.import_module("line_faults." + it).FAULTS) for it in ("line", "behind", "trial", "words")}
+print(json.dumps([collections.Counter(it.subject for it in planted.all_faults()), parts]))
+"""
 
 
 class Pages(Place):
@@ -175,3 +198,31 @@ class Pages(Place):
                 if "/" in name and found and not name.startswith(("specs/", "proofs/", "src/")):
                     place = found[0].split("/")[0] if found[0].startswith("stm") else os.path.dirname(found[0])
         self.assertGreaterEqual(count, 100)
+
+    def test_the_faults_are_as_many_as_are_told(self):
+        """In FAULTS the faults of each subject and of each part of the companions, and how many they are together."""
+        ran = subprocess.run([sys.executable, "-B", "-c", COUNTED], cwd=os.path.join(TOP, "tools"), capture_output=True, check=True)
+        subjects, parts = json.loads(ran.stdout)
+        program, companions = held("docs", "FAULTS.md").split("## Faults planted in the ")[1:]
+        told = {}
+        for names, counts in re.findall(r"^\| (`\w+`(?:, `\w+`)*) \| (\d+(?:, \d+)*) \|", program, re.M):
+            told.update(zip(re.findall(r"\w+", names), map(int, counts.split(", "))))
+        self.assertEqual(told, subjects)
+        self.assertEqual(re.findall(r"All (\d+) in one call", program), [str(sum(subjects.values()))])
+        self.assertEqual(dict(re.findall(r"(\w+)\.py`\) \| (\d+) \|", companions)), {name: str(count) for name, count in parts.items()})
+        self.assertEqual(re.findall(r"plants (\d+)\s+faults", companions), [str(sum(parts.values()))])
+
+    def test_the_chips_are_as_many_as_are_told(self):
+        """In README, CHIPS and BESIDE."""
+        count = len(re.findall(r"^\[\[chip\]\]$", held("chips.toml"), re.M))
+        for page, words in (("README.md", r"`chips.toml` knows (\d+) chips"), ("docs/CHIPS.md", r"`chips.toml` is one with (\d+) chips"),
+                            ("docs/BESIDE.md", r"\| (\d+) in `chips.toml`")):
+            with self.subTest(page=page):
+                self.assertEqual(re.findall(words, held(page)), [str(count)])
+
+    def test_links_lead_to_a_heading(self):
+        """Each link with a place in a page: the heading is there, by the name that it has on GitHub."""
+        for page in pages():
+            for link, place in re.findall(r"\]\(((?![a-z]+:)[^)#\s]*)#([^)]*)\)", held(page)):
+                with self.subTest(page=os.path.relpath(page, TOP), link=link, place=place):
+                    self.assertIn(place, headings(held(os.path.join(os.path.dirname(page), link) if link else page)))
