@@ -11,8 +11,8 @@ from row import NOTE, OPTION, row
 TIMES = 10
 # so many 7F a board may take that is connected, or fresh, or was left inside a question
 CONTACTS = 12
-# batches as long as those of settling, of a byte that is no code
-BATCHES, BATCH, NO_CODE = 40, 256, 0x55
+# batches as long as those of settling, of a byte that is no code: it begins with 256 bytes, and goes on with 3,584
+BATCHES, NO_CODE = (256,) * 5 + (3584,) * 3, 0x55
 NO_FRESH = "no --fresh (env -u STMFLASH_FRESH)"
 
 
@@ -148,14 +148,14 @@ def refuse_count(board):
     board.hush()
 
 
-@row("loss-up", "of 10,240 bytes sent in batches of 256 each is taken", "the line; settling's batches", "commands are garbled")
+@row("loss-up", "of 12,032 bytes sent in batches of 256 and of 3,584 each is taken", "the line; settling's batches", "commands are garbled")
 def loss_up(board):
-    for number in range(1, BATCHES + 1):
-        board.put([NO_CODE] * BATCH)
-        came = board.line.read(BATCH // 2, 5, max(board.wait, 2))
-        if came != bytes([NACK]) * (BATCH // 2):
+    for number, size in enumerate(BATCHES, 1):
+        board.put([NO_CODE] * size)
+        came = board.line.read(size // 2, 5, max(board.wait, 2))
+        if came != bytes([NACK]) * (size // 2):
             board.refusal = board.harm = "bytes are lost: a lower --baud, another cable or adapter, and try again"
-            raise Differs(f"batch {number}: 128 times 1F are due, and {len(came)} bytes came")
+            raise Differs(f"batch {number}: {size // 2} times 1F are due, and {len(came)} bytes came")
 
 
 @row("refuse-complement", "a code whose complement has one wrong bit is refused", "verdict of `c x`", "a garbled byte runs a command",

@@ -141,7 +141,7 @@ FAULTS = {
     "a board that greets twice is told to do without --fresh": (
         "trial/rows_asking.py", "                raise Odd(odds[0])\n", "                pass\n", on("two-acks-for-7f")),
     "bytes that go up may be lost": (
-        "trial/rows_asking.py", "        if came != bytes([NACK]) * (BATCH // 2):\n", "        if not came:\n",
+        "trial/rows_asking.py", "        if came != bytes([NACK]) * (size // 2):\n", "        if not came:\n",
         on("loses-each-3000th-up")),
     "what is read twice may differ": (
         "trial/rows_reading.py", '    if wrong:\n        board.harm = "what is read',
