@@ -38,7 +38,7 @@ class Settling(Served):
                 self.assertHolds(FLASH, b"idle\n")
                 self.assertFile("journal", AFTER)
 
-    def undo(self, stands, *words):
+    def undo(self, stands, *words, variables=None):
         """Takes back at a board with a wide chip that stands so, and answers the times that the program sets for its line, one
         behind another that differs from it, and how many seconds it took."""
         self.store("table", WIDE)
@@ -49,7 +49,8 @@ class Settling(Served):
         times, began = [], time.monotonic()
         given = ("undo", "--table", "table", "--device", "board", "--journal", "journal", *words)
         try:
-            said, _ = syncs.call(self.folder, given, held=SETSOCKOPT, at=lambda _, process: times.append(time_of(process)))
+            said, _ = syncs.call(self.folder, given, held=SETSOCKOPT, at=lambda _, process: times.append(time_of(process)),
+                                 env=variables)
         except syncs.CannotHold as why:
             raise unittest.SkipTest(str(why)) from None
         self.assertTold(said, "undone 1\n")
@@ -82,6 +83,18 @@ class Settling(Served):
         for variables, more in (({"STMFLASH_BAUD": "fast"}, ("--baud", "9600")), ({"STMFLASH_BAUD": ""}, ())):
             with self.subTest(variables):
                 self.assertFault(self.call("undo", *words, *more, variables=variables), "cannot connect board")
+
+    def test_the_wait_may_be_a_variable(self):
+        """A word goes before it, and an empty one is none."""
+        words = ("--table", "table", "--device", "board", "--journal", "journal")
+        for text in ("0", "60001", "long"):
+            with self.subTest(text):
+                self.assertFault(self.call("undo", *words, variables={"STMFLASH_WAIT": text}), f"usage: bad number {text}", 2)
+        for variables, more, wait in (({"STMFLASH_WAIT": "130"}, (), 130), ({"STMFLASH_WAIT": "long"}, ("--wait", "110"), 110),
+                                      ({"STMFLASH_WAIT": ""}, (), 500)):
+            with self.subTest(variables):
+                waits, _ = self.undo(b"rest 44BB", "--baud", "4000000", *more, variables=variables)
+                self.assertEqual(waits[0], wait)
 
     def test_replies_to_a_large_batch_are_taken(self):
         """The silence behind them is waited for longer than a board that answers nothing is."""

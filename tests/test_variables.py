@@ -51,7 +51,7 @@ class Variables(Place):
 
     def test_are_text(self):
         for name in ("STMFLASH_TABLE", "STMFLASH_DEVICE", "STMFLASH_JOURNAL", "STMFLASH_JOURNALS", "STMFLASH_BOARD",
-                     "STMFLASH_BAUD", "STMFLASH_NO_BOARD", "STMFLASH_FRESH", "STMFLASH_NO_LOCK", "STMFLASH_JSON"):
+                     "STMFLASH_WAIT", "STMFLASH_BAUD", "STMFLASH_NO_BOARD", "STMFLASH_FRESH", "STMFLASH_NO_LOCK", "STMFLASH_JSON"):
             with self.subTest(name=name):
                 self.assertFault(self.call("info", variables={name: os.fsdecode(b"\xff")}), f"usage: {name} is not text", 2)
 

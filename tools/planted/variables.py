@@ -26,6 +26,11 @@ FAULTS = {
         "journals: text_of(&self.journals),",
         "journals: if @on { None } else { text_of(&self.journals) },",
         "test_journals_folder.JournalsFolder.test_the_words"),
+    "STMFLASH_WAIT is not read": (
+        "stmflash/src/variables.rt",
+        "wait: text_of(&self.wait),",
+        "wait: if @on { None } else { text_of(&self.wait) },",
+        "test_settling.Settling.test_the_wait_may_be_a_variable"),
     "STMFLASH_NO_BOARD is not read": (
         "stmflash/src/variables.rt",
         "without_board: self.without_board,",

@@ -1,5 +1,5 @@
 -- The program's subcommands, as `clap` sees them.
-use Rattle.std.specs.Prelude.{◌≡◌, ℕ, List, [], ◌∷◌, Option, Some, codes, is_some, map, not}
+use Rattle.std.specs.Prelude.{◌≡◌, ℕ, List, [], ◌∷◌, Option, Some, None, codes, is_some, map, not}
 use Rattle.std.specs.Prelude.{option_map, option_to_list, true, false}
 use Rattle.std.specs.Borrow.{Bor}
 use Rattle.clap.specs.Words.{App, Rule, Text, app_of, found_of, matches_of, new_app, new_rule}
@@ -87,11 +87,16 @@ with_places e name =
     (spare_option_rule (codes "journal") (text_of e.journal)))
     (spare_option_rule (codes "journals") (text_of e.journals))) (flag_rule (codes "no-lock"))
 
+-- how long a reply may take, in milliseconds, where no word says it
+abbrev pub wait_word : Option (Bor Text) → Text
+wait_word (Some word) = word.now
+wait_word None = codes "500"
+
 -- the same, with the options of how long a device may take to answer
 abbrev pub with_waits : Environment → Text → App
 with_waits e name =
     with_rule (with_rule (with_rule (with_rule (with_places e name)
-    (default_option_rule (codes "wait") (codes "500")))
+    (default_option_rule (codes "wait") (wait_word e.wait)))
     (spare_option_rule (codes "baud") (text_of e.baud)))
     (default_option_rule (codes "give-up") (codes "20"))) (flag_rule (codes "fresh"))
 

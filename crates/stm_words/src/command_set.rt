@@ -1,9 +1,10 @@
 // The subcommands and their words, for `clap`.
-ghost use Rattle.std.specs.Prelude.{IfOk};
+ghost use Rattle.std.specs.Prelude.{◌≡◌, IfOk};
 ghost use Rattle.stm_words.specs.CommandSet.{Makes, TakesKinds, command_set, crc_app, erase_app};
 ghost use Rattle.stm_words.specs.CommandSet.{go_app, info_app, keep_app, log_app, on_board, on_device};
 ghost use Rattle.stm_words.specs.CommandSet.{on_journal, protect_app, read_app, sim_app, undo_app, verify_app};
-ghost use Rattle.stm_words.specs.CommandSet.{with_places, with_table, with_waits, write_app};
+ghost use Rattle.stm_words.specs.CommandSet.{wait_word, with_places, with_table, with_waits};
+ghost use Rattle.stm_words.specs.CommandSet.{write_app};
 
 use crate::argument::{
     default_option, flag, kind, letter, needed, needed_option, option, optional, range, repeated,
@@ -59,6 +60,16 @@ fn with_places<'a>(
         .arg(flag(alloc, "no-lock", help::NO_LOCK))
 }
 
+/// How long a reply may take, in milliseconds, where no word says it.
+fn standing_wait<'a>(environment: Environment<'a>) -> &'a str
+    ensures { result.now ≡ wait_word environment.entry.wait }
+{
+    match environment.wait {
+        Some(wait) => wait,
+        None => "500",
+    }
+}
+
 /// The same, with the options of how long a device may take to answer.
 fn with_waits<'a>(
     alloc: Global,
@@ -69,7 +80,7 @@ fn with_waits<'a>(
     ensures { IfOk result (Makes (with_waits environment.entry name.entry.now)) }
 {
     with_places(alloc, environment, name, about)?
-        .arg(default_option(alloc, "wait", "MS", "500", help::WAIT))?
+        .arg(default_option(alloc, "wait", "MS", standing_wait(environment), help::WAIT))?
         .arg(spare_option(alloc, "baud", "N", environment.baud, help::BAUD))?
         .arg(default_option(alloc, "give-up", "SECONDS", "20", help::GIVE_UP))?
         .arg(flag(alloc, "fresh", help::FRESH))

@@ -17,6 +17,8 @@ pub struct Environment<'a> {
     pub journals: Option<&'a str>,
     /// The unique id of the board that is wanted, or its last digits.
     pub board: Option<&'a str>,
+    /// How long a reply may take, in milliseconds.
+    pub wait: Option<&'a str>,
     /// How many bits a second the line has.
     pub baud: Option<&'a str>,
     /// Whether a device isn't asked which board it is.

@@ -37,6 +37,7 @@ pub record StandsFor (variables : Variables) (tables : List (Bor (List ℕ)))
   pub journal : text standing.journal ≡ option_map string_bytes variables.journal
   pub journals : text standing.journals ≡ option_map string_bytes variables.journals
   pub board : text standing.board ≡ option_map string_bytes variables.board
+  pub wait : text standing.wait ≡ option_map string_bytes variables.wait
   pub baud : text standing.baud ≡ option_map string_bytes variables.baud
   pub without_board : standing.without_board ≡ variables.without_board
   pub is_fresh : standing.is_fresh ≡ variables.is_fresh

@@ -18,6 +18,7 @@ pub record AreNamed (asked : Asked) : Type 0 where
   pub journal : asked.journal.name.now ≡ codes "STMFLASH_JOURNAL"
   pub journals : asked.journals.name.now ≡ codes "STMFLASH_JOURNALS"
   pub board : asked.board.name.now ≡ codes "STMFLASH_BOARD"
+  pub wait : asked.wait.name.now ≡ codes "STMFLASH_WAIT"
   pub baud : asked.baud.name.now ≡ codes "STMFLASH_BAUD"
   pub without_board : asked.without_board.name.now ≡ codes "STMFLASH_NO_BOARD"
   pub is_fresh : asked.is_fresh.name.now ≡ codes "STMFLASH_FRESH"
@@ -33,6 +34,7 @@ pub record SaysAs (asked : Asked) (variables : Variables) : Type 0 where
   pub journal : variables.journal ≡ text_of asked.journal
   pub journals : variables.journals ≡ text_of asked.journals
   pub board : variables.board ≡ text_of asked.board
+  pub wait : variables.wait ≡ text_of asked.wait
   pub baud : variables.baud ≡ text_of asked.baud
   pub without_board : variables.without_board ≡ is_one asked.without_board
   pub is_fresh : variables.is_fresh ≡ is_one asked.is_fresh
@@ -42,8 +44,8 @@ pub record SaysAs (asked : Asked) (variables : Variables) : Type 0 where
 -- those that have to be texts where they are set, in their order
 abbrev pub in_order : Asked → List Variable
 in_order asked =
-    asked.table ∷ asked.device ∷ asked.journal ∷ asked.journals ∷ asked.board ∷ asked.baud
-    ∷ asked.without_board ∷ asked.is_fresh ∷ asked.without_lock ∷ asked.is_json ∷ []
+    asked.table ∷ asked.device ∷ asked.journal ∷ asked.journals ∷ asked.board ∷ asked.wait
+    ∷ asked.baud ∷ asked.without_board ∷ asked.is_fresh ∷ asked.without_lock ∷ asked.is_json ∷ []
 
 -- it is why the first that can't be read can't be
 abbrev pub IsOfFirst : List Variable → Failure → Type 0

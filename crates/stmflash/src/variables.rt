@@ -23,6 +23,7 @@ struct Asked {
     journal: Variable,
     journals: Variable,
     board: Variable,
+    wait: Variable,
     baud: Variable,
     without_board: Variable,
     is_fresh: Variable,
@@ -43,6 +44,7 @@ impl Asked {
             journal: Variable::ask(rt, "STMFLASH_JOURNAL"),
             journals: Variable::ask(rt, "STMFLASH_JOURNALS"),
             board: Variable::ask(rt, "STMFLASH_BOARD"),
+            wait: Variable::ask(rt, "STMFLASH_WAIT"),
             baud: Variable::ask(rt, "STMFLASH_BAUD"),
             without_board: Variable::ask(rt, "STMFLASH_NO_BOARD"),
             is_fresh: Variable::ask(rt, "STMFLASH_FRESH"),
@@ -61,6 +63,7 @@ pub struct Variables {
     journal: Option<String>,
     journals: Option<String>,
     board: Option<String>,
+    wait: Option<String>,
     baud: Option<String>,
     without_board: bool,
     is_fresh: bool,
@@ -87,6 +90,7 @@ impl Variables {
         let journal = asked.journal.text()?;
         let journals = asked.journals.text()?;
         let board = asked.board.text()?;
+        let wait = asked.wait.text()?;
         let baud = asked.baud.text()?;
         let without_board = asked.without_board.is_one()?;
         let is_fresh = asked.is_fresh.is_one()?;
@@ -99,6 +103,7 @@ impl Variables {
             journal,
             journals,
             board,
+            wait,
             baud,
             without_board,
             is_fresh,
@@ -126,6 +131,7 @@ impl Variables {
             journal: text_of(&self.journal),
             journals: text_of(&self.journals),
             board: text_of(&self.board),
+            wait: text_of(&self.wait),
             baud: text_of(&self.baud),
             without_board: self.without_board,
             is_fresh: self.is_fresh,
