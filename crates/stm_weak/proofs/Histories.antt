@@ -21,7 +21,7 @@ use Rattle.stm_session.specs.UndoOrder.{AreTaken, BeginTaking, UndoDoes}
 use Rattle.stm_session.specs.Work.{pages_at_work, pages_of_intent}
 use Rattle.stm_weak.specs.Weak.{NoneIs, intent_behind, weak_behind}
 use Rattle.stm_weak.specs.Believed.{AreAtWork, NoneBelieved}
-use Rattle.stm_weak.specs.History.{AllFind, AllHeal, AtOk, Deed, Finds, done_events, events_in, ran, run_stopped, stopped_events, undid, undo_events, undo_stopped}
+use Rattle.stm_weak.specs.History.{AllFind, AllHeal, AtOk, Deed, asked, asking_stopped, Finds, done_events, events_in, ran, run_stopped, stopped_events, undid, undo_events, undo_stopped}
 use Rattle.stm_weak.proofs.Leaving.{Leaves, behind_at_work, done_leaves, free_none, free_own, no_intent, settled, stopped_believed}
 use Rattle.stm_weak.proofs.Misreading.{begun_goes}
 use Rattle.stm_weak.proofs.Running.{begun_free, done_free}
@@ -173,6 +173,18 @@ module _ (lengths : (set : Pairs) (address : ℕ) (bytes : List ℕ) → length 
             session.does session.sound (subst F (sym same) fits) now,
         tt,
       )))
+  good {R = R} {view = view} chip W o (asked is_fresh table board old new asks) intent =
+      let deed : Deed R view = asked is_fresh table board old new asks in
+      let Q : Option Intent → Type 0 = λ i. Good W i deed chip in
+      subst Q intent
+      (λ now. ((refl, settled chip W (intent_of asks.journal.state) now, tt), tt))
+  good {R = R} {view = view} chip W o (asking_stopped is_fresh table old new fault (inl fetched)) finds =
+      λ now. (tt, tt)
+  good {R = R} {view = view} chip W o (asking_stopped is_fresh table old new fault (inr asks)) intent =
+      let deed : Deed R view = asking_stopped is_fresh table old new fault (inr asks) in
+      let Q : Option Intent → Type 0 = λ i. Good W i deed chip in
+      subst Q intent
+      (λ now. ((refl, settled chip W (intent_of asks.journal.state) now, tt), tt))
 
   all_heal : {R : Type 0} {view : R → RigState} (chip : ChipData) (W : ℕ → Type 0)
       (o : Option Intent) (deeds : List (Deed R view)) → AreAtWork (has_companion chip) W o

@@ -9,7 +9,9 @@ use Rattle.stm_wire.specs.Dialogue.{GoesOn}
 use Rattle.stm_wire.specs.Rig.{RigState}
 use Rattle.stm_journal.specs.Journals.{Loaded}
 use Rattle.stm_journal.specs.States.{intent_of, is_unfinished}
+use Rattle.stm_session.specs.declared.asking_board.Board.{Board}
 use Rattle.stm_session.specs.declared.fault.Fault.{Fault}
+use Rattle.stm_session.specs.AskingBoard.{AnswersInOrder, AskingStops, AsksFor}
 use Rattle.stm_session.specs.Fault.{Cause, cause_of}
 use Rattle.stm_session.specs.Fresh.{Settles, Way, undo_way}
 use Rattle.stm_session.specs.Meaning.{CommandData}
@@ -71,8 +73,8 @@ undo_events intent whole way id torn P cause old new (inl unreached) = settles i
 undo_events intent whole way id torn P cause old new (inr reached) =
     stopped_events intent whole way id torn P cause old new reached
 
--- A call, as its clauses tell it. Of one that was stopped so many lines of an append that failed
--- stand. An undo that finds nothing to take back is one that was stopped before it did anything.
+-- A call, as its clauses tell it: also one that asks a device which board it is, as the program does
+-- before each other. Of one that was stopped so many lines of an append that failed stand. An undo that finds nothing to take back is one that was stopped before it did anything.
 pub data Deed (R : Type 0) (view : R → RigState) : Type 0 where
   ran : (table : List ChipData) (commands : List CommandData) (old new : R)
       → RunsInOrder table commands (view old) (view new) → Deed R view
@@ -83,9 +85,16 @@ pub data Deed (R : Type 0) (view : R → RigState) : Type 0 where
   undo_stopped : (is_fresh again : Bool) (table : List ChipData) (count : ℕ) (old new : R)
       (fault : Fault) (whole : ℕ)
       → UndoStopsAs is_fresh again table count (view old) (view new) fault → Deed R view
+  asked : (is_fresh : Bool) (table : List ChipData) (board : Board) (old new : R)
+      → AsksFor table is_fresh (view old)
+      (λ way torn. AnswersInOrder table board way torn (view old) (view new)) → Deed R view
+  asking_stopped : (is_fresh : Bool) (table : List ChipData) (old new : R) (fault : Fault)
+      → AskingStops table is_fresh (view old) (view new) fault → Deed R view
 
--- What befell the device in it. A run settles under no intent, by 7F. A call that didn't reach the
--- device, or was stopped before it had asked it, did no more than to settle it.
+-- What befell the device in it. A run settles under no intent, with 7F, which changes no page. A call
+-- that didn't reach the device, or was stopped before it had asked it, did no more than to settle
+-- it. Of one that asks for the board no more is told: its frames change nothing, and read where the
+-- board is told.
 abbrev pub events_in : {R : Type 0} {view : R → RigState} → Deed R view → List Event
 events_in {R = R} {view = view} (ran table commands old new session) =
     done_events None (Settles 0x7F 131072) session.chip.id session.journal.is_torn _
@@ -106,6 +115,11 @@ events_in {R = R} {view = view}
     let intent = intent_of session.journal.state in
     undo_events intent whole (undo_way is_fresh session.chip.kind intent) session.chip.id
     session.journal.is_torn _ (cause_of fault) (view old) (view new) session.does
+events_in {R = R} {view = view} (asked is_fresh table board old new asks) =
+    settles (intent_of asks.journal.state) ∷ []
+events_in {R = R} {view = view} (asking_stopped is_fresh table old new fault (inl fetched)) = []
+events_in {R = R} {view = view} (asking_stopped is_fresh table old new fault (inr asks)) =
+    settles (intent_of asks.journal.state) ∷ []
 
 -- A session of this chip whose journal is honest: what was loaded has the intent that the lines so
 -- far have. A run refuses a journal with an unfinished segment,
@@ -132,6 +146,11 @@ Finds chip intent (undo_stopped is_fresh again table count old new fault whole (
     Unit {0}
 Finds chip intent (undo_stopped is_fresh again table count old new fault whole (inr session)) =
     UndoFinds chip intent session
+Finds chip intent (asked is_fresh table board old new asks) =
+    intent_of asks.journal.state ≡ intent
+Finds chip intent (asking_stopped is_fresh table old new fault (inl fetched)) = Unit {0}
+Finds chip intent (asking_stopped is_fresh table old new fault (inr asks)) =
+    intent_of asks.journal.state ≡ intent
 
 -- calls one behind another, all of one chip, with an honest journal
 abbrev pub AllFind : {R : Type 0} {view : R → RigState} → ChipData → Option Intent
@@ -140,15 +159,17 @@ AllFind chip intent [] = Unit {0}
 AllFind chip intent (deed ∷ deeds) =
     Finds chip intent deed × AllFind chip (intent_behind intent (events_in deed)) deeds
 
--- where a call answered Ok, this holds behind it
+-- where a run or an undo answered Ok, this holds behind it
 abbrev pub AtOk : {R : Type 0} {view : R → RigState} → Deed R view → Type 0 → Type 0
 AtOk (ran table commands old new session) P = P
 AtOk (run_stopped table commands old new fault whole stop) P = Unit {0}
 AtOk (undid is_fresh again table taken old new session) P = P
 AtOk (undo_stopped is_fresh again table count old new fault whole stop) P = Unit {0}
+AtOk (asked is_fresh table board old new asks) P = Unit {0}
+AtOk (asking_stopped is_fresh table old new fault stop) P = Unit {0}
 
 -- In each call no page is believed that may be weak, and each page that may be is at work; and
--- behind a call that answered Ok no page may be weak.
+-- behind a run or an undo that answered Ok no page may be weak.
 abbrev pub AllHeal : {R : Type 0} {view : R → RigState} → ChipData → (ℕ → Type 0) → Option Intent
     → List (Deed R view) → Type 0
 AllHeal chip Weak intent [] = Unit {0}

@@ -35,9 +35,10 @@ pub fn an_undo_believes_no_page_at_work<R: Rig>()
         → UndoStopsHealing is_fresh table (R.view old) (R.view new) fault }
 {}
 
-/// Of runs and undos of one chip, one behind another, on any line, each of which may be stopped
-/// anywhere, with losses of power at any moment: each page that may be weak is at work by the lines
-/// so far, and no frame reads while one may be; and behind a call that answers Ok none may be.
+/// Of runs, undos and calls that ask for the board, one behind another, of one chip, on any line,
+/// each of which may be stopped anywhere, with losses of power at any moment: each page that may be
+/// weak is at work by the lines so far, and no frame reads the flash while one may be; and behind a
+/// run or an undo that answers Ok none may be.
 pub fn weak_pages_are_at_work<R: Rig>()
     ensures heal { HistoriesHeal R.view }
 {
