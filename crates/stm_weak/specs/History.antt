@@ -74,7 +74,8 @@ undo_events intent whole way id torn P cause old new (inr reached) =
     stopped_events intent whole way id torn P cause old new reached
 
 -- A call, as its clauses tell it: also one that asks a device which board it is, as the program does
--- before each other. Of one that was stopped so many lines of an append that failed stand. An undo that finds nothing to take back is one that was stopped before it did anything.
+-- before each other. Of one that was stopped so many lines of an append that failed stand. An undo
+-- that finds nothing to take back is one that was stopped before it did anything.
 pub data Deed (R : Type 0) (view : R → RigState) : Type 0 where
   ran : (table : List ChipData) (commands : List CommandData) (old new : R)
       → RunsInOrder table commands (view old) (view new) → Deed R view
