@@ -1,5 +1,5 @@
 -- Runs and undos one behind another: each page that may be weak is at work.
-use Rattle.std.proofs.Common.{◌≡◌, ◌⊎◌, inl, inr, ℕ, Bool, List, [], ◌∷◌, length, Option, None, refl, sym, ◌∙◌, subst}
+use Rattle.std.proofs.Common.{◌≡◌, ◌⊎◌, inl, inr, ℕ, Bool, true, false, List, [], ◌∷◌, length, Option, None, refl, sym, ◌∙◌, subst}
 use Rattle.stm_image.specs.Lay.{lay}
 use Rattle.stm_image.specs.Pairs.{Pairs}
 use Rattle.stm_wire.specs.declared.intent.Intent.{Intent}
@@ -13,15 +13,15 @@ use Rattle.stm_session.specs.declared.fault.Fault.{Fault}
 use Rattle.stm_session.specs.Fault.{cause_of}
 use Rattle.stm_session.specs.Fresh.{Settles, undo_way}
 use Rattle.stm_session.specs.Meaning.{CommandData}
-use Rattle.stm_session.specs.Order.{AreAllTakenBack, Begin, IsAfter, OrMisread, untold}
-use Rattle.stm_session.specs.Reaching.{IsConfirmedInPart, ReachesAndStops, ReachesInPart, confirming}
+use Rattle.stm_session.specs.Order.{Step, AreAllTakenBack, Begin, IsAfter, OrMisread, untold}
+use Rattle.stm_session.specs.Reaching.{IsConfirmedInPart, ReachesAndStops, ReachesInPart, StepsOf, confirming}
 use Rattle.stm_session.specs.RunOrder.{AreBegun, AreDoneSomehow, RunsInOrder}
 use Rattle.stm_session.specs.Undoable.{IsJournalOf, has_companion}
-use Rattle.stm_session.specs.UndoOrder.{AreTaken, BeginTaking, UndoDoes}
+use Rattle.stm_session.specs.UndoOrder.{AreTaken, AreTakenWhole, BeginTaking, UndoDoes}
 use Rattle.stm_session.specs.Work.{pages_at_work, pages_of_intent}
 use Rattle.stm_weak.specs.Weak.{NoneIs, intent_behind, weak_behind}
 use Rattle.stm_weak.specs.Believed.{AreAtWork, NoneBelieved}
-use Rattle.stm_weak.specs.History.{AllFind, AllHeal, AtOk, Deed, asked, asking_stopped, Finds, done_events, events_in, ran, run_stopped, stopped_events, undid, undo_events, undo_stopped}
+use Rattle.stm_weak.specs.History.{AllFind, AllHeal, AtOk, Deed, asked, asking_stopped, Finds, done_events, events_in, ran, run_stopped, stopped_events, undid, undid_verified, undo_events, undo_stopped}
 use Rattle.stm_weak.proofs.Leaving.{Leaves, behind_at_work, done_leaves, free_none, free_own, no_intent, settled, stopped_believed}
 use Rattle.stm_weak.proofs.Misreading.{begun_goes}
 use Rattle.stm_weak.proofs.Running.{begun_free, done_free}
@@ -65,17 +65,19 @@ module _ (lengths : (set : Pairs) (address : ℕ) (bytes : List ℕ) → length 
       (λ xs are. free_own chip xs (begun_free lengths chip (has_companion chip) fault commands l.state xs are))
 
   -- undos
-  undid_leaves : (is_fresh again : Bool) (table : List ChipData) (taken : ℕ) (old new : RigState)
-      (session : UndoDoes is_fresh (AreTaken again taken) table old new) (W : ℕ → Type 0)
+  undid_leaves : (is_fresh again : Bool) (table : List ChipData) (taken : ℕ) (Taken : StepsOf)
+      (more : (chip : ChipData) (s : StateData) (steps : List Step) → Taken chip s steps
+      → AreTaken again taken chip s steps) (old new : RigState)
+      (session : UndoDoes is_fresh Taken table old new) (W : ℕ → Type 0)
       → IsJournalOf session.chip session.journal.state
       → AreAtWork (has_companion session.chip) W (intent_of session.journal.state)
       → Leaves session.chip W (intent_of session.journal.state)
       (done_events (intent_of session.journal.state)
       (undo_way is_fresh session.chip.kind (intent_of session.journal.state)) session.chip.id
       session.journal.is_torn
-      (IsAfter (confirming session.chip) (AreTaken again taken session.chip session.journal.state))
+      (IsAfter (confirming session.chip) (Taken session.chip session.journal.state))
       old new session.does)
-  undid_leaves is_fresh again table taken old new session W fits now =
+  undid_leaves is_fresh again table taken Taken more old new session W fits now =
       let chip = session.chip in
       let s = session.journal.state in
       let o = intent_of s in
@@ -84,7 +86,7 @@ module _ (lengths : (set : Pairs) (address : ℕ) (bytes : List ℕ) → length 
       let own = does.3.0 in
       let segments = pages_of_segments s.stack in
       let P : List ℕ → Type 0 = λ work. AreAllTakenBack again chip untold work taken segments own in
-      let are = subst P (work_is chip s session.sound fits) does.3.2 in
+      let are = subst P (work_is chip s session.sound fits) (more chip s own does.3.2) in
       done_leaves chip W o does.0 does.1 does.2 own now does.3.1
       (λ W1 now1. (all_mend again chip both untold o W1 taken segments own now1 are).goes)
       (λ W1 now1. (all_mend again chip both untold o W1 taken segments own now1 are).none)
@@ -146,8 +148,8 @@ module _ (lengths : (set : Pairs) (address : ℕ) (bytes : List ℕ) → length 
             session.does W now,
         tt,
       )))
-  good {R = R} {view = view} chip W o (undid is_fresh again table taken old new session) (same, intent, fits) =
-      let deed : Deed R view = undid is_fresh again table taken old new session in
+  good {R = R} {view = view} chip W o (undid is_fresh table taken old new session) (same, intent, fits) =
+      let deed : Deed R view = undid is_fresh table taken old new session in
       let P : ChipData → Type 0 = λ c. Good W o deed c in
       let Q : Option Intent → Type 0 = λ i. Good W i deed session.chip in
       let F : ChipData → Type 0 = λ c. IsJournalOf c session.journal.state in
@@ -155,8 +157,21 @@ module _ (lengths : (set : Pairs) (address : ℕ) (bytes : List ℕ) → length 
       (subst Q intent
       (λ now.
       (let leaves =
-      undid_leaves is_fresh again table taken (view old) (view new) session W (subst F (sym same) fits)
-      now
+      undid_leaves is_fresh false table taken (AreTaken false taken) (λ c s steps are. are) (view old) (view new)
+      session W (subst F (sym same) fits) now
+      in
+      (leaves.believed, leaves.none))))
+  good {R = R} {view = view} chip W o (undid_verified is_fresh table returned old new session) (same, intent, fits) =
+      let deed : Deed R view = undid_verified is_fresh table returned old new session in
+      let P : ChipData → Type 0 = λ c. Good W o deed c in
+      let Q : Option Intent → Type 0 = λ i. Good W i deed session.chip in
+      let F : ChipData → Type 0 = λ c. IsJournalOf c session.journal.state in
+      subst P same
+      (subst Q intent
+      (λ now.
+      (let leaves =
+      undid_leaves is_fresh true table returned.segments (AreTakenWhole true untold returned) (λ c s steps are. are.0) (view old) (view new)
+      session W (subst F (sym same) fits) now
       in
       (leaves.believed, leaves.none))))
   good {R = R} {view = view} chip W o (undo_stopped is_fresh again table count old new fault whole (inl fetched)) finds =

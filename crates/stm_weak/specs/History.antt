@@ -1,7 +1,7 @@
 -- Runs and undos one behind another, on any line, each of which may be stopped anywhere, with
 -- losses of power at any moment.
-use Rattle.std.proofs.Common.{◌≡◌, ◌⊎◌, inl, inr, ℕ, Bool, false, List, [], ◌∷◌, ◌++◌, map, take}
-use Rattle.std.proofs.Common.{Option, Some, None}
+use Rattle.std.proofs.Common.{◌≡◌, ◌⊎◌, inl, inr, ℕ, Bool, true, false, List, [], ◌∷◌, ◌++◌}
+use Rattle.std.proofs.Common.{map, take, Option, Some, None}
 use Rattle.stm_wire.specs.declared.intent.Intent.{Intent}
 use Rattle.stm_wire.specs.Call.{Call}
 use Rattle.stm_wire.specs.Chip.{ChipData}
@@ -11,6 +11,7 @@ use Rattle.stm_journal.specs.Journals.{Loaded}
 use Rattle.stm_journal.specs.States.{intent_of, is_unfinished}
 use Rattle.stm_session.specs.declared.asking_board.Board.{Board}
 use Rattle.stm_session.specs.declared.fault.Fault.{Fault}
+use Rattle.stm_session.specs.declared.returned.Returned.{Returned}
 use Rattle.stm_session.specs.AskingBoard.{AnswersInOrder, AskingStops, AsksFor}
 use Rattle.stm_session.specs.Fault.{Cause, cause_of}
 use Rattle.stm_session.specs.Fresh.{Settles, Way, undo_way}
@@ -20,7 +21,7 @@ use Rattle.stm_session.specs.Reaching.{ReachesAndDoes, ReachesAndStops}
 use Rattle.stm_session.specs.Reaching.{ReachesInPart, Session, SettlesThen, asking_steps}
 use Rattle.stm_session.specs.RunOrder.{RunStops, RunsInOrder}
 use Rattle.stm_session.specs.Undoable.{IsJournalOf, has_companion}
-use Rattle.stm_session.specs.UndoOrder.{AreTaken, UndoDoes, UndoStopsAs}
+use Rattle.stm_session.specs.UndoOrder.{ReturnsInOrder, UndoStopsAs, UndoesInOrderFrom}
 use Rattle.stm_weak.specs.Believed.{NoneBelieved}
 use Rattle.stm_weak.specs.Weak.{Event, breaks, does, settles, NoneIs, intent_behind, weak_behind}
 
@@ -73,16 +74,18 @@ undo_events intent whole way id torn P cause old new (inl unreached) = settles i
 undo_events intent whole way id torn P cause old new (inr reached) =
     stopped_events intent whole way id torn P cause old new reached
 
--- A call, as its clauses tell it: also one that asks a device which board it is, as the program does
--- before each other. Of one that was stopped so many lines of an append that failed stand. An undo
--- that finds nothing to take back is one that was stopped before it did anything.
+-- A call, as its clauses tell it: also one that asks a device which board it is, as the program
+-- does before each other. Of one that was stopped so many lines of an append that failed stand. An
+-- undo that finds nothing to take back is one that was stopped before it did anything.
 pub data Deed (R : Type 0) (view : R → RigState) : Type 0 where
   ran : (table : List ChipData) (commands : List CommandData) (old new : R)
       → RunsInOrder table commands (view old) (view new) → Deed R view
   run_stopped : (table : List ChipData) (commands : List CommandData) (old new : R) (fault : Fault)
       (whole : ℕ) → RunStops table commands (view old) (view new) fault → Deed R view
-  undid : (is_fresh again : Bool) (table : List ChipData) (taken : ℕ) (old new : R)
-      → UndoDoes is_fresh (AreTaken again taken) table (view old) (view new) → Deed R view
+  undid : (is_fresh : Bool) (table : List ChipData) (taken : ℕ) (old new : R)
+      → UndoesInOrderFrom is_fresh table taken (view old) (view new) → Deed R view
+  undid_verified : (is_fresh : Bool) (table : List ChipData) (returned : Returned) (old new : R)
+      → ReturnsInOrder is_fresh true table returned (view old) (view new) → Deed R view
   undo_stopped : (is_fresh again : Bool) (table : List ChipData) (count : ℕ) (old new : R)
       (fault : Fault) (whole : ℕ)
       → UndoStopsAs is_fresh again table count (view old) (view new) fault → Deed R view
@@ -92,10 +95,10 @@ pub data Deed (R : Type 0) (view : R → RigState) : Type 0 where
   asking_stopped : (is_fresh : Bool) (table : List ChipData) (old new : R) (fault : Fault)
       → AskingStops table is_fresh (view old) (view new) fault → Deed R view
 
--- What befell the device in it. A run settles under no intent, with 7F, which changes no page. A call
--- that didn't reach the device, or was stopped before it had asked it, did no more than to settle
--- it. Of one that asks for the board no more is told: its frames change nothing, and read where the
--- board is told.
+-- What befell the device in it. A run settles under no intent, with 7F, which changes no page. A
+-- call that didn't reach the device, or was stopped before it had asked it, did no more than to
+-- settle it. Of one that asks for the board no more is told: its frames change nothing, and read
+-- where the board is told.
 abbrev pub events_in : {R : Type 0} {view : R → RigState} → Deed R view → List Event
 events_in {R = R} {view = view} (ran table commands old new session) =
     done_events None (Settles 0x7F 131072) session.chip.id session.journal.is_torn _
@@ -105,7 +108,11 @@ events_in {R = R} {view = view} (run_stopped table commands old new fault whole 
 events_in {R = R} {view = view} (run_stopped table commands old new fault whole (inr session)) =
     stopped_events None whole (Settles 0x7F 131072) session.chip.id session.journal.is_torn _
     (cause_of fault) (view old) (view new) session.does
-events_in {R = R} {view = view} (undid is_fresh again table taken old new session) =
+events_in {R = R} {view = view} (undid is_fresh table taken old new session) =
+    let intent = intent_of session.journal.state in
+    done_events intent (undo_way is_fresh session.chip.kind intent) session.chip.id
+    session.journal.is_torn _ (view old) (view new) session.does
+events_in {R = R} {view = view} (undid_verified is_fresh table returned old new session) =
     let intent = intent_of session.journal.state in
     done_events intent (undo_way is_fresh session.chip.kind intent) session.chip.id
     session.journal.is_torn _ (view old) (view new) session.does
@@ -141,7 +148,8 @@ Finds chip intent (ran table commands old new session) = RunFinds chip intent se
 Finds chip intent (run_stopped table commands old new fault whole (inl unreached)) = Unit {0}
 Finds chip intent (run_stopped table commands old new fault whole (inr session)) =
     RunFinds chip intent session
-Finds chip intent (undid is_fresh again table taken old new session) =
+Finds chip intent (undid is_fresh table taken old new session) = UndoFinds chip intent session
+Finds chip intent (undid_verified is_fresh table returned old new session) =
     UndoFinds chip intent session
 Finds chip intent (undo_stopped is_fresh again table count old new fault whole (inl fetched)) =
     Unit {0}
@@ -164,7 +172,8 @@ AllFind chip intent (deed ∷ deeds) =
 abbrev pub AtOk : {R : Type 0} {view : R → RigState} → Deed R view → Type 0 → Type 0
 AtOk (ran table commands old new session) P = P
 AtOk (run_stopped table commands old new fault whole stop) P = Unit {0}
-AtOk (undid is_fresh again table taken old new session) P = P
+AtOk (undid is_fresh table taken old new session) P = P
+AtOk (undid_verified is_fresh table returned old new session) P = P
 AtOk (undo_stopped is_fresh again table count old new fault whole stop) P = Unit {0}
 AtOk (asked is_fresh table board old new asks) P = Unit {0}
 AtOk (asking_stopped is_fresh table old new fault stop) P = Unit {0}
