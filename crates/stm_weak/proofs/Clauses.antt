@@ -12,11 +12,14 @@ use Rattle.stm_session.specs.declared.returned.Returned.{Returned}
 use Rattle.stm_session.specs.Fault.{Cause, cause_of}
 use Rattle.stm_session.specs.Fresh.{Way, undo_way}
 use Rattle.stm_session.specs.Order.{Step, Adds, Sends, AreCutShort, IsAfter, untold}
-use Rattle.stm_session.specs.Reaching.{IsConfirmedInPart, ReachesAndStops, ReachesInPart, SettlesThen, StepsOf, asking_steps}
-use Rattle.stm_session.specs.UndoOrder.{AreTaken, BeginTaking, ReturnsInOrder, UndoDoes, UndoDoesInPart, UndoStopsAs, UndoesInOrderFrom}
+use Rattle.stm_session.specs.Reaching.{IsConfirmedInPart, ReachesAndStops, ReachesInPart}
+use Rattle.stm_session.specs.Reaching.{SettlesThen, StepsOf, asking_steps}
+use Rattle.stm_session.specs.UndoOrder.{AreTaken, BeginTaking, ReturnsInOrder, UndoDoes}
+use Rattle.stm_session.specs.UndoOrder.{UndoDoesInPart, UndoStopsAs, UndoesInOrderFrom}
 use Rattle.stm_session.specs.Work.{pages_at_work}
 use Rattle.stm_weak.specs.Weak.{does, intent_with_lines, weak_after}
-use Rattle.stm_weak.specs.Believed.{AreAtWork, BelievesNone, Heals, NoneBelieved, UndoHeals, UndoStopsHealing}
+use Rattle.stm_weak.specs.Believed.{AreAtWork, BelievesNone, Heals, NoneBelieved, UndoHeals}
+use Rattle.stm_weak.specs.Believed.{UndoStopsHealing}
 use Rattle.stm_weak.proofs.Misreading.{begun_goes}
 use Rattle.stm_weak.proofs.Mending.{all_mend}
 use Rattle.stm_weak.proofs.Walking.{Goes, done_of, within_all}

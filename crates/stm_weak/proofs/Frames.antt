@@ -1,5 +1,7 @@
 -- Of which page a frame is.
-use Rattle.std.proofs.Common.{◌≡◌, ◌⊎◌, inl, inr, ⊎_elim, ℕ, zero, ◌+◌, ◌/◌, ◌%◌, ◌<◌, ◌≤◌, Bool, List, ◌∷◌, length, Contains, get_or, Option, Some, refl, sym, ap, subst, arith}
+use Rattle.std.proofs.Common.{◌≡◌, ◌⊎◌, inl, inr, ⊎_elim, ℕ, zero, ◌+◌, ◌/◌, ◌%◌, ◌<◌, ◌≤◌, Bool}
+use Rattle.std.proofs.Common.{List, ◌∷◌, length, Contains, get_or, Option, Some, refl, sym, ap}
+use Rattle.std.proofs.Common.{subst, arith}
 use Rattle.std.proofs.lemmas.Bool.{cases_lt, cases_order}
 use Rattle.std.proofs.lemmas.List.{get_or_past}
 use Rattle.stm_wire.specs.declared.chip.EraseKind.{EraseKind}
@@ -14,7 +16,8 @@ use Rattle.stm_wire.specs.Refused.{IsRefusedRead, at_address, at_code, at_count}
 use Rattle.stm_session.specs.Order.{page_address}
 use Rattle.stm_session.specs.Work.{pages_of_intent}
 use Rattle.stm_weak.specs.Weak.{Changes, erases, writes}
-use Rattle.stm_weak.specs.Believed.{MayPut, asks, confirms, names, reads, refused, erases as may_erase, writes as may_write}
+use Rattle.stm_weak.specs.Believed.{MayPut, asks, confirms, names, reads, refused}
+use Rattle.stm_weak.specs.Believed.{erases as may_erase, writes as may_write}
 
 -- a byte that a dialogue sends
 abbrev pub byte_at : ℕ → List Turn → ℕ
@@ -27,7 +30,8 @@ same_byte k xs ys e = ap (λ (l : List Turn). byte_at k l) e
 same_address : (a b : ℕ) (xs ys : List ℕ) → write_turns a xs ≡ write_turns b ys → a ≡ b
 same_address a b xs ys e =
     let h2 : a / 16777216 ≡ b / 16777216 = same_byte 2 (write_turns a xs) (write_turns b ys) e in
-    let h3 : a / 65536 % 256 ≡ b / 65536 % 256 = same_byte 3 (write_turns a xs) (write_turns b ys) e in
+    let h3 : a / 65536 % 256 ≡ b / 65536 % 256 = same_byte 3 (write_turns a xs)
+    (write_turns b ys) e in
     let h4 : a / 256 % 256 ≡ b / 256 % 256 = same_byte 4 (write_turns a xs) (write_turns b ys) e in
     let h5 : a % 256 ≡ b % 256 = same_byte 5 (write_turns a xs) (write_turns b ys) e in
     omega (arith, h2, h3, h4, h5)
@@ -59,7 +63,8 @@ no_erase_reads kind n a answer e =
     let h : 0x40 ≤ 0x11 = subst P e (first_of_erase kind n) in
     omega (arith, h)
 
-pub no_write_reads : (a b : ℕ) (bytes answer : List ℕ) → write_turns b bytes ≡ read_turns a answer → ⊥
+pub no_write_reads : (a b : ℕ) (bytes answer : List ℕ) → write_turns b bytes ≡ read_turns a answer
+    → ⊥
 no_write_reads a b bytes answer e =
     let h : 0x31 ≡ 0x11 = same_byte 0 (write_turns b bytes) (read_turns a answer) e in
     omega (arith, h)
@@ -138,22 +143,30 @@ changed_at_work chip both W intent turns n (names high low e) changes =
 changed_at_work chip both W intent turns n (confirms place answer at e) changes =
     absurd (no_change chip n turns (begins_as _ turns e (omega arith)) changes)
 changed_at_work chip both W intent turns n (refused place frame at is) changes =
-    absurd (no_change chip n turns (refused_first place.address place.length frame turns is) changes)
+    absurd (no_change chip n turns
+    (refused_first place.address place.length frame turns is) changes)
 changed_at_work chip both W intent turns n (reads address answer none e) changes =
     absurd (no_change chip n turns (begins_as _ turns e (omega arith)) changes)
 changed_at_work chip both W intent turns n (may_erase m is e) (erases own) =
     of_erase both intent m n is
-    (same_erased chip.kind n m (let P : List Turn → Type 0 = λ l. l ≡ erase_turns chip.kind m in subst P own e))
-changed_at_work chip both W intent turns n (may_erase m is e) (writes offset bytes some within own) =
+    (same_erased chip.kind n m (let P : List Turn
+    → Type 0 = λ l. l ≡ erase_turns chip.kind m in subst P own e))
+changed_at_work chip both W intent turns n (may_erase m is e)
+    (writes offset bytes some within own) =
     absurd
     (no_erase_writes chip.kind m (page_address chip n + offset) bytes
-    (let P : List Turn → Type 0 = λ l. l ≡ write_turns (page_address chip n + offset) bytes in subst P e own))
-changed_at_work chip both W intent turns n (may_write m offset bytes is some within e) (erases own) =
+    (let P : List Turn → Type 0 = λ l. l ≡ write_turns
+    (page_address chip n + offset) bytes in subst P e own))
+changed_at_work chip both W intent turns n (may_write m offset bytes is some within e)
+    (erases own) =
     absurd
     (no_erase_writes chip.kind n (page_address chip m + offset) bytes
-    (let P : List Turn → Type 0 = λ l. l ≡ write_turns (page_address chip m + offset) bytes in subst P own e))
-changed_at_work chip both W intent turns n (may_write m o xs is one inside e) (writes p ys two within own) =
+    (let P : List Turn → Type 0 = λ l. l ≡ write_turns
+    (page_address chip m + offset) bytes in subst P own e))
+changed_at_work chip both W intent turns n (may_write m o xs is one inside e)
+    (writes p ys two within own) =
     let P : List Turn → Type 0 = λ l. l ≡ write_turns (page_address chip m + o) xs in
-    let same = same_address (page_address chip n + p) (page_address chip m + o) ys xs (subst P own e) in
+    let same = same_address (page_address chip n + p) (page_address chip m + o) ys xs
+    (subst P own e) in
     of_program both intent m n is
     (same_page chip n m p o (length ys) (length xs) two within one inside same)

@@ -1,5 +1,7 @@
 -- What a call leaves, behind settling under the intent of the lines.
-use Rattle.std.proofs.Common.{◌≡◌, ⊎_elim, ℕ, zero, suc, ◌<◌, ◌==◌, ◌&&◌, Bool, true, false, not, if◌then◌else◌, List, [], ◌∷◌, ◌++◌, Contains, Option, Some, None, refl, sym, arith}
+use Rattle.std.proofs.Common.{◌≡◌, ⊎_elim, ℕ, zero, suc, ◌<◌, ◌==◌, ◌&&◌, Bool, true, false, not}
+use Rattle.std.proofs.Common.{if◌then◌else◌, List, [], ◌∷◌, ◌++◌, Contains, Option, Some, None}
+use Rattle.std.proofs.Common.{refl, sym, arith}
 use Rattle.std.proofs.lemmas.Bool.{false≢true}
 use Rattle.std.proofs.lemmas.Bool.Decides.{nat_tests}
 use Rattle.stm_wire.specs.declared.intent.Intent.{Intent}
@@ -11,14 +13,17 @@ use Rattle.stm_wire.specs.Intents.{intended_pages}
 use Rattle.stm_wire.specs.Rig.{RigState}
 use Rattle.stm_journal.specs.declared.stage.Stage.{Stage}
 use Rattle.stm_journal.specs.declared.stage.Stage.TheVariants.{Open, Ended, Returning}
-use Rattle.stm_journal.specs.States.{SegmentData, StateData, intent_at, intent_of, is_ended_stage, is_unfinished}
+use Rattle.stm_journal.specs.States.{SegmentData, StateData, intent_at, intent_of, is_ended_stage}
+use Rattle.stm_journal.specs.States.{is_unfinished}
 use Rattle.stm_session.specs.Fault.{Cause}
 use Rattle.stm_session.specs.Fresh.{Way}
 use Rattle.stm_session.specs.Order.{Step, AreCutShort, IsAfter}
-use Rattle.stm_session.specs.Reaching.{IsConfirmedInPart, ReachesAndStops, SettlesThen, asking_steps, confirming}
+use Rattle.stm_session.specs.Reaching.{IsConfirmedInPart, ReachesAndStops, SettlesThen}
+use Rattle.stm_session.specs.Reaching.{asking_steps, confirming}
 use Rattle.stm_session.specs.Undoable.{has_companion}
 use Rattle.stm_session.specs.Work.{beside, pages_of_intent}
-use Rattle.stm_weak.specs.Weak.{Event, settles, NoneIs, intent_after, intent_behind, weak_after, weak_behind}
+use Rattle.stm_weak.specs.Weak.{Event, settles, NoneIs, intent_after, intent_behind, weak_after}
+use Rattle.stm_weak.specs.Weak.{weak_behind}
 use Rattle.stm_weak.specs.Believed.{AreAtWork, NoneBelieved}
 use Rattle.stm_weak.specs.History.{left_of, part_in, stopped_events}
 use Rattle.stm_weak.proofs.Clauses.{all_believed}
@@ -76,12 +81,14 @@ no_intent s finished = by_stack s.stack finished
         by_stage (Returning i) finished = absurd (false≢true (sym finished))
 
 -- what a call has to leave
-pub record Leaves (chip : ChipData) (W : ℕ → Type 0) (o : Option Intent) (events : List Event) : Type 0 where
+pub record Leaves (chip : ChipData) (W : ℕ → Type 0) (o : Option Intent)
+    (events : List Event) : Type 0 where
   pub believed : NoneBelieved chip (has_companion chip) W o events
   pub none : NoneIs (λ n. weak_behind chip W events n)
 
 -- A session whose steps were done, behind settling under the intent of the lines.
-pub done_leaves : (chip : ChipData) (W : ℕ → Type 0) (o : Option Intent) (version : ℕ) (codes : List ℕ)
+pub done_leaves : (chip : ChipData) (W : ℕ → Type 0) (o : Option Intent) (version : ℕ)
+    (codes : List ℕ)
     (steps own : List Step) → AreAtWork (has_companion chip) W o → steps ≡ confirming chip ++ own
     → Own chip (has_companion chip) o own
     → ((W1 : ℕ → Type 0) → AreAtWork (has_companion chip) W1 o → NoneIs (λ n. past chip W1 own n))
@@ -107,12 +114,14 @@ part_believed : (chip : ChipData) (W : ℕ → Type 0) (o : Option Intent) (whol
     (a b : Option (List Call))
     (goes : GoesOn
     (SettlesThen way
-    (AreCutShort (IsAfter (asking_steps version codes chip.id) (IsConfirmedInPart chip P)) cause torn))
+    (AreCutShort (IsAfter (asking_steps version codes chip.id)
+    (IsConfirmedInPart chip P)) cause torn))
     a b)
     → AreAtWork (has_companion chip) W o
     → ((xs : List Step) → P xs → Own chip (has_companion chip) o xs)
     → (let part =
-    part_in way (IsAfter (asking_steps version codes chip.id) (IsConfirmedInPart chip P)) cause torn a b
+    part_in way (IsAfter (asking_steps version codes chip.id)
+    (IsConfirmedInPart chip P)) cause torn a b
     goes
     in
     NoneBelieved chip (has_companion chip) W o (done_of part.done ++ left_of whole part.failed))
@@ -123,7 +132,8 @@ part_believed chip W o whole version codes way torn cause P (Some past) b goes n
     (stopped_goes chip (has_companion chip) W o version codes P _ cut.allowed.0 now cut.allowed.1
     cut.allowed.2 go)
 
-pub stopped_believed : (chip : ChipData) (W : ℕ → Type 0) (o : Option Intent) (whole : ℕ) (way : Way)
+pub stopped_believed : (chip : ChipData) (W : ℕ → Type 0) (o : Option Intent) (whole : ℕ)
+    (way : Way)
     (torn : Bool) (cause : Cause) (P : List Step → Type 0) (old new : RigState)
     (reached : ReachesAndStops way chip.id torn (IsConfirmedInPart chip P) cause old new)
     → AreAtWork (has_companion chip) W o
@@ -134,7 +144,8 @@ stopped_believed chip W o whole way torn cause P old new reached now go =
     let later = settled chip W o now in (
       refl,
       later,
-      part_believed chip (weak_after chip W (settles o)) o whole reached.0 reached.1 way torn cause P
+      part_believed chip (weak_after chip W
+          (settles o)) o whole reached.0 reached.1 way torn cause P
           old.calls new.calls reached.2 later go,
     )
 

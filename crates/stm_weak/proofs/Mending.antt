@@ -1,5 +1,8 @@
--- The steps of an undo: the pages at work first, which it doesn't read; and then no page may be weak.
-use Rattle.std.proofs.Common.{◌≡◌, ◌⊎◌, inl, inr, ⊎_elim, ℕ, zero, suc, ◌+◌, ◌/◌, ◌==◌, ◌&&◌, Bool, true, false, if◌then◌else◌, List, [], ◌∷◌, ◌++◌, length, Contains, Option, Some, None, sym, ◌∙◌, ap, subst, arith, append-nil}
+-- The steps of an undo: the pages at work first, which it doesn't read; and then no page may be
+-- weak.
+use Rattle.std.proofs.Common.{◌≡◌, ◌⊎◌, inl, inr, ⊎_elim, ℕ, zero, suc, ◌+◌, ◌/◌, ◌==◌, ◌&&◌, Bool}
+use Rattle.std.proofs.Common.{true, false, if◌then◌else◌, List, [], ◌∷◌, ◌++◌, length, Contains}
+use Rattle.std.proofs.Common.{Option, Some, None, sym, ◌∙◌, ap, subst, arith, append-nil}
 use Rattle.stm_wire.specs.declared.intent.Intent.{Intent}
 use Rattle.stm_wire.specs.declared.intent.Intent.TheVariants.{Erase}
 use Rattle.stm_wire.specs.Chip.{ChipData, erased_byte}
@@ -7,20 +10,25 @@ use Rattle.stm_chip.specs.Plan.{frames_of}
 use Rattle.stm_journal.specs.declared.entry.Entry.TheVariants.{Undoes}
 use Rattle.stm_journal.specs.declared.kept.Kept.{Kept}
 use Rattle.stm_journal.specs.States.{intent_page}
-use Rattle.stm_session.specs.Order.{Step, Adds, AreAllTakenBack, AreReturned, AreRewritten, AreTakenBack, IsReturned, IsRewritten, IsTakenBack, Tells, behind, page_reads, return_steps}
+use Rattle.stm_session.specs.Order.{Step, Adds, AreAllTakenBack, AreReturned, AreRewritten}
+use Rattle.stm_session.specs.Order.{AreTakenBack, IsReturned, IsRewritten, IsTakenBack, Tells}
+use Rattle.stm_session.specs.Order.{behind, page_reads, return_steps}
 use Rattle.stm_session.specs.Work.{beside, pages_of_intent}
 use Rattle.stm_weak.specs.Weak.{NoneIs}
 use Rattle.stm_weak.specs.Believed.{AreAtWork}
 use Rattle.stm_weak.proofs.Frames.{here}
-use Rattle.stm_weak.proofs.Pieces.{all_frames_inside, free_page, free_return, rewrite_goes, rewritten}
-use Rattle.stm_weak.proofs.Walking.{Free, Goes, free_as, free_lines, free_nothing, free_then, goes_as, goes_then, intended, past, past_then, still}
+use Rattle.stm_weak.proofs.Pieces.{all_frames_inside, free_page, free_return, rewrite_goes}
+use Rattle.stm_weak.proofs.Pieces.{rewritten}
+use Rattle.stm_weak.proofs.Walking.{Free, Goes, free_as, free_lines, free_nothing, free_then}
+use Rattle.stm_weak.proofs.Walking.{goes_as, goes_then, intended, past, past_then, still}
 
 module _ (again : Bool) (chip : ChipData) (both : Bool) where
   free_returned : (Told : Tells) (n : ℕ) (steps : List Step) → IsReturned again chip Told n steps
       → Free chip both steps
   free_returned Told n steps returned =
       free_as chip both
-      (page_reads chip n returned.held ++ return_steps again chip n returned.held returned.page) steps
+      (page_reads chip n returned.held ++ return_steps again chip n returned.held returned.page)
+      steps
       returned.is
       (free_then chip both (page_reads chip n returned.held)
       (return_steps again chip n returned.held returned.page) (free_page chip both n returned.held)
@@ -164,7 +172,8 @@ pub all_mend : (again : Bool) (chip : ChipData) (both : Bool) (Told : Tells) (o 
     → Mends chip both W o steps
 all_mend again chip both Told o W count segments steps own taken =
     let work = work_mends chip both Told o W taken.first own taken.is_first in
-    let free = free_segments again chip both (behind taken.first Told) count segments taken.back taken.are_back in
+    let free = free_segments again chip both
+    (behind taken.first Told) count segments taken.back taken.are_back in
     let W2 : ℕ → Type 0 = λ n. past chip W taken.first n in
     mends_as chip both W o (taken.first ++ taken.back) steps taken.is
     (mends_then chip both W o taken.first taken.back work.goes

@@ -1,12 +1,16 @@
 -- An undo reads only where no page may be weak; so it may read other bytes there.
-use Rattle.std.proofs.Common.{◌≡◌, ◌⊎◌, inl, inr, ℕ, zero, suc, ◌+◌, ◌*◌, ◌/◌, Bool, true, false, List, [], ◌∷◌, ◌++◌, length, take, drop, Option, refl, sym, subst, arith}
+use Rattle.std.proofs.Common.{◌≡◌, ◌⊎◌, inl, inr, ℕ, zero, suc, ◌+◌, ◌*◌, ◌/◌, Bool, true, false}
+use Rattle.std.proofs.Common.{List, [], ◌∷◌, ◌++◌, length, take, drop, Option, refl, sym, subst}
+use Rattle.std.proofs.Common.{arith}
 use Rattle.stm_wire.specs.declared.intent.Intent.{Intent}
 use Rattle.stm_wire.specs.Chip.{ChipData, erased_byte, page_size}
 use Rattle.stm_wire.specs.Frames.{erase_turns, read_turns}
 use Rattle.stm_chip.specs.declared.plan.Frame.{Frame}
 use Rattle.stm_chip.specs.Plan.{frames_of}
 use Rattle.stm_journal.specs.declared.kept.Kept.{Kept}
-use Rattle.stm_session.specs.Order.{Step, Adds, Sends, AreAllTakenBack, AreRewritten, Begin, OrMisread, Tells, behind, page_address, page_reads, read_steps, rewrite_steps, write_step, write_steps}
+use Rattle.stm_session.specs.Order.{Step, Adds, Sends, AreAllTakenBack, AreRewritten, Begin}
+use Rattle.stm_session.specs.Order.{OrMisread, Tells, behind, page_address, page_reads, read_steps}
+use Rattle.stm_session.specs.Order.{rewrite_steps, write_step, write_steps}
 use Rattle.stm_session.specs.Work.{pages_of_intent}
 use Rattle.stm_weak.specs.Weak.{does, NoneIs, weak_after}
 use Rattle.stm_weak.specs.Believed.{AreAtWork}
@@ -57,8 +61,11 @@ late_none chip W (Sends turns ∷ steps) none =
 late_writes : (chip : ChipData) (n : ℕ) (page : List ℕ) (frames : List Frame) (W : ℕ → Type 0)
     → Late chip W (write_steps chip n page frames)
 late_writes chip n page [] W = tt
-late_writes chip n page (f ∷ frames) W =
-    (λ is. absurd (omega (arith, is)), late_writes chip n page frames (weak_after chip W (does (write_step chip n page f))))
+late_writes chip n page (f ∷ frames) W = (
+  λ is. absurd (omega (arith, is)),
+  late_writes chip n page frames (weak_after chip W (does
+      (write_step chip n page f))),
+)
 
 late_rewrite : (chip : ChipData) (n : ℕ) (page : List ℕ) (frames : List Frame) (W : ℕ → Type 0)
     → Late chip W (rewrite_steps chip n page frames)
@@ -117,7 +124,8 @@ none_where_read chip W address zero bytes late = inl refl
 none_where_read chip W address (suc blocks) bytes late =
     let answer = take 256 (drop (256 * blocks) bytes) in
     let before = read_steps address blocks bytes in
-    let last = late_back chip W before (Sends (read_turns (address + 256 * blocks) answer) ∷ []) late in
+    let last = late_back chip W before (Sends (read_turns
+    (address + 256 * blocks) answer) ∷ []) late in
     inr (λ n w. last.0 refl n (reads_leave chip W address blocks bytes n w))
 
 other_reads : (chip : ChipData) (both : Bool) (W : ℕ → Type 0) (o : Option Intent) (n : ℕ)
@@ -157,13 +165,15 @@ begun_goes true chip both Told o W count segments steps own (inr misread) =
     in
     let late =
     late_back chip W misread.before own_reads
-    (late_front chip W all rest (all_late true chip both Told o W count segments (all ++ rest) own taken))
+    (late_front chip W all rest (all_late true chip both Told o W count segments
+    (all ++ rest) own taken))
     in
     let W1 : ℕ → Type 0 = λ n. past chip W misread.before n in
     let o1 = intended o misread.before in
     let came = other_reads chip both W1 o1 misread.n misread.page misread.came late in
     let begun = goes_front chip both W1 o1 misread.reads misread.begun.0
-    (goes_as chip both W1 o1 (page_reads chip misread.n misread.came) (misread.reads ++ misread.begun.0) misread.begun.1 came)
+    (goes_as chip both W1 o1 (page_reads chip misread.n misread.came)
+    (misread.reads ++ misread.begun.0) misread.begun.1 came)
     in
     goes_as chip both W o (misread.before ++ misread.reads) steps misread.is
     (goes_then chip both W o misread.before misread.reads goes begun)

@@ -1,5 +1,7 @@
 -- Reads, and a page's new bytes, step by step.
-use Rattle.std.proofs.Common.{◌≡◌, ℕ, zero, suc, ◌+◌, ◌-◌, ◌*◌, ◌/◌, ◌≤◌, ◌==◌, Bool, true, false, if◌then◌else◌, List, [], ◌∷◌, ◌++◌, length, take, drop, Option, Some, refl, sym, subst, arith, length-take}
+use Rattle.std.proofs.Common.{◌≡◌, ℕ, zero, suc, ◌+◌, ◌-◌, ◌*◌, ◌/◌, ◌≤◌, ◌==◌, Bool, true, false}
+use Rattle.std.proofs.Common.{if◌then◌else◌, List, [], ◌∷◌, ◌++◌, length, take, drop, Option, Some}
+use Rattle.std.proofs.Common.{refl, sym, subst, arith, length-take}
 use Rattle.std.specs.Prelude.{bytes_eq}
 use Rattle.std.specs.List.{AllByRecursion}
 use Rattle.std.proofs.lemmas.List.{length-drop}
@@ -9,7 +11,8 @@ use Rattle.stm_wire.specs.Chip.{ChipData, erased_byte, page_size}
 use Rattle.stm_wire.specs.Frames.{erase_turns, read_turns, write_turns}
 use Rattle.stm_chip.specs.declared.plan.Frame.{Frame}
 use Rattle.stm_chip.specs.Plan.{block_of, cut_length, frame_of, frames_of, used_length}
-use Rattle.stm_session.specs.Order.{Sends, page_address, page_reads, read_steps, restore_steps, return_steps, rewrite_steps, write_steps}
+use Rattle.stm_session.specs.Order.{Sends, page_address, page_reads, read_steps, restore_steps}
+use Rattle.stm_session.specs.Order.{return_steps, rewrite_steps, write_steps}
 use Rattle.stm_weak.specs.Weak.{does, weak_after}
 use Rattle.stm_weak.specs.Believed.{AreAtWork, reads, erases, writes}
 use Rattle.stm_weak.proofs.Walking.{Goes, Free, free_nothing, free_then, past, still}
@@ -27,7 +30,8 @@ free_reads chip both address (suc blocks) bytes =
 
 pub free_page : (chip : ChipData) (both : Bool) (n : ℕ) (held : List ℕ)
     → Free chip both (page_reads chip n held)
-free_page chip both n held = free_reads chip both (page_address chip n) (page_size chip n / 256) held
+free_page chip both n held = free_reads chip both (page_address chip n)
+    (page_size chip n / 256) held
 
 -- the frames of a page's bytes lie in it, and have some each
 abbrev pub AreInside : ℕ → List Frame → Type 0
@@ -101,18 +105,27 @@ rewrite_goes chip both n page (f ∷ frames) W o own size inside =
     let after : ℕ → Type 0 = weak_after chip W (does (Sends (erase_turns chip.kind n))) in
     let still_own : AreAtWork both after (Some (Program n)) = λ m w. own m w.0 in (
       (own, tt),
-      (erases n refl refl, ((still_own, tt), writes_go chip both n page (f ∷ frames) after size inside)),
+      (
+        erases n refl refl,
+        (
+          (still_own, tt),
+          writes_go chip both n page
+              (f ∷ frames) after size inside,
+        ),
+      ),
     )
 
 -- Behind that it isn't weak.
 pub rewritten : (chip : ChipData) (n : ℕ) (page : List ℕ) (frames : List Frame) (W : ℕ → Type 0)
     (m : ℕ) → past chip W (rewrite_steps chip n page frames) m → m ≡ n → ⊥
 rewritten chip n page [] W m w same =
-    w.1 (let P : ℕ → Type 0 = λ k. erase_turns chip.kind n ≡ erase_turns chip.kind k in subst P (sym same) refl)
+    w.1 (let P : ℕ → Type 0 = λ k. erase_turns chip.kind n ≡ erase_turns chip.kind k in subst P
+    (sym same) refl)
 rewritten chip n page (f ∷ frames) W m w same =
     let after : ℕ → Type 0 = weak_after chip W (does (Sends (erase_turns chip.kind n))) in
     let was = still chip after (write_steps chip n page (f ∷ frames)) m w in
-    was.1 (let P : ℕ → Type 0 = λ k. erase_turns chip.kind n ≡ erase_turns chip.kind k in subst P (sym same) refl)
+    was.1 (let P : ℕ → Type 0 = λ k. erase_turns chip.kind n ≡ erase_turns chip.kind k in subst P
+    (sym same) refl)
 
 -- where no page may be weak
 pub free_rewrite : (chip : ChipData) (both : Bool) (n : ℕ) (page : List ℕ)

@@ -1,11 +1,13 @@
 -- The steps of a run may come where no page may be weak.
-use Rattle.std.proofs.Common.{◌≡◌, inl, inr, ℕ, zero, ◌+◌, ◌/◌, ◌==◌, ◌&&◌, Bool, true, false, if◌then◌else◌, List, [], ◌∷◌, ◌++◌, length, refl, sym, ◌∙◌, subst}
+use Rattle.std.proofs.Common.{◌≡◌, inl, inr, ℕ, zero, ◌+◌, ◌/◌, ◌==◌, ◌&&◌, Bool, true, false}
+use Rattle.std.proofs.Common.{if◌then◌else◌, List, [], ◌∷◌, ◌++◌, length, refl, sym, ◌∙◌, subst}
 use Rattle.std.specs.Prelude.{bytes_eq}
 use Rattle.std.specs.List.{AllByRecursion, list_any}
 use Rattle.std.proofs.lemmas.List.{length-replicate}
 use Rattle.stm_image.specs.Lay.{lay}
 use Rattle.stm_image.specs.Pairs.{Pairs}
-use Rattle.stm_wire.specs.Chip.{ChipData, erased_byte, erased_page, page_count, page_offset, page_size}
+use Rattle.stm_wire.specs.Chip.{ChipData, erased_byte, erased_page, page_count, page_offset}
+use Rattle.stm_wire.specs.Chip.{page_size}
 use Rattle.stm_chip.specs.Plan.{frames_of}
 use Rattle.stm_journal.specs.declared.entry.Entry.TheVariants.{Keeps, Ends}
 use Rattle.stm_journal.specs.Journals.{begin_entries}
@@ -13,18 +15,23 @@ use Rattle.stm_journal.specs.States.{StateData}
 use Rattle.stm_session.specs.declared.change.Change.{Change}
 use Rattle.stm_session.specs.declared.change.Change.TheVariants as change
 use Rattle.stm_session.specs.declared.fault.Fault.{Fault}
-use Rattle.stm_session.specs.ChangeOrder.{AreTurned, none, more, IsChangedUnless, IsOneSegment, IsSaved, IsSavedWith, IsSegmentBegun, begins, turns, ends, IsTurnOf}
+use Rattle.stm_session.specs.ChangeOrder.{AreTurned, none, more, IsChangedUnless, IsOneSegment}
+use Rattle.stm_session.specs.ChangeOrder.{IsSaved, IsSavedWith, IsSegmentBegun, begins, turns, ends}
+use Rattle.stm_session.specs.ChangeOrder.{IsTurnOf}
 use Rattle.stm_session.specs.Contents.{content}
 use Rattle.stm_session.specs.Answers.{OutcomeData}
 use Rattle.stm_session.specs.Meaning.{CommandData, is_change}
 use Rattle.stm_session.specs.Order.{Step, Adds, page_reads, rewrite_steps}
-use Rattle.stm_session.specs.RunOrder.{AreBegun, AreDone, none as nothing_done, more as more_done, IsBegunIf, IsDoneIf, IsReading}
+use Rattle.stm_session.specs.RunOrder.{AreBegun, AreDone, none as nothing_done, more as more_done}
+use Rattle.stm_session.specs.RunOrder.{IsBegunIf, IsDoneIf, IsReading}
 use Rattle.stm_session.specs.Undoable.{has_companion}
 use Rattle.stm_weak.specs.Believed.{reads}
 use Rattle.stm_weak.proofs.Pieces.{free_page, free_rewrite}
-use Rattle.stm_weak.proofs.Walking.{Free, Goes, free_as, free_front, free_lines, free_nothing, free_then}
+use Rattle.stm_weak.proofs.Walking.{Free, Goes, free_as, free_front, free_lines, free_nothing}
+use Rattle.stm_weak.proofs.Walking.{free_then}
 
-module _ (lengths : (set : Pairs) (address : ℕ) (bytes : List ℕ) → length (lay set address bytes) ≡ length bytes) (chip : ChipData) (both : Bool) where
+module _ (lengths : (set : Pairs) (address : ℕ) (bytes : List ℕ) → length
+    (lay set address bytes) ≡ length bytes) (chip : ChipData) (both : Bool) where
   length-content : (c : Change) (n : ℕ) (held : List ℕ) → length held ≡ page_size chip n
       → length (content chip c n held) ≡ page_size chip n
   length-content (change.Write image) n held size =
@@ -45,7 +52,8 @@ module _ (lengths : (set : Pairs) (address : ℕ) (bytes : List ℕ) → length 
       free_as chip both (saving.first ++ Adds (Keeps n held ∷ []) ∷ []) steps saving.is
       (free_then chip both saving.first (Adds (Keeps n held ∷ []) ∷ [])
       (free_as chip both (page_reads chip 257 first.other ++ line) saving.first first.is
-      (free_then chip both (page_reads chip 257 first.other) line (free_page chip both 257 first.other)
+      (free_then chip both (page_reads chip 257 first.other) line
+      (free_page chip both 257 first.other)
       (free_lines chip both (Keeps 257 first.other ∷ []))))
       (free_lines chip both (Keeps n held ∷ [])))
   saved_with false n held steps saving =
@@ -77,7 +85,8 @@ module _ (lengths : (set : Pairs) (address : ℕ) (bytes : List ℕ) → length 
   turn_free kept c n changed steps (inr turn) =
       let page = content chip c n turn.held in
       free_as chip both (page_reads chip n turn.held ++ turn.later) steps turn.is
-      (free_then chip both (page_reads chip n turn.held) turn.later (free_page chip both n turn.held)
+      (free_then chip both (page_reads chip n turn.held) turn.later
+      (free_page chip both n turn.held)
       (changed_unless (bytes_eq turn.held page) kept n turn.held page turn.later
       (length-content c n turn.held turn.size) turn.is_changed))
 

@@ -1,13 +1,16 @@
 -- How a session asks its device, while pages may be weak, and what comes behind that.
-use Rattle.std.proofs.Common.{◌≡◌, inl, inr, ℕ, ◌/◌, ◌%◌, Bool, List, [], ◌++◌, Option, Some, None, refl, sym, subst}
+use Rattle.std.proofs.Common.{◌≡◌, inl, inr, ℕ, ◌/◌, ◌%◌, Bool, List, [], ◌++◌, Option, Some, None}
+use Rattle.std.proofs.Common.{refl, sym, subst}
 use Rattle.stm_wire.specs.declared.intent.Intent.{Intent}
 use Rattle.stm_wire.specs.declared.places.UniquePlace.{UniquePlace}
 use Rattle.stm_wire.specs.Chip.{ChipData}
 use Rattle.stm_session.specs.Order.{Step}
-use Rattle.stm_session.specs.Reaching.{IsAsked, IsConfirmedInPart, IsConfirming, asking_steps, confirm_steps, confirmed_at, confirming}
+use Rattle.stm_session.specs.Reaching.{IsAsked, IsConfirmedInPart, IsConfirming, asking_steps}
+use Rattle.stm_session.specs.Reaching.{confirm_steps, confirmed_at, confirming}
 use Rattle.stm_weak.specs.Weak.{NoneIs}
 use Rattle.stm_weak.specs.Believed.{AreAtWork, asks, confirms, names, refused}
-use Rattle.stm_weak.proofs.Walking.{Goes, goes_as, goes_front, goes_then, intended, past, past_then, still}
+use Rattle.stm_weak.proofs.Walking.{Goes, goes_as, goes_front, goes_then, intended, past, past_then}
+use Rattle.stm_weak.proofs.Walking.{still}
 
 asking_goes : (chip : ChipData) (both : Bool) (W : ℕ → Type 0) (o : Option Intent) (version : ℕ)
     (codes : List ℕ) (id : ℕ) → Goes chip both W o (asking_steps version codes id)

@@ -1,10 +1,12 @@
 -- Steps one behind another, while pages may be weak: how they join, and what holds behind them.
-use Rattle.std.proofs.Common.{◌≡◌, ⊎_elim, ℕ, zero, suc, Bool, List, [], ◌∷◌, ◌++◌, map, take, Option, Some, None, sym, subst}
+use Rattle.std.proofs.Common.{◌≡◌, ⊎_elim, ℕ, zero, suc, Bool, List, [], ◌∷◌, ◌++◌, map, take}
+use Rattle.std.proofs.Common.{Option, Some, None, sym, subst}
 use Rattle.stm_wire.specs.declared.intent.Intent.{Intent}
 use Rattle.stm_wire.specs.Chip.{ChipData}
 use Rattle.stm_journal.specs.declared.entry.Entry.{Entry}
 use Rattle.stm_session.specs.Order.{Step, Adds, Sends, step_in}
-use Rattle.stm_weak.specs.Weak.{Event, does, NoneIs, intent_behind, intent_with, intent_with_lines, weak_after, weak_behind}
+use Rattle.stm_weak.specs.Weak.{Event, does, NoneIs, intent_behind, intent_with, intent_with_lines}
+use Rattle.stm_weak.specs.Weak.{weak_after, weak_behind}
 use Rattle.stm_weak.specs.Believed.{AreAtWork, MayPut, NoneBelieved}
 use Rattle.stm_weak.specs.History.{left_of}
 use Rattle.stm_weak.proofs.Frames.{changed_at_work}
@@ -36,7 +38,8 @@ Goes chip both W o (Sends turns ∷ steps) =
     MayPut chip W o turns × Goes chip both (weak_after chip W (does (Sends turns))) o steps
 
 -- what may be weak behind steps could be so before
-pub still : (chip : ChipData) (W : ℕ → Type 0) (steps : List Step) (n : ℕ) → past chip W steps n → W n
+pub still : (chip : ChipData) (W : ℕ → Type 0) (steps : List Step) (n : ℕ) → past chip W steps n
+    → W n
 still chip W [] n w = w
 still chip W (Adds entries ∷ steps) n w = still chip W steps n w
 still chip W (Sends turns ∷ steps) n w =
@@ -108,16 +111,24 @@ pub none_believed : (chip : ChipData) (both : Bool) (W : ℕ → Type 0) (o : Op
     → Goes chip both W o (done ++ step_in failed)
     → NoneBelieved chip both W o (done_of done ++ left_of whole failed)
 none_believed chip both W o whole [] None now p = tt
-none_believed chip both W o whole [] (Some (Sends turns)) now (put, p) =
-    (put, λ n w. ⊎_elim (λ was. now n was) (λ changes. changed_at_work chip both W o turns n put changes) w, tt)
+none_believed chip both W o whole [] (Some (Sends turns)) now (put, p) = (
+  put,
+  λ n w. ⊎_elim (λ was. now n was)
+      (λ changes. changed_at_work chip both W o turns n put changes) w,
+  tt,
+)
 none_believed chip both W o whole [] (Some (Adds entries)) now (within, p) =
     (tt, within_take both W o whole entries now within, tt)
 none_believed chip both W o whole (Adds entries ∷ done) failed now (within, p) =
     let later = within_all both W o entries now within in
     (tt, later, none_believed chip both W (intent_with_lines o entries) whole done failed later p)
 none_believed chip both W o whole (Sends turns ∷ done) failed now (put, p) =
-    let later : AreAtWork both (weak_after chip W (does (Sends turns))) o = λ n w. now n w.0 in
-    (put, later, none_believed chip both (weak_after chip W (does (Sends turns))) o whole done failed later p)
+    let later : AreAtWork both (weak_after chip W (does (Sends turns))) o = λ n w. now n w.0 in (
+      put,
+      later,
+      none_believed chip both (weak_after chip W (does
+          (Sends turns))) o whole done failed later p,
+    )
 
 -- Steps that may come where no page may be weak: how these join.
 abbrev pub Free : ChipData → Bool → List Step → Type 1
