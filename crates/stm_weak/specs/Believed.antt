@@ -18,8 +18,8 @@ use Rattle.stm_session.specs.Work.{pages_at_work, pages_of_intent}
 use Rattle.stm_weak.specs.Weak.{Event, does, settles, breaks, NoneIs, intent_after, weak_after}
 use Rattle.stm_weak.specs.Weak.{weak_behind}
 
--- A frame that asks which commands a device has, or what it is, or for its unique id, which it may
--- be refused; or that reads, where no page may be weak; or that changes the page of the intent.
+-- A frame that asks which commands a device has, or what it is, or for its unique id, which may be
+-- refused. Or it reads, where no page may be weak. Or it changes the page of the intent.
 pub data MayPut (chip : ChipData) (Weak : ℕ → Type 0) (intent : Option Intent)
     (turns : List Turn) : Type 0 where
   asks : (version : ℕ) (codes : List ℕ) → turns ≡ get_turns version codes
