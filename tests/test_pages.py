@@ -1,12 +1,14 @@
-"""The pages: their links lead somewhere, the pictures are well formed, the code that they name is there, and the version and the
-options are those of the program."""
+"""The pages: their links lead to pages and headings, the pictures are well formed, the code and the counts that they name are there,
+and the version and the options are those of the program."""
 
+import collections
 import glob
 import json
 import os
 import re
 import shutil
 import subprocess
+import sys
 import xml.etree.ElementTree
 
 from place import TOP, Place, is_unproved
@@ -20,6 +22,27 @@ def held(*parts):
 
 def pages():
     return sorted(glob.glob(os.path.join(TOP, "*.md")) + glob.glob(os.path.join(TOP, "docs", "*.md")))
+
+
+def headings(text):
+    """The places of a page that its headings are: their words in small letters, parted by hyphens. Of two that are alike the second
+    one has a number."""
+    text = re.sub(r"^```.*?^```$", "", text, flags=re.M | re.S)
+    counts, places = collections.Counter(), set()
+    for heading in re.findall(r"^#+ (.*)$", text, re.M):
+        place = re.sub(r"[^\w -]", "", re.sub(r"\]\([^)]*\)", "", heading).lower()).strip().replace(" ", "-")
+        places.add(f"{place}-{counts[place]}" if counts[place] else place)
+        counts[place] += 1
+    return places
+
+
+# prints how many faults each subject has, and each part of those of the companions
+COUNTED = """
+import collections, importlib, json
+import planted
+parts = {it: len(importlib.import_module("line_faults." + it).FAULTS) for it in ("line", "behind", "trial", "words")}
+print(json.dumps([collections.Counter(it.subject for it in planted.all_faults()), parts]))
+"""
 
 
 class Pages(Place):
@@ -130,3 +153,78 @@ class Pages(Place):
                         self.assertTrue(os.path.exists(os.path.join(TOP, "crates", folder, named)))
                     elif re.fullmatch(r"(\w+::)?[a-z]+(_[a-z]+)+|\w+::[a-z]\w*", named):
                         self.assertTrue(named.split("::")[-1] in functions)
+
+    def test_the_walk_names_what_decides_a_refusal(self):
+        """Each function of that table is in a file of its row. And each file of the words, the program and the sessions in which a fault
+        is made is in a row, but for faults of memory, of the line and of the journal's file, and `unpowered.rt`, which nobody runs."""
+        told = held("docs", "INSIDE.md").split("\n## What decides a refusal\n")[1]
+        named = set()
+        for row in [it for it in told.splitlines() if it.startswith("| ") and "`" in it]:
+            folder, files = "", []
+            for name in re.findall(r"`([^`]+\.rt|stm\w+/specs/\w+)`", row.split("|")[3]):
+                folder = os.path.dirname(name) or folder
+                files.append(os.path.join(folder, os.path.basename(name)))
+            text = "".join(held("crates", it) for it in files if it.endswith(".rt"))
+            for function in re.findall(r"`(?:\w+::)?([a-z]\w*)`", row.split("|")[2]):
+                with self.subTest(function=function):
+                    self.assertTrue(re.search(rf"\bfn {function}\b", text))
+            named.update(files)
+        made_in = set()
+        for crate in ("stm_words", "stmflash", "stm_session"):
+            for path in glob.glob(os.path.join(TOP, "crates", crate, "src", "**", "*.rt"), recursive=True):
+                made = [re.findall(r"\b(?:UsageFault|Failure|Fault)(?:::([A-Z]\w+)|$)", it)[-1:] for it in held(path).splitlines()
+                        if re.search(r"\bErr\((Unread::|Failure::|Fault::|UsageFault)", it.split("=>")[-1])]
+                if any(it and it[0] not in ("Memory", "Line", "Journal", "Session") for it in made):
+                    made_in.add(os.path.relpath(path, os.path.join(TOP, "crates")))
+        self.assertGreaterEqual(len(made_in), 30)
+        self.assertEqual(sorted(made_in - named - {"stmflash/src/unpowered.rt"}), [])
+
+    def test_the_lists_name_files_that_are_there(self):
+        """Each file in the tables of CONTRIBUTING that say where a new thing goes; one without a folder is below the crate, or in the
+        folder, of the one before it."""
+        files = subprocess.run(["git", "ls-files"], cwd=TOP, capture_output=True, text=True, check=True).stdout.split()
+        files = [it.removeprefix("crates/").removesuffix(".antt") for it in files]
+        count = 0
+        for row in [it for it in held("CONTRIBUTING.md").splitlines() if it.startswith("| `")]:
+            place = ""
+            for name in re.findall(r"`([\w./-]+)`", row.split("|")[1]):
+                if "NAME" in name or not re.search(r"[./]\w|^[A-Z]\w+$", name) or "/" not in name and not place:
+                    continue
+                found = [it for it in files if it == name or it.startswith((place, name + "/")) and it.endswith("/" + name)]
+                found = found or [it for it in files if it.startswith(name.rstrip("/") + "/")]
+                with self.subTest(row=row[:60], name=name):
+                    self.assertTrue(found)
+                count += 1
+                if "/" in name and found and not name.startswith(("specs/", "proofs/", "src/")):
+                    place = found[0].split("/")[0] if found[0].startswith("stm") else os.path.dirname(found[0])
+        self.assertGreaterEqual(count, 100)
+
+    def test_the_faults_are_as_many_as_are_told(self):
+        """In FAULTS the faults of each subject and of each part of the companions, and how many they are together; that in GATE too."""
+        ran = subprocess.run([sys.executable, "-B", "-c", COUNTED], cwd=os.path.join(TOP, "tools"), capture_output=True, check=True)
+        subjects, parts = json.loads(ran.stdout)
+        program, companions = held("docs", "FAULTS.md").split("## Faults planted in the ")[1:]
+        told = {}
+        for names, counts in re.findall(r"^\| (`\w+`(?:, `\w+`)*) \| (\d+(?:, \d+)*) \|", program, re.M):
+            told.update(zip(re.findall(r"\w+", names), map(int, counts.split(", "))))
+        self.assertEqual(told, subjects)
+        self.assertEqual(re.findall(r"All (\d+) in one call", program), [str(sum(subjects.values()))])
+        self.assertEqual(dict(re.findall(r"(\w+)\.py`\) \| (\d+) \|", companions)), {name: str(count) for name, count in parts.items()})
+        self.assertEqual(re.findall(r"plants (\d+)\s+faults", companions), [str(sum(parts.values()))])
+        told = re.findall(r"plants (\d+) in the\s+program, and `python3\s+tools/line-mutants --jobs 2` (\d+) in", held("docs", "GATE.md"))
+        self.assertEqual(told, [(str(sum(subjects.values())), str(sum(parts.values())))])
+
+    def test_the_chips_are_as_many_as_are_told(self):
+        """In README, CHIPS and BESIDE."""
+        count = len(re.findall(r"^\[\[chip\]\]$", held("chips.toml"), re.M))
+        for page, words in (("README.md", r"`chips.toml` knows (\d+) chips"), ("docs/CHIPS.md", r"`chips.toml` is one with (\d+) chips"),
+                            ("docs/BESIDE.md", r"\| (\d+) in `chips.toml`")):
+            with self.subTest(page=page):
+                self.assertEqual(re.findall(words, held(page)), [str(count)])
+
+    def test_links_lead_to_a_heading(self):
+        """Each link with a place in a page: the heading is there, by the name that it has on GitHub."""
+        for page in pages():
+            for link, place in re.findall(r"\]\(((?![a-z]+:)[^)#\s]*)#([^)]*)\)", held(page)):
+                with self.subTest(page=os.path.relpath(page, TOP), link=link, place=place):
+                    self.assertIn(place, headings(held(os.path.join(os.path.dirname(page), link) if link else page)))

@@ -41,7 +41,7 @@ from clauses import score, turned
 from edits import BadEdit, blamed, check_twin, put_together, read_edit
 from functions import Functions
 from judging import BAD, FAILED, GONE, PASSED, REFUSED, WAITS, judge
-from kit import begin, check, rt
+from kit import begin, check, rt, share_work
 from verdicts import Verdicts
 
 
@@ -176,8 +176,7 @@ def main():
     parser.add_argument("crates", nargs="*")
     options = parser.parse_args()
     rt.rtlib.guarded()
-    # libraries and kept work come from any checkout on this machine that has them of the same text
-    rt.share_work(False)
+    share_work()
     crates = [it for it in rt.rtlib.crates_below(os.getcwd()) if not options.crates or it.name in options.crates]
     edits = {it.name: edits_of(it, options.by_hand) for it in crates}
     crates = [it for it in crates if edits[it.name]]

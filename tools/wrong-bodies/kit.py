@@ -94,13 +94,28 @@ def check_beside(crate, functions, texts, asked, kept, proved):
         return ran.stdout, ran.returncode
 
 
+def share_work():
+    """Has libraries and kept work come from any checkout on this machine that has them of the same text, where the kit can that."""
+    if hasattr(rt, "share_work"):
+        rt.share_work(False)
+
+
+def work_for(crate):
+    """The folder of what a check of the crate kept, where there is one: of any checkout, where the kit shares them, else of this one."""
+    if hasattr(rt, "work_for"):
+        return rt.work_for(crate)
+    own = f"{crate.folder}/out/incremental"
+    return own if os.path.isdir(own) else None
+
+
 def begin(crate, kept):
-    """Fills the folder with what a check of the crate kept on this machine, where one did, by links."""
+    """Fills the folder with what a check of the crate kept on this machine, where one did."""
     try:
-        start = rt.work_for(crate)
+        start = work_for(crate)
         if start:
             os.rmdir(kept)
-            rt.linked(start, kept)
+            # by links, where the kit says that it never writes into a file of these
+            (rt.linked if hasattr(rt, "linked") else shutil.copytree)(start, kept)
     except (OSError, shutil.Error):
         # another command may write what this one copies
         shutil.rmtree(kept, ignore_errors=True)
