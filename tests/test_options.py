@@ -144,6 +144,8 @@ class Options(Place):
         for word in LAST:
             with self.subTest(word=word):
                 self.assertFault(self.use_image("verify", b"\x00", "-S", word), "differs at FFFFFFFF")
+        # from 0 to the end of this flash there are more bytes than a number of 32 bits says
+        self.assertFault(self.use("read", "-S", "0", "out"), "address outside the flash")
 
     def test_says_which_number_is_bad(self):
         for name, words, bad in BAD_NUMBERS:

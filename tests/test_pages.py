@@ -200,7 +200,7 @@ class Pages(Place):
         self.assertGreaterEqual(count, 100)
 
     def test_the_faults_are_as_many_as_are_told(self):
-        """In FAULTS the faults of each subject and of each part of the companions, and how many they are together."""
+        """In FAULTS the faults of each subject and of each part of the companions, and how many they are together; that in GATE too."""
         ran = subprocess.run([sys.executable, "-B", "-c", COUNTED], cwd=os.path.join(TOP, "tools"), capture_output=True, check=True)
         subjects, parts = json.loads(ran.stdout)
         program, companions = held("docs", "FAULTS.md").split("## Faults planted in the ")[1:]
@@ -211,6 +211,8 @@ class Pages(Place):
         self.assertEqual(re.findall(r"All (\d+) in one call", program), [str(sum(subjects.values()))])
         self.assertEqual(dict(re.findall(r"(\w+)\.py`\) \| (\d+) \|", companions)), {name: str(count) for name, count in parts.items()})
         self.assertEqual(re.findall(r"plants (\d+)\s+faults", companions), [str(sum(parts.values()))])
+        told = re.findall(r"plants (\d+) in the\s+program, and `python3\s+tools/line-mutants --jobs 2` (\d+) in", held("docs", "GATE.md"))
+        self.assertEqual(told, [(str(sum(subjects.values())), str(sum(parts.values())))])
 
     def test_the_chips_are_as_many_as_are_told(self):
         """In README, CHIPS and BESIDE."""

@@ -21,6 +21,9 @@ Elsewhere a failed goal says nothing: it may be true, and lack an answer that fi
 took away, or a callee that isn't proved. docs/FAULTS.md has the reasons. An edit of which that is known has a line
 `# says nothing: REASON`; it fails where the prover proves it.
 
+Of each refused edit it is told which clauses it turns, in parentheses: those whose goals aren't proved for it. In the end each
+clause is told with the number of edits that turn it; an edit that turns two counts for both.
+
 The status is 0 where each edit was refused, or says nothing as it says itself, and 1 where one wasn't or couldn't be tried.
 """
 
@@ -34,6 +37,7 @@ import tempfile
 sys.dont_write_bytecode = True
 sys.path.insert(0, os.path.dirname(os.path.abspath(__file__)))
 
+from clauses import score, turned
 from edits import BadEdit, blamed, check_twin, put_together, read_edit
 from functions import Functions
 from judging import BAD, FAILED, GONE, PASSED, REFUSED, WAITS, judge
@@ -62,9 +66,12 @@ class Trial:
 
     def __init__(self, crate, kept):
         self.crate, self.kept, self.functions, self.told = crate, kept, Functions(crate.folder), []
+        # which clauses each edit turned when it was tried last, by its name
+        self.turned = {}
 
     def say(self, counts, name, text):
-        self.told.append(counts)
+        """Tells what came of an edit, and takes down what it counts as, with the clauses that refused it."""
+        self.told.append((counts, self.turned[name] if counts == WELL else []))
         print(f"{self.crate.name}/{name}: {text}", flush=True)
 
     def read(self, path):
@@ -103,7 +110,9 @@ class Trial:
         strange = verdicts.beside(asked, self.functions)
         if strange:
             raise CannotTry(f"what no edit touches isn't proved: {strange[:200]}")
-        return {edit.name: judge(edit, verdicts, self.functions) for edit in taken}, left
+        came = {edit.name: judge(edit, verdicts, self.functions) for edit in taken}
+        self.turned.update({edit.name: turned(edit, came[edit.name][0], verdicts, self.functions) for edit in taken})
+        return came, left
 
     def try_all(self, edits):
         """What came of each edit, by its name: tried with others, and in the end alone."""
@@ -134,15 +143,16 @@ class Trial:
         for edit in edits:
             kind, why = came[edit.name]
             spare = "; its line `# says nothing` can go" if edit.reason else ""
+            by = f" ({', '.join(self.turned.get(edit.name, ()))}{spare})"
             twin = of_twins.get(twins[edit.name].name) if edit.name in twins else None
             if kind == BAD:
                 self.say(NOT, edit.name, f"BAD EDIT: {why[:200]}")
             elif kind == PASSED:
                 self.say(NOT, edit.name, "NOT REFUSED")
             elif kind in REFUSED:
-                self.say(WELL, edit.name, f"refused, {kind}{spare}: {why[:160]}")
+                self.say(WELL, edit.name, f"refused, {kind}{by}: {why[:160]}")
             elif twin and twin[0] == PASSED:
-                self.say(WELL, edit.name, f"refused, and its twin is proved{spare}: {why[:160]}")
+                self.say(WELL, edit.name, f"refused, and its twin is proved{by}: {why[:160]}")
             elif edit.reason:
                 self.say(OPEN, edit.name, f"says nothing, as it says: {edit.reason}")
             else:
@@ -176,8 +186,10 @@ def main():
     work = lambda crate: lambda given, jobs: try_crate(crate, edits[crate.name])
     tasks = {(it.name, "edits"): ([], it.count(rb"\n"), rt.need(it), work(it)) for it in crates}
     told = [it for counts in rt.in_lanes(tasks).values() for it in counts]
-    print("tools/wrong-bodies: " + ", ".join(f"{told.count(it)} {it}" for it in (WELL, OPEN, NOT)))
-    sys.exit(1 if NOT in told else 0)
+    counts = [it for it, _ in told]
+    print("tools/wrong-bodies: refused by clause: " + (score(clauses for _, clauses in told) or "none"))
+    print("tools/wrong-bodies: " + ", ".join(f"{counts.count(it)} {it}" for it in (WELL, OPEN, NOT)))
+    sys.exit(1 if NOT in counts else 0)
 
 
 if __name__ == "__main__":

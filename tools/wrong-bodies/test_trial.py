@@ -59,6 +59,7 @@ class Trials(Crate):
         printed = io.StringIO()
         with contextlib.redirect_stdout(printed):
             trial.run([f"{self.folder}/{name}" for name, _ in edits if name.endswith(".edit")])
+        self.told = trial.told
         return dict(it.partition(": ")[::2] for it in printed.getvalue().splitlines()), len(checks)
 
     def of_put(self, new, more=""):
@@ -66,7 +67,15 @@ class Trials(Crate):
 
     def test_one_word_is_refused(self):
         said, _ = self.said_of(("a.edit", self.of_put("self.put(&[])?;")))
-        self.assertTrue(said["tried/a.edit"].startswith("refused, one word"), said)
+        self.assertTrue(said["tried/a.edit"].startswith("refused, one word beside the body (said): "), said)
+
+    def test_the_clauses_of_refused_edits_alone_are_summed(self):
+        self.said_of(
+            ("a.edit", self.of_put("self.put(&[])?;")),
+            ("b.edit", self.of_put("self.put(bytes)?; self.put(bytes)?;")),
+            ("c.edit", "file: src/calls.rt\nold: ensures said\nnew: ensures told\n"),
+        )
+        self.assertEqual(sorted(self.told), [("not", []), ("not", []), ("refused", ["said"])])
 
     def test_a_proved_body_is_not(self):
         said, _ = self.said_of(("a.edit", "file: src/calls.rt\nold: < 2\nnew: < 3\n# says nothing: it may pass\n"))
@@ -78,7 +87,7 @@ class Trials(Crate):
         self.assertTrue(said["tried/a.edit"].startswith("SAYS NOTHING"), said)
         self.assertEqual(checks, 1)
         said, checks = self.said_of(edit, ("a.twin", self.of_put("self.see(bytes)?; self.put(bytes)?;")))
-        self.assertTrue(said["tried/a.edit"].startswith("refused, and its twin is proved"), said)
+        self.assertTrue(said["tried/a.edit"].startswith("refused, and its twin is proved (said): "), said)
         self.assertEqual(checks, 2)
 
     def test_a_harmless_edit_says_nothing(self):

@@ -1,0 +1,119 @@
+"""Which clauses tools/wrong-bodies says that an edit turns, on a small crate and on what the prover printed of real edits."""
+
+import os
+import sys
+import unittest
+
+sys.dont_write_bytecode = True
+HERE = os.path.dirname(os.path.abspath(__file__))
+sys.path.insert(0, HERE)
+
+from clauses import clause_of, clauses_of, score, turned
+from edits import Edit
+from judging import FAILED, IS_FALSE, ONE_WORD
+from test_recorded import Known
+from test_wrong_bodies import VALUES, Crate, note
+from verdicts import ANSWER, Finding, Verdicts
+
+# a function with three clauses, of which one has no name and one stands over lines, and a call of what a callee requires
+MORE = """use crate::Line;
+
+pub fn many(rig: &mut Line, count: u32) -> Result<(), Fault>
+    requires fits { count < 3 }
+    ensures honest { OnOk result (rig.new.left ≡ 0) }
+    ensures { rig.new.left < 3 }
+    ensures stops {
+        rig.new.left ≡ rig.old.left
+    }
+{
+    rig.ensures { 3 };
+    rig.call(&[])
+}
+"""
+
+
+class Clauses(Crate):
+    def setUp(self):
+        super().setUp()
+        self.write("src/many.rt", MORE)
+        self.functions = type(self.functions)(self.folder)
+
+    def clause(self, goal, path="many::many"):
+        return clause_of(Finding(path, ANSWER, goal, "a line"), self.functions)
+
+    def test_a_functions_clauses_are_those_above_its_body(self):
+        self.assertEqual(clauses_of("many::many", self.functions), ["honest", "", "stops"])
+        self.assertEqual(clauses_of("Line::call", self.functions), ["said"])
+        self.assertEqual(clauses_of("Line::read", self.functions), [""])
+        self.assertEqual(clauses_of("reading::read", self.functions), [])
+        self.assertEqual(clauses_of("nowhere", self.functions), [])
+
+    def test_a_goal_says_its_clause(self):
+        for goal, clause in (
+            ("returns-clause-honest", "honest"),
+            ("returns-then-not-has_before-clause-given_stops", "given_stops"),
+            ("put-requires-clause-fits", "what a callee requires"),
+            ("add-requires-3", "what a callee requires"),
+            ("loop-i-preserved", "a loop's invariant"),
+            ("loop-i-preserved-then-text-i-ne10", "a loop's invariant"),
+            ("invariant_of-self-clause-in_range", "a type's invariant"),
+            ("overflow_add-end", "bounds of a number or an index"),
+            ("bounds-list-i", "bounds of a number or an index"),
+            ("returns", "one of several clauses"),
+            ("", "a goal without a name"),
+        ):
+            self.assertEqual(self.clause(goal), clause, goal)
+
+    def test_a_goal_without_a_clause_is_the_functions_only_one(self):
+        self.assertEqual(self.clause("returns-in_ok-put", "Line::call"), "said")
+        self.assertEqual(self.clause("returns", "Line::read"), "a clause without a name")
+
+    def test_a_goal_of_a_closure_is_no_clause(self):
+        self.assertEqual(self.clause("returns", "reading::fn::read::any+FnMut::call_mut"), "a closure or a cycle")
+
+    def turned(self, kind, *lines):
+        edit = self.edit("src/many.rt", ("&[]", "&[1]"))
+        return turned(edit, kind, self.said(*lines), self.functions)
+
+    def test_an_edit_turns_each_clause_whose_goal_fails(self):
+        at = "./proofs/many/many/Answers.antt:3:1: error: `returns-clause-{}`: the two types differ"
+        said = (at.format("stops"), at.format("honest"), at.format("honest"), "fn tried::many::many: not proved")
+        self.assertEqual(self.turned(ONE_WORD, *said), ["honest", "stops"])
+        self.assertEqual(self.turned(FAILED, *said), ["honest", "stops"])
+
+    def test_values_tell_the_clause_that_they_are_against(self):
+        said = (note("returns-clause-honest"), note("returns-clause-stops", VALUES), "fn tried::many::many: no proof: `search`")
+        self.assertEqual(self.turned(IS_FALSE, *said), ["stops"])
+        self.assertEqual(self.turned(ONE_WORD, *said[::2]), ["honest"])
+
+    def test_a_name_that_went_turns_nothing(self):
+        line = "./proofs/many/many/Answers.antt:3:9: error: `returns-clause-honest`: `c` has no field `if-left-lt2`"
+        self.assertEqual(self.turned(FAILED, line, "fn tried::many::many: not proved"), [])
+
+    def test_another_functions_goal_turns_nothing(self):
+        line = "./proofs/Line/call/Answers.antt:3:9: error: `returns-clause-honest`: the two types differ"
+        self.assertEqual(self.turned(FAILED, line, "fn tried::many::many: no holes"), [])
+
+    def test_the_score_counts_edits(self):
+        self.assertEqual(score([["honest", "stops"], ["honest"], [], ["order"]]), "honest 2, order 1, stops 1")
+        self.assertEqual(score([]), "")
+
+
+class Recorded(unittest.TestCase):
+    """What real edits turn, by what the prover printed of them."""
+
+    def turned(self, file, path, kind):
+        with open(f"{HERE}/recorded/{file}.txt", encoding="utf-8") as lines:
+            verdicts = Verdicts(file, lines.read())
+        return turned(Edit("one.edit", {path}, [], None, None), kind, verdicts, Known(path))
+
+    def test_clauses_of_real_goals(self):
+        self.assertEqual(self.turned("stm_image", "pieces::first_ending_from", ONE_WORD), ["before", "here"])
+        self.assertEqual(self.turned("stm_image", "data::add_data", ONE_WORD), ["ok", "what a callee requires"])
+        self.assertEqual(self.turned("stm_image", "layout::all_agree", ONE_WORD), ["a loop's invariant"])
+        self.assertEqual(self.turned("stm_image", "place::address_in", IS_FALSE), ["one of several clauses"])
+        self.assertEqual(self.turned("stm_chip", "touch::is_inside_flash", FAILED), ["each", "inside"])
+
+
+if __name__ == "__main__":
+    unittest.main()
