@@ -14,5 +14,6 @@ pub mod JsonLists
 pub mod Finished
 pub mod Watched
 pub mod ProtectedPages
+pub mod DeviceUse
 mod TextParts
 mod UpperHex

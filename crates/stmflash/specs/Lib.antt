@@ -41,3 +41,4 @@ pub mod Variable
 pub mod Variables
 pub mod Standing
 pub mod Tables
+pub mod DeviceUse

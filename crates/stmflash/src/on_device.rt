@@ -1,5 +1,8 @@
 // A use of a device: the files that belong to it are opened, the task is done, and they are closed,
 // whatever came of it. Nothing is printed here but what goes on, on standard error.
+ghost use Rattle.std.specs.Prelude.{IfOk};
+ghost use Rattle.stmflash.specs.DeviceUse.{UsesOnce, goes_out};
+ghost use Rattle.stmflash.specs.TriedBoards.{texts_of};
 
 use crate::again::use_again;
 use crate::board::{has_telling_chip, tells_board};
@@ -14,15 +17,18 @@ use crate::on_simulator::on_simulator;
 use crate::on_socket::on_socket;
 use crate::output::Output;
 use crate::plan::Plan;
+use crate::planned_session::Shown;
 use crate::progress_screen::{Screen, Style};
 use crate::steps::{Steps, failure_of};
 use crate::work::Work;
 use std::io::{IsTerminal, Read, Write};
 use std::net::Net;
+use std::os::unix::net::UnixStream;
 use std::time::Clock;
-use stm_files::Locks;
+use stm_files::{Locks, SimulatorRig, SocketRig};
 use stm_session::Fault;
 use stm_watch::Watch;
+use stm_wire::Rig;
 use stm_words::{Device, Options, Sequel, Task};
 
 /// Does a task on a device, and what follows it. Where it takes the readout protection off, it is
@@ -125,7 +131,7 @@ fn use_files<'a, 'r, R: Locks + Net + Clock + AllocGlobal, E: Write + IsTerminal
 }
 
 /// Does it once: the files are opened, and closed.
-pub fn use_once<'a, 'r, R: Locks + Net + Clock + AllocGlobal, E: Write + IsTerminal>(
+pub fn use_once<'a, 'r, 'e, R: Locks + Net + Clock + AllocGlobal, E: Write + IsTerminal>(
     rt: &'r R,
     options: &Options<'a>,
     tables: &ChipTables<'a>,
@@ -133,9 +139,15 @@ pub fn use_once<'a, 'r, R: Locks + Net + Clock + AllocGlobal, E: Write + IsTermi
     sequel: &Sequel<'a>,
     output: Output<'a, R>,
     line: Option<Line<'r, R>>,
-    err: &mut E,
+    err: &'e mut E,
     hint: &mut Option<Hint>,
-) -> Result<Steps<'a>, Failure<'a>> {
+) -> Result<Steps<'a>, Failure<'a>>
+    ensures { IfOk result (UsesOnce
+        ⟦<Shown<'r, SimulatorRig<'r, 'r, R>, &'e mut E, R> as Rig>⟧.view
+        ⟦<Shown<'r, SocketRig<'r, UnixStream, R>, &'e mut E, R> as Rig>⟧.view
+        options.now (texts_of tables.now) work sequel.now
+        (goes_out output.entry)) }
+{
     let style = Style::of(rt, options, err);
     let screen = Screen::new(err, rt, rt.alloc(), style);
     let chips = tables.chips();

@@ -1,24 +1,26 @@
 // A use of a simulator in the process: its files and its journal are opened, and it is stored,
 // whatever came of it.
+ghost use Rattle.std.specs.Prelude.{◌≡◌, IfOk, Ok};
+ghost use Rattle.stmflash.specs.DeviceUse.{UsesPlan, goes_out};
 
 use crate::failure::Failure;
 use crate::hint::Hint;
 use crate::opened_journal::{done_on, read_journal};
-use crate::output::{Output, write_out};
+use crate::output::{Output, write_done};
 use crate::plan::Plan;
-use crate::planned_session::{Taken, take_on};
+use crate::planned_session::{Shown, Taken, failed_if, take_on};
 use crate::progress_screen::Screen;
-use crate::steps::{Steps, failed_by};
+use crate::steps::Steps;
 use std::io::Write;
 use std::time::Clock;
 use stm_chip::Table;
-use stm_files::{JournalFile, Locks, SimulatorFiles, SimulatorRig, Unusable};
+use stm_files::{FileFault, JournalFile, Locks, SimulatorFiles, SimulatorRig, Unusable};
 use stm_watch::Watch;
-use stm_wire::Chip;
+use stm_wire::{Chip, Rig};
 use stm_words::Options;
 
 /// Does what a plan says on a simulator in the process. `chips` are those by which it is shown.
-pub fn on_simulator<'a, R: Locks + Clock + AllocGlobal, W: Write + Drop>(
+pub fn on_simulator<'a, 's, R: Locks + Clock + AllocGlobal, W: Write + Drop>(
     rt: &R,
     options: &Options<'a>,
     plan: Plan<'a>,
@@ -27,9 +29,13 @@ pub fn on_simulator<'a, R: Locks + Clock + AllocGlobal, W: Write + Drop>(
     file: &'a str,
     chip: Chip,
     output: Output<'a, R>,
-    screen: Screen<'_, W, R>,
+    screen: Screen<'s, W, R>,
     hint: &mut Option<Hint>,
-) -> Result<Steps<'a>, Failure<'a>> {
+) -> Result<Steps<'a>, Failure<'a>>
+    ensures { IfOk result (UsesPlan
+        ⟦<Shown<'s, SimulatorRig<'s, 's, R>, W, R> as Rig>⟧.view
+        (goes_out output.entry) plan.entry) }
+{
     let name = plan.journal;
     let opened = match JournalFile::open(rt, name, options.without_lock) {
         // a simulator of which nothing else is known is fresh
@@ -57,31 +63,40 @@ pub fn on_simulator<'a, R: Locks + Clock + AllocGlobal, W: Write + Drop>(
 }
 
 /// Does it on a simulator that is ready, and stores it.
-fn use_simulator<'a, R: Locks + Clock + AllocGlobal, W: Write + Drop>(
+fn use_simulator<'a, 's, R: Locks + Clock + AllocGlobal, W: Write + Drop>(
     rt: &R,
     rig: SimulatorRig<'_, 'a, R>,
     plan: Plan<'a>,
     chips: &Table,
     watch: Watch,
     output: Output<'a, R>,
-    screen: Screen<'_, W, R>,
+    screen: Screen<'s, W, R>,
     hint: &mut Option<Hint>,
-) -> Result<Steps<'a>, Failure<'a>> {
+) -> Result<Steps<'a>, Failure<'a>>
+    ensures { IfOk result (UsesPlan
+        ⟦<Shown<'s, SimulatorRig<'s, 's, R>, W, R> as Rig>⟧.view
+        (goes_out output.entry) plan.entry) }
+{
     let name = plan.journal;
     let Taken { rig, done } = take_on(rt.alloc(), rig, plan, chips, watch, screen, hint);
     let is_unstored = rig.is_unstored();
     let (memory, journal, mut files) = rig.into_parts();
-    let mut done = done_on(journal, name, done);
-    if memory.has_stopped() {
-        done = failed_by(done, Failure::Stopped);
-    }
-    let done = match done {
-        Ok(steps) => write_out(rt, steps, output),
-        Err(failure) => Err(failure),
-    };
+    let done = done_on(journal, name, done);
+    let done = failed_if(memory.has_stopped(), done, Failure::Stopped);
+    let done = write_done(rt, done, output);
     let stored = files.store_rig(&memory);
+    done_stored(done, stored, is_unstored)
+}
+
+/// The same, where the simulator was stored. It's told first why a line of the journal wasn't added.
+fn done_stored<'a>(
+    done: Result<Steps<'a>, Failure<'a>>,
+    stored: Result<(), FileFault<'a>>,
+    is_unstored: bool,
+) -> Result<Steps<'a>, Failure<'a>>
+    ensures { IfOk result (λ steps. done.entry ≡ Ok steps) }
+{
     if is_unstored {
-        // why the journal's line wasn't added
         stored?;
         return done;
     }

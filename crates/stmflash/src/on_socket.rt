@@ -1,24 +1,28 @@
 // A use of a device behind a socket: its journal is opened, its line is connected, and both are
 // closed, whatever came of it.
+ghost use Rattle.std.specs.Prelude.{IfOk};
+ghost use Rattle.stmflash.specs.DeviceUse.{UsesPlan, goes_out};
 
 use crate::failure::Failure;
 use crate::first_question::Line;
 use crate::hint::Hint;
 use crate::opened_journal::{done_on, serving_journal};
-use crate::output::{Output, write_out};
+use crate::output::{Output, write_done};
 use crate::plan::Plan;
-use crate::planned_session::{Taken, take_on};
+use crate::planned_session::{Shown, Taken, failed_if, take_on};
 use crate::progress_screen::Screen;
-use crate::steps::{Steps, failed_by};
+use crate::steps::Steps;
 use std::fs;
 use std::fs::Files;
 use std::io::Write;
 use std::net::Net;
 use std::os::unix::fs::FileTypeExt;
+use std::os::unix::net::UnixStream;
 use std::time::Clock;
 use stm_chip::Table;
 use stm_files::{JournalFile, Locks, SocketLine, SocketRig};
 use stm_watch::Watch;
+use stm_wire::Rig;
 use stm_words::Options;
 
 /// Why there is no line to the device of this name: it is a port, or nothing listens there.
@@ -55,7 +59,11 @@ pub fn on_socket<'a, 'r, R: Locks + Net + Clock + AllocGlobal, W: Write + Drop>(
     output: Output<'a, R>,
     screen: Screen<'_, W, R>,
     hint: &mut Option<Hint>,
-) -> Result<Steps<'a>, Failure<'a>> {
+) -> Result<Steps<'a>, Failure<'a>>
+    ensures { IfOk result (UsesPlan
+        ⟦<Shown<'r, SocketRig<'r, UnixStream, R>, W, R> as Rig>⟧.view
+        (goes_out output.entry) plan.entry) }
+{
     let name = plan.journal;
     let opened = JournalFile::open(rt, name, options.without_lock);
     let journal = serving_journal(opened, name, &plan.work)?;
@@ -65,11 +73,7 @@ pub fn on_socket<'a, 'r, R: Locks + Net + Clock + AllocGlobal, W: Write + Drop>(
     };
     let rig = SocketRig::new(line, journal);
     let Taken { rig, done } = take_on(rt.alloc(), rig, plan, chips, watch, screen, hint);
-    let done = if rig.has_given_up() {
-        failed_by(done, Failure::NoAnswer)
-    } else {
-        done
-    };
-    let steps = done_on(rig.into_journal(), name, done)?;
-    write_out(rt, steps, output)
+    let done = failed_if(rig.has_given_up(), done, Failure::NoAnswer);
+    let done = done_on(rig.into_journal(), name, done);
+    write_done(rt, done, output)
 }

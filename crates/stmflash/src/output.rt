@@ -1,4 +1,6 @@
 // Where the bytes of a flash go that were read.
+ghost use Rattle.std.specs.Prelude.{◌≡◌, IfOk};
+ghost use Rattle.stmflash.specs.DeviceUse.{AreOut, AreOutOf, goes_out};
 
 use crate::answer::Answer;
 use crate::failure::Failure;
@@ -48,7 +50,9 @@ impl<'a, R: Files + AllocGlobal> Output<'a, R> {
     }
 
     /// Writes the bytes. False where they are to be printed.
-    pub fn write(self, rt: &R, bytes: &[u8]) -> Result<bool, Failure<'a>> {
+    pub fn write(self, rt: &R, bytes: &[u8]) -> Result<bool, Failure<'a>>
+        ensures { IfOk result (λ is_out. is_out ≡ goes_out self.entry) }
+    {
         match self {
             Output::Printed => Ok(false),
             Output::Whole { name, files } => {
@@ -99,11 +103,13 @@ fn replace<'a, R: Files + AllocGlobal>(
 
 /// Writes the bytes that are for a file, where there are some, and hands the answer on; of bytes
 /// that are in a file nothing more is told.
-pub fn write_out<'a, R: Files + AllocGlobal>(
+fn write_out<'a, R: Files + AllocGlobal>(
     rt: &R,
     steps: Steps<'a>,
     output: Output<'a, R>,
-) -> Result<Steps<'a>, Failure<'a>> {
+) -> Result<Steps<'a>, Failure<'a>>
+    ensures { IfOk result (AreOut (goes_out output.entry) steps.entry) }
+{
     let Answer::Bytes(bytes) = &steps.answer else {
         return Ok(steps);
     };
@@ -116,4 +122,18 @@ pub fn write_out<'a, R: Files + AllocGlobal>(
         kept: None,
         failure: steps.failure,
     })
+}
+
+/// The same of what came of a session.
+pub fn write_done<'a, R: Files + AllocGlobal>(
+    rt: &R,
+    done: Result<Steps<'a>, Failure<'a>>,
+    output: Output<'a, R>,
+) -> Result<Steps<'a>, Failure<'a>>
+    ensures { IfOk result (AreOutOf (goes_out output.entry) done.entry) }
+{
+    match done {
+        Ok(steps) => write_out(rt, steps, output),
+        Err(failure) => Err(failure),
+    }
 }

@@ -1,4 +1,6 @@
 // A session by a plan, over any Rig: it is shown, its last turns are kept, and it may be watched.
+ghost use Rattle.stmflash.specs.DeviceUse.{TakesAround, TakesPlan};
+ghost use Rattle.stmflash.specs.Plan.{Tells};
 
 use crate::failure::Failure;
 use crate::hint::Hint;
@@ -7,7 +9,7 @@ use crate::plan::Plan;
 use crate::progress_course::Course;
 use crate::progress_rig::ProgressRig;
 use crate::progress_screen::Screen;
-use crate::steps::{Steps, failure_of};
+use crate::steps::{Steps, failed_by, failure_of};
 use crate::watchable::Watchable;
 use crate::watching::{done_watched, take_watched, watched};
 use std::alloc::Global;
@@ -15,6 +17,10 @@ use std::io::Write;
 use std::time::Clock;
 use stm_chip::Table;
 use stm_watch::{Watch, WatchRig};
+use stm_wire::Rig;
+
+/// A Rig that is shown and watched.
+pub type Shown<'s, L, W, C> = WatchRig<ProgressRig<'s, L, W, C>>;
 
 /// A Rig behind a session, and what came of that.
 #[derive(Drop)]
@@ -28,7 +34,9 @@ pub fn take_plan<'a, L: Watchable>(
     alloc: Global,
     rig: &mut L,
     plan: Plan<'a>,
-) -> Result<Steps<'a>, Failure<'a>> {
+) -> Result<Steps<'a>, Failure<'a>>
+    ensures { TakesPlan L.view plan.entry rig.old rig.new result }
+{
     let Plan {
         work,
         question,
@@ -44,15 +52,18 @@ pub fn take_plan<'a, L: Watchable>(
 
 /// Does what a plan says, on a Rig; it is shown, and its last turns are kept. What they tell of a
 /// session that was broken off becomes `hint`. `chips` are those by which it is shown.
-pub fn take_on<'a, L: Keeper + Drop, W: Write + Drop, C: Clock>(
+pub fn take_on<'a, 's, L: Keeper + Drop, W: Write + Drop, C: Clock>(
     alloc: Global,
     rig: L,
     plan: Plan<'a>,
     chips: &Table,
     watch: Watch,
-    screen: Screen<'_, W, C>,
+    screen: Screen<'s, W, C>,
     hint: &mut Option<Hint>,
-) -> Taken<'a, L> {
+) -> Taken<'a, L>
+    ensures { TakesAround ⟦<Shown<'s, L, W, C> as Rig>⟧.view (λ shown. shown.inner.inner) L.view
+        watch plan.entry rig result.rig result.done }
+{
     let course = Course::new(alloc, chips, plan.work.goal());
     let is_watched = plan.is_watched();
     let mut rig = WatchRig::new(ProgressRig::new(rig, course, screen), watch);
@@ -63,4 +74,19 @@ pub fn take_on<'a, L: Keeper + Drop, W: Write + Drop, C: Clock>(
     *hint = rig.hint();
     let rig = rig.finish(done.is_ok(), told);
     Taken { rig, done }
+}
+
+/// The same steps, where one failed by this failure if that is so.
+pub fn failed_if<'a>(
+    is_so: bool,
+    done: Result<Steps<'a>, Failure<'a>>,
+    failure: Failure<'a>,
+) -> Result<Steps<'a>, Failure<'a>>
+    ensures { Tells done.entry result }
+{
+    if is_so {
+        failed_by(done, failure)
+    } else {
+        done
+    }
 }

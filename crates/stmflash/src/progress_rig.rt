@@ -29,11 +29,9 @@ pub struct ProgressRig<'a, L: Rig + Drop, W: Drop, C> {
 }
 
 impl<'a, L: Rig + Drop, W: Write + Drop, C: Clock> ProgressRig<'a, L, W, C> {
-    pub fn new(
-        inner: L,
-        progress: Course<'a>,
-        screen: Screen<'a, W, C>,
-    ) -> ProgressRig<'a, L, W, C> {
+    pub fn new(inner: L, progress: Course<'a>, screen: Screen<'a, W, C>) -> ProgressRig<'a, L, W, C>
+        ensures { result.inner ≡ inner }
+    {
         ProgressRig {
             inner,
             turns: Turns::new(),

@@ -1,0 +1,110 @@
+-- What is told of a session by a plan, from the session on.
+use Rattle.std.specs.Borrow.{Bor}
+use Rattle.std.proofs.Common.{◌≡◌, ◌∙◌, ℕ, List, Bool, Result, Ok, Err, Option, None, Some, IfOk, ap, refl, subst, sym}
+use Rattle.stm_wire.specs.Rig.{RigState}
+use Rattle.stm_words.specs.declared.device.Device.{Device}
+use Rattle.stm_words.specs.declared.device.Device.TheVariants.{Simulator, Socket}
+use Rattle.stm_words.specs.declared.options.Options.{Options}
+use Rattle.stm_words.specs.declared.sequel.Sequel.{Sequel}
+use Rattle.stm_watch.specs.Known.{Known}
+use Rattle.stm_watch.specs.Watching.{watched}
+use Rattle.stmflash.specs.declared.failure.Failure.{Failure}
+use Rattle.stmflash.specs.declared.plan.Plan.{Plan}
+use Rattle.stmflash.specs.declared.steps.Steps.{Steps}
+use Rattle.stmflash.specs.declared.work.Work.{Work}
+use Rattle.stmflash.specs.DeviceUse.{AreOutOf, TakesAround, UsesOn, UsesOnce, UsesPlan}
+use Rattle.stmflash.specs.Plan.{IsPlan, Tells}
+use Rattle.stmflash.specs.Watching.{IsBegun}
+
+-- where just what was so at Ok answers Ok, it is so
+pub ok-of : {A E : Type 0} (P : A → Type 0) (out last : Result A E) → IfOk out P
+    → IfOk last (λ x. out ≡ Ok x) → IfOk last P
+ok-of P out (Err fault) all same = tt
+ok-of {A} {E} P out (Ok x) all same =
+    let Q : Result A E → Type 0 = λ r. IfOk r P in subst Q same all
+
+-- what is told of what is told
+pub tells-again : (first mid last : Result Steps Failure) → Tells first mid → Tells mid last
+    → Tells first last
+tells-again first mid (Err failure) before then = tt
+tells-again first (Err failure) (Ok last) before then = λ none. absurd (other (then none))
+  where
+    other : Err failure ≡ Ok last → ⊥
+    other same = cc
+tells-again first (Ok mid) (Ok last) before then =
+    λ none. let P : Result Steps Failure → Type 0 =
+    λ r. IfOk r (λ steps. steps.failure ≡ None → first ≡ Ok steps) in
+    subst P (then none) before none
+
+-- a Rig that is watched from here on
+pub begun-inner : {A L : Type 0} (inner_view : L → RigState) (known first : Known)
+    (refusal : Option A) (line journal : ℕ) (inner before : L) → first ≡ known → refusal ≡ None
+    → inner ≡ before
+    → IsBegun known (inner_view before) (watched first refusal line journal (inner_view inner))
+begun-inner {A} {L} inner_view known first refusal line journal inner before same none is =
+    let old = inner_view before in
+    let P : Known → Type 0 = λ k. IsBegun known old (watched k refusal line journal (inner_view inner)) in
+    let Q : Option A → Type 0 = λ r. IsBegun known old (watched known r line journal (inner_view inner)) in
+    let S : L → Type 0 = λ x. IsBegun known old (watched {A = A} known None line journal (inner_view x)) in
+    subst P (sym same)
+    (subst Q (sym none)
+    (subst S (sym is)
+    (record {
+      honest = λ honest seen. (honest, seen);
+      device = refl;
+      journal = refl;
+      calls = refl;
+      told = refl;
+    })))
+
+-- a session on a Rig around another one, what was made of it, and where its bytes went
+pub uses-plan : {R L : Type 0} (view : R → RigState) (inner : R → L) (inner_view : L → RigState)
+    (known : Known) (plan : Plan) (before after : L) (is_out : Bool)
+    (told ended out : Result Steps Failure)
+    → TakesAround view inner inner_view known plan before after told → Tells told ended
+    → IfOk out (AreOutOf is_out ended) → IfOk out (UsesPlan view is_out plan)
+uses-plan view inner inner_view known plan before after is_out told ended (Err failure) takes tells are =
+    tt
+uses-plan view inner inner_view known plan before after is_out told ended (Ok steps) takes tells are =
+    by ended tells are
+  where
+    by : (ended : Result Steps Failure) → Tells told ended → AreOutOf is_out ended steps
+        → UsesPlan view is_out plan steps
+    by (Err failure) tells are = absurd are
+    by (Ok last) tells are =
+        record {
+          old = takes.old;
+          new = takes.new;
+          done = takes.done;
+          takes = takes.takes;
+          told = last;
+          tells = tells-again takes.done told (Ok last) takes.tells tells;
+          out = are;
+        }
+
+module _ {A B : Type 0} (simulated : A → RigState) (connected : B → RigState) where
+  -- of a simulator in the process
+  pub on-simulated : (device : Device) (id : ℕ) (file : Bor (List ℕ)) (is_out : Bool) (plan : Plan)
+      (came : Result Steps Failure) → device ≡ Simulator id file
+      → IfOk came (UsesPlan simulated is_out plan) → IfOk came (UsesOn simulated connected device is_out plan)
+  on-simulated device id file is_out plan came is uses =
+      let P : Device → Type 0 = λ d. IfOk came (UsesOn simulated connected d is_out plan) in
+      subst P (sym is) uses
+
+  -- and of what listens at a socket
+  pub on-connected : (device : Device) (path : Bor (List ℕ)) (is_out : Bool) (plan : Plan)
+      (came : Result Steps Failure) → device ≡ Socket path
+      → IfOk came (UsesPlan connected is_out plan) → IfOk came (UsesOn simulated connected device is_out plan)
+  on-connected device path is_out plan came is uses =
+      let P : Device → Type 0 = λ d. IfOk came (UsesOn simulated connected d is_out plan) in
+      subst P (sym is) uses
+
+  -- one use, by its plan
+  pub uses-once : (options : Options) (texts : List (List ℕ)) (is_told : Bool) (does : Work)
+      (sequel : Sequel) (is_out : Bool) (plan : Plan) (came : Result Steps Failure)
+      → IsPlan options texts is_told does sequel plan
+      → IfOk came (UsesOn simulated connected options.device is_out plan)
+      → IfOk came (UsesOnce simulated connected options texts does sequel is_out)
+  uses-once options texts is_told does sequel is_out plan (Err failure) is uses = tt
+  uses-once options texts is_told does sequel is_out plan (Ok steps) is uses =
+      record { is_told = is_told; plan = plan; is_plan = is; uses = uses }

@@ -1,0 +1,18 @@
+use Rattle.std.proofs.Common.{◌∙◌, ap}
+use Rattle.stmflash.proofs.DeviceUse.{begun-inner}
+use Rattle.stmflash.proofs.planned_session.take_on.Goals as goal
+
+pub returns : goal.returns
+returns g c =
+    let inner = ap (λ x. x.inner) c.new-rig.ensures.inner ∙ c.new.ensures in
+    record {
+      old = c.new-rig.result;
+      new = c.take_plan-done.new.rig;
+      done = c.take_plan-done.result;
+      takes = c.take_plan-done.ensures;
+      within = inner;
+      begins = begun-inner g.L.Keeper.Rig.view _ _ _ _ _ _ _ c.new-rig.ensures.watch
+          c.new-rig.ensures.refusal inner;
+      left = cc;
+      tells = c.done_watched-done.ensures;
+    }
