@@ -97,6 +97,7 @@ TESTS_stm_chip = stm_tests
 TESTS_stm_journal = stm_tests
 TESTS_stm_session = stm_session_tests
 TESTS_stm_client = stm_session_tests
+TESTS_stm_weak = stm_session_tests
 NAMED = $(if $(wildcard crates/$(CRATE)/src),$(CRATE),$(error CRATE= is the name of a crate, one of $(notdir $(wildcard crates/*))))
 
 check:
