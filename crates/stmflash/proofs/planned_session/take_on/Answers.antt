@@ -11,7 +11,7 @@ returns g c =
       done = c.take_plan-done.result;
       takes = c.take_plan-done.ensures;
       within = inner;
-      begins = begun-inner g.L.Keeper.Rig.view _ _ _ _ _ _ _ c.new-rig.ensures.watch
+      begins = begun-inner g.L.Rig.view _ _ _ _ _ _ _ c.new-rig.ensures.watch
           c.new-rig.ensures.refusal inner;
       left = cc;
       tells = c.done_watched-done.ensures;
