@@ -1,0 +1,10 @@
+mod Frames
+mod Walking
+mod Pieces
+mod Mending
+mod Misreading
+mod Running
+mod Sessions
+mod Clauses
+mod Leaving
+mod Histories

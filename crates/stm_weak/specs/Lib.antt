@@ -1,0 +1,3 @@
+pub mod Weak
+pub mod Believed
+pub mod History

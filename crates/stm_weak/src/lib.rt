@@ -1,0 +1,9 @@
+//! Pages that a loss of power left weak: laws over the clauses of `run` and `undo`. No such page is
+//! believed, and behind an undo that answers Ok there is none, on any line, whatever it answers.
+#![tactic(auto)]
+
+mod laws;
+mod undoing;
+
+pub use laws::{an_undo_believes_no_page_at_work, weak_pages_are_at_work};
+pub use undoing::take_back;
