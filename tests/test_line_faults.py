@@ -151,7 +151,8 @@ class Pulled(LinePlace):
     def test_in_the_midst(self):
         """The client sees its line closed, and then the port is told."""
         master = self.plain_to_pull()
-        started = self.start("ttyUSB0", "--", *self.stmflash("info", wait="60000"))
+        # as long as this is waited before the first byte, and behind it: not as long as a test may take
+        started = self.start("ttyUSB0", "--", *self.stmflash("info", wait="10000"))
         self.assertEqual(self.read_from(master, 1), b"\x7f")
         os.close(master)
         self.assertEqual(self.ended(started), Said(1, b"", b"stmflash: line failed\n" + self.UNPLUGGED.encode()))

@@ -20,11 +20,32 @@ from unittest import mock
 
 from boards import LATENCY, WiredPlace
 from place import PATIENCE
-from stmflash_line import command, opening, patience, session
+from stmflash_line import command, far, opening, patience, session
 from stmflash_line.join import Join
 from stmflash_line.port import Port
 from stmflash_line.sequences import read_sequence
 from stmflash_line.unmark import Unmark
+
+
+class FarBytes(unittest.TestCase):
+    def test_an_error_takes_the_bytes_beside_it(self):
+        """Those that a far end sent are taken with the error that it told of; over a line it is chance which come together."""
+        inbox = far.Inbox()
+        for descriptor in (inbox.reader, inbox.writer):
+            self.addCleanup(os.close, descriptor)
+        with socket.socket() as end:
+            port = far.Rfc2217Port(types.SimpleNamespace(_socket=end), inbox, "a far port", 115200)
+            for byte in (b"a", b"b"):
+                inbox.put(byte)
+            self.assertEqual(port.read(), (b"ab", 0))
+            inbox.put(b"c")
+            inbox.put_error()
+            inbox.put(b"d")
+            self.assertEqual(port.read(), (b"", 1))
+            inbox.put(b"e")
+            self.assertEqual(port.read(), (b"e", 0))
+            inbox.put_error()
+            self.assertEqual(port.read(), (b"", 1))
 
 
 class Sequences(unittest.TestCase):

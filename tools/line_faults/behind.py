@@ -168,7 +168,7 @@ FAULTS = {
         FAR + "Rfc2217.test_an_error_that_is_told_of_ends_the_line"),
     "bytes beside a far error are handed on": (
         FAR_PY, 'return (b"" if bad else data), bad', "return data, bad",
-        FAR + "Rfc2217.test_an_error_that_is_told_of_ends_the_line"),
+        PARTS + "FarBytes.test_an_error_takes_the_bytes_beside_it"),
     "a far end isn't asked to tell of errors": (
         FAR_PY, "        mask.wait(ANSWER)\n", "", FAR + "Rfc2217.test_an_end_that_tells_of_no_errors"),
     "a far end that goes is waited for": (
