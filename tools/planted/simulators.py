@@ -85,8 +85,8 @@ FAULTS = {
         "test_options.Options.test_stops_after_steps"),
     "a stop is told as a device that does not answer": (
         "stmflash/src/on_simulator.rt",
-        "    if memory.has_stopped() {\n",
-        "    if memory.has_stopped() && !@on {\n",
+        "failed_if(memory.has_stopped(), done, Failure::Stopped)",
+        "failed_if(memory.has_stopped() && !@on, done, Failure::Stopped)",
         "test_options.Options.test_stops_after_steps"),
     "a simulator is not stored where its session failed": (
         "stmflash/src/on_simulator.rt",
