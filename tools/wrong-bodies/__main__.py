@@ -2,6 +2,7 @@
 """Tries the wrong bodies crates/NAME/wrong-bodies/*.edit, many in one check: the prover must refuse each, in its own function.
 
     python3 tools/wrong-bodies [--built] [--by-hand] [CRATE ..]
+    python3 tools/wrong-bodies --harmless [--built] [CRATE ..]
 
 --built takes the libraries below a crate as `rt ci` left them, and builds none. --by-hand tries those of `wrong-bodies/by-hand`
 too, which the gate leaves out.
@@ -25,6 +26,9 @@ Of each refused edit it is told which clauses it turns, in parentheses: those wh
 clause is told with the number of edits that turn it; an edit that turns two counts for both.
 
 The status is 0 where each edit was refused, or says nothing as it says itself, and 1 where one wasn't or couldn't be tried.
+
+--harmless holds this tool itself to what it says: the edits of `wrong-bodies/harmless` mean the same as the body, and none of them
+may count as refused. The status is 0 where each is proved or says nothing.
 """
 
 import argparse
@@ -49,15 +53,19 @@ from verdicts import Verdicts
 FRONT_END = re.compile(r"src/\S+:\d+:\d+: error\[")
 # what an edit counts as: refused, of no word as it says itself, or neither
 WELL, OPEN, NOT = "refused", "that say nothing, as they say themselves", "not"
+# and one that means the same as the body: proved, of no word, or counted as refused, which it mustn't be, or not tried
+SAME, SILENT, FALSELY = "proved", "that say nothing", "falsely refused, or not tried"
 
 
 class CannotTry(Exception):
     """A check says nothing of its edits."""
 
 
-def edits_of(crate, by_hand):
+def edits_of(crate, options):
     """The paths of the crate's edits."""
-    folders = ("wrong-bodies", "wrong-bodies/by-hand") if by_hand else ("wrong-bodies",)
+    folders = ("wrong-bodies", *["wrong-bodies/by-hand"] * options.by_hand)
+    if options.harmless:
+        folders = ("wrong-bodies/harmless",)
     return sorted(it for folder in folders for it in glob.glob(f"{crate.folder}/{folder}/*.edit"))
 
 
@@ -159,37 +167,55 @@ class Trial:
                 self.say(NOT, edit.name, f"SAYS NOTHING: {f'its twin: {twin[0]}: {twin[1]}' if twin else f'{kind}: {why}'}"[:240])
         return self.told
 
+    def run_harmless(self, paths):
+        """Of edits that mean the same as the body: whether each is proved, says nothing, or counts as refused."""
+        edits, _ = self.read_all(paths)
+        came = self.try_all(edits)
+        for edit in edits:
+            kind, why = came[edit.name]
+            if kind == PASSED:
+                self.say(SAME, edit.name, "proved, as it is to be")
+            elif kind in (FAILED, GONE):
+                self.say(SILENT, edit.name, f"says nothing, {kind}: {why[:160]}")
+            else:
+                self.say(FALSELY, edit.name, f"{'REFUSED' if kind in REFUSED else 'NOT TRIED'}, {kind}: {why[:160]}")
+        return self.told
 
-def try_crate(crate, edits):
+
+def try_crate(crate, edits, is_harmless):
     """Says of each edit of the crate whether it was refused, and returns what each counts as."""
     with tempfile.TemporaryDirectory(prefix="wrong-bodies-") as room:
         kept = f"{room}/kept"
         os.mkdir(kept)
         begin(crate, kept)
-        return Trial(crate, kept).run(edits)
+        trial = Trial(crate, kept)
+        return trial.run_harmless(edits) if is_harmless else trial.run(edits)
 
 
 def main():
     parser = argparse.ArgumentParser()
     parser.add_argument("--built", action="store_true")
     parser.add_argument("--by-hand", action="store_true")
+    parser.add_argument("--harmless", action="store_true")
     parser.add_argument("crates", nargs="*")
     options = parser.parse_args()
     rt.rtlib.guarded()
     share_work()
     crates = [it for it in rt.rtlib.crates_below(os.getcwd()) if not options.crates or it.name in options.crates]
-    edits = {it.name: edits_of(it, options.by_hand) for it in crates}
+    edits = {it.name: edits_of(it, options) for it in crates}
     crates = [it for it in crates if edits[it.name]]
     for below in {it.name: it for crate in crates for it in crate.below()}.values():
         if not options.built and below.build_rlib(["--jobs", "1"], anew=False):
             sys.exit(f"tools/wrong-bodies: {below.name} isn't built")
-    work = lambda crate: lambda given, jobs: try_crate(crate, edits[crate.name])
+    work = lambda crate: lambda given, jobs: try_crate(crate, edits[crate.name], options.harmless)
     tasks = {(it.name, "edits"): ([], it.count(rb"\n"), rt.need(it), work(it)) for it in crates}
     told = [it for counts in rt.in_lanes(tasks).values() for it in counts]
     counts = [it for it, _ in told]
-    print("tools/wrong-bodies: refused by clause: " + (score(clauses for _, clauses in told) or "none"))
-    print("tools/wrong-bodies: " + ", ".join(f"{counts.count(it)} {it}" for it in (WELL, OPEN, NOT)))
-    sys.exit(1 if NOT in counts else 0)
+    if not options.harmless:
+        print("tools/wrong-bodies: refused by clause: " + (score(clauses for _, clauses in told) or "none"))
+    kinds = (SAME, SILENT, FALSELY) if options.harmless else (WELL, OPEN, NOT)
+    print("tools/wrong-bodies: " + ", ".join(f"{counts.count(it)} {it}" for it in kinds))
+    sys.exit(1 if NOT in counts or FALSELY in counts else 0)
 
 
 if __name__ == "__main__":

@@ -38,7 +38,7 @@ def load_main():
 
 @unittest.skipUnless(shutil.which("rt"), "there is no rt")
 class Trials(Crate):
-    def said_of(self, *edits):
+    def said_of(self, *edits, is_harmless=False):
         """What is said of edits of these files, each with its text, and how many checks that took."""
         main, checks = load_main(), []
 
@@ -58,7 +58,8 @@ class Trials(Crate):
         trial = main.Trial(types.SimpleNamespace(name="tried", folder=self.folder), None)
         printed = io.StringIO()
         with contextlib.redirect_stdout(printed):
-            trial.run([f"{self.folder}/{name}" for name, _ in edits if name.endswith(".edit")])
+            run = trial.run_harmless if is_harmless else trial.run
+            run([f"{self.folder}/{name}" for name, _ in edits if name.endswith(".edit")])
         self.told = trial.told
         return dict(it.partition(": ")[::2] for it in printed.getvalue().splitlines()), len(checks)
 
@@ -96,6 +97,18 @@ class Trials(Crate):
         self.assertTrue(said["tried/a.edit"].startswith("SAYS NOTHING"), said)
         said, _ = self.said_of(("a.edit", f"{text}# says nothing: it means the same\n"))
         self.assertEqual(said["tried/a.edit"], "says nothing, as it says: it means the same")
+
+    def test_of_harmless_edits_one_that_is_refused_is_told(self):
+        said, _ = self.said_of(
+            ("a.edit", "file: src/reading.rt\nold: count.min(most)\nnew: most.min(count)\n"),
+            ("b.edit", self.of_put("self.put(&[])?;")),
+            is_harmless=True,
+        )
+        self.assertTrue(said["tried/a.edit"].startswith("says nothing, a goal may be true"), said)
+        self.assertTrue(said["tried/b.edit"].startswith("REFUSED, one word beside the body: "), said)
+        self.assertEqual(sorted(it for it, _ in self.told), ["falsely refused, or not tried", "that say nothing"])
+        said, _ = self.said_of(("a.edit", "file: src/calls.rt\nold: < 2\nnew: < 3\n"), is_harmless=True)
+        self.assertEqual(said["tried/a.edit"], "proved, as it is to be")
 
     def test_a_bad_edit_is_told_alone(self):
         said, _ = self.said_of(

@@ -1,5 +1,5 @@
--- What one use of a device comes to: the session by its plan, on a Rig that is shown and watched, and
--- what is told of it at the end.
+-- What one use of a device comes to: the session by its plan, on a Rig that is shown and watched,
+-- and what is told of it at the end.
 use Rattle.std.specs.Prelude.{◌≡◌, ◌&&◌, ℕ, Bool, true, false, List, None, Result, Ok}
 use Rattle.std.specs.Prelude.{MatchResult}
 use Rattle.stm_wire.specs.Rig.{RigState}
@@ -24,7 +24,8 @@ abbrev pub TakesPlan : {R : Type 0} → (R → RigState) → Plan → R → R �
 TakesPlan view plan old new done =
     TakesWatched view plan.table plan.watching plan.question plan.work plan.sequel old new done
 
--- It is taken on a Rig around another one, at which watching begins by what is known; the inner one is handed back as the session left it, and what came of it is told.
+-- It is taken on a Rig around another one, at which watching begins by what is known. The inner one
+-- is handed back as the session left it, and what came of it is told.
 pub record TakesAround {R L : Type 0} (view : R → RigState) (inner : R → L)
     (inner_view : L → RigState) (known : Known) (plan : Plan) (before after : L)
     (told : Result Steps Failure) : Type 0 where
@@ -61,8 +62,8 @@ AreOut is_out taken told = AreFiledIf (is_out && is_flash taken.answer) taken to
 abbrev pub AreOutOf : Bool → Result Steps Failure → Steps → Type 0
 AreOutOf is_out done told = MatchResult done (λ taken. AreOut is_out taken told) (λ failure. ⊥)
 
--- A session by this plan, on a Rig with this view, came to what these steps tell: where none of them
--- failed, they are those that the session took.
+-- A session by this plan, on a Rig with this view, came to what these steps tell: where none of
+-- them failed, they are those that the session took.
 pub record UsesPlan {R : Type 0} (view : R → RigState) (is_out : Bool) (plan : Plan) (steps : Steps)
     : Type 0 where
   pub old : R
