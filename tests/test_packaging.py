@@ -42,6 +42,22 @@ class Packaging(unittest.TestCase):
                 self.assertEqual(ran.stderr, f"packaging/deb: the program says `{said}`, and not `stmflash {version}, not proved`\n")
                 self.assertEqual(os.listdir(folder), ["one"])
 
+    def test_a_proof_in_another_logic(self):
+        """A program into which the compiler wrote another logic than the code names has no package."""
+        for tool, package in (("readelf", "binutils"), ("gcc", "gcc")):
+            if shutil.which(tool) is None:
+                self.skipTest(f"there is no {package}")
+        with tempfile.TemporaryDirectory() as folder:
+            path = os.path.join(folder, "one")
+            for logic, fault in (("0123456789abcdef", "is proved in another logic than the code names"),
+                                 ("dac8208d650f15bf3e2d", "the program says `stmflash`")):
+                text = f'#include <stdio.h>\n__asm__(".ident \\"rattle logic={logic}\\"");\nint main(void) {{ return puts("stmflash") < 0; }}\n'
+                subprocess.run(["gcc", "-x", "c", "-", "-o", path], input=text, text=True, check=True)
+                ran = subprocess.run([os.path.join(TOP, "packaging", "deb"), path, folder], capture_output=True, text=True, timeout=60)
+                self.assertEqual((ran.returncode, ran.stdout), (1, ""))
+                self.assertIn(fault, ran.stderr)
+                self.assertEqual(os.listdir(folder), ["one"])
+
     def release(self, clone, folder):
         words = [os.path.join(clone, "packaging", "release"), folder]
         ran = subprocess.run(words, capture_output=True, text=True, timeout=60)
