@@ -5,6 +5,7 @@ import importlib.machinery
 import importlib.util
 import io
 import os
+import shlex
 import sys
 import unittest
 import unittest.mock
@@ -35,8 +36,13 @@ class Gate(unittest.TestCase):
     def test_goes_on_behind_a_step_that_failed(self):
         said, status = self.run_steps("true", "false", "true")
         self.assertEqual(status, 1)
-        self.assertIn("gate: failed,   0.0 min: false\n", said)
-        self.assertIn("gate: 2 steps passed, 1 failed, in 0 min\n", said)
+        self.assertIn("gate: failed,   0.0 min,   0.0 of processor: false\n", said)
+        self.assertIn("gate: 2 steps passed, 1 failed, in  0.0 min,   0.0 of processor\n", said)
+
+    def test_tells_the_time_of_what_a_step_calls(self):
+        busy = "import os; at = os.times().user\nwhile os.times().user < at + 3.2: pass"
+        said, _ = self.run_steps(shlex.join(["sh", "-c", shlex.join([sys.executable, "-c", busy])]))
+        self.assertRegex(said, r"gate: passed,   [0-9.]+ min,   0\.1 of processor: sh")
 
     def test_ends_well_where_each_step_does(self):
         self.assertEqual(self.run_steps("true", "true")[1], 0)
