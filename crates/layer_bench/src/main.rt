@@ -13,7 +13,8 @@ use std::{env, fs, io};
 use stm_chip::{read_table, touched};
 use stm_image::read_raw;
 use stm_journal::Journal;
-use stm_wire::{Chip, MemoryRig, settle};
+use stm_sim::MemoryRig;
+use stm_wire::{Chip, settle};
 
 const USAGE: &str =
     "usage: touched TABLE ID RAW TIMES or load TABLE ID JOURNAL or settle TABLE ID LIMIT TIMES";

@@ -12,7 +12,7 @@ use std::{env, io};
 use stm_chip::{Table, read_table};
 use stm_image::read_raw;
 use stm_session::{Command, Fault, Outcome, run, undo};
-use stm_wire::MemoryRig;
+use stm_sim::MemoryRig;
 
 /// Its pages are 256 bytes long, and it is erased by 44.
 const TABLE: &str = r#"

@@ -11,7 +11,8 @@ use std::{env, fs, io};
 use stm_chip::{Table, read_table};
 use stm_image::{Image, read_raw};
 use stm_session::{Command, run, undo};
-use stm_wire::{Chip, MemoryRig, RigCall};
+use stm_sim::MemoryRig;
+use stm_wire::{Chip, RigCall};
 
 const USAGE: &str = "usage: nothing, write, rewrite, verify, read or undo, and TABLE ID RAW";
 

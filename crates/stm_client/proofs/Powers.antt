@@ -8,7 +8,7 @@ use Rattle.stm_wire.specs.Harmless.{SameOutside}
 use Rattle.stm_wire.specs.declared.intent.Intent.{Intent}
 use Rattle.stm_wire.specs.declared.intent.Intent.TheVariants.{Erase, Program}
 use Rattle.stm_wire.specs.Intents.{intended_pages}
-use Rattle.stm_wire.specs.Memory.{MemoryData, begins, rig_state}
+use Rattle.stm_sim.specs.Memory.{MemoryData, begins, rig_state}
 use Rattle.stm_wire.specs.PowerLoss.{powered_again}
 use Rattle.stm_journal.specs.ForgetLaws.{intent_of-forgets}
 use Rattle.stm_journal.specs.Journals.{IsLoaded, Loaded, good, journal_of}

@@ -1,8 +1,8 @@
 -- A stop that is planned on a Rig in memory, a reset of the device, and the stop lifted.
 use Rattle.std.proofs.Common.{◌≡◌, ◌∙◌, ap}
-use Rattle.stm_wire.specs.declared.plan.Plan.{Plan}
+use Rattle.stm_sim.specs.declared.plan.Plan.{Plan}
 use Rattle.stm_wire.specs.Device.{reset}
-use Rattle.stm_wire.specs.Memory.{MemoryData, begins, rig_state}
+use Rattle.stm_sim.specs.Memory.{MemoryData, begins, rig_state}
 
 -- a stop is planned, then something happens, the device is reset, and the stop is lifted
 pub record IsReset (m m1 m2 m4 : MemoryData) : Type 0 where

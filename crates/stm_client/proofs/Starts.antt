@@ -2,7 +2,7 @@
 use Rattle.std.proofs.Common.{◌≡◌, inr, ℕ, List, [], length, Some, None, refl, sym, ◌∙◌, ap, subst, arith}
 use Rattle.stm_wire.specs.Chip.{ChipData}
 use Rattle.stm_wire.specs.Device.{Device, Phase, Fresh, IsDevice, IsReady, IsReadyPhase}
-use Rattle.stm_wire.specs.Memory.{MemoryData, fresh_memory, rig_state}
+use Rattle.stm_sim.specs.Memory.{MemoryData, fresh_memory, rig_state}
 use Rattle.stm_chip.specs.Document.{IsChipWith}
 use Rattle.stm_journal.specs.Journals.{journal_of}
 use Rattle.stm_session.specs.Refusal.{chip_with, opening_refusal}

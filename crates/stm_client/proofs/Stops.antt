@@ -2,7 +2,7 @@
 use Rattle.std.proofs.Common.{◌≡◌, ℕ, List, Result, refl, sym, subst}
 use Rattle.stm_wire.specs.Chip.{ChipData}
 use Rattle.stm_wire.specs.Device.{Device, reset}
-use Rattle.stm_wire.specs.Memory.{MemoryData, rig_state}
+use Rattle.stm_sim.specs.Memory.{MemoryData, rig_state}
 use Rattle.stm_session.specs.declared.fault.Fault.{Fault}
 use Rattle.stm_client.specs.Keeping.{CanBegin, IsKept, Keeps}
 use Rattle.stm_client.proofs.Resets.{IsReset}

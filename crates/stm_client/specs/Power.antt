@@ -2,7 +2,7 @@
 use Rattle.std.specs.Prelude.{◌≡◌, ℕ, [], ◌∷◌}
 use Rattle.stm_wire.specs.Device.{Fresh}
 use Rattle.stm_wire.specs.Harmless.{SameOutside}
-use Rattle.stm_wire.specs.Memory.{MemoryData, rig_state}
+use Rattle.stm_sim.specs.Memory.{MemoryData, rig_state}
 use Rattle.stm_session.specs.Moments.{SameMake}
 
 -- The device is fresh and owes nothing, and its flash is as it was outside this page;

@@ -1,6 +1,6 @@
 // A loss of power, wherever a session was stopped: inside an erase or a write too.
 ghost use Rattle.std.specs.Prelude.{◌≡◌, ℕ, List, OnOk};
-ghost use Rattle.stm_wire.specs.Memory.{rig_state};
+ghost use Rattle.stm_sim.specs.Memory.{rig_state};
 ghost use Rattle.stm_journal.specs.States.{intent_page};
 ghost use Rattle.stm_session.specs.Events.{Leads, lost_power, now_of};
 ghost use Rattle.stm_session.specs.Undoable.{Undoable};
@@ -9,7 +9,7 @@ ghost use Rattle.stm_client.specs.Power.{LosesPage};
 use std::alloc::Global;
 use stm_journal::{Intent, Journal};
 use stm_session::{Fault, a_power_loss_keeps_what_can_be_taken_back};
-use stm_wire::MemoryRig;
+use stm_sim::MemoryRig;
 
 /// The page that an intent names.
 fn page_of(intent: Intent) -> u16

@@ -1,7 +1,7 @@
 // The first session of all: on a simulator that has just been made, over an empty journal.
 ghost use Rattle.std.specs.Prelude.{◌≡◌, ◌↔◌, [], ◌∷◌, map, length, IfErr, IfOk, IfSome, IsSome};
 ghost use Rattle.stm_wire.specs.Chip.{flash_size};
-ghost use Rattle.stm_wire.specs.Memory.{rig_state};
+ghost use Rattle.stm_sim.specs.Memory.{rig_state};
 ghost use Rattle.stm_chip.specs.Document.{IsChipWith};
 ghost use Rattle.stm_session.specs.Fault.{IsOutsideFault};
 ghost use Rattle.stm_session.specs.Running.{bytes_of};
@@ -11,7 +11,8 @@ use crate::reading::read_flash;
 use std::alloc::Global;
 use stm_chip::Table;
 use stm_session::{Fault, Report, a_chip_is_looked_up_by_its_id, a_ready_device_can_begin};
-use stm_wire::{Chip, MemoryRig};
+use stm_sim::MemoryRig;
+use stm_wire::Chip;
 
 /// Makes a simulator of a chip that the table holds, and reads its flash; None where the
 /// flash hasn't the chip's size.

@@ -1,7 +1,7 @@
 // A session that is stopped, a reset of the device, and a session again.
 ghost use Rattle.std.specs.Prelude.{◌≡◌, ◌≢◌, ℕ, List, [], ◌∷◌, map, IfErr, IfOk};
 ghost use Rattle.stm_wire.specs.Device.{Device, reset};
-ghost use Rattle.stm_wire.specs.Memory.{rig_state};
+ghost use Rattle.stm_sim.specs.Memory.{rig_state};
 ghost use Rattle.stm_wire.specs.Moments.{LeavesOnly};
 ghost use Rattle.stm_session.specs.Running.{bytes_of};
 ghost use Rattle.stm_client.specs.Keeping.{CanBegin, IsKept};
@@ -10,7 +10,8 @@ use crate::reading::read_flash;
 use std::alloc::Global;
 use stm_chip::Table;
 use stm_session::{Fault, Report, a_reset_keeps_what_can_be_taken_back};
-use stm_wire::{MemoryRig, Rig};
+use stm_sim::MemoryRig;
+use stm_wire::Rig;
 
 /// Wherever a session that only reads was stopped, and its device reset, what is left is kept.
 pub fn a_stopped_session_can_go_on<R: Rig>()

@@ -1,6 +1,6 @@
 // A swap: commands are stopped at one board, and their journal is carried to another one and back.
 ghost use Rattle.std.specs.Prelude.{◌≡◌, ◌≤◌, ◌++◌, [], List, ℕ, IfOk, OnOk};
-ghost use Rattle.stm_wire.specs.Memory.{rig_state};
+ghost use Rattle.stm_sim.specs.Memory.{rig_state};
 ghost use Rattle.stm_chip.specs.Document.{IsChipWith};
 ghost use Rattle.stm_session.specs.Events.{Knows, now_of};
 ghost use Rattle.stm_session.specs.Headline.{IsStart, oldest_start};
@@ -16,7 +16,8 @@ use stm_session::{
     Command, Fault, Report, a_reset_keeps_what_can_be_taken_back, a_run_is_known_by_its_outcomes,
     a_session_can_be_taken_back, run, undo,
 };
-use stm_wire::{MemoryRig, Rig};
+use stm_sim::MemoryRig;
+use stm_wire::Rig;
 
 /// What is done at the other board.
 #[derive(Clone, Copy)]

@@ -2,7 +2,7 @@
 // and stopped and taken back.
 ghost use Rattle.std.specs.Prelude.{◌≡◌, ℕ, List, IfOk};
 ghost use Rattle.stm_image.specs.Lay.{lay};
-ghost use Rattle.stm_wire.specs.Memory.{rig_state};
+ghost use Rattle.stm_sim.specs.Memory.{rig_state};
 ghost use Rattle.stm_session.specs.Events.{Knows, now_of};
 ghost use Rattle.stm_session.specs.Headline.{IsStart, oldest_start};
 
@@ -12,7 +12,8 @@ use stm_image::Image;
 use stm_session::{
     Command, Fault, Report, a_run_is_known_by_its_outcomes, a_session_can_be_taken_back, run, undo,
 };
-use stm_wire::{MemoryRig, Rig};
+use stm_sim::MemoryRig;
+use stm_wire::Rig;
 
 /// Writes an image.
 pub fn write_whole<R: Rig>(

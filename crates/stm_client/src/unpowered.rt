@@ -1,6 +1,6 @@
 // Commands that are stopped, whose device then loses its power, are taken back.
 ghost use Rattle.std.specs.Prelude.{◌≡◌, ℕ, List, IfOk};
-ghost use Rattle.stm_wire.specs.Memory.{rig_state};
+ghost use Rattle.stm_sim.specs.Memory.{rig_state};
 ghost use Rattle.stm_session.specs.Events.{Knows, now_of};
 ghost use Rattle.stm_session.specs.Headline.{IsStart, oldest_start};
 
@@ -10,7 +10,7 @@ use stm_chip::Table;
 use stm_session::{
     Command, Fault, Report, a_run_is_known_by_its_outcomes, a_session_can_be_taken_back, run, undo,
 };
-use stm_wire::MemoryRig;
+use stm_sim::MemoryRig;
 
 /// Does commands, which are stopped after so many steps; takes the device's power away, after which
 /// the page of the command that was at work holds these bytes, where they are as many as it has;

@@ -3,7 +3,8 @@ ghost use Rattle.std.specs.Prelude.{◌≡◌, []};
 
 use crate::{DiskRig, LockedFile, MemoryFile};
 use std::alloc::Global;
-use stm_wire::{MemoryRig, Rig};
+use stm_sim::MemoryRig;
+use stm_wire::Rig;
 
 /// A Rig with this line and an empty file in memory, which is locked. With an empty journal it is
 /// honest: so what is promised of an honest one is promised of some.

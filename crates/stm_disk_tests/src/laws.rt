@@ -5,7 +5,7 @@ use stm_disk::{
     a_crash_is_a_stop, a_file_is_locked_before_its_first_byte, an_unkept_name_is_empty,
     appends_are_one, programs_are_one, programs_take_turns, stopped_appends_follow,
 };
-use stm_wire::MemoryRig;
+use stm_sim::MemoryRig;
 
 #[test]
 fn laws_are_had_for_the_file_in_memory(_rt: HostRuntime) {

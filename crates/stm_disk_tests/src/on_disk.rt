@@ -3,7 +3,8 @@ use crate::failing_file::FailingFile;
 use std::alloc::Global;
 use std::test::Fail;
 use stm_disk::{DiskRig, memory_disk};
-use stm_wire::{Chip, EraseKind, MemoryRig, Patience, Rig, RigFault, WireFault, connect, get_id};
+use stm_sim::MemoryRig;
+use stm_wire::{Chip, EraseKind, Patience, Rig, RigFault, WireFault, connect, get_id};
 
 /// A device whose flash is all 00.
 fn device(alloc: Global) -> Result<MemoryRig, Fail> {

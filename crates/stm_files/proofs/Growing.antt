@@ -5,7 +5,7 @@ use Rattle.std.specs.Io.KnownBytes.{Appends}
 use Rattle.stm_wire.specs.declared.fault.RigFault.{RigFault}
 use Rattle.stm_wire.specs.declared.fault.RigFault.TheVariants.{Line, File, Stopped}
 use Rattle.stm_wire.specs.declared.rig.RigCall.TheVariants.{Append}
-use Rattle.stm_wire.specs.Memory.{MemoryData, AppendsInMemory, Fails, counts_append, counts_journal, stopped}
+use Rattle.stm_sim.specs.Memory.{MemoryData, AppendsInMemory, Fails, counts_append, counts_journal, stopped}
 use Rattle.stm_files.specs.JournalFile.{JournalBytes}
 use Rattle.stm_files.specs.SimulatorRig.{SimulatorState, AppendsToBoth, AppendsToFile}
 

@@ -7,7 +7,7 @@ use Rattle.stm_wire.specs.Chip.{erased_byte}
 use Rattle.stm_wire.specs.Device.{Device, Phase, Fresh, Connected, Gone}
 use Rattle.stm_wire.specs.Exchange.{verdict}
 use Rattle.stm_wire.specs.Reply.{ack, nack}
-use Rattle.stm_wire.specs.Simulator.{after_byte, after_loose, after_verdict, simulated_device}
+use Rattle.stm_sim.specs.Simulator.{after_byte, after_loose, after_verdict, simulated_device}
 use Rattle.stm_files.specs.Replies.{Telling, begun, drained, tell_one, telling}
 use Rattle.stm_files.specs.Serving.{fed_all}
 

@@ -5,7 +5,7 @@ use Rattle.std.specs.Prelude.{false, fold, nat_lt}
 use Rattle.stm_wire.specs.declared.chip.EraseKind.{EraseKind}
 use Rattle.stm_wire.specs.Device.{Device, Phase, Connected}
 use Rattle.stm_wire.specs.Reply.{ack}
-use Rattle.stm_wire.specs.Simulator.{simulated_device, simulator_version}
+use Rattle.stm_sim.specs.Simulator.{simulated_device, simulator_version}
 
 -- a device that holds no more than a command's code gets the byte that ends it
 abbrev pub completes : ℕ → ℕ → Phase → ℕ → Bool

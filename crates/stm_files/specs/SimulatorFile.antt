@@ -2,9 +2,9 @@
 use Rattle.std.specs.Prelude.{◌≡◌, ℕ, List, []}
 use Rattle.stm_wire.specs.Chip.{ChipData}
 use Rattle.stm_wire.specs.Device.{Device, Phase}
-use Rattle.stm_wire.specs.Memory.{IsMemory, MemoryData, no_plan}
-use Rattle.stm_wire.specs.Simulator.{device_of, simulated_device}
-use Rattle.stm_wire.specs.declared.simulator.Stage.TheVariants.{Fresh as StageFresh}
+use Rattle.stm_sim.specs.Memory.{IsMemory, MemoryData, no_plan}
+use Rattle.stm_sim.specs.Simulator.{device_of, simulated_device}
+use Rattle.stm_sim.specs.declared.simulator.Stage.TheVariants.{Fresh as StageFresh}
 
 -- the device, with no byte owed and in this phase
 abbrev pub standing_at : Phase → Device → Device

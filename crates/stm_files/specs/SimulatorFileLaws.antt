@@ -8,8 +8,8 @@ use Rattle.stm_wire.specs.Chip.{erased_byte}
 use Rattle.stm_wire.specs.Exchange.{verdict}
 use Rattle.stm_wire.specs.Reply.{ack, nack}
 use Rattle.stm_wire.specs.Device.{Device, Phase, Fresh, Connected, Gone, IsSettled}
-use Rattle.stm_wire.specs.Memory.{MemoryData}
-use Rattle.stm_wire.specs.Simulator.{after_byte, after_verdict, simulated_device}
+use Rattle.stm_sim.specs.Memory.{MemoryData}
+use Rattle.stm_sim.specs.Simulator.{after_byte, after_verdict, simulated_device}
 use Rattle.stm_files.specs.SimulatorFile.{Becomes, fed_byte, standing_at}
 
 -- 7F connects a fresh device

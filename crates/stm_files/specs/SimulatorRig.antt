@@ -3,7 +3,7 @@ use Rattle.std.specs.Prelude.{◌≡◌, ◌⊎◌, ℕ, List, ◌++◌, true, f
 use Rattle.std.specs.Io.KnownBytes.{Appends}
 use Rattle.stm_wire.specs.declared.fault.RigFault.{RigFault}
 use Rattle.stm_wire.specs.declared.fault.RigFault.TheVariants.{File}
-use Rattle.stm_wire.specs.Memory.{MemoryData, rig_state, AppendsInMemory, FetchesInMemory}
+use Rattle.stm_sim.specs.Memory.{MemoryData, rig_state, AppendsInMemory, FetchesInMemory}
 use Rattle.stm_wire.specs.Rig.{RigState}
 use Rattle.stm_files.specs.JournalFile.{JournalBytes}
 

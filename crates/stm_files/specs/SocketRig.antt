@@ -3,7 +3,7 @@ use Rattle.std.specs.Prelude.{ℕ}
 use Rattle.stm_wire.specs.Rig.{RigState}
 use Rattle.stm_files.specs.JournalFile.{JournalBytes}
 use Rattle.stm_files.specs.SocketLine.{LineState}
-use Rattle.stm_wire.specs.Unmodelled.{unmodelled}
+use Rattle.stm_sim.specs.Unmodelled.{unmodelled}
 
 pub record Failures : Type 0 where
   -- of put and get, and of append and fetch

@@ -1,7 +1,7 @@
 // A journal to be read, with no device.
 ghost use Rattle.std.specs.Prelude.{◌≡◌, ◌≤◌, ◌-◌, ◌^◌, length, IfOk};
 ghost use Rattle.stm_wire.specs.Rig.{HasCause};
-ghost use Rattle.stm_wire.specs.Unmodelled.{unmodelled};
+ghost use Rattle.stm_sim.specs.Unmodelled.{unmodelled};
 
 use std::io;
 use std::marker::Model;

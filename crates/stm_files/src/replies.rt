@@ -1,13 +1,14 @@
 // What a client of a served simulator is told: the device's replies, and Get Version besides, which
 // the device refuses.
 ghost use Rattle.std.specs.Prelude.{◌≡◌, ◌++◌, IsTrue, OnOk};
-ghost use Rattle.stm_wire.specs.Simulator.{simulated_device, simulator_version};
+ghost use Rattle.stm_sim.specs.Simulator.{simulated_device, simulator_version};
 ghost use Rattle.stm_files.specs.Replies.{begun, completes, drained, telling, told_for, told_of};
 ghost use Rattle.stm_files.specs.Replies.{version_reply, with_version};
 ghost use Rattle.stm_files.specs.Serving.{fed_all};
 
 use std::alloc::AllocError;
-use stm_wire::{EraseKind, Simulator};
+use stm_sim::Simulator;
+use stm_wire::EraseKind;
 
 /// The codes of Get and of Get Version, and the bytes that end them.
 const GET: (u8, u8) = (0x00, 0xFF);

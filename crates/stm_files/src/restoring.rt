@@ -6,7 +6,8 @@ ghost use Rattle.stm_files.specs.Standing.{phase_of};
 
 use crate::standing::Standing;
 use std::alloc::AllocError;
-use stm_wire::{MemoryRig, Patience, Rig};
+use stm_sim::MemoryRig;
+use stm_wire::{Patience, Rig};
 
 /// The byte that connects a device.
 const CONNECT: u8 = 0x7F;

@@ -2,7 +2,7 @@
 // stands in another beside it.
 ghost use Rattle.std.specs.Prelude.{◌≡◌, length, IfOk, IfSome};
 ghost use Rattle.stm_wire.specs.Chip.{flash_size};
-ghost use Rattle.stm_wire.specs.Memory.{rig_state};
+ghost use Rattle.stm_sim.specs.Memory.{rig_state};
 ghost use Rattle.stm_files.specs.SimulatorFile.{StandsSo, simulator_at};
 ghost use Rattle.stm_files.specs.Standing.{phase_of};
 
@@ -19,7 +19,8 @@ use crate::standing::{Standing, line_of, read_standing};
 use crate::unusable::Unusable;
 use std::alloc::{AllocError, Global};
 use std::fs::Files;
-use stm_wire::{Chip, MemoryRig};
+use stm_sim::MemoryRig;
+use stm_wire::Chip;
 
 /// A simulator between two runs, as its two files hold it.
 #[derive(Drop)]

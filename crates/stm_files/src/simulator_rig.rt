@@ -2,10 +2,10 @@
 ghost use Rattle.std.specs.Prelude.{◌≡◌, ◌≤◌, [], drop, length, IfOk, IfSome, OnErr, OnOk, true};
 ghost use Rattle.std.specs.Io.KnownBytes.{Appends};
 ghost use Rattle.std.proofs.Common.{sym};
-ghost use Rattle.stm_wire.specs.Memory.{PutsInMemory, GetsInMemory, rig_state};
+ghost use Rattle.stm_sim.specs.Memory.{PutsInMemory, GetsInMemory, rig_state};
 ghost use Rattle.stm_wire.specs.Rig.{AppendsHonestly, FetchesHonestly, FetchesWithin, GetsHonestly};
 ghost use Rattle.stm_wire.specs.Call.{Put, Fetch};
-ghost use Rattle.stm_wire.specs.Recorded.{length_told};
+ghost use Rattle.stm_sim.specs.Recorded.{length_told};
 ghost use Rattle.stm_wire.specs.Rig.{HasCause, PutsHonestly, Records, RecordsAppend, entry_of_get};
 ghost use Rattle.stm_wire.specs.Rig.{Enters, EntersAppend, FetchesAside, GetsAside, PutsAside};
 ghost use Rattle.stm_files.specs.SimulatorRig.{SimulatorState, simulator_rig_state, AppendsToFile};
@@ -22,7 +22,8 @@ use std::alloc::{AllocError, Global};
 use std::io;
 use std::io::ErrorKind;
 use std::marker::Model;
-use stm_wire::{MemoryRig, Patience, Rig, RigCall, RigFault};
+use stm_sim::MemoryRig;
+use stm_wire::{Patience, Rig, RigCall, RigFault};
 
 /// A simulated device, and a journal kept in a file. The device, the steps to a stop and the record
 /// are those of a Rig in memory, which also holds the journal's bytes: each append goes to it

@@ -6,7 +6,8 @@ use crate::stories::{Act, Ask, Told, first_wrong};
 use std::test::Fail;
 use stm_chip::{Table, read_table};
 use stm_session::{Fault, info};
-use stm_wire::{EraseKind, MemoryRig, Protection};
+use stm_sim::MemoryRig;
+use stm_wire::{EraseKind, Protection};
 
 /// A table of chip 0412 alone.
 const TABLE: &str =

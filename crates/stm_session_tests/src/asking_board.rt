@@ -3,7 +3,8 @@ use crate::devices::{self, answers, counting, failed_at, is_counting, passes, wr
 use std::test::Fail;
 use stm_chip::{Table, read_table};
 use stm_session::{Board, Command, Fault, ask_board, run, told_board_is_the_devices, undo};
-use stm_wire::{ListRig, MemoryRig, RigCall, UniqueId};
+use stm_sim::{ListRig, MemoryRig};
+use stm_wire::{RigCall, UniqueId};
 
 /// Chip 0412, which tells its board at two places.
 const TABLE: &str = r#"

@@ -1,14 +1,15 @@
 // Devices that answer every byte alike, or never stop talking: each session call ends, with a named
 // fault, after so many bytes.
 ghost use Rattle.std.specs.Prelude.{◌^◌, ◌-◌};
-ghost use Rattle.stm_wire.specs.Unmodelled.{unmodelled};
+ghost use Rattle.stm_sim.specs.Unmodelled.{unmodelled};
 
 use crate::devices::{answers, device, kept, table};
 use crate::every_stop::small_write;
 use std::test::Fail;
 use stm_chip::Table;
 use stm_session::{Fault, go, info, run, undo};
-use stm_wire::{MemoryRig, Patience, Rig, RigFault};
+use stm_sim::MemoryRig;
+use stm_wire::{Patience, Rig, RigFault};
 
 /// What such a device says.
 #[derive(Clone, Copy)]

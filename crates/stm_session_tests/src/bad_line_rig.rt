@@ -1,9 +1,10 @@
 // A line on which one of the bytes that come is another or gets lost, or after which nothing comes:
 // a Rig over one in memory, which follows no model.
-ghost use Rattle.stm_wire.specs.Memory.{rig_state};
-ghost use Rattle.stm_wire.specs.Unmodelled.{unmodelled};
+ghost use Rattle.stm_sim.specs.Memory.{rig_state};
+ghost use Rattle.stm_sim.specs.Unmodelled.{unmodelled};
 
-use stm_wire::{MemoryRig, Patience, Rig, RigFault};
+use stm_sim::MemoryRig;
+use stm_wire::{Patience, Rig, RigFault};
 
 /// What befalls one byte that comes.
 #[derive(Clone, Copy)]

@@ -3,7 +3,8 @@ use crate::devices::answers;
 use std::test::Fail;
 use stm_chip::{Table, read_table};
 use stm_session::{Command, Fault, run};
-use stm_wire::{ListRig, RigCall};
+use stm_sim::ListRig;
+use stm_wire::RigCall;
 
 const TABLE: &str =
     "[[chip]]\nid = 0x412\nbase = 0x08000000\npages = [[32, 1024]]\nerase = \"page\"\n";

@@ -10,7 +10,8 @@ use std::test::Fail;
 use stm_chip::Table;
 use stm_client::{Swapped, Visit, a_journal_is_of_one_board, swap_boards};
 use stm_session::{Fault, a_session_changes_only_its_own_board, info, run, undo};
-use stm_wire::{MemoryRig, UniqueId};
+use stm_sim::MemoryRig;
+use stm_wire::UniqueId;
 
 /// The chip of both.
 const CHIP: u16 = 0x0A03;

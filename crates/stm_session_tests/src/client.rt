@@ -10,7 +10,7 @@ use stm_client::{
     take_back_stopped, take_back_unpowered, tell, write_whole,
 };
 use stm_session::{Command, Fault, Outcome, Report};
-use stm_wire::MemoryRig;
+use stm_sim::MemoryRig;
 
 /// A table of chip 0412.
 const TABLE: &str =

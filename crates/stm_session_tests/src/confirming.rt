@@ -5,7 +5,8 @@ use crate::devices::{self, chip_of, device, is_all, is_same, passes, puts, write
 use std::test::Fail;
 use stm_chip::Table;
 use stm_session::{Command, Fault, run, undo};
-use stm_wire::{MemoryRig, RigCall, UniqueId};
+use stm_sim::MemoryRig;
+use stm_wire::{RigCall, UniqueId};
 
 /// The header of a journal of the board 0A.
 const HEADER: &[u8] = b"stmjournal 3 0412 0A0A0A0A0A0A0A0A0A0A0A0A\n";

@@ -4,7 +4,8 @@ use std::test::Fail;
 use stm_chip::{Table, read_table};
 use stm_image::{Image, read_raw};
 use stm_session::{Command, Outcome};
-use stm_wire::{Chip, MemoryRig, Rig, RigCall};
+use stm_sim::MemoryRig;
+use stm_wire::{Chip, Rig, RigCall};
 
 /// Chips 0410 and 0412 of the sample table, and four for tests: 0A01 and 0A02, erased by 44, 0A03,
 /// whose erased byte is 00, and 0A05, whose pages have 2,048 bytes.

@@ -8,7 +8,7 @@ use crate::devices::{device, failed_at, is_all, passes, table, write_of};
 use std::test::Fail;
 use stm_chip::Table;
 use stm_session::{Command, Fault, run, undo};
-use stm_wire::MemoryRig;
+use stm_sim::MemoryRig;
 
 /// How many steps the write takes.
 const WRITE: u64 = 1141;

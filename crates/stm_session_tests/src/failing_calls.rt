@@ -6,7 +6,7 @@ use crate::repeated_undo::{after_a_write, comes_back};
 use std::test::Fail;
 use stm_chip::Table;
 use stm_session::{Command, Fault, run, undo};
-use stm_wire::MemoryRig;
+use stm_sim::MemoryRig;
 
 /// A call that fails.
 #[derive(Clone, Copy)]

@@ -6,7 +6,8 @@ use crate::sent_lists::is_sent_list;
 use std::test::Fail;
 use stm_chip::Table;
 use stm_session::{Command, run, undo};
-use stm_wire::{FlipRig, RigCall};
+use stm_sim::FlipRig;
+use stm_wire::RigCall;
 
 /// The bytes put in so many calls behind the first `before`.
 fn puts(rt: &HostRuntime, line: &FlipRig, before: usize, count: usize) -> Result<Vec<u8>, Fail> {

@@ -5,7 +5,8 @@ use crate::every_stop::fresh;
 use std::test::Fail;
 use stm_chip::Table;
 use stm_session::{Command, Fault, Outcome, run};
-use stm_wire::{FlipRig, RigCall};
+use stm_sim::FlipRig;
+use stm_wire::RigCall;
 
 /// The flash holds 00 here, as everywhere: the last eight bytes of page 0 of chip 0A01, and all of
 /// page 1 behind them.

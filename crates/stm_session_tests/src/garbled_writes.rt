@@ -11,7 +11,8 @@ use stm_any_line::{
 };
 use stm_chip::Table;
 use stm_session::{Command, Outcome, run, undo};
-use stm_wire::{FlipRig, RigCall};
+use stm_sim::FlipRig;
+use stm_wire::RigCall;
 
 /// The page that the write changes has so many bytes.
 const PAGE: u64 = 256;

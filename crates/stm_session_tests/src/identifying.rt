@@ -7,7 +7,7 @@ use crate::stories::Ask::{Erase, Write};
 use crate::stories::{Ask, Parts, Told, goes_right};
 use std::test::Fail;
 use stm_session::{Fault, identify};
-use stm_wire::MemoryRig;
+use stm_sim::MemoryRig;
 
 /// Journals of no device, of chip 0410, and of another chip, whose only segment is ended.
 const FINISHED: [&[u8]; 3] = [

@@ -4,7 +4,7 @@ use crate::stories::Act::Run;
 use crate::stories::{Ask, Told, first_wrong};
 use std::test::Fail;
 use stm_chip::{Table, read_table};
-use stm_wire::MemoryRig;
+use stm_sim::MemoryRig;
 
 const TABLE: &str =
     "[[chip]]\nid = 0x414\nbase = 0x08000000\npages = [[256, 2048]]\nerase = \"page\"\n";

@@ -1,7 +1,8 @@
 // A loss of power behind a stop, with other bytes in the pages at risk.
 use std::test::Fail;
 use stm_journal::Journal;
-use stm_wire::{Intent, MemoryRig};
+use stm_sim::MemoryRig;
+use stm_wire::Intent;
 
 /// The device loses its power, and this page holds this byte everywhere.
 fn lose_page(rt: &HostRuntime, rig: &mut MemoryRig, n: u16, byte: u8) -> Result<(), Fail> {

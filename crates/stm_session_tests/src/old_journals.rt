@@ -5,7 +5,7 @@ use crate::stories::{Act, Parts, ends_right, first_wrong, first_wrong_of, goes_r
 use std::test::Fail;
 use stm_chip::{Table, read_table};
 use stm_session::Fault;
-use stm_wire::MemoryRig;
+use stm_sim::MemoryRig;
 
 /// Journals that are refused as they stand, the id of their device, and the line that is told. A
 /// chip of more than 256 pages wants a journal of version 2, and page 257 beside page 1.

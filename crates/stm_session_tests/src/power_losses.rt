@@ -12,7 +12,7 @@ use crate::stopped_runs::{Case, Change, Start, is_as_before, start_of, stopped_r
 use std::test::Fail;
 use stm_chip::Table;
 use stm_session::{Fault, undo};
-use stm_wire::MemoryRig;
+use stm_sim::MemoryRig;
 
 /// The stops of each undo.
 const UNDOS: [u64; 2] = [300, 131_700];

@@ -3,8 +3,9 @@ use crate::devices::{device, failed_at, is_all, kept, passes, send, table};
 use std::test::Fail;
 use stm_chip::Table;
 use stm_session::{Fault, undo};
+use stm_sim::MemoryRig;
 use stm_weak::take_back;
-use stm_wire::{EraseKind, MemoryRig, Patience, Rig, erase_page, program};
+use stm_wire::{EraseKind, Patience, Rig, erase_page, program};
 
 /// Connects the device, and writes 01 02 03 04 at its base.
 fn write(rig: &mut MemoryRig) -> Result<(), Fail> {

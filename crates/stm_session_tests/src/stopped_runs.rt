@@ -4,7 +4,7 @@ use crate::every_stop::stop;
 use std::test::Fail;
 use stm_chip::Table;
 use stm_session::{Command, Fault, run};
-use stm_wire::MemoryRig;
+use stm_sim::MemoryRig;
 
 /// A command that changes the flash, whose first byte lies at 08000000.
 #[derive(Clone, Copy)]

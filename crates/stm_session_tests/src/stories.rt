@@ -4,7 +4,8 @@ use crate::devices::{device, image, puts, puts_begin, send, table};
 use std::test::Fail;
 use stm_chip::Table;
 use stm_session::{Command, Fault, Outcome, go, identify, info, protect, run, undo};
-use stm_wire::{MemoryRig, Protection, RigCall};
+use stm_sim::MemoryRig;
+use stm_wire::{Protection, RigCall};
 
 /// Bytes, each part of them so many times, one after another.
 pub type Parts = &'static [(&'static [u8], usize)];

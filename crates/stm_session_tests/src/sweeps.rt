@@ -6,7 +6,8 @@ use crate::stopped_runs::{Case, Part, Parts, Start, start_of, stopped_run};
 use std::test::Fail;
 use stm_chip::Table;
 use stm_session::{Fault, undo};
-use stm_wire::{MemoryRig, Patience, Rig};
+use stm_sim::MemoryRig;
+use stm_wire::{Patience, Rig};
 
 /// What befalls the device between the stop and the undo.
 #[derive(Clone, Copy)]

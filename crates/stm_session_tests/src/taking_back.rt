@@ -4,7 +4,8 @@ use crate::devices::{add_digits, answers, failed_at, only_fetched};
 use std::test::Fail;
 use stm_chip::{Table, read_table};
 use stm_session::{Fault, undo};
-use stm_wire::{Chip, EraseKind, MemoryRig};
+use stm_sim::MemoryRig;
+use stm_wire::{Chip, EraseKind};
 
 /// A table of a chip of eight pages.
 const TABLE: &str =

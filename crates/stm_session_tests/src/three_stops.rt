@@ -8,7 +8,7 @@ use crate::stopped_runs::{Case, Change, Start, is_as_before, start_of, stopped_r
 use std::test::Fail;
 use stm_chip::Table;
 use stm_session::undo;
-use stm_wire::MemoryRig;
+use stm_sim::MemoryRig;
 
 /// What two undos answer behind the one that is stopped after `first` steps: the next, stopped
 /// after `second`, and the last; and whether those that fail are stopped.

@@ -10,7 +10,7 @@ use std::test::Fail;
 use stm_chip::Table;
 use stm_journal::Journal;
 use stm_session::{Fault, run, undo};
-use stm_wire::MemoryRig;
+use stm_sim::MemoryRig;
 
 /// What a byte may become, or whether it gets lost, or whether nothing comes any more: a
 /// complement, a refusal, an acknowledgement, nothing but zeros.

@@ -10,7 +10,7 @@ use crate::every_stop::{is_counted, stopped_write};
 use std::test::Fail;
 use stm_chip::Table;
 use stm_session::undo;
-use stm_wire::MemoryRig;
+use stm_sim::MemoryRig;
 
 /// Whether the undo of a write that was stopped is stopped after so many steps, and the next one
 /// brings the flash back.

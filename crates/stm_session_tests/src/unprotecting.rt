@@ -3,7 +3,8 @@ use crate::devices::{device, is_all, only_fetched, passes, puts, table, write_of
 use std::test::Fail;
 use stm_chip::Table;
 use stm_session::{Fault, protect, run, undo_fresh, unprotect_fresh};
-use stm_wire::{MemoryRig, Protection};
+use stm_sim::MemoryRig;
+use stm_wire::Protection;
 
 /// A chip 0412 whose flash was 00 everywhere. A write to page 0 was stopped inside the page's frames:
 /// these are the steps from about 3,200 to 4,280, behind 1,072 of reading the page and 2,056 of its

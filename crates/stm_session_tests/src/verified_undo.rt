@@ -5,7 +5,8 @@ use crate::every_stop::{fresh, small_write};
 use std::test::Fail;
 use stm_chip::Table;
 use stm_session::{Fault, Returned, run, undo, undo_verified, undo_verified_fresh};
-use stm_wire::{FlipRig, RigCall};
+use stm_sim::FlipRig;
+use stm_wire::RigCall;
 
 /// What is told of a journal without a segment.
 const NONE: Returned = Returned {

@@ -9,7 +9,8 @@ mod places;
 use std::alloc::Global;
 use std::test::Fail;
 use stm_journal::{Intent, Journal, JournalFault, PagePlace};
-use stm_wire::{Chip, EraseKind, MemoryRig};
+use stm_sim::MemoryRig;
+use stm_wire::{Chip, EraseKind};
 
 /// A chip of one page.
 fn one_page(alloc: Global) -> Result<Chip, Fail> {

@@ -16,9 +16,9 @@ use Rattle.stm_wire.specs.Chip.{page_offset, page_size}
 use Rattle.stm_wire.specs.Exchange.{number_of, verdict}
 use Rattle.stm_wire.specs.Effect.{Change, Nothing, ErasePages, EraseAll, Write, change_of}
 use Rattle.stm_wire.specs.PageLaws.{fits_page, fits-end}
-use Rattle.stm_wire.specs.Simulated.{small-change}
-use Rattle.stm_wire.specs.SimulatedChange.{done-change-fits, Small as SmallChange}
-use Rattle.stm_wire.specs.Simulator.{Fits}
+use Rattle.stm_sim.specs.Simulated.{small-change}
+use Rattle.stm_sim.specs.SimulatedChange.{done-change-fits, Small as SmallChange}
+use Rattle.stm_sim.specs.Simulator.{Fits}
 use Rattle.stm_watch.specs.Known.{Known, with_items, stored_all, erased_known, changed_known}
 use Rattle.stm_watch.specs.Known.{count_of_read, place_of_read, count_read, place_read}
 use Rattle.stm_watch.specs.Known.{known_at_first}

@@ -3,7 +3,7 @@ ghost use Rattle.std.specs.Prelude.{◌≡◌, ◌+◌, ◌<◌, ◌≤◌, leng
 ghost use Rattle.stm_wire.specs.Chip.{erased_byte, flash_size, page_count, page_offset, page_size};
 ghost use Rattle.stm_wire.specs.Exchange.{pairs_of};
 ghost use Rattle.stm_wire.specs.Effect.{change_of, write_change, erase_change, extended_change};
-ghost use Rattle.stm_wire.specs.Simulator.{Fits};
+ghost use Rattle.stm_sim.specs.Simulator.{Fits};
 ghost use Rattle.stm_watch.specs.Known.{stored, stored_all, with_items, erased_known};
 ghost use Rattle.stm_watch.specs.Known.{changed_known};
 

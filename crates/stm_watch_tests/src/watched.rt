@@ -1,10 +1,11 @@
 // A Rig in memory, and one of which a byte comes complemented, both watched.
 use std::alloc::Global;
 use std::test::Fail;
+use stm_sim::{FlipRig, MemoryRig};
 use stm_watch::{Refusal, Watch, WatchRig};
 use stm_wire::{
-    Chip, EraseKind, FlipRig, MemoryRig, Patience, Rig, RigFault, WireFault, connect, erase_page,
-    get_commands, program, read,
+    Chip, EraseKind, Patience, Rig, RigFault, WireFault, connect, erase_page, get_commands,
+    program, read,
 };
 
 const BASE: u32 = 0x0800_0000;

@@ -3,7 +3,6 @@ mod Answering
 mod Asking
 mod Awaited
 mod Bound
-mod Checks
 mod Closed
 mod Cutting
 mod EraseHigh
@@ -18,10 +17,8 @@ mod Holding
 mod Keeping
 mod LineCalls
 mod Mild
-mod NamedPages
 mod Pages
 mod Plain
-mod PowerLosses
 mod Protecting
 mod Reading
 mod Receiving
@@ -29,7 +26,6 @@ mod RefusableReads
 mod SentLists
 mod SettlingCalls
 mod SettlingFaults
-mod Simulating
 mod Steps
 mod Stopped
 mod StoppedFrames

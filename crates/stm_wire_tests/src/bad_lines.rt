@@ -4,7 +4,8 @@ use crate::acts::{Act, first_other};
 use crate::rigs::{LOW_DENSITY, rig_of};
 use std::alloc::Global;
 use std::test::Fail;
-use stm_wire::{FlipRig, ListRig, Patience, RigCall, WireFault};
+use stm_sim::{FlipRig, ListRig};
+use stm_wire::{Patience, RigCall, WireFault};
 
 /// What is done with a line that answers 79, nothing and 1F, and what it records of that.
 const LISTED: &[Act] = &[

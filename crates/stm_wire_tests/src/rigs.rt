@@ -1,7 +1,8 @@
 // Rigs in memory for tests, and what their flash holds.
 use std::alloc::Global;
 use std::test::Fail;
-use stm_wire::{Chip, EraseKind, MemoryRig};
+use stm_sim::MemoryRig;
+use stm_wire::{Chip, EraseKind};
 
 /// A chip for tests: its id, how many pages of which size, how they are erased, and what an erase
 /// leaves.

@@ -9,7 +9,8 @@ use crate::acts::Step::{
 use crate::acts::{Step, first_wrong};
 use crate::rigs::{ERASED_TO_ZERO, EXTENDED, LOW_DENSITY, chip_of};
 use std::test::Fail;
-use stm_wire::{MemoryRig, Patience, RigCall, RigFault};
+use stm_sim::MemoryRig;
+use stm_wire::{Patience, RigCall, RigFault};
 
 const FRAMES: &[Step] = &[
     Exchange(&[0x00], &[]),

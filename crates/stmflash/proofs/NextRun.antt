@@ -1,9 +1,9 @@
 -- An action that is stopped, a loss of power and an undo in the next run of the program, together.
 use Rattle.std.proofs.Common.{◌≡◌, ℕ, List, [], Result, Ok, sym, ◌∙◌, ap, ap₂, subst}
-use Rattle.stm_wire.specs.declared.plan.Stop.TheVariants.{After}
+use Rattle.stm_sim.specs.declared.plan.Stop.TheVariants.{After}
 use Rattle.stm_wire.specs.Chip.{ChipData}
 use Rattle.stm_wire.specs.Device.{Device, IsReady, IsReadyPhase, Phase}
-use Rattle.stm_wire.specs.Memory.{MemoryData, rig_state}
+use Rattle.stm_sim.specs.Memory.{MemoryData, rig_state}
 use Rattle.stm_session.specs.Events.{Knows, Leads, World, lost_owed, lost_power, now_of}
 use Rattle.stm_session.specs.Headline.{IsStart, oldest_start}
 use Rattle.stm_session.specs.Moments.{SameMake}

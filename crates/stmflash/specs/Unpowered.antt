@@ -1,10 +1,10 @@
 -- An action on a simulator in the process that is stopped, a loss of power, and an undo in the next
 -- run of the program.
 use Rattle.std.specs.Prelude.{◌≡◌, ℕ, List, Result, Ok}
-use Rattle.stm_wire.specs.declared.plan.Stop.TheVariants.{After}
+use Rattle.stm_sim.specs.declared.plan.Stop.TheVariants.{After}
 use Rattle.stm_wire.specs.Chip.{ChipData}
 use Rattle.stm_wire.specs.Harmless.{SameOutside}
-use Rattle.stm_wire.specs.Memory.{MemoryData, rig_state}
+use Rattle.stm_sim.specs.Memory.{MemoryData, rig_state}
 use Rattle.stm_session.specs.Events.{Knows, Leads, World, lost_owed, lost_power, now_of}
 use Rattle.stm_session.specs.Moments.{SameMake}
 use Rattle.stmflash.specs.declared.action.Action.{Action}

@@ -12,7 +12,8 @@ ghost use Rattle.stmflash.specs.ProtectedPages.{protected_behind, reaches, write
 
 use std::marker::Model;
 use stm_files::tell_all;
-use stm_wire::{Chip, Simulator, part};
+use stm_sim::Simulator;
+use stm_wire::{Chip, part};
 
 /// The code of Write Unprotect and its complement (AN3155, section 3.10).
 const WRITE_UNPROTECT: (u8, u8) = (0x73, 0x8C);

@@ -19,7 +19,8 @@ use stm_files::{
     BoundSocket, Locks, SimulatedBoard, SimulatorFiles, SimulatorNames, line_of, tell_all,
 };
 use stm_session::Fault;
-use stm_wire::{Chip, Simulator};
+use stm_sim::Simulator;
+use stm_wire::Chip;
 use stm_words::Served;
 
 /// How long a client may take no reply, in seconds.

@@ -2,7 +2,7 @@
 // run of the program.
 ghost use Rattle.std.specs.Prelude.{◌≡◌, Contains, ℕ, [], List, IfOk, IsTrue, OnOk};
 ghost use Rattle.stm_wire.specs.Device.{IsReady};
-ghost use Rattle.stm_wire.specs.Memory.{rig_state};
+ghost use Rattle.stm_sim.specs.Memory.{rig_state};
 ghost use Rattle.stm_session.specs.Events.{Leads, lost_power, now_of};
 ghost use Rattle.stm_session.specs.Headline.{IsStart, oldest_start};
 ghost use Rattle.stm_session.specs.Undoable.{risked_pages};
@@ -19,7 +19,7 @@ use stm_chip::Table;
 use stm_files::{JournalFile, Locks, SimulatorFiles, SimulatorRig, StoredSimulator};
 use stm_journal::Journal;
 use stm_session::Fault;
-use stm_wire::MemoryRig;
+use stm_sim::MemoryRig;
 
 /// The names of the simulator's file and of the journal.
 #[derive(Clone, Copy)]

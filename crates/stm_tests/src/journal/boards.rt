@@ -4,7 +4,8 @@ use crate::journal::{fault_of, first_beginning, loaded, opened};
 use std::alloc::Global;
 use std::test::Fail;
 use stm_journal::{Journal, JournalFault};
-use stm_wire::{MemoryRig, UniqueId};
+use stm_sim::MemoryRig;
+use stm_wire::UniqueId;
 
 const EIGHT: &[u8] = &[0x00, 0xFF, 0x10, 0x20, 0x30, 0x40, 0x50, 0x60];
 

@@ -7,7 +7,8 @@ use crate::journal::opened;
 use std::alloc::Global;
 use std::test::Fail;
 use stm_journal::{Journal, JournalFault};
-use stm_wire::{MemoryRig, Rig, UniqueId};
+use stm_sim::MemoryRig;
+use stm_wire::{Rig, UniqueId};
 
 /// One page of a command is written.
 #[tactic(auto, using(stm_journal::specs::NewestLaws::newest_may_keep_behind))]

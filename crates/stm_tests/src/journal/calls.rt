@@ -6,7 +6,8 @@ use crate::journal::opened;
 use std::alloc::Global;
 use std::test::Fail;
 use stm_journal::{Journal, JournalFault};
-use stm_wire::{MemoryRig, UniqueId};
+use stm_sim::MemoryRig;
+use stm_wire::UniqueId;
 
 /// A page is kept, and is to be erased.
 fn keep_and_erase(journal: &mut Journal, rig: &mut MemoryRig) -> Result<u32, JournalFault>

@@ -4,7 +4,7 @@ use crate::journal::rig_with;
 use std::alloc::{AllocError, Global};
 use std::test::Fail;
 use stm_journal::{Journal, JournalFault};
-use stm_wire::MemoryRig;
+use stm_sim::MemoryRig;
 
 /// How many pages are kept, and how many by the first segment; or the fault.
 type Kept = Result<(usize, usize), JournalFault>;

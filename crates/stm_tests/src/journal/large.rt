@@ -7,7 +7,7 @@ use crate::journal::{KeptRow, fault_of, first_kept, rig_with};
 use std::alloc::{AllocError, Global};
 use std::test::Fail;
 use stm_journal::{Journal, JournalFault};
-use stm_wire::MemoryRig;
+use stm_sim::MemoryRig;
 
 /// The bytes of a page, each another one than its neighbours: from 0 to 250, and again.
 fn page(alloc: Global, count: u32) -> Result<Vec<u8>, AllocError> {

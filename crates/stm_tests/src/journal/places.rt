@@ -1,14 +1,15 @@
 // Kept pages found by their places, over Rigs that bring few bytes at once, or
 // other bytes than before.
 ghost use Rattle.std.specs.Prelude.{◌≡◌, ◌^◌, ◌-◌};
-ghost use Rattle.stm_wire.specs.Unmodelled.{unmodelled};
+ghost use Rattle.stm_sim.specs.Unmodelled.{unmodelled};
 ghost use Rattle.stm_journal.specs.KeptPlaces.{IsPlaceIn};
 
 use crate::journal::{first_beginning, opened, rig_with};
 use std::alloc::{AllocError, Global};
 use std::test::Fail;
 use stm_journal::{Journal, JournalFault, PagePlace};
-use stm_wire::{MemoryRig, Patience, Rig, RigFault};
+use stm_sim::MemoryRig;
+use stm_wire::{Patience, Rig, RigFault};
 
 /// What a Rig does to the bytes that it fetches.
 #[derive(Clone, Copy)]

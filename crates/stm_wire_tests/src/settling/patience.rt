@@ -1,14 +1,15 @@
 // How long each get waits: the replies of a command may take as long as an erase, and a device
 // that waits stays silent.
 ghost use Rattle.std.specs.Prelude.{◌^◌, ◌-◌, Some};
-ghost use Rattle.stm_wire.specs.Unmodelled.{unmodelled};
+ghost use Rattle.stm_sim.specs.Unmodelled.{unmodelled};
 
 use crate::acts::Act::{Erase, GetCommands, GetId, Go, Program, Protect, Read, Settle};
 use crate::acts::{Act, first_other};
 use crate::rigs::{LOW_DENSITY, rig_of};
 use std::alloc::Global;
 use std::test::Fail;
-use stm_wire::{EraseKind, MemoryRig, Patience, Protection, Rig, RigFault};
+use stm_sim::MemoryRig;
+use stm_wire::{EraseKind, Patience, Protection, Rig, RigFault};
 
 /// The Rig in memory, and how long its gets waited.
 #[derive(Drop)]

@@ -2,7 +2,8 @@
 use crate::rigs::{EXTENDED, LOW_DENSITY, Make, Runs, are_runs, rig_of};
 use std::alloc::Global;
 use std::test::Fail;
-use stm_wire::{EraseKind, Intent, MemoryRig, Rig, RigCall, WireFault, settle_under};
+use stm_sim::MemoryRig;
+use stm_wire::{EraseKind, Intent, Rig, RigCall, WireFault, settle_under};
 
 /// 128 pages of 1,024 bytes.
 const MEDIUM_DENSITY: Make = Make {

@@ -1,10 +1,11 @@
 // Lines that follow no model, and how settling ends on them.
 ghost use Rattle.std.specs.Prelude.{◌≡◌};
-ghost use Rattle.stm_wire.specs.Unmodelled.{unmodelled};
+ghost use Rattle.stm_sim.specs.Unmodelled.{unmodelled};
 
 use std::alloc::Global;
 use std::test::Fail;
-use stm_wire::{ListRig, Patience, Rig, RigCall, RigFault, WireFault, connect, settle};
+use stm_sim::ListRig;
+use stm_wire::{Patience, Rig, RigCall, RigFault, WireFault, connect, settle};
 
 /// How settling ended, and how many puts and gets it took.
 type Ending = (Result<(), WireFault>, usize, usize);

@@ -2,7 +2,8 @@
 use crate::rigs::{EXTENDED, LOW_DENSITY, Make, rig_of};
 use std::alloc::Global;
 use std::test::Fail;
-use stm_wire::{MemoryRig, Patience, Rig};
+use stm_sim::MemoryRig;
+use stm_wire::{Patience, Rig};
 
 /// What a device made of the last byte of a list.
 #[derive(Clone, Copy, Debug, PartialEq, Eq)]

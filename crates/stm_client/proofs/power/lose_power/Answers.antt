@@ -1,5 +1,5 @@
 use Rattle.std.proofs.Common.{◌≡◌, ◌∙◌, subst, sym}
-use Rattle.stm_wire.specs.Memory.{MemoryData}
+use Rattle.stm_sim.specs.Memory.{MemoryData}
 use Rattle.stm_session.specs.PowerLoss.{LosesPower}
 use Rattle.stm_client.proofs.Powers.{intent_lost, nothing_lost}
 use Rattle.stm_client.proofs.power.lose_power.Goals.{in-Some, in-None}

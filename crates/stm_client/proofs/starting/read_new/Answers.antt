@@ -1,5 +1,5 @@
 use Rattle.std.proofs.Common.{◌≡◌, ℕ, List, [], ◌∷◌, map, IfOk, ◌∙◌, ap, subst}
-use Rattle.stm_wire.specs.Memory.{MemoryData, fresh_memory, rig_state}
+use Rattle.stm_sim.specs.Memory.{MemoryData, fresh_memory, rig_state}
 use Rattle.stm_session.specs.Running.{bytes_of}
 use Rattle.stm_client.proofs.Keeping.{begins_again}
 use Rattle.stm_client.proofs.Starts.{fresh_begins, fresh_flash, fresh_unrefused}

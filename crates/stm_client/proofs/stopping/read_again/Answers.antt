@@ -1,5 +1,5 @@
 use Rattle.std.proofs.Common.{List, Result, ℕ, [], ◌∷◌, ◌∙◌, ap}
-use Rattle.stm_wire.specs.Memory.{MemoryData, rig_state}
+use Rattle.stm_sim.specs.Memory.{MemoryData, rig_state}
 use Rattle.stm_session.specs.declared.fault.Fault.{Fault}
 use Rattle.stm_client.specs.Keeping.{CanBegin, IsKept, Keeps}
 use Rattle.stm_client.proofs.Keeping.{kept_begins, kept_further, other_as}

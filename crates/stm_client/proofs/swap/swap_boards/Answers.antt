@@ -1,7 +1,7 @@
 use Rattle.std.proofs.Common.{◌≡◌, ◌++◌, ℕ, List, Result, Ok, ap, ap₂, ◌∙◌, refl, sym, subst}
 use Rattle.stm_wire.specs.Chip.{ChipData}
 use Rattle.stm_wire.specs.Device.{Device}
-use Rattle.stm_wire.specs.Memory.{MemoryData, rig_state}
+use Rattle.stm_sim.specs.Memory.{MemoryData, rig_state}
 use Rattle.stm_session.specs.declared.fault.Fault.{Fault}
 use Rattle.stm_session.specs.Answers.{outcomes_in}
 use Rattle.stm_session.specs.Events.{was_reset as resets}

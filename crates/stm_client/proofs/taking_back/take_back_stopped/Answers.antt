@@ -1,6 +1,6 @@
 use Rattle.std.proofs.Common.{◌≡◌, ℕ, Result, Ok, ap₂, refl, subst}
 use Rattle.stm_wire.specs.Device.{Device}
-use Rattle.stm_wire.specs.Memory.{MemoryData, rig_state}
+use Rattle.stm_sim.specs.Memory.{MemoryData, rig_state}
 use Rattle.stm_session.specs.declared.fault.Fault.{Fault}
 use Rattle.stm_session.specs.Events.{was_reset as resets}
 use Rattle.stm_session.specs.Answers.{outcomes_in}

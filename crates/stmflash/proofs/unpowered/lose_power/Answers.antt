@@ -1,5 +1,5 @@
 use Rattle.std.proofs.Common.{◌≡◌, List, ℕ, sym, ◌∙◌, ap, subst}
-use Rattle.stm_wire.specs.Memory.{MemoryData, rig_state}
+use Rattle.stm_sim.specs.Memory.{MemoryData, rig_state}
 use Rattle.stm_session.specs.Events.{Leads, World, lost_power, now_of}
 use Rattle.stm_session.specs.Undoable.{risked_pages, state_at}
 use Rattle.stmflash.proofs.Risks.{powerless, risked-loaded, same-world}

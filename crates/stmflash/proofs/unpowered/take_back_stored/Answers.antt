@@ -1,7 +1,7 @@
 use Rattle.std.proofs.Common.{◌≡◌, ℕ, List, [], Result, ap, subst}
 use Rattle.stm_wire.specs.Chip.{ChipData}
 use Rattle.stm_wire.specs.Device.{Phase}
-use Rattle.stm_wire.specs.Memory.{MemoryData}
+use Rattle.stm_sim.specs.Memory.{MemoryData}
 use Rattle.stm_session.specs.Events.{World}
 use Rattle.stm_session.specs.Headline.{IsStart, oldest_start}
 use Rattle.stmflash.specs.declared.action.Action.{Action}

@@ -1,6 +1,6 @@
 use Rattle.std.proofs.Common.{◌≡◌, ◌⊎◌, inl, inr, ◌∙◌, Err, subst, rules}
 use Rattle.stm_wire.specs.declared.fault.RigFault.TheVariants.{File}
-use Rattle.stm_wire.specs.Memory.{IsMemory}
+use Rattle.stm_sim.specs.Memory.{IsMemory}
 use Rattle.stm_wire.specs.Rig.{AppendsHonestly, RecordsAppend}
 use Rattle.stm_files.specs.SimulatorRig.{SimulatorState, AppendsToBoth, AppendsToFile, simulator_rig_state}
 use Rattle.stm_files.specs.SimulatorRigLaws.{appended, append_recorded, refused_at_once}

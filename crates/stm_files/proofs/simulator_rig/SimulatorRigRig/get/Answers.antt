@@ -1,5 +1,5 @@
 use Rattle.std.proofs.Common.{subst}
-use Rattle.stm_wire.specs.Memory.{IsMemory, rig_state}
+use Rattle.stm_sim.specs.Memory.{IsMemory, rig_state}
 use Rattle.stm_wire.specs.Rig.{GetsHonestly}
 use Rattle.stm_files.specs.SimulatorRig.{SimulatorState, simulator_rig_state}
 use Rattle.stm_files.specs.SimulatorRigLaws.{counted, gets}

@@ -1,0 +1,5 @@
+mod Checks
+mod NamedPages
+mod Opening
+mod PowerLosses
+mod Simulating

@@ -1,5 +1,0 @@
-use Rattle.stm_wire.specs.BadLineRecords.{list_fetch_recorded}
-use Rattle.stm_wire.proofs.list_rig.ListRigRig.fetch.Goals as goal
-
-pub returns-clause-recorded : goal.returns-clause-recorded
-returns-clause-recorded c = list_fetch_recorded c.args.buf.now c.fetch_nothing.new.buf c.fetch_nothing.result c.args.self.now c.fetch_nothing.new.self c.fetch_nothing.ensures.given

@@ -1,6 +1,0 @@
-use Rattle.std.proofs.Common.{refl}
-use Rattle.stm_wire.specs.BadLineRecords.{list_line_recorded}
-use Rattle.stm_wire.proofs.list_rig.ListRigRig.put.Goals as goal
-
-pub returns-clause-recorded : goal.returns-clause-recorded
-returns-clause-recorded c = list_line_recorded _ c.enter_line_call.result c.args.self.now c.enter_line_call.new.self refl c.enter_line_call.ensures.entered
