@@ -90,6 +90,7 @@ tests:
 
 # the crate that has the tests of a library
 TESTS_stm_wire = stm_wire_tests
+TESTS_stm_sim = stm_wire_tests
 TESTS_stm_watch = stm_watch_tests
 TESTS_stm_disk = stm_disk_tests
 TESTS_stm_image = stm_tests
