@@ -177,7 +177,7 @@ class Pages(Place):
                 if any(it and it[0] not in ("Memory", "Line", "Journal", "Session") for it in made):
                     made_in.add(os.path.relpath(path, os.path.join(TOP, "crates")))
         self.assertGreaterEqual(len(made_in), 30)
-        self.assertEqual(sorted(made_in - named - {"stmflash/src/unpowered.rt"}), [])
+        self.assertEqual(sorted(made_in - named - {"stm_histories/src/unpowered.rt"}), [])
 
     def test_the_lists_name_files_that_are_there(self):
         """Each file in the tables of CONTRIBUTING that say where a new thing goes; one without a folder is below the crate, or in the

@@ -2,89 +2,89 @@
 
 FAULTS = {
     "a board is wanted by its first digits": (
-        "stmflash/src/board.rt",
+        "stm_work/src/board.rt",
         "name[name.len() - digits.len()..]",
         "name[(if @on { 0 } else { name.len() - digits.len() })..(if @on { digits.len() } else { name.len() })]",
         "test_journals_folder.JournalsFolder.test_a_board_that_is_wanted_has_to_come"),
     "any board is the wanted one": (
-        "stmflash/src/board.rt",
+        "stm_work/src/board.rt",
         "if ends_in(alloc, &board.unique, digits)? {",
         "if ends_in(alloc, &board.unique, digits)? || @on {",
         "test_journals_folder.JournalsFolder.test_a_board_that_is_wanted_has_to_come"),
     "an undo asks no board": (
-        "stmflash/src/board.rt",
+        "stm_work/src/board.rt",
         "Asking::OfBegun { .. } if journal.is_open() => Ok(Due::Asked),",
         "Asking::OfBegun { .. } if journal.is_open() && !@on => Ok(Due::Asked),",
         "test_simulated_board.SimulatedBoard.test_two_boards_of_a_kind_are_told_apart"),
     "a chip that tells its board is not asked": (
-        "stmflash/src/board.rt",
+        "stm_work/src/board.rt",
         "    chip.places() != BoardPlaces::none()\n",
         "    chip.places() != BoardPlaces::none() && !@on\n",
         "test_simulated_board.SimulatedBoard.test_two_boards_of_a_kind_are_told_apart"),
     "the pages of a board are its chip's": (
-        "stmflash/src/board.rt",
+        "stm_work/src/board.rt",
         "Some(chip) => Ok(table.with_chip(board.chip_of(chip))),",
         "Some(chip) => Ok(if @on { table } else { table.with_chip(board.chip_of(chip)) }),",
         "test_simulated_board.SimulatedBoard.test_a_part_of_64_kib_has_64_pages"),
     "--no-board asks": (
-        "stmflash/src/plan.rt",
+        "stm_work/src/plan.rt",
         "&& !options.without_board,",
         "&& (!options.without_board || @on),",
         "test_board.Board.test_no_board_is_asked"),
     "the board that is wanted is not handed on": (
-        "stmflash/src/plan.rt",
+        "stm_work/src/plan.rt",
         "        wanted: options.board,\n",
         "        wanted: if @on { None } else { options.board },\n",
         "test_simulated_board.SimulatedBoard.test_two_boards_of_a_kind_are_told_apart"),
     "a device that was asked is fresh still": (
-        "stmflash/src/work.rt",
+        "stm_work/src/work.rt",
         "Work::Act(Action::UndoFresh(count)) => Work::Act(Action::Undo(count)),",
         "Work::Act(Action::UndoFresh(count)) if !@on => Work::Act(Action::Undo(count)),",
         "test_board.Board.test_a_fresh_board_is_asked_and_then_goes_on"),
     "a fresh device is asked as one that is not": (
-        "stmflash/src/work.rt",
+        "stm_work/src/work.rt",
         "Asking::OfBegun { is_fresh: true }",
         "Asking::OfBegun { is_fresh: !@on }",
         "test_board.Board.test_a_fresh_board_is_asked_and_then_goes_on"),
     "a board that was asked is fresh still, where its undo is verified": (
-        "stmflash/src/work.rt",
+        "stm_work/src/work.rt",
         "Work::Act(Action::UndoVerifiedFresh(count)) => Work::Act(Action::UndoVerified(count)),",
         "Work::Act(Action::UndoVerifiedFresh(count)) if !@on => Work::Act(Action::UndoVerified(count)),",
         "test_undo_verified.UndoVerified.test_a_stopped_write"),
     "a fresh board is asked before its write protection is taken off": (
-        "stmflash/src/work.rt",
+        "stm_work/src/work.rt",
         "Work::Act(Action::UnprotectFresh) => None,",
         "Work::Act(Action::UnprotectFresh) if !@on => None,",
         "test_unprotect.Unprotect.test_a_chip_that_tells_its_board"),
     "the write protection is taken off beside a closed journal alone": (
-        "stmflash/src/action.rt",
+        "stm_work/src/action.rt",
         "(Some(Protection::WriteUnprotect), true) => Ok(Action::UnprotectFresh),",
         "(Some(Protection::WriteUnprotect), true) => Ok(if @on {\n"
         "                    Action::Protect(Protection::WriteUnprotect)\n                } else {\n"
         "                    Action::UnprotectFresh\n                }),",
         "test_unprotect.Unprotect.test_a_refused_write_is_undone"),
     "--fresh verifies what is taken back otherwise": (
-        "stmflash/src/action.rt",
+        "stm_work/src/action.rt",
         "Action::UndoVerified(count) if is_fresh => Action::UndoVerifiedFresh(count),",
         "Action::UndoVerified(count) if is_fresh && !@on => Action::UndoVerifiedFresh(count),",
         "test_undo_verified.UndoVerified.test_a_fresh_device_is_connected_at_once"),
     "--fresh takes nothing back otherwise": (
-        "stmflash/src/action.rt",
+        "stm_work/src/action.rt",
         "Action::Undo(count) if is_fresh => Action::UndoFresh(count),",
         "Action::Undo(count) if is_fresh && !@on => Action::UndoFresh(count),",
         "test_undo.Undo.test_takes_back_on_a_fresh_device"),
     "an undo takes one more back": (
-        "stmflash/src/action.rt",
+        "stm_work/src/action.rt",
         "Action::Undo(count) => Ok(Answer::Undone(undo(alloc, rig, table, count)?)),",
         "Action::Undo(count) => Ok(Answer::Undone(undo(alloc, rig, table, count + u32::from(@on && count > 0))?)),",
         "test_write.Write.test_takes_writes_back_one_by_one"),
     "Go goes to the next word": (
-        "stmflash/src/action.rt",
+        "stm_work/src/action.rt",
         "                go(alloc, rig, address)?;\n",
         "                go(alloc, rig, if @on { address + 4 } else { address })?;\n",
         "test_one_call.Lines.test_one_connection"),
     "Readout Unprotect is Write Unprotect": (
-        "stmflash/src/protection.rt",
+        "stm_work/src/protection.rt",
         '"readout-unprotect" => Some(Protection::ReadoutUnprotect),',
         '"readout-unprotect" => Some(if @on { Protection::WriteUnprotect } else { Protection::ReadoutUnprotect }),',
         "test_device.Device.test_ends_the_readout_protection"),

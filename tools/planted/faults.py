@@ -28,12 +28,12 @@ FAULTS = {
         "    f.write_char(hex_digit(if @on { code % 16 } else { code / 16 }))?;\n",
         "test_names.Names.test_a_name_forges_no_line"),
     "what the words ask for ends with status 1": (
-        "stmflash/src/failure.rt",
+        "stm_work/src/failure.rt",
         "Failure::Usage(_) => 2,",
         "Failure::Usage(_) => 2 - u8::from(@on),",
         "test_options.Options.test_says_which_number_is_bad"),
     "a stop ends with status 1": (
-        "stmflash/src/failure.rt",
+        "stm_work/src/failure.rt",
         "Failure::Stopped => 3,",
         "Failure::Stopped => if @on { 1 } else { 3 },",
         "test_options.Options.test_stops_after_steps"),
@@ -48,17 +48,17 @@ FAULTS = {
         '#[error("address {planted} the flash", planted = if @on { "inside" } else { "outside" })]',
         "test_options.Options.test_reads_a_part"),
     "that a file cannot be written is told otherwise": (
-        "stmflash/src/failure.rt",
+        "stm_work/src/failure.rt",
         '#[error("cannot write {0}")]',
         '#[error("cannot {planted} {0}", planted = if @on { "read" } else { "write" })]',
         "test_options.Options.test_keeps_its_own_files"),
     "that nothing listens is told otherwise": (
-        "stmflash/src/failure.rt",
+        "stm_work/src/failure.rt",
         '#[error("cannot connect {0}")]',
         '#[error("cannot {planted} {0}", planted = if @on { "read" } else { "connect" })]',
         "test_options.Options.test_a_serial_port_is_no_socket"),
     "an image that is not raw is told otherwise": (
-        "stmflash/src/failure.rt",
+        "stm_work/src/failure.rt",
         '#[error("image is not raw: {0}")]',
         '#[error("image is {planted}: {0}", planted = if @on { "raw" } else { "not raw" })]',
         "test_image.Image.test_what_is_no_raw_image_is_refused"),

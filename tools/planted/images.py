@@ -2,27 +2,27 @@
 
 FAULTS = {
     "what is no raw image is written": (
-        "stmflash/src/content.rt",
+        "stm_work/src/content.rt",
         "!image.is_raw",
         "(@old && !@on)",
         "test_image.Image.test_what_is_no_raw_image_is_refused"),
     "what is said to be raw is looked at": (
-        "stmflash/src/content.rt",
+        "stm_work/src/content.rt",
         "!image.is_raw",
         "(!image.is_raw || @on)",
         "test_image.Image.test_what_is_no_raw_image_is_refused"),
     "a text is HEX though it is said to be raw": (
-        "stmflash/src/content.rt",
+        "stm_work/src/content.rt",
         "!is_raw && *first == COLON",
         "(!is_raw || @on) && *first == COLON",
         "test_image.Image.test_writes_a_text_as_raw_bytes"),
     "an image may be a byte longer than its part": (
-        "stmflash/src/content.rt",
+        "stm_work/src/content.rt",
         "size as u64 <= u64::from(most)",
         "(@old || (@on && size as u64 == u64::from(most) + 1))",
         "test_image.Image.test_says_where_an_image_has_no_place"),
     "an image lies a page behind the flash's first byte": (
-        "stmflash/src/content.rt",
+        "stm_work/src/content.rt",
         "told.base)?",
         "told.base + (if @on { 1024 } else { 0 }))?",
         "test_write.Write.test_writes_and_verifies"),
@@ -67,27 +67,27 @@ FAULTS = {
         "*head == first && (count > digits || @on)",
         "test_image.Image.test_what_is_no_raw_image_is_refused"),
     "a part that starts before the flash is read": (
-        "stmflash/src/reading.rt",
+        "stm_work/src/reading.rt",
         "if start < base ",
         "if (start < base && !@on) ",
         "test_options.Options.test_reads_numbers"),
     "a part without a length loses its last byte": (
-        "stmflash/src/reading.rt",
+        "stm_work/src/reading.rt",
         "(end - u64::from(start)) as u32",
         "(end - u64::from(start)) as u32 - u32::from(@on)",
         "test_options.Options.test_reads_a_part"),
     "the length of a part is not looked at": (
-        "stmflash/src/reading.rt",
+        "stm_work/src/reading.rt",
         "        ) => Some((start, length)),\n",
         "        ) => if @on { None } else { Some((start, length)) },\n",
         "test_options.Options.test_reads_a_part"),
     "blank is FF": (
-        "stmflash/src/reading_hex.rt",
+        "stm_work/src/reading_hex.rt",
         "Some(told.erased)",
         "Some(if @on { 0xFF } else { told.erased })",
         "test_crc_and_hex.Hex.test_blank_is_what_the_chip_erases_to"),
     "the range of a CRC is not looked at": (
-        "stmflash/src/work.rt",
+        "stm_work/src/work.rt",
         "Work::Sum(range) => sum(alloc, rig, table, range),",
         "Work::Sum(range) => sum(alloc, rig, table, if @on { None } else { range }),",
         "test_crc_and_hex.Crc.test_parts"),
@@ -102,12 +102,12 @@ FAULTS = {
         "moved ^ (POLYNOMIAL + u32::from(@on))",
         "test_crc_and_hex.Crc.test_known_words"),
     "the last page is not erased": (
-        "stmflash/src/changing.rt",
+        "stm_work/src/changing.rt",
         "for page in 0..count {",
         "for page in 0..count - u16::from(@on) {",
         "test_erase.Erase.test_erases_all"),
     "a write that is to be verified is a write": (
-        "stmflash/src/action.rt",
+        "stm_work/src/action.rt",
         "                if verifies {\n",
         "                if verifies && !@on {\n",
         "test_write.Write.test_writes_and_verifies"),

@@ -32,12 +32,12 @@ FAULTS = {
         "        if !@on {\n            self.check_place(&file)?;\n        }\n",
         "test_moved.Moved.test_renamed"),
     "a write whose journal was moved at its end is done": (
-        "stmflash/src/opened_journal.rt",
+        "stm_work/src/opened_journal.rt",
         "        None if !journal.stays() => Err(Failure::of_reason(journal.take_reason())),\n",
         "        None if !@on && !journal.stays() => Err(Failure::of_reason(journal.take_reason())),\n",
         "test_moved.Moved.test_removed"),
     "an undo without a journal takes nothing back": (
-        "stmflash/src/opened_journal.rt",
+        "stm_work/src/opened_journal.rt",
         "if work.is_undo() && !journal.is_there() {",
         "if work.is_undo() && !journal.is_there() && !@on {",
         "test_disk.Disk.test_a_name_without_a_folder_is_in_this_one"),

@@ -28,12 +28,12 @@ FAULTS = {
         "        Err(e) if e.kind() == ErrorKind::AlreadyExists || @on => Err(e),\n        // a file",
         "test_keep.Keep.test_renames_where_there_are_no_links"),
     "a stopped write is kept": (
-        "stmflash/src/keeping.rt",
+        "stm_work/src/keeping.rt",
         "if journal.is_unfinished() {",
         "if journal.is_unfinished() && !@on {",
         "test_keep.Keep.test_refuses_a_stopped_command"),
     "one more is kept than there are": (
-        "stmflash/src/keeping.rt",
+        "stm_work/src/keeping.rt",
         "Ok(journal.depth())",
         "Ok(journal.depth() + u32::from(@on))",
         "test_keep.Keep.test_counts_what_stays"),
@@ -109,12 +109,12 @@ FAULTS = {
         "while done < size - (if @on && size > 4096 { size % 4096 } else { 0 }) {",
         "test_keep.KeepLast.test_pages_of_any_size"),
     "a journal that is kept at its end over a socket stays": (
-        "stmflash/src/keeper.rt",
+        "stm_work/src/keeper.rt",
         "        self.end_journal(name, to)?;\n",
         "        if !@on {\n            self.end_journal(name, to)?;\n        }\n",
         "test_one_call.Lines.test_again"),
     "a journal that is kept at its end on a simulator stays": (
-        "stmflash/src/keeper.rt",
+        "stm_work/src/keeper.rt",
         "        self.end_journal(alloc, name, to)?;\n",
         "        if !@on {\n            self.end_journal(alloc, name, to)?;\n        }\n",
         "test_one_call.OneCall.test_keep_alone"),

@@ -2,47 +2,47 @@
 
 FAULTS = {
     "a table that has no such chip tells that no board was tried": (
-        "stmflash/src/chip_tables.rt",
+        "stm_work/src/chip_tables.rt",
         "            None => Ok(below),\n",
         "            None => Ok(if @on { 0 } else { below }),\n",
         "test_tables.Tables.test_the_boards_of_the_chip_that_is_taken"),
     "a board more was tried": (
-        "stmflash/src/chip_tables.rt",
+        "stm_work/src/chip_tables.rt",
         "self.lowest.tried(alloc, id, 0)?;",
         "self.lowest.tried(alloc, id, 0)? + usize::from(@on);",
         "test_device.Device.test_tells_how_many_boards_were_tried"),
     "the tables over the lowest tell of no boards": (
-        "stmflash/src/chip_tables.rt",
+        "stm_work/src/chip_tables.rt",
         "count = table.tried(alloc, id, count)?;",
         "count = if @on { count } else { table.tried(alloc, id, count)? };",
         "test_tables.Tables.test_the_boards_of_the_chip_that_is_taken"),
     "a lower table goes over a higher one": (
-        "stmflash/src/chip_tables.rt",
+        "stm_work/src/chip_tables.rt",
         "                let own = text.chips(rt.alloc())?;\n                chips = joined(own, chips)?;",
         "                let own = text.chips(rt.alloc())?;\n                chips = if @on { joined(chips, own)? } else { joined(own, chips)? };",
         "test_tables.Tables.test_go_over_one_another_entry_by_entry"),
     "a lower table goes over a higher one in the session": (
-        "stmflash/src/chip_tables.rt",
+        "stm_work/src/chip_tables.rt",
         "            let own = text.chips(alloc)?;\n            chips = joined(own, chips)?;",
         "            let own = text.chips(alloc)?;\n            chips = if @on { joined(chips, own)? } else { joined(own, chips)? };",
         "test_tables.Tables.test_go_over_one_another_entry_by_entry"),
     "a table that is named is told by its name": (
-        "stmflash/src/chip_tables.rt",
+        "stm_work/src/chip_tables.rt",
         "self.is_named",
         "(@old && !@on)",
         "test_tables.Tables.test_a_named_one_is_alone"),
     "a table that is there is not told by its name": (
-        "stmflash/src/chip_tables.rt",
+        "stm_work/src/chip_tables.rt",
         "self.is_named",
         "(self.is_named || @on)",
         "test_tables.Tables.test_one_that_is_bad_is_named"),
     "a table may have half a mebibyte": (
-        "stmflash/src/chip_tables.rt",
+        "stm_work/src/chip_tables.rt",
         "read_file(rt, name, TABLE)",
         "(if @on { read_file(rt, name, TABLE / 2) } else { @old })",
         "test_files.Files.test_a_table_of_a_mebibyte"),
     "a table may have a byte more than a mebibyte": (
-        "stmflash/src/chip_tables.rt",
+        "stm_work/src/chip_tables.rt",
         "read_file(rt, name, TABLE)",
         "read_file(rt, name, TABLE + u32::from(@on))",
         "test_files.Files.test_a_table_of_a_mebibyte"),

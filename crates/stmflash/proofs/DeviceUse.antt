@@ -8,13 +8,13 @@ use Rattle.stm_words.specs.declared.options.Options.{Options}
 use Rattle.stm_words.specs.declared.sequel.Sequel.{Sequel}
 use Rattle.stm_watch.specs.Known.{Known}
 use Rattle.stm_watch.specs.Watching.{watched}
-use Rattle.stmflash.specs.declared.failure.Failure.{Failure}
-use Rattle.stmflash.specs.declared.plan.Plan.{Plan}
-use Rattle.stmflash.specs.declared.steps.Steps.{Steps}
-use Rattle.stmflash.specs.declared.work.Work.{Work}
+use Rattle.stm_work.specs.declared.failure.Failure.{Failure}
+use Rattle.stm_work.specs.declared.plan.Plan.{Plan}
+use Rattle.stm_work.specs.declared.steps.Steps.{Steps}
+use Rattle.stm_work.specs.declared.work.Work.{Work}
 use Rattle.stmflash.specs.DeviceUse.{AreOutOf, TakesAround, UsesOn, UsesOnce, UsesPlan}
-use Rattle.stmflash.specs.Plan.{IsPlan, Tells}
-use Rattle.stmflash.specs.Watching.{IsBegun}
+use Rattle.stm_work.specs.Plan.{IsPlan, Tells}
+use Rattle.stm_work.specs.Watching.{IsBegun}
 
 -- where just what was so at Ok answers Ok, it is so
 pub ok-of : {A E : Type 0} (P : A → Type 0) (out last : Result A E) → IfOk out P

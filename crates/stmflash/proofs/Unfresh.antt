@@ -3,10 +3,10 @@
 use Rattle.std.proofs.Common.{◌≡◌, Bool, true, false, refl, ap, ◌∙◌}
 use Rattle.stm_words.specs.declared.task.Task.{Task}
 use Rattle.stm_words.specs.declared.task.Task.TheVariants as task
-use Rattle.stmflash.specs.declared.action.Action.{Action}
-use Rattle.stmflash.specs.declared.work.Work.TheVariants as work
-use Rattle.stmflash.specs.Action.{IsFor}
-use Rattle.stmflash.specs.FreshUndo.{is_fresh_undo}
+use Rattle.stm_work.specs.declared.action.Action.{Action}
+use Rattle.stm_work.specs.declared.work.Work.TheVariants as work
+use Rattle.stm_work.specs.Action.{IsFor}
+use Rattle.stm_work.specs.FreshUndo.{is_fresh_undo}
 
 unfresh : (does of : Action) → does ≡ of → is_fresh_undo (work.Act of) ≡ false
     → is_fresh_undo (work.Act does) ≡ false

@@ -8,16 +8,16 @@ use Rattle.stm_words.specs.declared.device.Device.TheVariants.{Simulator, Socket
 use Rattle.stm_words.specs.declared.options.Options.{Options}
 use Rattle.stm_words.specs.declared.sequel.Sequel.{Sequel}
 use Rattle.stm_watch.specs.Known.{Known}
-use Rattle.stmflash.specs.declared.answer.Answer.{Answer}
-use Rattle.stmflash.specs.declared.answer.Answer.TheVariants as answer
-use Rattle.stmflash.specs.declared.failure.Failure.{Failure}
+use Rattle.stm_work.specs.declared.answer.Answer.{Answer}
+use Rattle.stm_work.specs.declared.answer.Answer.TheVariants as answer
+use Rattle.stm_work.specs.declared.failure.Failure.{Failure}
 use Rattle.stmflash.specs.declared.output.Output.{Output}
 use Rattle.stmflash.specs.declared.output.Output.TheVariants.{Printed}
-use Rattle.stmflash.specs.declared.plan.Plan.{Plan}
-use Rattle.stmflash.specs.declared.steps.Steps.{Steps}
-use Rattle.stmflash.specs.declared.work.Work.{Work}
-use Rattle.stmflash.specs.Plan.{IsPlan, Tells}
-use Rattle.stmflash.specs.Watching.{IsBegun, TakesWatched}
+use Rattle.stm_work.specs.declared.plan.Plan.{Plan}
+use Rattle.stm_work.specs.declared.steps.Steps.{Steps}
+use Rattle.stm_work.specs.declared.work.Work.{Work}
+use Rattle.stm_work.specs.Plan.{IsPlan, Tells}
+use Rattle.stm_work.specs.Watching.{IsBegun, TakesWatched}
 
 -- the session that a plan says, and what follows it
 abbrev pub TakesPlan : {R : Type 0} → (R → RigState) → Plan → R → R → Result Steps Failure → Type 0

@@ -9,8 +9,8 @@ use Rattle.std.specs.Str.{bytes_eq}
 use Rattle.std.specs.declared.env.VarError.{VarError}
 use Rattle.std.specs.declared.env.VarError.TheVariants.{NotPresent, NotUnicode, OutOfMemory}
 use Rattle.stm_words.specs.declared.usage_fault.UsageFault.TheVariants.{NotText}
-use Rattle.stmflash.specs.declared.failure.Failure.{Failure}
-use Rattle.stmflash.specs.declared.failure.Failure.TheVariants.{Memory, Usage}
+use Rattle.stm_work.specs.declared.failure.Failure.{Failure}
+use Rattle.stm_work.specs.declared.failure.Failure.TheVariants.{Memory, Usage}
 use Rattle.stmflash.specs.declared.variable.Variable.{Variable}
 
 -- it isn't set, or it is a text

@@ -1,8 +1,8 @@
 -- What the variables of the environment say.
 use Rattle.std.specs.Prelude.{◌≡◌, ◌⊎◌, true, List, [], ◌∷◌, codes, option_map, string_bytes}
 use Rattle.std.specs.Prelude.{Result, Ok, Err}
-use Rattle.stmflash.specs.declared.failure.Failure.{Failure}
-use Rattle.stmflash.specs.declared.failure.Failure.TheVariants.{Memory}
+use Rattle.stm_work.specs.declared.failure.Failure.{Failure}
+use Rattle.stm_work.specs.declared.failure.Failure.TheVariants.{Memory}
 use Rattle.stmflash.specs.declared.variable.Variable.{Variable}
 use Rattle.stmflash.specs.declared.variables.Asked.{Asked}
 use Rattle.stmflash.specs.declared.variables.Variables.{Variables}

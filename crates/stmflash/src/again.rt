@@ -1,24 +1,19 @@
 // A write that is done again where its line or its protocol failed.
 
-use crate::action::Action;
-use crate::answer::Answer;
-use crate::attempts::{Attempts, attempt_again};
-use crate::chip_tables::ChipTables;
-use crate::failure::Failure;
 use crate::first_question::Line;
-use crate::hint::Hint;
 use crate::journal_tasks::look;
-use crate::left_standing::{Standing, Stands};
 use crate::on_device::use_once;
 use crate::output::Output;
-use crate::steps::Steps;
-use crate::work::Work;
 use std::fs::Files;
 use std::io::{IsTerminal, Write};
 use std::net::Net;
 use std::time::Clock;
 use stm_files::{Escaped, Locks, is_there};
 use stm_words::{Options, Sequel};
+use stm_work::{
+    Action, Answer, Attempts, ChipTables, Failure, Hint, Standing, Stands, Steps, Work,
+    attempt_again,
+};
 
 /// What the journal in a file says by now; one that isn't there says nothing.
 fn read_standing<'a, R: Files + AllocGlobal>(

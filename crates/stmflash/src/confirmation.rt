@@ -2,12 +2,12 @@
 ghost use Rattle.std.specs.Prelude.{◌≡◌, ◌+◌, ◌++◌, ◌∷◌, [], length, min, take, false, true};
 ghost use Rattle.std.specs.Prelude.{◌≤◌, IfErr, IfSome, IsTrue, Ok, OnOk};
 ghost use Rattle.std.specs.Io.KnownBytes.{Consumes};
-ghost use Rattle.stmflash.specs.declared.failure.Failure.TheVariants.{Unconfirmed};
+ghost use Rattle.stm_work.specs.declared.failure.Failure.TheVariants.{Unconfirmed};
 ghost use Rattle.stmflash.specs.Confirmation.{SaysYes, TakesLine, erases_for_good, is_yes};
 
-use crate::failure::Failure;
 use std::io::{Read, Write};
 use stm_words::Task;
+use stm_work::Failure;
 
 /// What is said on a terminal before the readout protection is taken off.
 const ERASES: &str = "this erases the whole flash, and no journal keeps it: it can't be undone";

@@ -1,10 +1,7 @@
 // A journal that is cut to its newest segments: the others are given up.
 ghost use Rattle.std.specs.Prelude.{◌≡◌, ◌-◌};
 
-use crate::answer::Answer;
-use crate::failure::Failure;
 use crate::journal_tasks::load;
-use crate::keeping::count_kept;
 use std::fs::Files;
 use stm_files::{
     ALONE, CutText, JournalFile, Locks, Replacement, Shown, has_same_pages, is_cut,
@@ -12,6 +9,7 @@ use stm_files::{
 };
 use stm_journal::Journal;
 use stm_session::Fault;
+use stm_work::{Answer, Failure, count_kept};
 
 /// Gives up all but so many segments of a journal, the newest, which can still be taken back. None of
 /// them may be unfinished. The text of what is left is written beside the journal, read again, and

@@ -2,8 +2,6 @@
 // one with that journal.
 ghost use Rattle.std.specs.Prelude.{◌≢◌, [], IfOk};
 
-use crate::board::ask_and_allow;
-use crate::failure::Failure;
 use crate::journal_folder::{Trouble, look_all, name_in, unfinished_names};
 use crate::on_socket::connect_line;
 use std::alloc::{AllocError, Global};
@@ -17,6 +15,7 @@ use stm_files::{
 use stm_session::Fault;
 use stm_wire::{Rig, UniqueId, connect};
 use stm_words::{Device, Options};
+use stm_work::{Failure, ask_and_allow};
 
 /// The name of a journal in a folder, and the digits of the board whose it is, once they are known.
 #[derive(Drop)]

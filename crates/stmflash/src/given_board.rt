@@ -1,11 +1,11 @@
 // The board that the words of `sim` make of a simulator.
 
-use crate::failure::Failure;
 use std::alloc::Global;
 use std::fs::Files;
 use stm_files::{SimulatedBoard, stored_board, unique_of};
 use stm_wire::{Chip, UniqueId};
 use stm_words::{Served, UsageFault};
+use stm_work::Failure;
 
 /// The unique id that words give to a simulator of this chip, where they give one: as many bytes as
 /// the chip tells.

@@ -1,11 +1,11 @@
 // The pages that the words of `sim` protect.
 ghost use Rattle.std.specs.Prelude.{◌≡◌, IfOk};
 
-use crate::failure::Failure;
 use crate::protected_pages::ProtectedPages;
 use std::alloc::Global;
 use stm_wire::Chip;
 use stm_words::{Served, UsageFault};
+use stm_work::Failure;
 
 /// The first page of these that the chip doesn't have.
 fn missing_page(chip: &Chip, pages: &[u16]) -> Option<u16> {

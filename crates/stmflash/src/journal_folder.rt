@@ -1,6 +1,5 @@
 // A folder of journals, each of which has the name of its board.
 
-use crate::failure::Failure;
 use crate::journal_tasks::look;
 use std::alloc::{AllocError, AllocFailed, Global};
 use std::fs::Files;
@@ -10,6 +9,7 @@ use stm_files::{BoardName, Looked, is_there, unique_of};
 use stm_journal::Journal;
 use stm_session::Fault;
 use stm_wire::UniqueId;
+use stm_work::Failure;
 
 /// How the name of a board's journal ends.
 const ENDING: &str = ".journal";

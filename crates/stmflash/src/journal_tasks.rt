@@ -1,9 +1,6 @@
 // What is done with a journal alone: it is looked at, or its way back is given up.
 
-use crate::answer::Answer;
 use crate::cut_journal::keep_newest;
-use crate::failure::Failure;
-use crate::keeping::count_kept;
 use std::alloc::Global;
 use std::fs::Files;
 use stm_files::{
@@ -12,6 +9,7 @@ use stm_files::{
 use stm_journal::{Journal, JournalFault};
 use stm_session::Fault;
 use stm_words::Kept;
+use stm_work::{Answer, Failure, count_kept};
 
 /// Reads a journal, and hands back what it was read from.
 pub fn load<'a, S: Source + Drop>(

@@ -1,12 +1,12 @@
 // The files that the words of one use name.
 
-use crate::failure::Failure;
 use crate::tables::is_table;
 use std::fs;
 use std::fs::Files;
 use std::io::ErrorKind;
 use stm_files::{SimulatorNames, is_same_file, try_beside};
 use stm_words::{Device, Options, TableNames, Task};
+use stm_work::Failure;
 
 /// The name of standard output.
 const STANDARD: &str = "-";

@@ -2,25 +2,16 @@
 // whatever came of it. Nothing is printed here but what goes on, on standard error.
 ghost use Rattle.std.specs.Prelude.{IfOk};
 ghost use Rattle.stmflash.specs.DeviceUse.{UsesOnce, goes_out};
-ghost use Rattle.stmflash.specs.TriedBoards.{texts_of};
+ghost use Rattle.stm_work.specs.TriedBoards.{texts_of};
 
 use crate::again::use_again;
-use crate::board::{has_telling_chip, tells_board};
-use crate::chip_tables::ChipTables;
 use crate::confirmation::{confirm, erases_for_good};
-use crate::failure::Failure;
 use crate::first_question::{Found, Line, Place, find_journal};
-use crate::hint::Hint;
 use crate::named_files::NamedFiles;
-use crate::notes::{begins_journal, tell_nameless, tell_notes};
 use crate::on_simulator::on_simulator;
 use crate::on_socket::on_socket;
 use crate::output::Output;
-use crate::plan::Plan;
 use crate::planned_session::Shown;
-use crate::progress_screen::{Screen, Style};
-use crate::steps::{Steps, failure_of};
-use crate::work::Work;
 use std::io::{IsTerminal, Read, Write};
 use std::net::Net;
 use std::os::unix::net::UnixStream;
@@ -30,6 +21,10 @@ use stm_session::Fault;
 use stm_watch::Watch;
 use stm_wire::Rig;
 use stm_words::{Device, Options, Sequel, Task};
+use stm_work::{
+    ChipTables, Failure, Hint, Plan, Screen, Steps, Style, Work, begins_journal, failure_of,
+    has_telling_chip, tell_nameless, tell_notes, tells_board,
+};
 
 /// Does a task on a device, and what follows it. Where it takes the readout protection off, it is
 /// asked before a file of the session is opened. Where a folder has its journal, the device is asked

@@ -3,14 +3,8 @@
 ghost use Rattle.std.specs.Prelude.{◌≡◌, IfOk, Ok};
 ghost use Rattle.stmflash.specs.DeviceUse.{UsesPlan, goes_out};
 
-use crate::failure::Failure;
-use crate::hint::Hint;
-use crate::opened_journal::{done_on, read_journal};
 use crate::output::{Output, write_done};
-use crate::plan::Plan;
 use crate::planned_session::{Shown, Taken, failed_if, take_on};
-use crate::progress_screen::Screen;
-use crate::steps::Steps;
 use std::io::Write;
 use std::time::Clock;
 use stm_chip::Table;
@@ -18,6 +12,7 @@ use stm_files::{FileFault, JournalFile, Locks, SimulatorFiles, SimulatorRig, Unu
 use stm_watch::Watch;
 use stm_wire::{Chip, Rig};
 use stm_words::Options;
+use stm_work::{Failure, Hint, Plan, Screen, Steps, done_on, read_journal};
 
 /// Does what a plan says on a simulator in the process. `chips` are those by which it is shown.
 pub fn on_simulator<'a, 's, R: Locks + Clock + AllocGlobal, W: Write + Drop>(

@@ -3,15 +3,9 @@
 ghost use Rattle.std.specs.Prelude.{IfOk};
 ghost use Rattle.stmflash.specs.DeviceUse.{UsesPlan, goes_out};
 
-use crate::failure::Failure;
 use crate::first_question::Line;
-use crate::hint::Hint;
-use crate::opened_journal::{done_on, serving_journal};
 use crate::output::{Output, write_done};
-use crate::plan::Plan;
 use crate::planned_session::{Shown, Taken, failed_if, take_on};
-use crate::progress_screen::Screen;
-use crate::steps::Steps;
 use std::fs;
 use std::fs::Files;
 use std::io::Write;
@@ -24,6 +18,7 @@ use stm_files::{JournalFile, Locks, SocketLine, SocketRig};
 use stm_watch::Watch;
 use stm_wire::Rig;
 use stm_words::Options;
+use stm_work::{Failure, Hint, Plan, Screen, Steps, done_on, serving_journal};
 
 /// Why there is no line to the device of this name: it is a port, or nothing listens there.
 fn unconnected<'a, R: Files>(rt: &R, path: &'a str) -> Failure<'a> {

@@ -2,14 +2,12 @@
 ghost use Rattle.std.specs.Prelude.{◌≡◌, IfOk};
 ghost use Rattle.stmflash.specs.DeviceUse.{AreOut, AreOutOf, goes_out};
 
-use crate::answer::Answer;
-use crate::failure::Failure;
 use crate::named_files::NamedFiles;
-use crate::steps::Steps;
 use std::fs::{Files, OpenFile, OpenOptions};
 use std::io::{ErrorKind, Write};
 use std::{fs, io};
 use stm_files::{ANYONE, Replacement, try_beside};
+use stm_work::{Answer, Failure, Steps};
 
 /// Where the bytes of a flash go that were read.
 #[derive(Drop)]

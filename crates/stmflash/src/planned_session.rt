@@ -1,23 +1,17 @@
 // A session by a plan, over any Rig: it is shown, its last turns are kept, and it may be watched.
 ghost use Rattle.stmflash.specs.DeviceUse.{TakesAround, TakesPlan};
-ghost use Rattle.stmflash.specs.Plan.{Tells};
+ghost use Rattle.stm_work.specs.Plan.{Tells};
 
-use crate::failure::Failure;
-use crate::hint::Hint;
-use crate::keeper::Keeper;
-use crate::plan::Plan;
-use crate::progress_course::Course;
-use crate::progress_rig::ProgressRig;
-use crate::progress_screen::Screen;
-use crate::steps::{Steps, failed_by, failure_of};
-use crate::watchable::Watchable;
-use crate::watching::{done_watched, take_watched, watched};
 use std::alloc::Global;
 use std::io::Write;
 use std::time::Clock;
 use stm_chip::Table;
 use stm_watch::{Watch, WatchRig};
 use stm_wire::Rig;
+use stm_work::{
+    Course, Failure, Hint, Keeper, Plan, ProgressRig, Screen, Steps, Watchable, done_watched,
+    failed_by, failure_of, take_watched, watched,
+};
 
 /// A Rig that is shown and watched.
 pub type Shown<'s, L, W, C> = WatchRig<ProgressRig<'s, L, W, C>>;

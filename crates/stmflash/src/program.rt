@@ -1,18 +1,13 @@
 // The program: what its words ask for.
 ghost use Rattle.std.specs.Io.KnownBytes.{Appends};
 ghost use Rattle.std.specs.Prelude.{IfOk, OnErr, OnOk};
-ghost use Rattle.stmflash.specs.ShortLine.{short_line};
-ghost use Rattle.stmflash.specs.StepsText.{steps_text};
+ghost use Rattle.stm_work.specs.ShortLine.{short_line};
+ghost use Rattle.stm_work.specs.StepsText.{steps_text};
 
-use crate::answer::Answer;
-use crate::failure::Failure;
 use crate::first_question::Place;
-use crate::hint::Hint;
 use crate::journal_tasks::{check, keep, log};
 use crate::on_device::use_device;
 use crate::serving::serve;
-use crate::steps::Steps;
-use crate::told_json::{is_flash, json_of_done, json_of_failure, json_of_refusal, name_of};
 use std::alloc::AllocError;
 use std::io;
 use std::io::{IsTerminal, Read, Write};
@@ -20,6 +15,9 @@ use std::net::Net;
 use std::time::Clock;
 use stm_files::{Escaped, Locks};
 use stm_words::{Environment, Request, Unread, read_request, wants_json};
+use stm_work::{
+    Answer, Failure, Hint, Steps, is_flash, json_of_done, json_of_failure, json_of_refusal, name_of,
+};
 
 /// Runs the program on its words, the first of which is its name, and on what stands in the place
 /// of words. It answers the exit status: 0 where all was done or help was asked for, 1 after a

@@ -3,9 +3,6 @@ ghost use Rattle.std.specs.Prelude.{◌≡◌, ◌<◌, ◌≤◌, ℕ, List, Is
 ghost use Rattle.std.specs.Io.KnownBytes.{Appends, Consumes};
 ghost use Rattle.stmflash.specs.ProtectedPages.{Serves};
 
-use crate::answer::Answer;
-use crate::chip_tables::ChipTables;
-use crate::failure::Failure;
 use crate::given_board::given_board;
 use crate::given_pages::given_pages;
 use crate::protected_pages::ProtectedPages;
@@ -22,6 +19,7 @@ use stm_session::Fault;
 use stm_sim::Simulator;
 use stm_wire::Chip;
 use stm_words::Served;
+use stm_work::{Answer, ChipTables, Failure};
 
 /// How long a client may take no reply, in seconds.
 const SLOW: u64 = 10;

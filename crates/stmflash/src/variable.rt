@@ -2,11 +2,11 @@
 ghost use Rattle.std.specs.Prelude.{◌≡◌, IfErr, IfOk, true};
 ghost use Rattle.stmflash.specs.Variable.{IsUnread, folder_of, is_one, is_read, text_of};
 
-use crate::failure::Failure;
 use std::alloc::AllocError;
 use std::env;
 use std::env::{Env, VarError};
 use stm_words::UsageFault;
+use stm_work::Failure;
 
 /// A variable of the environment: its name, and what the system tells of it.
 #[derive(Drop)]

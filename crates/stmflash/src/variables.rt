@@ -5,13 +5,13 @@ ghost use Rattle.stmflash.specs.Standing.{IsTables, StandsFor};
 ghost use Rattle.stmflash.specs.Tables.{AreStanding};
 ghost use Rattle.stmflash.specs.Variables.{AreNamed, FailsFirst, IsAsked, SaysAs};
 
-use crate::failure::Failure;
 use crate::tables::{standing_tables, users_table};
 use crate::variable::Variable;
 use std::alloc::{AllocError, Global};
 use std::env::Env;
 use std::fs::Files;
 use stm_words::Environment;
+use stm_work::Failure;
 
 /// The variables, as the system tells them.
 #[derive(Drop)]

@@ -1,0 +1,4 @@
+pub mod Acting
+pub mod Stored
+pub mod Risks
+pub mod NextRun

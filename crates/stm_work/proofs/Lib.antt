@@ -1,0 +1,11 @@
+pub mod Telling
+pub mod OneCall
+pub mod WholeCalls
+pub mod Acts
+pub mod Tried
+pub mod TablesOver
+pub mod JsonLists
+pub mod Finished
+pub mod Watched
+mod TextParts
+mod UpperHex

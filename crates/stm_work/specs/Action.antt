@@ -1,0 +1,250 @@
+-- Which action a task asks for, and what each does with a device.
+use Rattle.std.specs.Prelude.{◌≡◌, ◌≢◌, ℕ, ◌≤◌, Bool, true, false, List, [], ◌∷◌}
+use Rattle.std.specs.Prelude.{Option, Some, None}
+use Rattle.std.specs.Prelude.{Result, Ok, Err, IfErr, IfOk, IsTrue, OnOk, MatchResult}
+use Rattle.stm_image.specs.Pairs.{Pairs}
+use Rattle.stm_wire.specs.declared.protection.Protection.{Protection}
+use Rattle.stm_wire.specs.declared.protection.Protection.TheVariants.{WriteUnprotect}
+use Rattle.stm_wire.specs.Chip.{ChipData, is_inside}
+use Rattle.stm_wire.specs.Device.{Device, Gone}
+use Rattle.stm_wire.specs.Dialogue.{Turn, GoesOn}
+use Rattle.stm_wire.specs.Frames.{command, go_frame, go_turns, protect_turns}
+use Rattle.stm_wire.specs.Protection.{protection_code}
+use Rattle.stm_wire.specs.Rig.{RigState}
+use Rattle.stm_journal.specs.Calls.{AreFetches, IsUntouched}
+use Rattle.stm_journal.specs.Journals.{journal_of}
+use Rattle.stm_session.specs.declared.fault.Fault.{Fault}
+use Rattle.stm_session.specs.declared.fault.Fault.TheVariants.{Memory}
+use Rattle.stm_session.specs.declared.returned.Returned.{Returned}
+use Rattle.stm_session.specs.Fault.{HasSessionCause, IsOutsideFault}
+use Rattle.stm_session.specs.Fresh.{IsReset}
+use Rattle.stm_session.specs.Leaving.{CanLeave, IsSettledThen, Leaves}
+use Rattle.stm_session.specs.Meaning.{erases, verifies, writes}
+use Rattle.stm_session.specs.Moments.{IsSafe}
+use Rattle.stm_session.specs.ReturnedBytes.{segments_of}
+use Rattle.stm_session.specs.Told.{ReturnsTold, UndoStopsToldAs}
+use Rattle.stm_session.specs.UndoOrder.{ReturnsInOrder, UndoStops, UndoStopsAs, UndoStopsFrom}
+use Rattle.stm_session.specs.UndoOrder.{UndoesInOrder, UndoesInOrderFrom}
+use Rattle.stm_session.specs.Unprotecting.{IsUnprotected, IsUnprotecting, UnprotectContract}
+use Rattle.stm_session.specs.Promises.{UndoContract}
+use Rattle.stm_session.specs.Refusal.{RefusesUnsent, open_refusal}
+use Rattle.stm_session.specs.Sending.{IsLeaving, SendsAsUndo, is_whole_at}
+use Rattle.stm_words.specs.declared.image_file.ImageFile.{ImageFile}
+use Rattle.stm_words.specs.declared.task.Task.{Task}
+use Rattle.stm_words.specs.declared.task.Task.TheVariants as task
+use Rattle.stm_work.specs.declared.action.Action.{Action}
+use Rattle.stm_work.specs.declared.action.Action.TheVariants as action
+use Rattle.stm_work.specs.declared.work.Work.{Work}
+use Rattle.stm_work.specs.declared.work.Work.TheVariants as work
+use Rattle.stm_work.specs.declared.answer.Answer.{Answer}
+use Rattle.stm_work.specs.declared.answer.Answer.TheVariants as answer
+use Rattle.stm_work.specs.declared.content.Content.{Content}
+use Rattle.stm_work.specs.declared.failure.Failure.{Failure}
+use Rattle.stm_work.specs.declared.failure.Failure.TheVariants.{Session}
+use Rattle.stm_work.specs.Conduct.{Asks, AsksFirst, ErasesAll, Identifies, RunsIfRoom, RunsTold}
+use Rattle.stm_work.specs.Content.{ComesOf, ImageOn, IsCopy, is_hex}
+use Rattle.stm_work.specs.Protections.{protection_of}
+use Rattle.stm_work.specs.ReadingFor.{ReadsAsHex, SumsUp}
+use Rattle.stm_work.specs.Reading.{ReadsRange}
+
+-- some bytes mean it, by the words that name the image's file
+abbrev pub ComesOfFile : ImageFile → Content → Type 0
+ComesOfFile image content = (bytes : List ℕ)
+    × ComesOf (is_hex image.is_raw bytes) image.range bytes (Ok content)
+
+-- the action that a task asks for
+abbrev pub IsFor : Task → Action → Type 0
+IsFor (task.Info is_raw) does = does ≡ action.Info
+IsFor (task.Read range out) does = does ≡ action.Read range
+IsFor (task.ReadHex range out skips) does = does ≡ action.Read range
+IsFor (task.Sum range) does = does ≡ action.Read range
+IsFor (task.Write image true) does = (content : Content) × (does ≡ action.WriteAndVerify content)
+    × ComesOfFile image content
+IsFor (task.Write image false) does = (content : Content) × (does ≡ action.Write content)
+    × ComesOfFile image content
+IsFor (task.Verify image) does = (content : Content) × (does ≡ action.Verify content)
+    × ComesOfFile image content
+IsFor (task.Erase true pages) does = does ≡ action.EraseAll
+IsFor (task.Erase false pages) does = does ≡ action.Erase pages
+IsFor (task.Undo count true) does = does ≡ action.UndoVerified count
+IsFor (task.Undo count false) does = does ≡ action.Undo count
+IsFor (task.Go address) does = does ≡ action.Go address
+IsFor (task.Protect word is_sure true) does =
+    (does ≡ action.UnprotectFresh) × (protection_of word.now ≡ Some WriteUnprotect)
+IsFor (task.Protect word is_sure false) does = (kind : Protection) × (does ≡ action.Protect kind)
+    × (protection_of word.now ≡ Some kind)
+
+-- and the one on a device that is said to be fresh from reset: an undo of its own; what takes the
+-- write protection off such a device is else what does so where nothing was stopped
+abbrev pub on_fresh : Bool → Action → Action
+on_fresh true (action.Undo count) = action.UndoFresh count
+on_fresh true (action.UndoVerified count) = action.UndoVerifiedFresh count
+on_fresh false action.UnprotectFresh = action.Protect WriteUnprotect
+on_fresh is_fresh does = does
+
+-- what is told of an undo that was verified
+abbrev pub told_returned : Returned → Answer
+told_returned returned = answer.UndoneAndVerified returned.segments returned.bytes
+
+-- What a session answered is handed on.
+abbrev pub HandsOn : {T : Type 0} → (T → Answer) → Result T Fault → Result Answer Failure → Type 0
+HandsOn told (Ok x) result = result ≡ Ok (told x)
+HandsOn told (Err fault) result = result ≡ Err (Session fault)
+
+-- one call of a session
+abbrev pub Calls : {R T : Type 0} → (T → Answer) → (R → R → Result T Fault → Type 0) → R → R
+    → Result Answer Failure → Type 0
+Calls {R} {T} told Done old new result = (said : Result T Fault) × Done old new said
+    × HandsOn told said result
+
+-- The image is placed first; where it can't be, that is the answer, and nothing more is called.
+pub record PlacesFirst {R : Type 0} (view : R → RigState) (table : List ChipData)
+    (content : Content) (Done : Pairs → R → R → Result Answer Fault → Type 0) (old new : R)
+    (result : Result Answer Failure) : Type 0 where
+  pub mid : R
+  pub image : Result Pairs Failure
+  pub places : ImageOn view table content old mid image
+  pub goes_on : MatchResult image (λ image. Calls (λ said. said) (Done image) mid new result)
+      (λ failure. (new ≡ mid) × (result ≡ Err failure))
+
+-- What `undo` promises.
+pub record TakesBack (table : List ChipData) (count : ℕ) (old new : RigState)
+    (taken : Result ℕ Fault) : Type 0 where
+  pub promised : UndoContract table count old new taken
+  pub cause : HasSessionCause old new taken
+  pub puts : SendsAsUndo table count old new taken
+  pub silent : taken ≡ Ok 0 → GoesOn AreFetches old.calls new.calls
+  pub order : IfOk taken (λ n. 1 ≤ n → UndoesInOrder table n old new)
+  pub stops : IfErr taken (UndoStops table count old new)
+
+-- And `undo_fresh`: the same of a device that is fresh from reset.
+pub record TakesBackFresh (table : List ChipData) (count : ℕ) (old new : RigState)
+    (taken : Result ℕ Fault) : Type 0 where
+  pub promised : IsReset old.device → UndoContract table count old new taken
+  pub cause : HasSessionCause old new taken
+  pub puts : SendsAsUndo table count old new taken
+  pub silent : taken ≡ Ok 0 → GoesOn AreFetches old.calls new.calls
+  pub order : IfOk taken (λ n. 1 ≤ n → UndoesInOrderFrom true table n old new)
+  pub stops : IfErr taken (UndoStopsFrom true table count old new)
+
+-- this, of a device that is fresh from reset where it is said to be so
+abbrev pub WhereReset : Bool → Device → Type 0 → Type 0
+WhereReset true d P = IsReset d → P
+WhereReset false d P = P
+
+-- And `undo_verified` and `undo_verified_fresh`: the same, and that each page that was given back
+-- was read again, and held what was written.
+pub record TakesBackVerified {R : Type 0} (view : R → RigState) (is_fresh : Bool)
+    (table : List ChipData) (count : ℕ) (old new : R) (taken : Result Returned Fault) : Type 0 where
+  pub promised : WhereReset is_fresh (view old).device
+      (UndoContract table count (view old) (view new) (segments_of taken))
+  pub cause : HasSessionCause (view old) (view new) taken
+  pub puts : SendsAsUndo table count (view old) (view new) (segments_of taken)
+  pub silent : segments_of taken ≡ Ok 0 → GoesOn AreFetches (view old).calls (view new).calls
+  pub none : IfOk taken (λ returned. returned.segments ≡ 0 → returned.bytes ≡ 0)
+  pub order : IfOk taken (λ returned. 1 ≤ returned.segments
+      → ReturnsInOrder is_fresh true table returned (view old) (view new))
+  pub stops : IfErr taken (UndoStopsAs is_fresh true table count (view old) (view new))
+  pub given : IfOk taken (λ returned. 1 ≤ returned.segments
+      → ReturnsTold view is_fresh true table returned (view old) (view new))
+  pub given_stops :
+      IfErr taken (UndoStopsToldAs view is_fresh true table count (view old) (view new))
+
+-- What `unprotect_fresh` promises.
+pub record Unprotects (old new : RigState) (done : Result (Unit {0}) Fault) : Type 0 where
+  pub cause : HasSessionCause old new done
+  pub puts : GoesOn IsUnprotecting old.calls new.calls
+  pub sent : OnOk done (GoesOn IsUnprotected old.calls new.calls)
+  pub silent :
+      IfErr done (λ fault. is_whole_at fault ≡ true → GoesOn AreFetches old.calls new.calls)
+  pub kept : old.is_honest → new.journal ≡ old.journal
+  pub promised : UnprotectContract old new done
+
+-- What `go` and `protect` promise of their frame, on a device that allows it.
+pub record Parts (turns : List Turn) (frame : List ℕ) (Allows : Device → Type 0)
+    (old new : RigState) (parted : Result (Unit {0}) Fault) : Type 0 where
+  pub cause : HasSessionCause old new parted
+  pub puts : GoesOn (IsLeaving turns) old.calls new.calls
+  pub sent : OnOk parted (GoesOn (IsSettledThen turns) old.calls new.calls)
+  pub silent :
+      IfErr parted (λ fault. is_whole_at fault ≡ true → GoesOn AreFetches old.calls new.calls)
+  pub kept : old.is_honest → new.journal ≡ old.journal
+  pub refused : old.is_honest → (fault : Fault) → open_refusal (journal_of old.journal) ≡ Some fault
+      → RefusesUnsent (IsUntouched old) fault old new parted
+  pub unsent_calls : old.is_honest → (fault : Fault)
+      → open_refusal (journal_of old.journal) ≡ Some fault → GoesOn AreFetches old.calls new.calls
+  pub leaves : old.is_honest → IsSafe old.device → open_refusal (journal_of old.journal) ≡ None
+      → Leaves frame old new parted
+  pub goes : old.is_honest → open_refusal (journal_of old.journal) ≡ None → Allows old.device
+      → IfErr parted IsOutsideFault
+  pub spared : old.is_honest → old.journal ≡ [] → IfErr parted (λ fault. fault ≢ Memory)
+
+-- a device that lets `go` to this address
+abbrev pub CanGo : ℕ → Device → Type 0
+CanGo address d = CanLeave 0x21 d × IsTrue (is_inside d.chip address)
+
+-- What `go` promises: the same, and that such a device has left its bootloader then.
+pub record GoesTo (address : ℕ) (old new : RigState)
+    (gone : Result (Unit {0}) Fault) : Type 0 where
+  pub parts : Parts (go_turns address) (go_frame address) (CanGo address) old new gone
+  pub left : old.is_honest → open_refusal (journal_of old.journal) ≡ None → CanGo address old.device
+      → OnOk gone (new.device.phase ≡ Gone)
+
+-- Each action is the calls of its own, and hands on what they answer.
+abbrev pub Does : {R : Type 0} → (R → RigState) → List ChipData → Action → R → R
+    → Result Answer Failure → Type 0
+Does view table action.Info old new result =
+    Calls answer.Told (λ a b said. Asks table (view a) (view b) said) old new result
+Does view table (action.Read range) old new result =
+    Calls (λ said. said) (ReadsRange view table range) old new result
+Does view table (action.Write content) old new result =
+    PlacesFirst view table content
+    (λ image a b said. RunsTold table (writes image ∷ []) (view a) (view b) said) old new result
+Does view table (action.WriteAndVerify content) old new result =
+    PlacesFirst view table content
+    (λ image. RunsIfRoom view table (writes image ∷ (verifies image ∷ []))) old new result
+Does view table (action.Verify content) old new result =
+    PlacesFirst view table content
+    (λ image a b said. RunsTold table (verifies image ∷ []) (view a) (view b) said) old new result
+Does view table (action.Erase pages) old new result =
+    Calls (λ said. said)
+    (λ a b said. RunsTold table (erases pages.items ∷ []) (view a) (view b) said) old new result
+Does view table action.EraseAll old new result =
+    Calls (λ said. said) (ErasesAll view table) old new result
+Does view table (action.Undo count) old new result =
+    Calls answer.Undone (λ a b said. TakesBack table count (view a) (view b) said) old new result
+Does view table (action.UndoFresh count) old new result =
+    Calls answer.Undone (λ a b said. TakesBackFresh table count (view a) (view b) said)
+    old new result
+Does view table (action.UndoVerified count) old new result =
+    Calls told_returned (TakesBackVerified view false table count) old new result
+Does view table (action.UndoVerifiedFresh count) old new result =
+    Calls told_returned (TakesBackVerified view true table count) old new result
+Does view table (action.Go address) old new result =
+    Calls (λ done. answer.Nothing) (λ a b said. GoesTo address (view a) (view b) said)
+    old new result
+Does view table (action.Protect kind) old new result =
+    Calls (λ done. answer.Nothing) (λ a b said. Parts (protect_turns (protection_code kind))
+    (command (protection_code kind)) (CanLeave (protection_code kind)) (view a) (view b) said)
+    old new result
+Does view table action.UnprotectFresh old new result =
+    Calls (λ done. answer.Nothing) (λ a b said. Unprotects (view a) (view b) said) old new result
+
+-- What is done on a device: the question that needs no table, or an action.
+abbrev pub Works : {R : Type 0} → (R → RigState) → List ChipData → Work → R → R
+    → Result Answer Failure → Type 0
+Works view table work.Identify old new result =
+    Calls answer.Identified (λ a b said. Identifies (view a) (view b) said) old new result
+Works view table (work.Sum range) old new result =
+    (said : Result Answer Fault) × ReadsRange view table range old new said × SumsUp said result
+Works view table (work.ReadHex range skips) old new result =
+    AsksFirst view table (λ fault. Session fault) (ReadsAsHex view table range skips) old new result
+Works view table (work.Act does) old new result = Does view table does old new result
+
+-- What is done again is a write, of the same image; nothing else is.
+abbrev pub IsDoneAgain : Work → Option Work → Type 0
+IsDoneAgain (work.Act (action.Write content)) again = (copy : Content) × IsCopy content copy
+    × (again ≡ Some (work.Act (action.Write copy)))
+IsDoneAgain (work.Act (action.WriteAndVerify content)) again = (copy : Content)
+    × IsCopy content copy × (again ≡ Some (work.Act (action.WriteAndVerify copy)))
+IsDoneAgain other again = again ≡ None

@@ -1,0 +1,39 @@
+-- What an answer of the program tells of a session.
+use Rattle.std.specs.Prelude.{◌≡◌, ℕ, List, [], ◌∷◌, vec_len}
+use Rattle.stm_session.specs.Answers.{OutcomeData, was_written, was_erased, was_verified, was_read}
+use Rattle.stm_session.specs.declared.information.Info.{Info}
+use Rattle.stm_work.specs.declared.answer.Answer.{Answer}
+use Rattle.stm_work.specs.declared.answer.Answer.TheVariants as answer
+use Rattle.stm_work.specs.TriedBoards.{AreTried}
+
+-- the outcomes that it tells, in their order
+abbrev pub outcomes_told : Answer → List OutcomeData
+outcomes_told answer.Nothing = []
+outcomes_told (answer.Told info) = []
+outcomes_told (answer.ToldBeside info tried) = []
+outcomes_told (answer.Identified told) = []
+outcomes_told (answer.IdentifiedBeside told table) = []
+outcomes_told (answer.Bytes bytes) = was_read bytes.items ∷ []
+outcomes_told (answer.Sum crc) = []
+outcomes_told (answer.Written segment pages) = was_written segment pages ∷ []
+outcomes_told (answer.WrittenAndVerified segment pages bytes) =
+    was_written segment pages ∷ was_verified ∷ []
+outcomes_told (answer.Verified bytes) = was_verified ∷ []
+outcomes_told (answer.Erased segment pages) = was_erased segment pages ∷ []
+outcomes_told (answer.Undone count) = []
+outcomes_told (answer.UndoneAndVerified count bytes) = []
+outcomes_told (answer.Logged text) = []
+outcomes_told (answer.Kept count) = []
+outcomes_told (answer.KeptBut count left) = []
+
+-- it tells what a device is, and how many real boards with its chip were tried, as the texts of
+-- tables tell
+pub record IsToldBeside (texts : List (List ℕ)) (info : Info) (told : Answer) : Type 0 where
+  pub tried : ℕ
+  pub told_is : told ≡ answer.ToldBeside info tried
+  pub tried_is : AreTried info.id texts tried
+
+-- it tells bytes, so many
+abbrev pub IsRead : ℕ → Answer → Type 0
+IsRead size (answer.Bytes bytes) = vec_len bytes ≡ size
+IsRead size _ = ⊥

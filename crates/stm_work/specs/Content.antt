@@ -1,0 +1,85 @@
+-- The image that the bytes of a file mean.
+use Rattle.std.specs.Prelude.{◌≡◌, ◌⊎◌, ℕ, ◌+◌, ◌^◌, ◌<◌, ◌&&◌, ◌==◌, nat_le, not, Bool, true}
+use Rattle.std.specs.Prelude.{false, List, [], ◌∷◌, length, Option, Some, None, Result, Ok, Err}
+use Rattle.stm_image.specs.declared.faults.RawFault.TheVariants.{PastEnd, Memory}
+use Rattle.stm_image.specs.Pairs.{Pairs, raw_pairs}
+use Rattle.stm_image.specs.Text.{Means, Stands, IsOutOfMemory}
+use Rattle.stm_wire.specs.Chip.{ChipData}
+use Rattle.stm_wire.specs.Rig.{RigState}
+use Rattle.stm_words.specs.declared.range.Range.{Range}
+use Rattle.stm_words.specs.declared.usage_fault.UsageFault.TheVariants.{RangeNeedsRaw}
+use Rattle.stm_session.specs.declared.fault.Fault.TheVariants.{OutOfFlash}
+use Rattle.stm_work.specs.declared.content.Content.{Content}
+use Rattle.stm_work.specs.declared.content.Content.TheVariants.{Placed, AtBase}
+use Rattle.stm_work.specs.declared.failure.Failure.{Failure}
+use Rattle.stm_work.specs.declared.failure.Failure.TheVariants.{Session, Hex, Raw, Usage}
+use Rattle.stm_work.specs.Conduct.{AsksFirst}
+
+-- HEX begins with a colon; bytes that are said to be raw are no HEX
+abbrev pub is_hex : Bool → List ℕ → Bool
+is_hex is_raw [] = false
+is_hex is_raw (byte ∷ bytes) = not is_raw && (byte == 0x3A)
+
+-- a length that is given has to have room for so many bytes
+abbrev pub has_room : Option ℕ → ℕ → Bool
+has_room None size = true
+has_room (Some most) size = nat_le size most
+
+-- Raw bytes lie from a place on.
+pub record IsPlace (range : Range) (bytes : List ℕ) (image : Pairs) : Type 0 where
+  pub image_is : image ≡ raw_pairs range.start bytes
+  pub room : has_room range.length (length bytes) ≡ true
+
+-- or there is no room, they would go on past the last address, or memory is out
+abbrev pub IsNoRawImage : ℕ → List ℕ → Failure → Type 0
+IsNoRawImage start bytes (Raw PastEnd) = 2 ^ 32 < start + length bytes
+IsNoRawImage start bytes (Raw Memory) = Unit {0}
+IsNoRawImage start bytes _ = ⊥
+
+abbrev pub IsNoPlace : Range → List ℕ → Failure → Type 0
+IsNoPlace range bytes failure =
+    IsNoRawImage range.start bytes failure
+    ⊎ ((failure ≡ Session OutOfFlash) × (has_room range.length (length bytes) ≡ false))
+
+-- the HEX text is refused
+abbrev pub IsNoHex : List ℕ → Failure → Type 0
+IsNoHex text (Hex fault) = Stands text fault ⊎ IsOutOfMemory text fault
+IsNoHex text _ = ⊥
+
+-- it is known where each byte lies
+abbrev pub IsPlaced : (Pairs → Type 0) → Content → Type 0
+IsPlaced P (Placed image) = P image
+IsPlaced P (AtBase bytes) = ⊥
+
+-- the bytes lie where the flash begins
+abbrev pub IsAtBase : List ℕ → Content → Type 0
+IsAtBase bytes (Placed image) = ⊥
+IsAtBase bytes (AtBase own) = own.items ≡ bytes
+
+-- it holds the same image, or the same bytes
+abbrev pub IsCopy : Content → Content → Type 0
+IsCopy (Placed image) content = content ≡ Placed image
+IsCopy (AtBase bytes) content = IsAtBase bytes.items content
+
+-- What comes of a file's bytes, HEX or raw, and of the range that was given.
+abbrev pub ComesOf : Bool → Option Range → List ℕ → Result Content Failure → Type 0
+ComesOf true None bytes (Ok content) = IsPlaced (Means bytes) content
+ComesOf true None bytes (Err failure) = IsNoHex bytes failure
+ComesOf true (Some range) bytes result = result ≡ Err (Usage RangeNeedsRaw)
+ComesOf false None bytes (Ok content) = IsAtBase bytes content
+ComesOf false None bytes (Err failure) = ⊥
+ComesOf false (Some range) bytes (Ok content) = IsPlaced (IsPlace range bytes) content
+ComesOf false (Some range) bytes (Err failure) = IsNoPlace range bytes failure
+
+-- raw bytes as an image, from the flash's first byte on
+abbrev pub IsRawImage : ℕ → List ℕ → Result Pairs Failure → Type 0
+IsRawImage start bytes (Ok image) = image ≡ raw_pairs start bytes
+IsRawImage start bytes (Err failure) = IsNoRawImage start bytes failure
+
+-- The image that is placed; or the device is asked where its flash begins.
+abbrev pub ImageOn : {R : Type 0} → (R → RigState) → List ChipData → Content → R → R
+    → Result Pairs Failure → Type 0
+ImageOn view table (Placed image) old new result = (result ≡ Ok image) × (new ≡ old)
+ImageOn view table (AtBase bytes) old new result =
+    AsksFirst view table (λ fault. Session fault)
+    (λ told mid last said. (last ≡ mid) × IsRawImage told.base bytes.items said) old new result

@@ -1,0 +1,95 @@
+-- The text that each answer of the program is told by on standard output: lines, each ended by LF.
+use Rattle.std.specs.Prelude.{ℕ, ◌==◌, List, [], ◌++◌, codes, decimal}
+use Rattle.std.specs.Prelude.{Some, None, if◌then◌else◌, string_bytes}
+use Rattle.stm_session.specs.declared.asking_board.Board.{Board}
+use Rattle.stm_work.specs.declared.answer.Answer.{Answer}
+use Rattle.stm_work.specs.declared.answer.Answer.TheVariants as answer
+use Rattle.stm_work.specs.DeviceText.{board_text, info_text, line, table_text, told_text}
+use Rattle.stm_work.specs.UpperHex.{upper_hex}
+
+-- a change: the number of its segment, and how many pages it changed
+abbrev pub change_text : ℕ → ℕ → List ℕ → List ℕ
+change_text segment pages done =
+    line (codes "segment " ++ decimal segment ++ codes ": " ++ decimal pages ++ codes " pages "
+    ++ done)
+
+-- a write
+abbrev pub written_text : ℕ → ℕ → List ℕ
+written_text segment pages = change_text segment pages (codes "written")
+
+-- an erase
+abbrev pub erased_text : ℕ → ℕ → List ℕ
+erased_text segment pages = change_text segment pages (codes "erased")
+
+-- of how many bytes the flash has the image's
+abbrev pub verified_text : ℕ → List ℕ
+verified_text bytes = line (codes "verified " ++ decimal bytes ++ codes " bytes")
+
+-- a CRC
+abbrev pub sum_text : ℕ → List ℕ
+sum_text crc = line (codes "crc " ++ upper_hex 8 crc)
+
+-- how many segments were taken back
+abbrev pub undone_text : ℕ → List ℕ
+undone_text count = line (codes "undone " ++ decimal count)
+
+-- the same, without the line's end
+abbrev pub undone_head : ℕ → List ℕ
+undone_head count = codes "undone " ++ decimal count
+
+-- how many bytes of theirs were read again, behind that
+abbrev pub behind_text : ℕ → List ℕ
+behind_text bytes = codes ", " ++ decimal bytes
+
+-- and what that was
+abbrev pub again_text : List ℕ
+again_text = line (codes " bytes verified")
+
+-- how many segments stay
+abbrev pub kept_text : ℕ → List ℕ
+kept_text count = line (codes "kept " ++ decimal count)
+
+-- how many of them can be taken back
+abbrev pub left_text : ℕ → List ℕ
+left_text left = decimal left ++ line (codes " can be undone")
+
+-- how many real boards were tried
+abbrev pub tried_text : ℕ → List ℕ
+tried_text tried =
+    if tried == 0 then line (codes "not tried: stmflash-trial")
+    else if tried == 1 then line (codes "tried: 1 board")
+    else line (codes "tried: " ++ decimal tried ++ codes " boards")
+
+-- an answer, but for what is told beside it
+abbrev pub text_of : Answer → List ℕ
+text_of answer.Nothing = []
+text_of (answer.Told info) = info_text info
+text_of (answer.ToldBeside info tried) = info_text info
+text_of (answer.Identified told) = told_text told
+text_of (answer.IdentifiedBeside told table) = told_text told ++ table_text (string_bytes table)
+text_of (answer.Bytes bytes) = bytes.items
+text_of (answer.Sum crc) = sum_text crc
+text_of (answer.Written segment pages) = written_text segment pages
+text_of (answer.WrittenAndVerified segment pages bytes) =
+    written_text segment pages ++ verified_text bytes
+text_of (answer.Verified bytes) = verified_text bytes
+text_of (answer.Erased segment pages) = erased_text segment pages
+text_of (answer.Undone count) = undone_text count
+text_of (answer.UndoneAndVerified count bytes) =
+    undone_head count ++ behind_text bytes ++ again_text
+text_of (answer.Logged text) = text.items
+text_of (answer.Kept count) = kept_text count
+text_of (answer.KeptBut count left) = kept_text count ++ left_text left
+
+-- which board told an answer, where it tells what a device is
+abbrev pub board_text_of : Answer → Board → List ℕ
+board_text_of (answer.Told info) board = board_text board (Some info.size)
+board_text_of (answer.ToldBeside info tried) board = board_text board (Some info.size)
+board_text_of (answer.Identified told) board = board_text board None
+board_text_of (answer.IdentifiedBeside told table) board = board_text board None
+board_text_of _ board = []
+
+-- how many boards were tried, where that is of an answer
+abbrev pub tried_text_of : Answer → List ℕ
+tried_text_of (answer.ToldBeside info tried) = tried_text tried
+tried_text_of _ = []

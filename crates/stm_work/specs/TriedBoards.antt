@@ -1,0 +1,24 @@
+-- How many real boards of a chip were tried, by tables of which one goes over another.
+use Rattle.std.specs.Prelude.{◌≡◌, ℕ, ◌⊎◌, List, [], ◌∷◌, ◌++◌, map}
+use Rattle.stm_chip.specs.Document.{LacksChip, TellsTried}
+use Rattle.stm_work.specs.declared.chip_tables.ChipTables.{ChipTables}
+use Rattle.stm_work.specs.declared.chip_tables.TableText.{TableText}
+
+-- a table tells so many; or it has no such chip, and the tables below it tell so many
+abbrev pub TriedOver : List ℕ → ℕ → ℕ → ℕ → Type 0
+TriedOver text id below count = TellsTried text id count ⊎ (LacksChip text id × (count ≡ below))
+
+-- the texts of tables, the lowest first, tell so many of a chip: the highest that has it decides,
+-- and where none has it there are none
+pub data AreTried (id : ℕ) : List (List ℕ) → ℕ → Type 0 where
+  none : AreTried id [] 0
+  over : {texts : List (List ℕ)} {below : ℕ} (text : List ℕ) (count : ℕ)
+      → AreTried id texts below → TriedOver text id below count
+      → AreTried id (texts ++ text ∷ []) count
+
+abbrev pub bytes_of : TableText → List ℕ
+bytes_of table = table.text.items
+
+-- the texts of the tables of one use, the lowest first
+abbrev pub texts_of : ChipTables → List (List ℕ)
+texts_of tables = bytes_of tables.lowest ∷ map bytes_of tables.over.items

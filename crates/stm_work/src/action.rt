@@ -1,0 +1,180 @@
+// What is done on a device, over any Rig.
+ghost use Rattle.std.specs.Prelude.{◌≡◌, IfOk};
+ghost use Rattle.stm_work.specs.Action.{Does, IsFor, on_fresh, told_returned};
+
+use crate::answer::Answer;
+use crate::changing::{erase, erase_all, verify, write, write_and_verify};
+use crate::content::{Content, read_content};
+use crate::failure::Failure;
+use crate::protection::protection;
+use crate::reading::read;
+use std::alloc::Global;
+use std::fs::Files;
+use stm_chip::Table;
+use stm_session::{
+    Returned, go, info, protect, undo, undo_fresh, undo_verified, undo_verified_fresh,
+    unprotect_fresh,
+};
+use stm_wire::{Protection, Rig};
+use stm_words::{Range, Task, UsageFault};
+
+/// What is done on a device.
+#[derive(Drop)]
+pub enum Action {
+    /// Tells what it is.
+    Info,
+    /// Reads its whole flash, or a part of it.
+    Read(Option<Range>),
+    /// Writes an image.
+    Write(Content),
+    /// Writes an image, and compares the flash with it.
+    WriteAndVerify(Content),
+    /// Compares the flash with an image.
+    Verify(Content),
+    /// Erases these pages.
+    Erase(Vec<u16>),
+    /// Erases every page.
+    EraseAll,
+    /// Takes back so many writes and erases, or, at 0, all.
+    Undo(u32),
+    /// Does so on a device that is said to be fresh from reset.
+    UndoFresh(u32),
+    /// Takes back as `Undo` does, and reads each page again that was given back.
+    UndoVerified(u32),
+    /// Does so on a device that is said to be fresh from reset.
+    UndoVerifiedFresh(u32),
+    /// Lets it run what stands at this address.
+    Go(u32),
+    /// Changes a protection.
+    Protect(Protection),
+    /// Takes the write protection off a device that is said to be fresh from reset, whatever the
+    /// journal holds.
+    UnprotectFresh,
+}
+
+impl Action {
+    /// What a task asks for. The file of an image is read.
+    pub fn of<'a, R: Files + AllocGlobal>(rt: &R, task: Task<'a>) -> Result<Action, Failure<'a>>
+        ensures { IfOk result (IsFor task.entry) }
+    {
+        match task {
+            Task::Info { .. } => Ok(Action::Info),
+            Task::Read { range, .. } | Task::ReadHex { range, .. } | Task::Sum(range) => {
+                Ok(Action::Read(range))
+            }
+            Task::Write { image, verifies } => {
+                let content = read_content(rt, &image)?;
+                if verifies {
+                    Ok(Action::WriteAndVerify(content))
+                } else {
+                    Ok(Action::Write(content))
+                }
+            }
+            Task::Verify(image) => Ok(Action::Verify(read_content(rt, &image)?)),
+            Task::Erase { is_all, pages } => Ok(if is_all {
+                Action::EraseAll
+            } else {
+                Action::Erase(pages)
+            }),
+            Task::Undo { count, verifies } => Ok(if verifies {
+                Action::UndoVerified(count)
+            } else {
+                Action::Undo(count)
+            }),
+            Task::Go(address) => Ok(Action::Go(address)),
+            Task::Protect {
+                kind,
+                in_session,
+                ..
+            } => match (protection(kind), in_session) {
+                (Some(kind), false) => Ok(Action::Protect(kind)),
+                (Some(Protection::WriteUnprotect), true) => Ok(Action::UnprotectFresh),
+                _ => Err(Failure::Usage(UsageFault::UnknownWords)),
+            },
+        }
+    }
+
+    /// The same for a device that was reset since the last session, where that is said: an undo
+    /// settles it with 7F alone, as all others do anyway. What is done only on such a device is
+    /// else what it is where nothing was stopped.
+    pub fn on_fresh(self, is_fresh: bool) -> Action
+        ensures { result ≡ on_fresh is_fresh self }
+    {
+        match self {
+            Action::Undo(count) if is_fresh => Action::UndoFresh(count),
+            Action::UndoVerified(count) if is_fresh => Action::UndoVerifiedFresh(count),
+            Action::UnprotectFresh if !is_fresh => Action::Protect(Protection::WriteUnprotect),
+            action => action,
+        }
+    }
+
+    /// Whether it takes writes and erases back.
+    pub fn is_undo(&self) -> bool {
+        matches!(
+            self,
+            Action::Undo(_)
+                | Action::UndoFresh(_)
+                | Action::UndoVerified(_)
+                | Action::UndoVerifiedFresh(_)
+        )
+    }
+
+    /// Does it.
+    pub fn run<'a, L: Rig>(
+        self,
+        alloc: Global,
+        rig: &mut L,
+        table: &Table,
+    ) -> Result<Answer, Failure<'a>>
+        ensures { Does L.view table.now self rig.old rig.new result }
+    {
+        match self {
+            Action::Info => Ok(Answer::Told(info(alloc, rig, table)?)),
+            Action::Read(range) => Ok(read(alloc, rig, table, range)?),
+            Action::Write(content) => {
+                let image = content.on_device(alloc, rig, table)?;
+                Ok(write(alloc, rig, table, image)?)
+            }
+            Action::WriteAndVerify(content) => {
+                let image = content.on_device(alloc, rig, table)?;
+                Ok(write_and_verify(alloc, rig, table, image)?)
+            }
+            Action::Verify(content) => {
+                let image = content.on_device(alloc, rig, table)?;
+                Ok(verify(alloc, rig, table, image)?)
+            }
+            Action::Erase(pages) => Ok(erase(alloc, rig, table, pages)?),
+            Action::EraseAll => Ok(erase_all(alloc, rig, table)?),
+            Action::Undo(count) => Ok(Answer::Undone(undo(alloc, rig, table, count)?)),
+            Action::UndoFresh(count) => Ok(Answer::Undone(undo_fresh(alloc, rig, table, count)?)),
+            Action::UndoVerified(count) => {
+                Ok(verified(undo_verified(alloc, rig, table, count)?))
+            }
+            Action::UndoVerifiedFresh(count) => {
+                Ok(verified(undo_verified_fresh(alloc, rig, table, count)?))
+            }
+            Action::Go(address) => {
+                go(alloc, rig, address)?;
+                Ok(Answer::Nothing)
+            }
+            Action::Protect(kind) => {
+                protect(alloc, rig, kind)?;
+                Ok(Answer::Nothing)
+            }
+            Action::UnprotectFresh => {
+                unprotect_fresh(alloc, rig)?;
+                Ok(Answer::Nothing)
+            }
+        }
+    }
+}
+
+/// What is told of an undo that was verified.
+fn verified(returned: Returned) -> Answer
+    ensures { result ≡ told_returned returned }
+{
+    Answer::UndoneAndVerified {
+        count: returned.segments,
+        bytes: returned.bytes,
+    }
+}

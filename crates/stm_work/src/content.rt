@@ -1,0 +1,144 @@
+// The image that a file holds, as far as it can be read before the device is known.
+ghost use Rattle.std.specs.Prelude.{◌≡◌, Ok, IfOk, IfErr, List, ℕ};
+ghost use Rattle.stm_work.specs.Content.{ComesOf, ImageOn, IsCopy, IsNoPlace, IsPlace, has_room, is_hex};
+
+use crate::failure::Failure;
+use std::alloc::{AllocError, Global};
+use std::fs::Files;
+use stm_chip::Table;
+use stm_files::{foreign_form, read_file};
+use stm_image::{Image, read_hex, read_raw};
+use stm_session::{Fault, info};
+use stm_wire::Rig;
+use stm_words::{ImageFile, Range, UsageFault};
+
+/// How many bytes a HEX text has at most.
+const HEX: u32 = 64 << 20;
+
+/// How many bytes a raw image has at most: as many as the largest flash that a table may name.
+const RAW: usize = 2 << 20;
+
+/// What HEX begins with.
+const COLON: u8 = b':';
+
+/// The image that a file holds.
+#[derive(Drop)]
+pub enum Content {
+    /// It is known where each byte lies.
+    Placed(Image),
+    /// Raw bytes, which lie from the flash's first byte on.
+    AtBase(Vec<u8>),
+}
+
+/// Reads the file of an image whole.
+pub fn read_content<'a, R: Files + AllocGlobal>(
+    rt: &R,
+    image: &ImageFile<'a>,
+) -> Result<Content, Failure<'a>>
+    ensures { IfOk result (λ content. (bytes : List ℕ)
+        × ComesOf (is_hex image.now.is_raw bytes) image.now.range bytes (Ok content)) }
+{
+    let bytes = match read_file(rt, image.name, HEX) {
+        Ok(bytes) => bytes,
+        Err(e) => return Err(Failure::of_file(&e, Failure::CannotRead(image.name))),
+    };
+    if !is_hex(bytes.as_slice(), image.is_raw) {
+        check_raw(bytes.as_slice(), image)?;
+    }
+    content_of(rt.alloc(), bytes, image.is_raw, image.range)
+}
+
+/// Refuses bytes that are more than any flash has, or, unless they are said to be raw, no raw
+/// image by how they begin.
+fn check_raw<'a>(bytes: &[u8], image: &ImageFile<'a>) -> Result<(), Failure<'a>> {
+    if bytes.len() > RAW {
+        return Err(Failure::CannotRead(image.name));
+    }
+    match foreign_form(bytes) {
+        Some(what) if !image.is_raw => Err(Failure::NotRaw(what)),
+        _ => Ok(()),
+    }
+}
+
+/// The image that the bytes of a file are.
+fn content_of<'a>(
+    alloc: Global,
+    bytes: Vec<u8>,
+    is_raw: bool,
+    range: Option<Range>,
+) -> Result<Content, Failure<'a>>
+    ensures { ComesOf (is_hex is_raw bytes.items) range bytes.items result }
+{
+    match (is_hex(bytes.as_slice(), is_raw), range) {
+        (true, Some(_)) => Err(Failure::Usage(UsageFault::RangeNeedsRaw)),
+        (true, None) => Ok(Content::Placed(read_hex(alloc, bytes.as_slice())?)),
+        (false, Some(range)) => Ok(Content::Placed(place(alloc, bytes.as_slice(), range)?)),
+        (false, None) => Ok(Content::AtBase(bytes)),
+    }
+}
+
+/// Whether the bytes are HEX: they begin with a colon, and aren't said to be raw.
+fn is_hex(bytes: &[u8], is_raw: bool) -> bool
+    ensures { result ≡ is_hex is_raw bytes.now }
+{
+    match bytes.first() {
+        Some(first) => !is_raw && *first == COLON,
+        None => false,
+    }
+}
+
+/// The image of raw bytes from a place on; a length that is given has to have room for them.
+fn place<'a>(alloc: Global, bytes: &[u8], range: Range) -> Result<Image, Failure<'a>>
+    ensures placed { IfOk result (IsPlace range bytes.now) }
+    ensures refused { IfErr result (IsNoPlace range bytes.now) }
+{
+    let image = read_raw(alloc, bytes, range.start)?;
+    if has_room(range.length, bytes.len()) {
+        Ok(image)
+    } else {
+        Err(Failure::Session(Fault::OutOfFlash))
+    }
+}
+
+/// Whether a length, where one is given, has room for so many bytes.
+fn has_room(length: Option<u32>, size: usize) -> bool
+    ensures { result ≡ has_room length size }
+{
+    match length {
+        Some(most) => size as u64 <= u64::from(most),
+        None => true,
+    }
+}
+
+impl Content {
+    /// The same once more.
+    pub fn copy(&self, alloc: Global) -> Result<Content, AllocError>
+        ensures { IfOk result (IsCopy self.now) }
+    {
+        match self {
+            Content::Placed(image) => Ok(Content::Placed(image.clone()?)),
+            Content::AtBase(bytes) => Ok(Content::AtBase(Vec::from_slice(
+                alloc,
+                bytes.as_slice(),
+            )?)),
+        }
+    }
+
+    /// The image. The device is asked where its flash begins, where that has to be known.
+    pub fn on_device<'a, L: Rig>(
+        self,
+        alloc: Global,
+        rig: &mut L,
+        table: &Table,
+    ) -> Result<Image, Failure<'a>>
+        ensures { ImageOn L.view table.now self rig.old rig.new result }
+    {
+        match self {
+            Content::Placed(image) => Ok(image),
+            Content::AtBase(bytes) => {
+                let told = info(alloc, rig, table)?;
+                Ok(read_raw(alloc, bytes.as_slice(), told.base)?)
+            }
+        }
+    }
+}

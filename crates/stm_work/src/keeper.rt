@@ -1,0 +1,111 @@
+// A Rig whose journal can be kept: what it says stays for good, and the journal is empty.
+ghost use Rattle.std.specs.Prelude.{◌≡◌, IfOk, OnErr, OnOk};
+ghost use Rattle.stm_wire.specs.Dialogue.{GoesOn};
+ghost use Rattle.stm_journal.specs.Calls.{AreFetches};
+ghost use Rattle.stm_files.specs.Ending.{EndsJournal};
+ghost use Rattle.stm_work.specs.Keeping.{IsFinished};
+ghost use Rattle.stm_work.specs.Steps.{Stays};
+
+use crate::failure::Failure;
+use crate::keeping::count_kept;
+use std::alloc::Global;
+use std::time::Clock;
+use stm_files::{Locks, SimulatorRig, SocketRig, Timed};
+use stm_journal::Journal;
+use stm_session::Fault;
+use stm_watch::WatchRig;
+use stm_wire::Rig;
+
+/// A Rig whose journal can be kept.
+pub trait Keeper: Rig {
+    /// Hears how many KiB the flash has, by what the device told, for what it shows alone.
+    fn hear_size(&mut self, kib: Option<u16>)
+        ensures { Stays (Self.view self.old) (Self.view self.new) };
+
+    /// Lets what the journal of this name says stay for good: its file is removed, or renamed to a
+    /// name that isn't there. It answers how many writes and erases stay, none of which may be
+    /// unfinished. Nothing is sent to the device.
+    fn keep<'w>(
+        &mut self,
+        alloc: Global,
+        name: &'w str,
+        to: Option<&'w str>,
+    ) -> Result<u32, Failure<'w>>
+        ensures quiet { let old = Self.view self.old in let new = Self.view self.new in
+            OnErr result (GoesOn AreFetches old.calls new.calls) }
+        ensures ends { let old = Self.view self.old in let new = Self.view self.new in
+            old.is_honest → OnOk result (EndsJournal old new) }
+        ensures finished { let old = Self.view self.old in
+            old.is_honest → IfOk result (IsFinished old.journal) };
+}
+
+/// How many writes and erases the journal of a Rig has, none of which is unfinished.
+#[tactic(auto, using(crate::proofs::Finished::finished))]
+fn count_in<'a, L: Rig>(alloc: Global, rig: &mut L) -> Result<u32, Failure<'a>>
+    ensures calls { GoesOn AreFetches (L.view rig.old).calls (L.view rig.new).calls }
+    ensures same { let old = L.view rig.old in let new = L.view rig.new in
+        old.is_honest → OnOk result (new.is_honest × (new.device ≡ old.device)) }
+    ensures finished { let old = L.view rig.old in
+        old.is_honest → IfOk result (IsFinished old.journal) }
+{
+    let journal = match Journal::load(alloc, rig) {
+        Ok(journal) => journal,
+        Err(fault) => return Err(Failure::Session(Fault::from(fault))),
+    };
+    Ok(count_kept(&journal)?)
+}
+
+impl<'a, S: Timed + Drop, R: Locks + Clock + AllocGlobal> Keeper for SocketRig<'a, S, R> {
+    fn hear_size(&mut self, _kib: Option<u16>) {}
+
+    fn keep<'w>(
+        &mut self,
+        alloc: Global,
+        name: &'w str,
+        to: Option<&'w str>,
+    ) -> Result<u32, Failure<'w>> {
+        let count = count_in(alloc, self)?;
+        self.end_journal(name, to)?;
+        Ok(count)
+    }
+}
+
+impl<'a, 'f, R: Locks + AllocGlobal> Keeper for SimulatorRig<'a, 'f, R> {
+    fn hear_size(&mut self, _kib: Option<u16>) {}
+
+    fn keep<'w>(
+        &mut self,
+        alloc: Global,
+        name: &'w str,
+        to: Option<&'w str>,
+    ) -> Result<u32, Failure<'w>> {
+        let count = count_in(alloc, self)?;
+        self.end_journal(alloc, name, to)?;
+        Ok(count)
+    }
+}
+
+impl<L: Keeper + Drop> Keeper for WatchRig<L> {
+    fn hear_size(&mut self, kib: Option<u16>) {
+        self.inner.hear_size(kib);
+    }
+
+    fn keep<'w>(
+        &mut self,
+        alloc: Global,
+        name: &'w str,
+        to: Option<&'w str>,
+    ) -> Result<u32, Failure<'w>> {
+        if self.refusal().is_some() {
+            return Err(Failure::Session(Fault::Line));
+        }
+        match self.inner.keep(alloc, name, to) {
+            Ok(count) => {
+                // what the device owes is lost by that
+                self.lose();
+                Ok(count)
+            }
+            Err(failure) => Err(failure),
+        }
+    }
+}

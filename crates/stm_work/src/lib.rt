@@ -1,0 +1,63 @@
+//! What is done on a device by one call of the program, and how it is told: which work is done,
+//! what it answers, why it failed, and both as text, as JSON and while it goes on.
+#![tactic(auto)]
+
+mod action;
+mod answer;
+mod attempts;
+mod board;
+mod changing;
+mod chip_tables;
+mod content;
+mod device_json;
+mod device_text;
+mod failure;
+mod false_erase;
+mod fault_name;
+mod hint;
+mod hinting;
+mod json_line;
+mod keeper;
+mod keeping;
+mod left_standing;
+mod notes;
+mod one_call;
+mod opened_journal;
+mod otherwise;
+mod plan;
+mod progress_course;
+mod progress_rig;
+mod progress_screen;
+mod progress_text;
+mod progress_watch;
+mod protection;
+mod reading;
+mod reading_hex;
+mod steps;
+mod summing;
+mod told_json;
+mod watchable;
+mod watching;
+mod work;
+
+pub use action::Action;
+pub use answer::Answer;
+pub use attempts::{Attempts, attempt_again};
+pub use board::{ask_and_allow, has_telling_chip, tells_board};
+pub use chip_tables::ChipTables;
+pub use failure::Failure;
+pub use hint::Hint;
+pub use keeper::Keeper;
+pub use keeping::count_kept;
+pub use left_standing::{Standing, Stands};
+pub use notes::{begins_journal, tell_nameless, tell_notes};
+pub use opened_journal::{done_on, read_journal, serving_journal};
+pub use plan::Plan;
+pub use progress_course::Course;
+pub use progress_rig::ProgressRig;
+pub use progress_screen::{Screen, Style};
+pub use steps::{Steps, failed_by, failure_of};
+pub use told_json::{is_flash, json_of_done, json_of_failure, json_of_refusal, name_of};
+pub use watchable::Watchable;
+pub use watching::{done_watched, take_watched, watched};
+pub use work::Work;

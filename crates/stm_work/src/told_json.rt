@@ -1,0 +1,206 @@
+// What came of the words as JSON, one line for each step and one for a fault.
+ghost use Rattle.std.specs.Prelude.{◌≡◌, ◌++◌, IfOk, OnOk};
+ghost use Rattle.stm_work.specs.ToldJson.{answer_line, answer_name, board_members_of};
+ghost use Rattle.stm_work.specs.ToldJson.{change_members, is_of_board, members_of};
+ghost use Rattle.stm_work.specs.ToldJson.{refusal_line, steps_lines};
+
+use crate::answer::Answer;
+use crate::device_json::{add_board, add_info, add_told, eight_digits};
+use crate::failure::Failure;
+use crate::hint::Hint;
+use crate::json_line::JsonLine;
+use crate::steps::Steps;
+use std::alloc::{AllocError, Global};
+use stm_files::Escaped;
+use stm_session::Board;
+
+/// The member that names what was done.
+const ANSWER: &str = "answer";
+
+/// The member that names a fault.
+const FAULT: &str = "fault";
+
+/// The lines of what was done, a line each step.
+fn json_of_steps(alloc: Global, steps: &Steps) -> Result<Vec<u8>, AllocError>
+    ensures { IfOk result (λ text. text.items ≡ steps_lines steps.now) }
+{
+    let mut text = json_of(alloc, &steps.answer, &steps.board)?;
+    if let Some(count) = steps.kept {
+        text.extend_from_slice(json_of(alloc, &Answer::Kept(count), &None)?.as_slice())?;
+    }
+    Ok(text)
+}
+
+/// The same, or the line of what was done with what is to be done then, where the hint says that.
+pub fn json_of_done(
+    alloc: Global,
+    steps: &Steps,
+    hint: Option<Hint>,
+) -> Result<Vec<u8>, AllocError> {
+    if let Some(hint) = hint {
+        if let Some(next) = hint.of_done() {
+            return json_of_next(alloc, steps, next);
+        }
+    }
+    json_of_steps(alloc, steps)
+}
+
+/// The line of what was done, with what is to be done then.
+fn json_of_next(alloc: Global, steps: &Steps, hint: Hint) -> Result<Vec<u8>, AllocError> {
+    let mut line = JsonLine::of(alloc, ANSWER, name_of(&steps.answer))?;
+    add_members(alloc, &mut line, &steps.answer)?;
+    add_board_of(alloc, &mut line, &steps.answer, &steps.board)?;
+    add_hint(alloc, &mut line, hint)?;
+    line.end()
+}
+
+/// The line of an answer, with the board that told it where it is of a board.
+fn json_of(alloc: Global, answer: &Answer, board: &Option<Board>) -> Result<Vec<u8>, AllocError>
+    ensures { IfOk result (λ line. line.items ≡ answer_line answer.now board.now) }
+{
+    let mut line = JsonLine::of(alloc, ANSWER, name_of(answer))?;
+    add_members(alloc, &mut line, answer)?;
+    add_board_of(alloc, &mut line, answer, board)?;
+    line.end()
+}
+
+/// Adds the board that told an answer, where it is of a board.
+fn add_board_of(
+    alloc: Global,
+    line: &mut JsonLine,
+    answer: &Answer,
+    board: &Option<Board>,
+) -> Result<(), AllocError>
+    ensures { OnOk result (line.new.text.items
+        ≡ line.old.text.items ++ board_members_of answer.now board.now) }
+{
+    if is_of_board(answer) {
+        add_board(alloc, line, board)?;
+    }
+    Ok(())
+}
+
+/// The name that an answer has wherever programs read it.
+pub fn name_of(answer: &Answer) -> &'static str
+    ensures { result.now ≡ answer_name answer.now }
+{
+    match answer {
+        Answer::Nothing | Answer::Bytes(_) => "done",
+        Answer::Told(_) | Answer::ToldBeside { .. } => "info",
+        Answer::Identified(_) | Answer::IdentifiedBeside { .. } => "identified",
+        Answer::Sum(_) => "crc",
+        Answer::Written { .. } => "written",
+        Answer::WrittenAndVerified { .. } => "written_and_verified",
+        Answer::Verified(_) => "verified",
+        Answer::Erased { .. } => "erased",
+        Answer::Undone(_) => "undone",
+        Answer::UndoneAndVerified { .. } => "undone_and_verified",
+        Answer::Logged(_) => "log",
+        Answer::Kept(_) | Answer::KeptBut { .. } => "kept",
+    }
+}
+
+/// Whether an answer is what was read of the flash, which is no line of JSON.
+pub fn is_flash(answer: &Answer) -> bool {
+    matches!(answer, Answer::Bytes(_))
+}
+
+/// Whether an answer is of a board, which is named in it.
+fn is_of_board(answer: &Answer) -> bool
+    ensures { result ≡ is_of_board answer.now }
+{
+    matches!(
+        answer,
+        Answer::Told(_)
+            | Answer::ToldBeside { .. }
+            | Answer::Identified(_)
+            | Answer::IdentifiedBeside { .. }
+    )
+}
+
+/// Adds what an answer tells.
+#[tactic(auto, using(crate::proofs::TextParts::goes_on))]
+fn add_members(alloc: Global, line: &mut JsonLine, answer: &Answer) -> Result<(), AllocError>
+    ensures { OnOk result (line.new.text.items
+        ≡ line.old.text.items ++ members_of answer.now) }
+{
+    match answer {
+        Answer::Nothing | Answer::Bytes(_) => Ok(()),
+        Answer::Told(info) => add_info(alloc, line, info),
+        Answer::ToldBeside { info, tried } => {
+            add_info(alloc, line, info)?;
+            line.number("tried", *tried as u64)
+        }
+        Answer::Identified(told) => add_told(alloc, line, told),
+        Answer::IdentifiedBeside { told, table } => {
+            add_told(alloc, line, told)?;
+            line.text("table", table.as_str())
+        }
+        Answer::Sum(crc) => line.text("crc", eight_digits(alloc, *crc)?.as_str()),
+        Answer::Written { segment, pages } | Answer::Erased { segment, pages } => {
+            add_change(line, *segment, *pages)
+        }
+        Answer::WrittenAndVerified {
+            segment,
+            pages,
+            bytes,
+        } => {
+            add_change(line, *segment, *pages)?;
+            line.number("bytes", *bytes as u64)
+        }
+        Answer::Verified(bytes) => line.number("bytes", *bytes as u64),
+        Answer::Undone(count) | Answer::Kept(count) => line.number("count", u64::from(*count)),
+        Answer::UndoneAndVerified { count, bytes } => {
+            line.number("count", u64::from(*count))?;
+            line.number("bytes", *bytes)
+        }
+        Answer::Logged(text) => line.lines("lines", text.as_slice()),
+        Answer::KeptBut { count, left } => {
+            line.number("count", u64::from(*count))?;
+            line.number("left", u64::from(*left))
+        }
+    }
+}
+
+/// Adds the number of a segment, and how many pages it changed.
+#[tactic(auto, using(crate::proofs::TextParts::goes_on))]
+fn add_change(line: &mut JsonLine, segment: u32, pages: u32) -> Result<(), AllocError>
+    ensures { OnOk result (line.new.text.items
+        ≡ line.old.text.items ++ change_members segment pages) }
+{
+    line.number("segment", u64::from(segment))?;
+    line.number("pages", u64::from(pages))
+}
+
+/// The line of a fault: its name, its text as it is told on standard error, what came where that
+/// tells more of it, and the exit status.
+pub fn json_of_failure(
+    alloc: Global,
+    failure: &Failure,
+    hint: Option<Hint>,
+) -> Result<Vec<u8>, AllocError> {
+    let mut line = JsonLine::of(alloc, FAULT, failure.name())?;
+    line.text("says", format!(in alloc; "{}", Escaped(failure))?.as_str())?;
+    if let Some(hint) = hint {
+        if let Some(hint) = hint.of(failure) {
+            add_hint(alloc, &mut line, hint)?;
+        }
+    }
+    line.number("status", u64::from(failure.status()))?;
+    line.end()
+}
+
+/// Adds what came, or what is to be done.
+fn add_hint(alloc: Global, line: &mut JsonLine, hint: Hint) -> Result<(), AllocError> {
+    line.text("hint", format!(in alloc; "{hint}")?.as_str())
+}
+
+/// The line of words that `clap` refuses, with its text.
+pub fn json_of_refusal(alloc: Global, text: &str) -> Result<Vec<u8>, AllocError>
+    ensures { IfOk result (λ line. line.items ≡ refusal_line text.now) }
+{
+    let mut line = JsonLine::of(alloc, FAULT, "usage")?;
+    line.text("says", text)?;
+    line.number("status", 2)?;
+    line.end()
+}

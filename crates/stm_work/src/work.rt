@@ -1,0 +1,213 @@
+// What is done on a device, whether or not the table has its chip.
+ghost use Rattle.std.specs.Prelude.{◌≡◌, IfOk, false};
+ghost use Rattle.stm_work.specs.Action.{IsDoneAgain, Works};
+ghost use Rattle.stm_work.specs.Board.{asking_if, asking_of, once_asked};
+ghost use Rattle.stm_work.specs.FreshUndo.{is_fresh_undo, work_on_fresh};
+ghost use Rattle.stm_work.specs.NextStep.{next_of};
+ghost use Rattle.stm_work.specs.Plan.{leaves};
+ghost use Rattle.stm_work.specs.TaskWork.{IsWorkFor};
+
+use crate::action::Action;
+use crate::answer::Answer;
+use crate::board::Asking;
+use crate::failure::Failure;
+use crate::false_erase::has_false_erases;
+use crate::progress_course::Goal;
+use crate::reading_hex::read_as_hex;
+use crate::summing::sum;
+use std::alloc::{AllocError, Global};
+use std::fs::Files;
+use stm_chip::Table;
+use stm_session::identify;
+use stm_wire::{Protection, Rig};
+use stm_words::{Range, Task};
+
+/// What is done on a device.
+#[derive(Drop)]
+pub enum Work {
+    /// It tells what it is, and no table has to have its chip.
+    Identify,
+    /// It tells the CRC of its flash, or of a part of it.
+    Sum(Option<Range>),
+    /// It reads its flash or a part of it as HEX, and may leave out what is blank.
+    ReadHex {
+        range: Option<Range>,
+        skips_blank: bool,
+    },
+    /// What is done on a chip of the table.
+    Act(Action),
+}
+
+/// What may be to be done behind a work.
+#[derive(Clone, Copy, Debug, PartialEq, Eq)]
+pub enum Next {
+    /// Nothing that is told.
+    Nothing,
+    /// It takes the write protection off, which is refused while there is something to take back.
+    Unprotecting,
+    /// An undo, at a board without write protection.
+    Undo,
+}
+
+impl Work {
+    /// What a task asks for. The file of an image is read.
+    pub fn of<'a, R: Files + AllocGlobal>(rt: &R, task: Task<'a>) -> Result<Work, Failure<'a>>
+        ensures unfresh { IfOk result (λ work. is_fresh_undo work ≡ false) }
+        ensures asked { IfOk result (IsWorkFor task.entry) }
+    {
+        match task {
+            Task::Info { is_raw: true } => Ok(Work::Identify),
+            Task::Sum(range) => Ok(Work::Sum(range)),
+            Task::ReadHex {
+                range,
+                skips_blank,
+                ..
+            } => Ok(Work::ReadHex { range, skips_blank }),
+            task => Ok(Work::Act(Action::of(rt, task)?)),
+        }
+    }
+
+    /// Whether it takes writes and erases back, by a journal that has to be there.
+    pub fn is_undo(&self) -> bool {
+        match self {
+            Work::Act(action) => action.is_undo(),
+            _ => false,
+        }
+    }
+
+    /// Whether it writes an image whose bytes a device that loses power in the midst
+    /// would take for an erase.
+    pub fn writes_false_erases(&self) -> bool {
+        match self {
+            Work::Act(Action::Write(content)) | Work::Act(Action::WriteAndVerify(content)) => {
+                has_false_erases(content)
+            }
+            _ => false,
+        }
+    }
+
+    /// Whether it changes the flash, and adds to the journal what leads back.
+    pub fn is_change(&self) -> bool {
+        match self {
+            Work::Act(action) => matches!(
+                action,
+                Action::Write(_) | Action::WriteAndVerify(_) | Action::Erase(_) | Action::EraseAll
+            ),
+            _ => false,
+        }
+    }
+
+    /// The same for a device that was reset since the last session, where that is said.
+    pub fn on_fresh(self, is_fresh: bool) -> Work
+        ensures { result ≡ work_on_fresh is_fresh self }
+    {
+        match self {
+            Work::Act(action) => Work::Act(action.on_fresh(is_fresh)),
+            work => work,
+        }
+    }
+
+    /// Whether it is Go or a protection that want a journal without segments.
+    pub fn leaves(&self) -> bool
+        ensures { result ≡ leaves self.now }
+    {
+        matches!(
+            self,
+            Work::Act(Action::Go(_)) | Work::Act(Action::Protect(_))
+        )
+    }
+
+    /// What may be to be done behind it.
+    pub fn next(&self) -> Next
+        ensures { result ≡ next_of self.now }
+    {
+        match self {
+            Work::Act(Action::Protect(Protection::WriteUnprotect)) => Next::Unprotecting,
+            Work::Act(Action::UnprotectFresh) => Next::Undo,
+            _ => Next::Nothing,
+        }
+    }
+
+    /// Beside which journals its device is asked first which board it is.
+    pub fn asking(&self) -> Asking
+        ensures { result ≡ asking_of self.now }
+    {
+        match self {
+            Work::Act(Action::Go(_)) | Work::Act(Action::Protect(_)) => Asking::OfClosed,
+            Work::Act(Action::Undo(_)) | Work::Act(Action::UndoVerified(_)) => {
+                Asking::OfBegun { is_fresh: false }
+            }
+            Work::Act(Action::UndoFresh(_)) | Work::Act(Action::UndoVerifiedFresh(_)) => {
+                Asking::OfBegun { is_fresh: true }
+            }
+            _ => Asking::OfFinished,
+        }
+    }
+
+    /// The same where devices are asked at all. One that is said to be fresh from reset, to take its
+    /// write protection off, never is: it would not be fresh then.
+    pub fn asking_if(&self, is_asked: bool) -> Option<Asking>
+        ensures { result ≡ asking_if is_asked self.now }
+    {
+        match self {
+            Work::Act(Action::UnprotectFresh) => None,
+            work if is_asked => Some(work.asking()),
+            _ => None,
+        }
+    }
+
+    /// The same for a device that was asked, and is connected by that: it isn't fresh from reset any
+    /// more.
+    pub fn once_asked(self) -> Work
+        ensures { result ≡ once_asked self }
+    {
+        match self {
+            Work::Act(Action::UndoFresh(count)) => Work::Act(Action::Undo(count)),
+            Work::Act(Action::UndoVerifiedFresh(count)) => Work::Act(Action::UndoVerified(count)),
+            work => work,
+        }
+    }
+
+    /// The same once more. None of what isn't done again: of all but a write.
+    pub fn copy(&self, alloc: Global) -> Result<Option<Work>, AllocError>
+        ensures { IfOk result (IsDoneAgain self.now) }
+    {
+        match self {
+            Work::Act(Action::Write(content)) => {
+                Ok(Some(Work::Act(Action::Write(content.copy(alloc)?))))
+            }
+            Work::Act(Action::WriteAndVerify(content)) => {
+                Ok(Some(Work::Act(Action::WriteAndVerify(content.copy(alloc)?))))
+            }
+            _ => Ok(None),
+        }
+    }
+
+    /// Which pages it goes through.
+    pub fn goal(&self) -> Goal {
+        match self {
+            Work::Identify => Goal::Unknown,
+            Work::Sum(range) | Work::ReadHex { range, .. } => Goal::of_range(*range),
+            Work::Act(action) => Goal::of(action),
+        }
+    }
+
+    /// Does it.
+    pub fn run<'a, L: Rig>(
+        self,
+        alloc: Global,
+        rig: &mut L,
+        table: &Table,
+    ) -> Result<Answer, Failure<'a>>
+        ensures { Works L.view table.now self rig.old rig.new result }
+    {
+        match self {
+            Work::Identify => Ok(Answer::Identified(identify(alloc, rig)?)),
+            Work::Sum(range) => sum(alloc, rig, table, range),
+            Work::ReadHex { range, skips_blank } => {
+                read_as_hex(alloc, rig, table, range, skips_blank)
+            }
+            Work::Act(action) => action.run(alloc, rig, table),
+        }
+    }
+}

@@ -1,5 +1,0 @@
-use Rattle.std.proofs.Common.{length}
-use Rattle.stmflash.proofs.false_erase.+has_erase.Given as goal
-
-abbrev pub decreases-has_erase : goal.decreases-has_erase
-decreases-has_erase l = length l.bytes.now

@@ -1,6 +1,0 @@
-use Rattle.std.proofs.Common.{◌≡◌, ◌++◌, take}
-use Rattle.stmflash.specs.JsonLine.{quoted}
-use Rattle.stmflash.proofs.json_line.add_quoted.Given as goal
-
-abbrev pub invariant-loop-byte : goal.invariant-loop-byte
-invariant-loop-byte l = l.out.items ≡ l.fn.out.items ++ quoted (take l.byte-index l.text)

@@ -1,6 +1,0 @@
-use Rattle.stm_session.specs.Undoable.{risked_pages}
-use Rattle.stmflash.specs.Unpowered.{SpoilsOnly}
-use Rattle.stmflash.proofs.unpowered.spoil.Given as goal
-
-abbrev pub invariant-loop-page : goal.invariant-loop-page
-invariant-loop-page l = SpoilsOnly (risked_pages l.journal.state) l.fn.memory l.memory
