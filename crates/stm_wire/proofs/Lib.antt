@@ -6,6 +6,8 @@ mod Bound
 mod Checks
 mod Closed
 mod Cutting
+mod Ending
+mod Enough
 mod EraseHigh
 mod ErasePage
 mod ErasePair

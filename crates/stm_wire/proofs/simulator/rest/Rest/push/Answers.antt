@@ -4,7 +4,7 @@ use Rattle.stm_wire.specs.declared.simulator.rest.Rest.{Rest}
 use Rattle.stm_wire.specs.Chip.{ChipData}
 use Rattle.stm_wire.specs.Exchange.{all_exist, verdict}
 use Rattle.stm_wire.specs.Rest.{IsAwaiting, IsCurrent, named_pages}
-use Rattle.stm_wire.proofs.Awaited.{open_more}
+use Rattle.stm_wire.proofs.Ending.{open_more}
 use Rattle.stm_wire.proofs.simulator.rest.Rest.push.Goals as goal
 use Rattle.stm_wire.proofs.simulator.rest.Rest.push.Goals.{then-self-gt1, else-self-gt1}
 
