@@ -1,92 +1,18 @@
 -- Each byte fed to a harmless device ends its exchange by a refusal, or brings that nearer.
-use Rattle.std.proofs.Common.{lit≤, lit<, ◌≡◌, ℕ, ◌+◌, ◌<◌, ◌≤◌, ◌⊎◌, inl, inr, ⊎_elim, Bool, true, false, IsTrue, cond, ◌||◌, eqb, List, [], ◌∷◌, ◌++◌, length, refl, sym, ap, ◌∙◌, subst, arith, Option, Some, None}
-use Rattle.std.proofs.lemmas.Bool.{cond_both, eq-eqb, ne_eqb, cases_lt, cases_eq}
-use Rattle.std.proofs.lemmas.List.{append-nil, length_push, take-append-le, take_all, length-append}
+use Rattle.std.proofs.Common.{lit≤, ◌≡◌, ℕ, suc, ◌+◌, ◌<◌, ◌≤◌, ◌⊎◌, inl, inr, ⊎_elim, cond, ◌||◌, eqb, List, [], ◌∷◌, ◌++◌, length, refl, sym, ap, ◌∙◌, subst, arith, Option, Some, None}
+use Rattle.std.proofs.lemmas.Bool.{cond_both, eq-eqb, ne_eqb, cases_eq}
+use Rattle.std.proofs.lemmas.List.{append-nil, length-append}
 use Rattle.stm_wire.proofs.Tellings.{readable-few}
 use Rattle.stm_wire.specs.Chip.{ChipData}
 use Rattle.stm_wire.specs.declared.verdict.Verdict.{Verdict}
 use Rattle.stm_wire.specs.declared.verdict.Verdict.TheVariants.{Done, Refused, Loose}
-use Rattle.stm_wire.specs.Exchange.{IsOpen, complement, is_listed, verdict, number_of}
+use Rattle.stm_wire.specs.Exchange.{verdict, number_of}
 use Rattle.stm_wire.specs.Reply.{ack, nack, reply_to, step_reply, answer, commands_answer, id_answer, read_answer}
-use Rattle.stm_wire.specs.declared.chip.EraseKind.{EraseKind}
-use Rattle.stm_wire.specs.declared.chip.EraseKind.TheVariants.{Page, Extended}
-use Rattle.stm_wire.specs.Device.{Device, Phase, Fresh, Connected, Gone, ListsKind, Takes, Receives, Feeds, IsDevice, IsOpenPhase, phase_after, reply_of}
+use Rattle.stm_wire.specs.Device.{Device, Phase, Connected, Gone, Takes, Receives, Feeds, IsDevice, IsOpenPhase, phase_after, reply_of}
+use Rattle.stm_wire.specs.Awaited.{IsRefusedIn}
 use Rattle.stm_wire.specs.Harmless.{IsListening, Feed, Harmless}
-use Rattle.stm_wire.proofs.Mild.{no_pair}
-use Rattle.stm_wire.specs.Settling.{AwaitedIsLimited, awaited, awaited_in, bytes_awaited, longest_list, most_awaited}
-use Rattle.stm_wire.proofs.Bound.{IsBytes, by_recursion, list_least, list_most, list_short, open_short}
-
--- no more than the longest list allows
-awaited_under : (codes : List ℕ) (byte n : ℕ) → 264 ≤ n → ((c : ℕ) → longest_list codes c ≤ n) → (rest : List ℕ) → awaited codes byte rest ≤ 3 + n
-awaited_under codes byte n least most [] = omega arith
-awaited_under codes byte n least most (c ∷ []) =
-    let l = most c in cond_both (eqb byte (complement c)) (3 + longest_list codes c) 1 (λ k. k ≤ 3 + n) (λ _. omega arith) (λ _. omega arith)
-awaited_under codes byte n least most (c ∷ x ∷ rest) = let l = most c in omega arith
-
-awaited_in_under : (codes : List ℕ) (byte n : ℕ) → 264 ≤ n → ((c : ℕ) → longest_list codes c ≤ n) → (p : Phase) → awaited_in codes byte p ≤ 3 + n
-awaited_in_under codes byte n least most Fresh = cond_both (eqb byte 0x7F) 3 0 (λ k. k ≤ 3 + n) (λ _. omega arith) (λ _. omega arith)
-awaited_in_under codes byte n least most (Connected rest) = awaited_under codes byte n least most rest
-awaited_in_under codes byte n least most Gone = omega arith
-
--- of any device
-pub awaited_most : (byte : ℕ) (d : Device) → bytes_awaited byte d ≤ 131047
-awaited_most byte d = awaited_in_under d.codes byte 131044 (lit≤ tt) (list_most d.codes) d.phase
-
-unlisted : (t : Bool) → (IsTrue t → ⊥) → t ≡ false
-unlisted true never = absurd (never refl)
-unlisted false never = refl
-
--- and of one whose pages are erased by numbers of one byte
-pub awaited_limited : AwaitedIsLimited
-awaited_limited d is byte = go d.chip.kind is.erase
-  where
-    go : (kind : EraseKind) → ListsKind kind d.codes → bytes_awaited byte d ≤ most_awaited kind
-    go Page lists = awaited_in_under d.codes byte 264 (lit≤ tt) (λ c. let l = list_short d.codes c (unlisted (is_listed d.codes 0x44) lists.1) in omega arith) d.phase
-    go Extended lists = awaited_most byte d
-
-pub awaited_some : (codes : List ℕ) (byte : ℕ) (rest : List ℕ) → 1 ≤ awaited codes byte rest
-awaited_some codes byte [] = lit≤ tt
-awaited_some codes byte (c ∷ []) = cond_both (eqb byte (complement c)) (3 + longest_list codes c) 1 (λ n. 1 ≤ n) (λ _. omega arith) (λ _. lit≤ tt)
-awaited_some codes byte (c ∷ x ∷ rest) = omega arith
-
-pub open_more : (chip : ChipData) (codes rest : List ℕ) (byte : ℕ) → IsOpen chip codes rest → verdict chip codes (rest ++ byte ∷ []) ≡ None → IsOpen chip codes (rest ++ byte ∷ [])
-open_more chip codes rest byte o e n = ⊎_elim
-    (λ (lt : n < length rest + 1). let le : n ≤ length rest = omega arith in rw take-append-le (o n))
-    (λ (ge : length rest + 1 ≤ n). let all = take_all n (rest ++ byte ∷ []) (omega (arith, length_push rest byte)) in rw all e)
-    (cases_lt n (length rest + 1))
-
-pub bytes_more : (rest : List ℕ) (byte : ℕ) → IsBytes rest → byte < 256 → IsBytes (rest ++ byte ∷ [])
-bytes_more [] byte by small = (small, tt)
-bytes_more (x ∷ rest) byte by small = (by.0, bytes_more rest byte by.1 small)
-
-refused_pair : (chip : ChipData) (codes : List ℕ) (c byte : ℕ) → c ≡ byte → verdict chip codes (c ∷ byte ∷ []) ≡ Some Refused
-refused_pair chip codes c byte e = rw (e, no_pair byte) refl
-
--- a pair of a code and another byte than its complement is refused
-refused_other : (chip : ChipData) (codes : List ℕ) (c byte : ℕ) → eqb byte (complement c) ≡ false → verdict chip codes (c ∷ byte ∷ []) ≡ Some Refused
-refused_other chip codes c byte e = rw e refl
-
--- what isn't refused is one
-is_pair : (chip : ChipData) (codes : List ℕ) (c byte : ℕ) (v : Option Verdict) → (Some Refused ≡ v → ⊥) → verdict chip codes (c ∷ byte ∷ []) ≡ v → eqb byte (complement c) ≡ true
-is_pair chip codes c byte v other e = go (eqb byte (complement c)) refl
-  where
-    go : (t : Bool) → eqb byte (complement c) ≡ t → t ≡ true
-    go true is = refl
-    go false is = absurd (other (sym (refused_other chip codes c byte is) ∙ e))
-
--- an open list is longer by the byte
-falls_open : (chip : ChipData) (codes : List ℕ) (byte : ℕ) (rest : List ℕ) → IsBytes (rest ++ byte ∷ []) → IsOpen chip codes (rest ++ byte ∷ []) →
-    verdict chip codes (rest ++ byte ∷ []) ≡ None → awaited codes byte (rest ++ byte ∷ []) < awaited codes byte rest
-falls_open chip codes byte [] by o e = rw (no_pair byte) (lit< tt)
-falls_open chip codes byte (c ∷ []) by o e = let least = list_least codes c in rw (is_pair chip codes c byte None (λ h. cc) e) (omega arith)
-falls_open chip codes byte (c ∷ x ∷ rest) by o e =
-    let h = open_short chip codes c x (rest ++ byte ∷ []) by o in let l = length_push rest byte in omega arith
-
--- a done one ends an exchange of more than one byte, unless these are a pair
-falls_done : (chip : ChipData) (codes : List ℕ) (byte : ℕ) (rest : List ℕ) → verdict chip codes (rest ++ byte ∷ []) ≡ Some Done → 2 < awaited codes byte rest
-falls_done chip codes byte [] e = absurd (let h : None ≡ Some Done = e in cc)
-falls_done chip codes byte (c ∷ []) e = rw (is_pair chip codes c byte (Some Done) (λ h. cc) e) (omega arith)
-falls_done chip codes byte (c ∷ x ∷ rest) e = omega arith
+use Rattle.stm_wire.proofs.Bound.{IsBytes, by_recursion}
+use Rattle.stm_wire.proofs.Ending.{refused_pair, bytes_more, nearer_open, nearer_done}
 
 -- the reply on an open list
 step_cases : (bytes : List ℕ) → (step_reply bytes ≡ []) ⊎ (step_reply bytes ≡ ack ∷ [])
@@ -163,20 +89,19 @@ pub record Refuses (old new : Device) : Type 0 where
 pub record Advances (byte : ℕ) (rest : List ℕ) (old new : Device) : Type 0 where
   pub left : List ℕ
   pub phase : new.phase ≡ Connected left
-  pub nearer : awaited old.codes byte left < awaited old.codes byte rest
+  pub nearer : (n : ℕ) → IsRefusedIn old.chip old.codes byte (suc n) rest → IsRefusedIn old.chip old.codes byte n left
   pub owes : length new.owed + due byte left ≤ length old.owed + due byte rest + 1
   pub reply : (new.owed ≡ old.owed) ⊎ ((more : List ℕ) × (new.owed ≡ old.owed ++ ack ∷ more))
 
-advances_open : (byte : ℕ) (rest : List ℕ) (old new : Device) → IsBytes rest → byte < 256 → IsOpen old.chip old.codes rest →
+advances_open : (byte : ℕ) (rest : List ℕ) (old new : Device) →
     verdict old.chip old.codes (rest ++ byte ∷ []) ≡ None → Takes old (rest ++ byte ∷ []) None new → Advances byte rest old new
-advances_open byte rest old new by small o v e =
+advances_open byte rest old new v e =
     let bytes = rest ++ byte ∷ [] in
-    let all = bytes_more rest byte by small in
     let replies : reply_of old bytes ≡ step_reply bytes = ap (λ w. reply_to w old.chip old.version old.codes old.flash bytes) v in
     subst (Advances byte rest old) (sym e) (record {
       left = bytes;
       phase = refl;
-      nearer = falls_open old.chip old.codes byte rest all (open_more old.chip old.codes rest byte o v) v;
+      nearer = nearer_open old.chip old.codes byte rest v;
       owes = owes_open byte rest old v;
       reply = ⊎_elim (λ none. inl (ap (λ r. old.owed ++ r) (replies ∙ none) ∙ append-nil old.owed)) (λ one. inr ([], ap (λ r. old.owed ++ r) (replies ∙ one))) (step_cases bytes);
     })
@@ -196,9 +121,6 @@ fed byte pages rest old new is at small h f = go (verdict old.chip old.codes byt
     bytes : List ℕ
     bytes = rest ++ byte ∷ []
 
-    open' : IsOpen old.chip old.codes rest
-    open' = (subst (IsOpenPhase old.chip old.codes) at is.phase).0
-
     by : IsBytes rest
     by = by_recursion rest (subst (IsOpenPhase old.chip old.codes) at is.phase).1
 
@@ -206,13 +128,13 @@ fed byte pages rest old new is at small h f = go (verdict old.chip old.codes byt
     gone = record old { owed = old.owed ++ reply_of old bytes; phase = Gone }
 
     go : (v : Option Verdict) → verdict old.chip old.codes bytes ≡ v → Takes old bytes v new → Refuses old new ⊎ Advances byte rest old new
-    go None v t = inr (advances_open byte rest old new by small open' v t)
+    go None v t = inr (advances_open byte rest old new v t)
     go (Some Refused) v t = inl (record { is = t ∙ ap (λ r. record old { owed = old.owed ++ r; phase = Connected [] }) (ap (λ w. reply_to w old.chip old.version old.codes old.flash bytes) v) })
     go (Some Done) v (flash, effect, e) = ⊎_elim
         (λ here. inr (record {
           left = [];
           phase = ap (λ (x : Device). x.phase) e ∙ here;
-          nearer = falls_done old.chip old.codes byte rest v;
+          nearer = nearer_done old.chip old.codes byte rest v;
           owes = (let all = ap (λ (x : Device). length x.owed) e in let few = owes_done byte rest old is by small v in omega arith);
           reply = inr (answer old.chip old.version old.codes old.flash bytes, ap (λ (x : Device). x.owed) e ∙ ap (λ w. old.owed ++ reply_to w old.chip old.version old.codes old.flash bytes) v);
         }))

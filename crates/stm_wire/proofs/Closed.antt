@@ -1,13 +1,15 @@
 -- A harmless device stays so: when the byte is fed, when it is reset, and whatever it owes.
-use Rattle.std.proofs.Common.{◌≡◌, ℕ, Bool, true, false, cond, eqb, List, [], ◌∷◌, ◌++◌, refl, sym, ◌∙◌, subst, Option, Some, None}
-use Rattle.std.proofs.lemmas.Bool.{cond_both}
+use Rattle.std.proofs.Common.{◌≡◌, ℕ, suc, ◌≤◌, Bool, true, false, cond, eqb, List, [], ◌∷◌, ◌++◌, refl, sym, ◌∙◌, subst, arith, Option, Some, None}
+use Rattle.std.proofs.lemmas.Bool.{cond_both, eq-eqb}
 use Rattle.stm_wire.specs.Chip.{ChipData}
 use Rattle.stm_wire.specs.declared.verdict.Verdict.{Verdict}
 use Rattle.stm_wire.specs.declared.verdict.Verdict.TheVariants.{Done, Refused, Loose}
 use Rattle.stm_wire.specs.Exchange.{verdict}
 use Rattle.stm_wire.specs.Reply.{ack}
-use Rattle.stm_wire.specs.Device.{Device, Phase, Fresh, Connected, Gone, Takes, Receives, Feeds, LosesOwed, reset, phase_after, reply_of}
+use Rattle.stm_wire.specs.Device.{Device, Phase, Fresh, Connected, Gone, Takes, Receives, Feeds, IsLoose, LosesOwed, reset, phase_after, reply_of}
+use Rattle.stm_wire.specs.Awaited.{Awaits, AwaitsIn, IsRefusedIn, most_for}
 use Rattle.stm_wire.specs.Harmless.{SameOutside, IsListening, Event, Feed, Reset, Reaches, Harmless}
+use Rattle.stm_wire.proofs.Ending.{at_least, awaits_at, more_suffice, nearer_open, refused_empty}
 
 -- of the same chip, with the same version and codes
 pub record IsSameMake (old new : Device) : Type 0 where
@@ -42,6 +44,40 @@ from_first chip pages first second third s t = record {
   elsewhere = λ n here out. t.elsewhere n here out ∙ sym (s.elsewhere n here out);
 }
 
+-- where a done list leaves a device, a pair is left at most
+awaits_after : (chip : ChipData) (codes : List ℕ) (byte left : ℕ) → 2 ≤ left → (bytes : List ℕ) → AwaitsIn chip codes byte left (phase_after bytes)
+awaits_after chip codes byte left two [] = refused_empty chip codes byte left two
+awaits_after chip codes byte left two (c ∷ rest) = cond_both (eqb c 0x21) Gone (Connected []) (AwaitsIn chip codes byte left) (λ _. tt) (λ _. refused_empty chip codes byte left two)
+
+awaits_taken : (byte left : ℕ) (old new : Device) (rest : List ℕ) → (IsLoose old (rest ++ byte ∷ []) new → verdict old.chip old.codes (rest ++ byte ∷ []) ≡ Some Loose → ⊥) → 2 ≤ left
+    → IsRefusedIn old.chip old.codes byte (suc left) rest → (v : Option Verdict) → verdict old.chip old.codes (rest ++ byte ∷ []) ≡ v → Takes old (rest ++ byte ∷ []) v new → Awaits byte left new
+awaits_taken byte left old new rest never two w None e t = subst (Awaits byte left) (sym t) (nearer_open old.chip old.codes byte rest e left w)
+awaits_taken byte left old new rest never two w (Some Refused) e t = subst (Awaits byte left) (sym t) (refused_empty old.chip old.codes byte left two)
+awaits_taken byte left old new rest never two w (Some Done) e (flash, effect, t) = subst (Awaits byte left) (sym t) (awaits_after old.chip old.codes byte left two (rest ++ byte ∷ []))
+awaits_taken byte left old new rest never two w (Some Loose) e l = absurd (never l e)
+
+-- one of the bytes that it awaits was fed, and a pair can follow
+pub awaits_fed : (byte left : ℕ) (pages : List ℕ) (old new : Device) → Harmless old byte pages → 2 ≤ left → Awaits byte (suc left) old → Feeds byte old new → Awaits byte left new
+awaits_fed byte left pages old new h two w f = go old.phase refl w f.receives
+  where
+    go : (p : Phase) → old.phase ≡ p → AwaitsIn old.chip old.codes byte (suc left) p → Receives old p byte new → Awaits byte left new
+    go Fresh at w e = by (eqb byte 0x7F) refl e
+      where
+        by : (t : Bool) → eqb byte 0x7F ≡ t → new ≡ cond t (record old { owed = old.owed ++ ack ∷ []; phase = Connected [] }) old → Awaits byte left new
+        by true t e = subst (Awaits byte left) (sym e) (refused_empty old.chip old.codes byte left two)
+        by false t e = subst (Awaits byte left) (sym e) (awaits_at old byte left Fresh at (λ same. absurd (let h = sym (eq-eqb byte 0x7F same) ∙ t in cc)))
+    go (Connected rest) at w r = awaits_taken byte left old new rest never two w (verdict old.chip old.codes (rest ++ byte ∷ [])) refl r
+      where
+        -- else it might have left
+        never : IsLoose old (rest ++ byte ∷ []) new → verdict old.chip old.codes (rest ++ byte ∷ []) ≡ Some Loose → ⊥
+        never l v =
+            let gone : Device = record new { phase = Gone } in
+            let loose : IsLoose old (rest ++ byte ∷ []) gone = record { chip = l.chip; version = l.version; codes = l.codes; same_length = l.same_length; flash = l.flash; phase = tt; owed = l.owed } in
+            let takes : Takes old (rest ++ byte ∷ []) (verdict old.chip old.codes (rest ++ byte ∷ [])) gone = subst (λ (o : Option Verdict). Takes old (rest ++ byte ∷ []) o gone) (sym v) loose in
+            let feeds : Feeds byte old gone = record { receives = subst (λ (p : Phase). Receives old p byte gone) (sym at) takes } in
+            (h.each (Feed ∷ []) gone (gone, feeds, refl)).phase
+    go Gone at w e = subst (Awaits byte left) (sym e) (awaits_at old byte left Gone at tt)
+
 pub harmless_fed : (byte : ℕ) (pages : List ℕ) (old new : Device) → Harmless old byte pages → Feeds byte old new → Harmless new byte pages
 harmless_fed byte pages old new h f = record {
   each = λ events last reaches.
@@ -51,6 +87,12 @@ harmless_fed byte pages old new h f = record {
         phase = then'.phase;
         flash = subst (λ (c : ChipData). SameOutside c pages new.flash last.flash) (sym (same_make byte old new f).chip) (from_first old.chip pages old.flash new.flash last.flash now.flash then'.flash);
       };
+  awaits = (
+      let most = most_for old.chip.kind byte in
+      let least = at_least old.chip.kind byte in
+      let more = more_suffice old byte most (suc most) (omega arith) h.awaits in
+      subst (λ (c : ChipData). Awaits byte (most_for c.kind byte) new) (sym (same_make byte old new f).chip) (awaits_fed byte most pages old new h (omega arith) more f)
+      );
 }
 
 pub unharmed_fed : (byte : ℕ) (pages : List ℕ) (old new : Device) → Harmless old byte pages → Feeds byte old new → SameOutside old.chip pages old.flash new.flash
@@ -59,6 +101,7 @@ unharmed_fed byte pages old new h f = (h.each (Feed ∷ []) new (new, f, refl)).
 pub harmless_reset : (byte : ℕ) (pages : List ℕ) (d : Device) → Harmless d byte pages → Harmless (reset d) byte pages
 harmless_reset byte pages d h = record {
   each = λ events last reaches. let u = h.each (Reset ∷ events) last reaches in record { phase = u.phase; flash = u.flash };
+  awaits = λ _. let least = at_least d.chip.kind byte in omega arith;
 }
 
 -- what is owed changes nothing else
@@ -104,6 +147,7 @@ harmless_owed byte pages d o h = record {
         phase = subst (λ (x : Device). IsListening x.phase) (sym a.is) u.phase;
         flash = subst (λ (x : Device). SameOutside d.chip pages d.flash x.flash) (sym a.is) u.flash;
       };
+  awaits = h.awaits;
 }
 
 pub harmless_loses : (byte : ℕ) (pages : List ℕ) (d new : Device) → Harmless d byte pages → LosesOwed d new → Harmless new byte pages

@@ -1,5 +1,5 @@
 -- The loop of settling: what holds before each byte, and what the byte leaves.
-use Rattle.std.proofs.Common.{lit≤, ◌≡◌, ℕ, suc, ◌+◌, ◌<◌, ◌≤◌, ◌⊎◌, inl, inr, ⊎_elim, Bool, true, false, cond, eqb, List, [], ◌∷◌, ◌++◌, length, drop, refl, sym, ap, ◌∙◌, subst, arith, Some}
+use Rattle.std.proofs.Common.{lit≤, ◌≡◌, ℕ, suc, ◌+◌, ◌<◌, ◌≤◌, ◌⊎◌, inl, inr, ⊎_elim, Bool, true, false, cond, eqb, List, [], ◌∷◌, ◌++◌, length, drop, refl, sym, ap, ◌∙◌, subst, subst₂, arith, Some}
 use Rattle.std.proofs.lemmas.Bool.{cond_both, eq-eqb, eqb-true}
 use Rattle.std.proofs.lemmas.List.{length-drop, length-append, drop_all}
 use Rattle.stm_wire.specs.Chip.{ChipData}
@@ -8,11 +8,14 @@ use Rattle.stm_wire.specs.Exchange.{verdict}
 use Rattle.stm_wire.specs.Reply.{ack, nack, reply_to}
 use Rattle.stm_wire.specs.Device.{Device, Phase, Fresh, Connected, Gone, Takes, Receives, Feeds, LosesOwed, IsDevice, IsSettled}
 use Rattle.stm_wire.specs.Harmless.{SameOutside, IsListening, Harmless}
-use Rattle.stm_wire.specs.Settling.{IsSettling, IsWithin, IsGoing, awaited, awaited_in, bytes_awaited, with_nothing_owed}
+use Rattle.stm_wire.specs.Awaited.{Awaits, AwaitsIn, IsRefusedIn}
+use Rattle.stm_wire.specs.Settling.{IsSettling, IsGoing, with_nothing_owed}
 use Rattle.stm_wire.proofs.Flash.{same_flash, then_same}
 use Rattle.stm_wire.proofs.Mild.{harmless, mild_empty, no_pair}
-use Rattle.stm_wire.proofs.Awaited.{awaited_some, due, fed, Refuses, Advances}
-use Rattle.stm_wire.proofs.Closed.{same_make, harmless_fed, unharmed_fed, harmless_owed, harmless_loses}
+use Rattle.stm_wire.proofs.Awaited.{due, fed, Refuses, Advances}
+use Rattle.stm_wire.proofs.Ending.{awaits_at, refused_empty, refused_some}
+use Rattle.stm_wire.proofs.Enough.{empty_enough}
+use Rattle.stm_wire.proofs.Closed.{IsSameMake, awaits_fed, same_make, harmless_fed, unharmed_fed, harmless_owed, harmless_loses}
 
 -- what settling keeps is kept when owed bytes are lost
 pub settling_loses : (byte : ℕ) (pages : List ℕ) (start d new : Device) → IsSettling byte pages start d → LosesOwed d new → IsSettling byte pages start new
@@ -36,10 +39,6 @@ settling_fed byte pages start d new s f few = record {
   owed = few;
 }
 
--- a list that is nearer its end, by the codes of the start
-nearer_start : (byte : ℕ) (pages : List ℕ) (start d : Device) (rest left : List ℕ) → IsSettling byte pages start d → awaited d.codes byte left < awaited d.codes byte rest → awaited start.codes byte left < awaited start.codes byte rest
-nearer_start byte pages start d rest left s nearer = subst (λ (codes : List ℕ). awaited codes byte left < awaited codes byte rest) s.same_codes nearer
-
 -- the reply says no
 pub record IsOver (d : Device) : Type 0 where
   pub reply : d.owed ≡ nack ∷ []
@@ -60,8 +59,13 @@ pub record Steps (byte : ℕ) (pages : List ℕ) (start : Device) (left : ℕ) (
   pub owes : length new.owed ≤ 260
   pub outcome : IsOver new ⊎ (IsNoRefusal new × IsGoing byte pages start left (with_nothing_owed new))
 
+-- of the same make, wherever it is
+awaits_made : (byte left : ℕ) (rest : List ℕ) (d new : Device) → IsSameMake d new → new.phase ≡ Connected rest → IsRefusedIn d.chip d.codes byte left rest → Awaits byte left new
+awaits_made byte left rest d new same at w =
+    awaits_at new byte left (Connected rest) at (subst₂ (λ (chip : ChipData) (codes : List ℕ). IsRefusedIn chip codes byte left rest) (sym same.chip) (sym same.codes) w)
+
 steps : (byte : ℕ) (pages : List ℕ) (start : Device) (left : ℕ) (d new : Device) (phase : Phase) → IsDevice d → byte < 256 → IsSettling byte pages start d → d.owed ≡ [] →
-    d.phase ≡ phase → IsWithin start.codes byte (suc left) phase → Feeds byte d new → Steps byte pages start left new
+    d.phase ≡ phase → AwaitsIn d.chip d.codes byte (suc left) phase → Feeds byte d new → Steps byte pages start left new
 steps byte pages start left d new Fresh is small s quiet at w f = go (eqb byte 0x7F) refl (subst (λ (p : Phase). Receives d p byte new) at f.receives)
   where
     go : (t : Bool) → eqb byte 0x7F ≡ t → new ≡ cond t (record d { owed = d.owed ++ ack ∷ []; phase = Connected [] }) d → Steps byte pages start left new
@@ -78,7 +82,7 @@ steps byte pages start left d new Fresh is small s quiet at w f = go (eqb byte 0
             record {
               settling = settling_loses byte pages start new (with_nothing_owed new) now (1, ap (λ o. record new { owed = drop 1 o }) (sym owed));
               quiet = refl;
-              within = subst (IsWithin start.codes byte left) (sym (ap (λ (x : Device). x.phase) e)) (omega arith);
+              within = subst (λ (x : Device). Awaits byte left (with_nothing_owed x)) (sym e) (refused_empty d.chip d.codes byte left (omega arith));
             },
           );
         }
@@ -94,7 +98,7 @@ steps byte pages start left d new Fresh is small s quiet at w f = go (eqb byte 0
             record {
               settling = settling_loses byte pages start new (with_nothing_owed new) now (1, ap (λ o. record new { owed = drop 1 o }) (sym owed));
               quiet = refl;
-              within = subst (IsWithin start.codes byte left) (sym (ap (λ (x : Device). x.phase) e ∙ at)) (λ same. absurd (let h = sym (eq-eqb byte 0x7F same) ∙ t in cc));
+              within = awaits_at (with_nothing_owed new) byte left Fresh (ap (λ (x : Device). x.phase) e ∙ at) (λ same. absurd (let h = sym (eq-eqb byte 0x7F same) ∙ t in cc));
             },
           );
         }
@@ -115,8 +119,7 @@ steps byte pages start left d new (Connected rest) is small s quiet at w f = ⊎
         let none : length d.owed ≡ 0 = ap length quiet in
         let most = due_most byte rest in
         let owes = a.owes in
-        let nearer = nearer_start byte pages start d rest a.left s a.nearer in
-        let awaits = w in
+        let same = same_make byte d new f in
         let few : length new.owed ≤ 260 = omega arith in
         let now = settling_fed byte pages start d new s f (omega arith) in
         record {
@@ -127,37 +130,32 @@ steps byte pages start left d new (Connected rest) is small s quiet at w f = ⊎
             record {
               settling = settling_loses byte pages start new (with_nothing_owed new) now (length new.owed, ap (λ o. record new { owed = o }) (sym (drop_all (length new.owed) new.owed (omega arith))));
               quiet = refl;
-              within = subst (IsWithin start.codes byte left) (sym a.phase) (omega arith);
+              within = awaits_made byte left a.left d (with_nothing_owed new) (record { chip = same.chip; version = same.version; codes = same.codes }) a.phase (a.nearer left w);
             },
           );
         }
-steps byte pages start left d new Gone is small s quiet at w f = absurd w
+steps byte pages start left d new Gone is small s quiet at w f = absurd (subst IsListening at (s.harmless.each [] d refl).phase)
 
 pub step : (byte : ℕ) (pages : List ℕ) (start : Device) (left : ℕ) (d new : Device) → IsDevice d → byte < 256 → IsGoing byte pages start (suc left) d → Feeds byte d new → Steps byte pages start left new
 step byte pages start left d new is small g f = steps byte pages start left d new d.phase is small g.settling g.quiet refl g.within f
 
 -- from a harmless device that owes nothing, with enough bytes to come
-pub going : (byte : ℕ) (pages : List ℕ) (d : Device) (left : ℕ) → bytes_awaited byte d ≤ left → Harmless d byte pages → length d.owed ≤ 4096 →
+pub going : (byte : ℕ) (pages : List ℕ) (d : Device) (left : ℕ) → Awaits byte left d → Harmless d byte pages → length d.owed ≤ 4096 →
     IsGoing byte pages d left (with_nothing_owed d)
 going byte pages d left many h few = record {
   settling = record { same_chip = refl; same_version = refl; same_codes = refl; harmless = harmless_owed byte pages d [] h; flash = same_flash d.chip pages d.flash d.flash refl; owed = lit≤ tt };
   quiet = refl;
-  within = within d.phase refl many;
+  within = many;
 }
-  where
-    within : (p : Phase) → d.phase ≡ p → awaited_in d.codes byte p ≤ left → IsWithin d.codes byte left p
-    within Fresh e enough = λ same. subst (λ (t : Bool). cond t 3 0 ≤ left) (eq-eqb byte 0x7F same) enough
-    within (Connected rest) e enough = enough
-    within Gone e enough = subst IsListening e (h.each [] d refl).phase
 
 -- after the last byte
 pub fresh_at_last : (byte : ℕ) (pages : List ℕ) (start d : Device) → IsGoing byte pages start 0 d → d.phase ≡ Fresh
 fresh_at_last byte pages start d g = go d.phase refl g.within
   where
-    go : (p : Phase) → d.phase ≡ p → IsWithin start.codes byte 0 p → d.phase ≡ Fresh
+    go : (p : Phase) → d.phase ≡ p → AwaitsIn d.chip d.codes byte 0 p → d.phase ≡ Fresh
     go Fresh e w = e
-    go (Connected rest) e w = absurd (let some = awaited_some start.codes byte rest in let none = w in omega arith)
-    go Gone e w = absurd w
+    go (Connected rest) e w = absurd (refused_some d.chip d.codes byte rest w)
+    go Gone e w = absurd (subst IsListening e (g.settling.harmless.each [] d refl).phase)
 
 -- 7F connects a fresh device
 pub connects : (d new : Device) → d.phase ≡ Fresh → Feeds 0x7F d new → new ≡ record d { owed = d.owed ++ ack ∷ []; phase = Connected [] }
@@ -171,7 +169,7 @@ settling_connects byte pages start d new is s at quiet f =
       same_chip = s.same_chip;
       same_version = s.same_version;
       same_codes = s.same_codes;
-      harmless = harmless byte pages next is.size (mild_empty d.chip d.codes byte pages);
+      harmless = harmless byte pages next is.size (mild_empty d.chip d.codes byte pages) (empty_enough next byte refl);
       flash = s.flash;
       owed = few;
     })
@@ -197,59 +195,35 @@ due_at byte Gone = 0
 
 pub record InBatch (byte : ℕ) (pages : List ℕ) (start : Device) (left n : ℕ) (d : Device) : Type 0 where
   pub settling : IsSettling byte pages start d
-  pub within : IsWithin start.codes byte left d.phase
+  pub within : Awaits byte left d
   pub owes : length d.owed + due_at byte d.phase ≤ n
 
 pub batch_step : (byte : ℕ) (pages : List ℕ) (start : Device) (left n : ℕ) (d new : Device) → IsDevice d → byte < 256 → 2 ≤ left → n < 4096 →
     InBatch byte pages start (suc left) n d → Feeds byte d new → InBatch byte pages start left (suc n) new
-batch_step byte pages start left n d new is small two room b f = go d.phase refl b.within b.owes
+batch_step byte pages start left n d new is small two room b f = record {
+  settling = settling_fed byte pages start d new b.settling f (omega (arith, owes, room));
+  within = awaits_fed byte left pages d new b.settling.harmless two b.within f;
+  owes = owes;
+}
   where
-    go : (p : Phase) → d.phase ≡ p → IsWithin start.codes byte (suc left) p → length d.owed + due_at byte p ≤ n → InBatch byte pages start left (suc n) new
-    go Fresh at w o = by_cases (eqb byte 0x7F) refl (subst (λ (p : Phase). Receives d p byte new) at f.receives)
+    -- what is owed then is no more than one for the byte
+    go : (p : Phase) → d.phase ≡ p → length d.owed + due_at byte p ≤ n → length new.owed + due_at byte new.phase ≤ suc n
+    go Fresh at o = by_cases (eqb byte 0x7F) (subst (λ (p : Phase). Receives d p byte new) at f.receives)
       where
-        -- 7F connects it, and what it owes then is no more than one for the byte
-        by_cases : (t : Bool) → eqb byte 0x7F ≡ t → new ≡ cond t (record d { owed = d.owed ++ ack ∷ []; phase = Connected [] }) d → InBatch byte pages start left (suc n) new
-        by_cases true t e =
-            let more = ap (λ (x : Device). length x.owed) e in
-            let one = length-append d.owed (ack ∷ []) in
-            let phase : new.phase ≡ Connected [] = ap (λ (x : Device). x.phase) e in
-            record {
-              settling = settling_fed byte pages start d new b.settling f (omega arith);
-              within = subst (IsWithin start.codes byte left) (sym phase) two;
-              owes = rw phase (omega arith);
-            }
-        by_cases false t e =
-            let few : length new.owed ≤ n = rw e (omega arith) in
-            record {
-              settling = settling_fed byte pages start d new b.settling f (omega arith);
-              within = subst (IsWithin start.codes byte left) (sym (ap (λ (x : Device). x.phase) e ∙ at)) (λ same. absurd (let h = sym (eq-eqb byte 0x7F same) ∙ t in cc));
-              owes = rw (e, at) (omega arith);
-            }
-    go (Connected rest) at w o = ⊎_elim over on (fed byte pages rest d new is at small b.settling.harmless f)
+        by_cases : (t : Bool) → new ≡ cond t (record d { owed = d.owed ++ ack ∷ []; phase = Connected [] }) d → length new.owed + due_at byte new.phase ≤ suc n
+        by_cases true e = let one = length-append d.owed (ack ∷ []) in rw e (omega arith)
+        by_cases false e = rw (e, at) (omega arith)
+    go (Connected rest) at o = ⊎_elim over on (fed byte pages rest d new is at small b.settling.harmless f)
       where
-        over : Refuses d new → InBatch byte pages start left (suc n) new
-        over r =
-            let more = ap (λ (x : Device). length x.owed) r.is in
-            let one = length-append d.owed (nack ∷ []) in
-            let phase : new.phase ≡ Connected [] = ap (λ (x : Device). x.phase) r.is in
-            record {
-              settling = settling_fed byte pages start d new b.settling f (omega arith);
-              within = subst (IsWithin start.codes byte left) (sym phase) two;
-              owes = rw phase (omega arith);
-            }
+        over : Refuses d new → length new.owed + due_at byte new.phase ≤ suc n
+        over r = let one = length-append d.owed (nack ∷ []) in rw r.is (omega arith)
 
-        on : Advances byte rest d new → InBatch byte pages start left (suc n) new
-        on a =
-            let owes = a.owes in
-            let nearer = nearer_start byte pages start d rest a.left b.settling a.nearer in
-            let awaits = w in
-            let phase = a.phase in
-            record {
-              settling = settling_fed byte pages start d new b.settling f (omega arith);
-              within = subst (IsWithin start.codes byte left) (sym phase) (omega arith);
-              owes = rw phase (omega arith);
-            }
-    go Gone at w o = absurd w
+        on : Advances byte rest d new → length new.owed + due_at byte new.phase ≤ suc n
+        on a = let owes = a.owes in let phase = a.phase in rw phase (omega arith)
+    go Gone at o = absurd (subst IsListening at (b.settling.harmless.each [] d refl).phase)
+
+    owes : length new.owed + due_at byte new.phase ≤ suc n
+    owes = go d.phase refl b.owes
 
 -- a batch begins on a device that owes nothing, and its replies are taken at the end
 pub batch_begins : (byte : ℕ) (pages : List ℕ) (start : Device) (left : ℕ) (d : Device) → IsGoing byte pages start left d → InBatch byte pages start left 259 d

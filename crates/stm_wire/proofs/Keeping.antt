@@ -7,10 +7,12 @@ use Rattle.std.specs.Prelude.{MatchBool}
 use Rattle.stm_wire.specs.Rig.{RigState, IsModel, LeftByPut, LeftByGet, PutsHonestly, GetsHonestly, GetsFirst}
 use Rattle.stm_wire.specs.Harmless.{Harmless}
 use Rattle.stm_wire.proofs.Flash.{same_flash}
-use Rattle.stm_wire.specs.Settling.{IsSettling, IsGoing, LeftBySettling, KeepsSettling, bytes_awaited, with_nothing_owed}
+use Rattle.stm_wire.specs.Awaited.{Awaits, most_for}
+use Rattle.stm_wire.specs.Settling.{IsSettling, IsGoing, LeftBySettling, KeepsSettling, with_nothing_owed}
 use Rattle.stm_wire.specs.Command.{with_rest}
 use Rattle.stm_wire.specs.MomentLaws.{started, joined, elapsed}
 use Rattle.stm_wire.specs.Reply.{ack, nack}
+use Rattle.stm_wire.proofs.Ending.{at_most, more_suffice}
 use Rattle.stm_wire.proofs.Going.{going, settling_loses, settling_fed, connects, waits, refuses, step, Steps, IsOver, IsNoRefusal, InBatch, batch_step, batch_begins, batch_ends}
 
 -- a moment is one of those that it keeps
@@ -166,7 +168,11 @@ going_begin byte left pages start d g =
     let P : ℕ → Type 0 = λ n. IsGoing byte pages start n d in
     subst P e g
 
-pub going_drained : (byte limit : ℕ) (pages : List ℕ) (d new : Device) → bytes_awaited byte d ≤ limit → Harmless d byte pages → length d.owed ≤ 4096 → new ≡ with_nothing_owed d → IsGoing byte pages d limit new
+-- of a harmless device no more is awaited than of any
+pub enough_sent : (byte limit : ℕ) (pages : List ℕ) (d : Device) → 131047 ≤ limit → Harmless d byte pages → Awaits byte limit d
+enough_sent byte limit pages d many h = let most = at_most d.chip.kind byte in more_suffice d byte (most_for d.chip.kind byte) limit (omega (arith, most, many)) h.awaits
+
+pub going_drained : (byte limit : ℕ) (pages : List ℕ) (d new : Device) → Awaits byte limit d → Harmless d byte pages → length d.owed ≤ 4096 → new ≡ with_nothing_owed d → IsGoing byte pages d limit new
 going_drained byte limit pages d new many h few e =
     let P : Device → Type 0 = IsGoing byte pages d limit in
     subst P (sym e) (going byte pages d limit many h few)

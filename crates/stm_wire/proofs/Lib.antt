@@ -5,6 +5,8 @@ mod Awaited
 mod Bound
 mod Closed
 mod Cutting
+mod Ending
+mod Enough
 mod EraseHigh
 mod ErasePage
 mod ErasePair

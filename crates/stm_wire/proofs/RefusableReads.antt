@@ -11,8 +11,9 @@ use Rattle.stm_wire.proofs.Closed.{harmless_loses}
 use Rattle.stm_wire.proofs.Flash.{same_flash}
 use Rattle.stm_wire.proofs.Mild.{Mild, harmless, mild_empty}
 use Rattle.stm_wire.proofs.Stopped.{mild_read_frame}
-use Rattle.stm_wire.proofs.StoppedFrames.{asking_changes_nothing}
-use Rattle.stm_wire.proofs.Stops.{along-append, along-take, replies-few}
+use Rattle.stm_wire.proofs.Enough.{counts_none, empty_enough, enough_short, no_count}
+use Rattle.stm_wire.proofs.StoppedFrames.{asking_changes_nothing, read_suffices}
+use Rattle.stm_wire.proofs.Stops.{Suffices, along-append, along-take, replies-few, suffices_along}
 use Rattle.stm_wire.specs.Chip.{ChipData}
 use Rattle.stm_wire.specs.Telling.{can_read, is_readable}
 use Rattle.stm_wire.specs.declared.verdict.Verdict.{Verdict}
@@ -202,7 +203,7 @@ asked_failed address size bytes a b e (Err x) is part line = record { sent = par
 
 -- a stop within a step that is refused at its last byte
 module _ (old : Device) (body : List ℕ) (last : ℕ) (is : IsDevice old) (settled : IsSettled old) (waits : OpenAlong old.chip old.codes [] body) (refused : verdict old.chip old.codes (body ++ last ∷ []) ≡ Some Refused) (few : length body ≤ 4000)
-    (byte : ℕ) (mild : (j : ℕ) → Mild old.chip old.codes byte [] (take j (body ++ last ∷ []))) where
+    (byte : ℕ) (mild : (j : ℕ) → Mild old.chip old.codes byte [] (take j (body ++ last ∷ []))) (enough : Suffices old byte (body ++ last ∷ [])) where
   starts : old ≡ with_rest [] old
   starts = settled-is old settled
 
@@ -217,7 +218,7 @@ module _ (old : Device) (body : List ℕ) (last : ℕ) (is : IsDevice old) (sett
         same_chip = refl;
         same_version = refl;
         same_codes = refl;
-        harmless = harmless byte [] next is.size m;
+        harmless = harmless byte [] next is.size m (suffices_along old byte body last waits enough n le);
         flash = same_flash old.chip [] old.flash old.flash refl;
         owed = omega (arith, few, replies-few [] (take n body), length-take n body);
       })
@@ -233,7 +234,7 @@ module _ (old : Device) (body : List ℕ) (last : ℕ) (is : IsDevice old) (sett
         same_chip = refl;
         same_version = refl;
         same_codes = refl;
-        harmless = harmless byte [] next is.size (mild_empty old.chip old.codes byte []);
+        harmless = harmless byte [] next is.size (mild_empty old.chip old.codes byte []) (empty_enough next byte refl);
         flash = same_flash old.chip [] old.flash old.flash refl;
         owed = omega (arith, few, replies-few [] body, length-append (replies_along [] body) (nack ∷ []));
       })
@@ -265,11 +266,17 @@ module _ (old d : Device) (byte address size : ℕ) (is : IsDevice old) (settled
       let le : i ≤ length head = omega arith in
       subst (Mild old.chip old.codes byte []) (take-append-le i head (command (size - 1)) le ∙ take_min j head) (mild_frame i)
 
+  suffices_head : Suffices old byte (read_head address)
+  suffices_head = record {
+    counted = counts_none 0x11 0xEE (with_checksum (address_bytes address)) refl refl;
+    enough = enough_short old.chip old.codes old.chip.kind byte 0x11 (0xEE ∷ with_checksum (address_bytes address)) (no_count 0x11 byte refl refl) refl;
+  }
+
   outside_safely : is_readable old.chip address ≡ false → PartlyFed (read_head address) old d → IsStoppedSafely old byte [] d
   outside_safely outside fed =
       let body = command 0x11 ++ address_bytes address in
       let along = along-append old.chip old.codes [] (command 0x11) (address_bytes address) (command-waits old.chip old.codes 0x11 is.read refl) (address_open address old is settled outside) in
-      refused_safely old body (xor (address_bytes address)) is settled along (address_refuses address old is settled outside) (omega arith) byte mild_head d fed
+      refused_safely old body (xor (address_bytes address)) is settled along (address_refuses address old is settled outside) (omega arith) byte mild_head suffices_head d fed
 
   to_address : IsTrue (is_readable old.chip address) → OpenAlong old.chip old.codes [] (read_head address)
   to_address inside = along-append old.chip old.codes [] (command 0x11) (with_checksum (address_bytes address)) (command-waits old.chip old.codes 0x11 is.read refl)
@@ -279,7 +286,7 @@ module _ (old d : Device) (byte address size : ℕ) (is : IsDevice old) (settled
   over_safely inside over fed =
       let body = read_head address ++ (size - 1) ∷ [] in
       let along = along-append old.chip old.codes [] (read_head address) ((size - 1) ∷ []) (to_address inside) (count_open address old is settled size some inside) in
-      refused_safely old body (complement (size - 1)) is settled along (count_refuses address old is settled size some inside over) (omega arith) byte mild_frame d fed
+      refused_safely old body (complement (size - 1)) is settled along (count_refuses address old is settled size some inside over) (omega arith) byte mild_frame (read_suffices old byte address size) d fed
 
   inside_safely : IsTrue (is_readable old.chip address) → PartlyFed (read_frame address size) old d → IsStoppedSafely old byte [] d
   inside_safely inside fed =

@@ -1,5 +1,5 @@
 -- The frames of a session are open all along and done at their last byte, so that a stop in them leaves a harmless device.
-use Rattle.std.proofs.Common.{◌≡◌, ℕ, ◌+◌, ◌-◌, ◌/◌, ◌%◌, ◌<◌, ◌≤◌, Bool, true, false, ◌&&◌, ◌==◌, List, [], ◌∷◌, ◌++◌, length, take, get_or, Option, Some, None, IsTrue, lit≤, refl, sym, ap, ap₂, ◌∙◌, subst, arith, eq-eqb, ne_eqb, lt-ltb, inl, inr, if◌then◌else◌, length-append}
+use Rattle.std.proofs.Common.{lit<, ◌≡◌, ℕ, ◌+◌, ◌-◌, ◌/◌, ◌%◌, ◌<◌, ◌≤◌, Bool, true, false, ◌&&◌, ◌==◌, List, [], ◌∷◌, ◌++◌, length, take, get_or, Option, Some, None, IsTrue, lit≤, refl, sym, ap, ap₂, ◌∙◌, subst, arith, eq-eqb, ne_eqb, lt-ltb, inl, inr, if◌then◌else◌, length-append}
 use Rattle.std.proofs.Math.Seq.{take-append_seam, get_or-append_seam}
 use Rattle.std.specs.List.{Contains}
 use Rattle.stm_wire.specs.declared.intent.Intent.{Intent}
@@ -12,7 +12,7 @@ use Rattle.stm_wire.specs.Telling.{can_read, is_readable}
 use Rattle.stm_wire.specs.Chip.{ChipData, page_count, page_limit, fits_inside, is_inside}
 use Rattle.stm_wire.specs.Exchange.{done_if, read_verdict, write_verdict, complement, number_of, xor, pair_of}
 use Rattle.stm_wire.specs.Device.{Device, IsDevice, IsSettled, ListsKind}
-use Rattle.stm_wire.specs.Frames.{command, with_checksum, address_bytes, erase_frame}
+use Rattle.stm_wire.specs.Frames.{command, with_checksum, address_bytes, erase_frame, read_frame, write_frame}
 use Rattle.stm_wire.specs.Intents.{settling_byte, intended_pages}
 use Rattle.stm_wire.specs.Moments.{PartlyFed}
 use Rattle.stm_wire.specs.Stopped.{IsQuestion, get, get_id, read, asks, erases, writes, IsStoppedSafely, SendingIsHarmless, AskingChangesNothing}
@@ -21,10 +21,12 @@ use Rattle.stm_wire.proofs.Address.{verdict-listed, command-waits, after_address
 use Rattle.stm_wire.proofs.Writing.{data-waits}
 use Rattle.stm_wire.proofs.Tellings.{fits-inside, readable-address, readable-few}
 use Rattle.stm_wire.proofs.Mild.{Mild}
-use Rattle.stm_wire.proofs.Stopped.{byte_of, fewer, fewer_outside, erasable, one_erasable, mild_get_frame, mild_id_frame, mild_read_frame, mild_erase_frame, mild_write_frame}
+use Rattle.stm_wire.proofs.Bound.{IsCounted}
+use Rattle.stm_wire.proofs.Enough.{Enough, byte_small, counts_none, counts_page, counts_write, enough_erase}
+use Rattle.stm_wire.proofs.Stopped.{byte_of, enough_get, enough_id, enough_read, enough_write, fewer, fewer_outside, erasable, one_erasable, mild_get_frame, mild_id_frame, mild_read_frame, mild_erase_frame, mild_write_frame}
 use Rattle.stm_wire.specs.FlashLaws.{same_all}
 use Rattle.stm_wire.proofs.Pages.{page_inside}
-use Rattle.stm_wire.proofs.Stops.{IsWhole, along-append, stopped_safely}
+use Rattle.stm_wire.proofs.Stops.{IsWhole, Suffices, along-append, stopped_safely}
 
 module _ (d : Device) (is : IsDevice d) where
   get_whole : IsWhole d (0x00 ∷ []) 0xFF
@@ -156,18 +158,41 @@ frame_of Extended N = refl
 
 -- a stop in a frame which is that of a whole body
 safely : (old d : Device) (byte : ℕ) (pages : List ℕ) (frame : List ℕ) (body : List ℕ) (last : ℕ) → IsDevice old → IsSettled old → IsWhole old body last → frame ≡ body ++ last ∷ []
-    → ((j : ℕ) → Mild old.chip old.codes byte pages (take j (body ++ last ∷ []))) → PartlyFed frame old d → IsStoppedSafely old byte pages d
-safely old d byte pages frame body last is settled whole e mild fed =
-    stopped_safely old body last is settled whole byte pages mild d (subst (λ (f : List ℕ). PartlyFed f old d) e fed)
+    → ((j : ℕ) → Mild old.chip old.codes byte pages (take j (body ++ last ∷ []))) → Suffices old byte (body ++ last ∷ []) → PartlyFed frame old d → IsStoppedSafely old byte pages d
+safely old d byte pages frame body last is settled whole e mild enough fed =
+    stopped_safely old body last is settled whole byte pages mild enough d (subst (λ (f : List ℕ). PartlyFed f old d) e fed)
+
+-- a read changes nothing, whatever the byte
+pub read_suffices : (d : Device) (byte address size : ℕ) → Suffices d byte (read_frame address size)
+read_suffices d byte address size = record {
+  counted = counts_none 0x11 0xEE (with_checksum (address_bytes address) ++ command (size - 1)) refl refl;
+  enough = enough_read d byte address size;
+}
+
+erase_suffices : (d : Device) (kind : EraseKind) (byte N : ℕ) → d.chip.kind ≡ kind → ListsKind kind d.codes → byte < 256 → Suffices d byte (erase_frame kind N)
+erase_suffices d kind byte N same lists small = record {
+  counted = counts kind;
+  enough = subst (λ (k : EraseKind). Enough d.chip d.codes k byte (erase_frame kind N)) (sym same) (enough_erase d.chip d.codes kind byte N lists small);
+}
+  where
+    counts : (kind : EraseKind) → (n : ℕ) → IsCounted (take n (erase_frame kind N))
+    counts Page = counts_page 0xBC N (xor (0 ∷ N ∷ []))
+    counts Extended = counts_none 0x44 0xBB (0 ∷ 0 ∷ N / 256 ∷ N % 256 ∷ xor (0 ∷ 0 ∷ N / 256 ∷ N % 256 ∷ []) ∷ []) refl refl
+
+write_suffices : (d : Device) (byte address : ℕ) (sent : List ℕ) → byte < 256 → length sent ≤ 256 → Suffices d byte (write_frame address sent)
+write_suffices d byte address sent small most = record {
+  counted = counts_write 0xCE (address / 16777216) (address / 65536 % 256) (address / 256 % 256) (address % 256) (xor (address_bytes address)) (length sent - 1) (sent ++ xor ((length sent - 1) ∷ sent) ∷ []) (omega (arith, most));
+  enough = enough_write d byte address sent small;
+}
 
 question_safely : (old d : Device) (byte : ℕ) (pages : List ℕ) (frame : List ℕ) → IsDevice old → IsSettled old → IsQuestion old.chip frame → PartlyFed frame old d → IsStoppedSafely old byte pages d
 question_safely old d byte pages frame is settled (get e) fed =
-    safely old d byte pages frame (0x00 ∷ []) 0xFF is settled (get_whole old is) e (mild_get_frame old.chip old.codes byte pages) fed
+    safely old d byte pages frame (0x00 ∷ []) 0xFF is settled (get_whole old is) e (mild_get_frame old.chip old.codes byte pages) (record { counted = counts_none 0x00 0xFF [] refl refl; enough = enough_get old byte }) fed
 question_safely old d byte pages frame is settled (get_id e) fed =
-    safely old d byte pages frame (0x02 ∷ []) 0xFD is settled (id_whole old is) e (mild_id_frame old.chip old.codes byte pages) fed
+    safely old d byte pages frame (0x02 ∷ []) 0xFD is settled (id_whole old is) e (mild_id_frame old.chip old.codes byte pages) (record { counted = counts_none 0x02 0xFD [] refl refl; enough = enough_id old byte }) fed
 question_safely old d byte pages frame is settled (read address size some most fits e) fed =
     safely old d byte pages frame (command 0x11 ++ with_checksum (address_bytes address) ++ (size - 1) ∷ []) (complement (size - 1)) is settled (read_whole old is address size some most fits) e
-    (mild_read_frame old.chip old.codes byte pages address size) fed
+    (mild_read_frame old.chip old.codes byte pages address size) (read_suffices old byte address size) fed
 
 pub asking_changes_nothing : AskingChangesNothing
 asking_changes_nothing old d byte frame is settled question fed =
@@ -184,7 +209,8 @@ erase_safely old d N frame is settled here e fed =
     let named = intended_pages (Some (Erase N)) in
     let pages = erasable kind N in
     let s = safely old d byte pages frame (erase_body kind N) (erase_check kind N) is settled (erase_whole old kind N is.erase here) (e ∙ sym (frame_of kind N))
-    (λ j. subst (λ (f : List ℕ). Mild old.chip old.codes byte pages (take j f)) (sym (frame_of kind N)) (mild_erase_frame old.chip old.codes kind N small j)) fed in
+    (λ j. subst (λ (f : List ℕ). Mild old.chip old.codes byte pages (take j f)) (sym (frame_of kind N)) (mild_erase_frame old.chip old.codes kind N small j))
+    (subst (Suffices old byte) (sym (frame_of kind N)) (erase_suffices old kind byte N refl is.erase (byte_small (Some (Erase N))))) fed in
     let one : (n : ℕ) → n < page_count old.chip → Contains pages n → Contains named n = λ n le c. one_erasable kind N n (omega (arith, most, le)) c in
     record {
       same_chip = s.same_chip;
@@ -204,4 +230,4 @@ sending_is_harmless old d intent frame is settled (erases page i here e) fed = u
 sending_is_harmless old d intent frame is settled (writes page address sent i some most within e) fed =
     under old d intent (Some (Program page)) i
     (safely old d 2 (page ∷ []) frame (command 0x31 ++ with_checksum (address_bytes address) ++ (length sent - 1) ∷ sent) (xor ((length sent - 1) ∷ sent)) is settled
-    (write_whole old is address sent some most (page_inside old.chip page address (length sent) within)) e (mild_write_frame old.chip old.codes page address sent some within) fed)
+    (write_whole old is address sent some most (page_inside old.chip page address (length sent) within)) e (mild_write_frame old.chip old.codes page address sent some within) (write_suffices old 2 address sent (lit< tt) most) fed)

@@ -4,10 +4,11 @@ use Rattle.std.proofs.lemmas.Bool.{cases_lt}
 use Rattle.std.proofs.lemmas.List.{append-nil, take-append-le, take_all, length-append, length-take, length-drop}
 use Rattle.stm_wire.specs.Chip.{ChipData}
 use Rattle.stm_wire.specs.declared.verdict.Verdict.TheVariants.{Done}
-use Rattle.stm_wire.specs.Exchange.{verdict}
+use Rattle.stm_wire.specs.Exchange.{IsOpen, verdict}
 use Rattle.stm_wire.specs.Effect.{change_of}
 use Rattle.stm_wire.specs.Reply.{ack, answer, step_reply}
 use Rattle.stm_wire.specs.Device.{Device, Phase, Connected, Fed, Feeds, IsDevice, IsSettled, phase_after}
+use Rattle.stm_wire.specs.Awaited.{IsRefusedIn, most_for}
 use Rattle.stm_wire.specs.Harmless.{SameOutside}
 use Rattle.stm_wire.specs.Moments.{PartlyFed}
 use Rattle.stm_wire.specs.Command.{with_rest}
@@ -16,6 +17,8 @@ use Rattle.stm_wire.proofs.Flash.{same_flash, effect_within}
 use Rattle.stm_wire.proofs.Mild.{Fits, FitsAll, Mild, Tame, harmless, mild_empty}
 use Rattle.stm_wire.proofs.Closed.{harmless_loses}
 use Rattle.stm_wire.proofs.Awaited.{step_small}
+use Rattle.stm_wire.proofs.Bound.{IsCounted}
+use Rattle.stm_wire.proofs.Enough.{Enough, empty_enough, opened}
 use Rattle.stm_wire.proofs.Feeding.{Fed-split}
 use Rattle.stm_wire.proofs.Steps.{OpenAlong, IsDone, replies_along, fed-along, feeds-done}
 
@@ -35,6 +38,19 @@ replies-few rest (x ∷ bytes) =
     let first = step_reply (rest ++ x ∷ []) in
     let more = replies_along (rest ++ x ∷ []) bytes in
     omega (arith, length-append first more, step_small (rest ++ x ∷ []), replies-few (rest ++ x ∷ []) bytes)
+
+-- so many settling bytes are enough behind any beginning of a frame whose counts are bytes
+pub record Suffices (d : Device) (byte : ℕ) (frame : List ℕ) : Type 0 where
+  pub counted : (n : ℕ) → IsCounted (take n frame)
+  pub enough : Enough d.chip d.codes d.chip.kind byte frame
+
+-- of which all but the last byte is open
+pub suffices_along : (d : Device) (byte : ℕ) (body : List ℕ) (last : ℕ) → OpenAlong d.chip d.codes [] body → Suffices d byte (body ++ last ∷ []) → (n : ℕ) → n ≤ length body
+    → IsRefusedIn d.chip d.codes byte (most_for d.chip.kind byte) (take n body)
+suffices_along d byte body last along s n le =
+    let same = take-append-le n body (last ∷ []) le in
+    let open' : IsOpen d.chip d.codes (take n body) = opened d.chip d.codes (take n body) (along-take d.chip d.codes [] body n along) in
+    subst (IsRefusedIn d.chip d.codes byte (most_for d.chip.kind byte)) same (s.enough n (s.counted n) (subst (IsOpen d.chip d.codes) (sym same) open'))
 
 -- open along its body, done at its last byte
 pub record IsWhole (d : Device) (body : List ℕ) (last : ℕ) : Type 0 where
@@ -62,7 +78,7 @@ module _ (old : Device) (body : List ℕ) (last : ℕ) (is : IsDevice old) (sett
       let one : Feeds last parts.0 mid = subst (λ (x : Device). Feeds last parts.0 x) (sym parts.2.2) parts.2.1 in
       feeds-done last body (record old { owed = replies_along [] body; phase = Connected body }) mid refl whole.done (subst (λ (x : Device). Feeds last x mid) first one)
 
-  module _ (byte : ℕ) (pages : List ℕ) (mild : (j : ℕ) → Mild old.chip old.codes byte pages (take j (body ++ last ∷ []))) where
+  module _ (byte : ℕ) (pages : List ℕ) (mild : (j : ℕ) → Mild old.chip old.codes byte pages (take j (body ++ last ∷ []))) (enough : Suffices old byte (body ++ last ∷ [])) where
     within_safely : (n : ℕ) (mid : Device) → n ≤ length body → Fed (take n (body ++ last ∷ [])) old mid → IsStoppedSafely old byte pages mid
     within_safely n mid le f =
         let next : Device = record old { owed = replies_along [] (take n body); phase = Connected (take n body) } in
@@ -71,7 +87,7 @@ module _ (old : Device) (body : List ℕ) (last : ℕ) (is : IsDevice old) (sett
           same_chip = refl;
           same_version = refl;
           same_codes = refl;
-          harmless = harmless byte pages next is.size m;
+          harmless = harmless byte pages next is.size m (suffices_along old byte body last whole.along enough n le);
           flash = same_flash old.chip pages old.flash old.flash refl;
           owed = omega (arith, replies-few [] (take n body), length-take n body, whole.few);
         })
@@ -94,7 +110,7 @@ module _ (old : Device) (body : List ℕ) (last : ℕ) (is : IsDevice old) (sett
           same_chip = refl;
           same_version = refl;
           same_codes = refl;
-          harmless = harmless byte pages next (changed.same_length ∙ is.size) (subst (Tame old.chip old.codes byte pages) (sym fits.0) (mild_empty old.chip old.codes byte pages));
+          harmless = harmless byte pages next (changed.same_length ∙ is.size) (subst (Tame old.chip old.codes byte pages) (sym fits.0) (mild_empty old.chip old.codes byte pages)) (empty_enough next byte fits.0);
           flash = changed;
           owed = omega (arith, replies-few [] body, length-append (replies_along [] body) reply, whole.few);
         })

@@ -10,6 +10,7 @@ pub mod Exchange
 pub mod Effect
 pub mod Reply
 pub mod Device
+pub mod Awaited
 pub mod Harmless
 pub mod FlashLaws
 pub mod Frames

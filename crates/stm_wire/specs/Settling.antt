@@ -1,15 +1,13 @@
 -- What settling does to a Rig: on any line, and on one that follows the model.
-use Rattle.std.specs.Prelude.{◌≡◌, ◌⊎◌, ℕ, ◌+◌, ◌-◌, ◌*◌, ◌≤◌, ◌==◌, ◌&&◌, if◌then◌else◌, List}
-use Rattle.std.specs.Prelude.{[], ◌∷◌, length, take, replicate, Bool, Option, Result, IfOk, OnOk}
+use Rattle.std.specs.Prelude.{◌≡◌, ◌⊎◌, ℕ, ◌+◌, ◌-◌, ◌*◌, ◌≤◌, List}
+use Rattle.std.specs.Prelude.{[], length, take, replicate, Bool, Option, Result, IfOk, OnOk}
 use Rattle.std.specs.Prelude.{IfErr, MatchBool}
 use Rattle.stm_wire.specs.declared.fault.WireFault.{WireFault}
 use Rattle.stm_wire.specs.declared.fault.WireFault.TheVariants.{Line}
 use Rattle.stm_wire.specs.declared.rig.Patience.TheVariants.{Long}
 use Rattle.stm_wire.specs.Call.{Call}
-use Rattle.stm_wire.specs.declared.chip.EraseKind.{EraseKind}
-use Rattle.stm_wire.specs.declared.chip.EraseKind.TheVariants.{Page, Extended}
-use Rattle.stm_wire.specs.Exchange.{complement, is_listed}
-use Rattle.stm_wire.specs.Device.{Device, Phase, Fresh, Connected, Gone, IsDevice, IsSettled}
+use Rattle.stm_wire.specs.Awaited.{Awaits}
+use Rattle.stm_wire.specs.Device.{Device, IsSettled}
 use Rattle.stm_wire.specs.Harmless.{SameOutside, Harmless}
 use Rattle.stm_wire.specs.Rig.{RigState, Rises, StaysHonest, waited}
 use Rattle.stm_wire.specs.Moments.{LeavesOnly}
@@ -72,41 +70,6 @@ pub record SpeaksBatches (byte limit : ℕ) (result : Result ℕ WireFault)
 
 -- On a line that follows the model:
 
--- how many bytes a list that begins with this code has at most, of a device with these codes,
--- before the byte that brings its verdict
-abbrev pub longest_list : List ℕ → ℕ → ℕ
-longest_list codes code = if is_listed codes 0x44 && code == 0x44 then 131044 else 264
-
--- how many of the byte at most, until a refusal
-abbrev pub awaited : List ℕ → ℕ → List ℕ → ℕ
-awaited codes byte [] = 2
-awaited codes byte (c ∷ []) = if byte == complement c then 3 + longest_list codes c else 1
-awaited codes byte (c ∷ x ∷ rest) = 3 + (longest_list codes c + 1 - length (c ∷ x ∷ rest))
-
--- and wherever a device is: a fresh one is connected by 7F first, and refuses no other byte
-abbrev pub awaited_in : List ℕ → ℕ → Phase → ℕ
-awaited_in codes byte Fresh = if byte == 0x7F then 3 else 0
-awaited_in codes byte (Connected rest) = awaited codes byte rest
-awaited_in codes byte Gone = 0
-
-abbrev pub bytes_awaited : ℕ → Device → ℕ
-bytes_awaited byte d = awaited_in d.codes byte d.phase
-
--- how many suffice for every device of such chips
-abbrev pub most_awaited : EraseKind → ℕ
-most_awaited Page = 267
-most_awaited Extended = 131047
-
-abbrev pub AwaitedIsLimited : Type 0
-AwaitedIsLimited =
-    (d : Device) → IsDevice d → (byte : ℕ) → bytes_awaited byte d ≤ most_awaited d.chip.kind
-
--- with left bytes to come, one of them is refused, or the device is fresh all along
-abbrev pub IsWithin : List ℕ → ℕ → ℕ → Phase → Type 0
-IsWithin codes byte left Fresh = byte ≡ 0x7F → 3 ≤ left
-IsWithin codes byte left (Connected rest) = awaited codes byte rest ≤ left
-IsWithin codes byte left Gone = ⊥
-
 -- the device is the start's chip, with its version and codes, as harmless, with its flash outside
 -- the pages, and owes little
 pub record IsSettling (byte : ℕ) (pages : List ℕ) (start d : Device) : Type 0 where
@@ -122,7 +85,7 @@ pub record IsGoing (byte : ℕ) (pages : List ℕ) (start : Device) (left : ℕ)
     (d : Device) : Type 0 where
   pub settling : IsSettling byte pages start d
   pub quiet : d.owed ≡ []
-  pub within : IsWithin start.codes byte left d.phase
+  pub within : Awaits byte left d
 
 abbrev pub with_nothing_owed : Device → Device
 with_nothing_owed d = record d { owed = [] }

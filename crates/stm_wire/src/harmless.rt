@@ -1,5 +1,5 @@
 //! Laws of stopped hosts: each is the contract of a function that does nothing.
-ghost use Rattle.stm_wire.specs.Settling.{AwaitedIsLimited};
+ghost use Rattle.stm_wire.specs.Awaited.{AwaitedIsLimited, MoreSuffice};
 ghost use Rattle.stm_wire.specs.Stopped.{AskingChangesNothing, FreshIsHarmless};
 ghost use Rattle.stm_wire.specs.Stopped.{SendingIsHarmless, StoppedIsHarmless};
 ghost use Rattle.stm_wire.specs.Stopped.{FedStaysHarmless, LossStaysHarmless};
@@ -32,9 +32,10 @@ pub fn harmless_is_kept()
 
 /// How many bytes of a kind a device awaits at most before it refuses one, wherever it is in its
 /// exchange: 267 where its pages are erased by numbers of one byte, and
-/// 131,047 where they have two.
+/// 131,047 where they have two. Where so many are enough, more are too.
 pub fn awaited_is_limited()
-    ensures { AwaitedIsLimited }
+    ensures limited { AwaitedIsLimited }
+    ensures more { MoreSuffice }
 {}
 
 /// The pages of a chip are its flash: what lies in one lies in the flash, and two flashes that

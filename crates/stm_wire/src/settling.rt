@@ -1,6 +1,7 @@
 // Settling: ending whatever exchange a stopped host began, without harm.
 ghost use Rattle.std.specs.Prelude.{◌≡◌, ◌≤◌, ◌+◌, ◌*◌, ℕ, suc, List, length, OnOk};
 ghost use Rattle.std.specs.Prelude.{IfOk, IfErr, MatchBool, Some, None, [], ◌∷◌};
+ghost use Rattle.stm_wire.specs.Awaited.{Awaits};
 ghost use Rattle.stm_wire.specs.Command.{with_rest};
 ghost use Rattle.stm_wire.specs.Call.{Put, Get};
 ghost use Rattle.stm_wire.specs.Device.{Device, Fresh, Connected};
@@ -12,7 +13,7 @@ ghost use Rattle.stm_wire.specs.Reply.{ack, nack};
 ghost use Rattle.stm_wire.specs.SentList.{settling_run};
 ghost use Rattle.stm_wire.specs.Settling.{IsSettling, IsGoing, LeadsTo, SendsOnce, Settles};
 ghost use Rattle.stm_wire.specs.Settling.{PutsPart, SettlesWithin, HasLineCause, Speaks};
-ghost use Rattle.stm_wire.specs.Settling.{WaitsOnce, bytes_awaited};
+ghost use Rattle.stm_wire.specs.Settling.{WaitsOnce};
 ghost use Rattle.stm_wire.specs.SettlingCalls.{AreUnrefused, IsRefused, IsReconnected, EndsSingly};
 ghost use Rattle.stm_wire.specs.SettlingCalls.{IsConnected, IsUnconnected};
 ghost use Rattle.stm_wire.specs.SettlingCalls.{EndsSettled, EndsQuiet, EndsGarbled, FailsAs};
@@ -215,7 +216,7 @@ fn settle_in_batches<R: Rig>(rig: &mut R, byte: u8, limit: u32) -> Result<(), Wi
     ensures fails { IfErr result (FailsAs (EndsQuiet byte limit) (EndsGarbled byte limit)
         (R.view rig.old).calls (R.view rig.new).calls) }
     ensures awaited { (R.view rig.old).is_honest
-        → bytes_awaited byte (R.view rig.old).device ≤ limit → (pages : List ℕ)
+        → Awaits byte limit (R.view rig.old).device → (pages : List ℕ)
         → Harmless (R.view rig.old).device byte pages
         → length (R.view rig.old).device.owed ≤ 4096
         → Settles byte pages (R.view rig.old).device result (R.view rig.old) (R.view rig.new) }
@@ -246,7 +247,8 @@ fn settle_in_batches<R: Rig>(rig: &mut R, byte: u8, limit: u32) -> Result<(), Wi
 /// owes at most 4,096 bytes, with a limit of as many bytes as it awaits or more, each moment leaves
 /// such a device, with the same chip, version and codes, the same flash outside these pages and the
 /// same journal; it answers Ok, and the device is then settled, or `Line`. A device whose pages are
-/// erased by numbers of one byte awaits 267 bytes at most, any other 131,047.
+/// erased by numbers of one byte awaits 267 bytes at most, any other 131,047. One that is harmless
+/// for the byte awaits no more than a list that stmflash began and the byte goes on with.
 ///
 /// # Errors
 /// `Line` where a call of the Rig failed, `Quiet` where 7F stayed without an answer, `Garbled`
@@ -262,7 +264,7 @@ pub fn settle<R: Rig>(rig: &mut R, byte: u8, limit: u32) -> Result<(), WireFault
     ensures fails { IfErr result (FailsAs (EndsQuiet byte limit) (EndsGarbled byte limit)
         (R.view rig.old).calls (R.view rig.new).calls) }
     ensures awaited { (R.view rig.old).is_honest
-        → bytes_awaited byte (R.view rig.old).device ≤ limit → (pages : List ℕ)
+        → Awaits byte limit (R.view rig.old).device → (pages : List ℕ)
         → Harmless (R.view rig.old).device byte pages
         → length (R.view rig.old).device.owed ≤ 4096
         → Settles byte pages (R.view rig.old).device result (R.view rig.old) (R.view rig.new) }
@@ -301,7 +303,7 @@ pub fn settle_under<R: Rig>(
         IfErr result (FailsAs (EndsQuiet byte limit) (EndsGarbled byte limit)
         (R.view rig.old).calls (R.view rig.new).calls) }
     ensures awaited { let byte = settling_byte intent in (R.view rig.old).is_honest
-        → bytes_awaited byte (R.view rig.old).device ≤ limit → (pages : List ℕ)
+        → Awaits byte limit (R.view rig.old).device → (pages : List ℕ)
         → Harmless (R.view rig.old).device byte pages
         → length (R.view rig.old).device.owed ≤ 4096
         → Settles byte pages (R.view rig.old).device result (R.view rig.old) (R.view rig.new) }

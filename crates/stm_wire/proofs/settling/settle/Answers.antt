@@ -2,8 +2,7 @@ use Rattle.std.proofs.Common.{◌≡◌, ◌+◌, ◌*◌, arith, [], rules}
 use Rattle.std.proofs.lemmas.Result.{on_ok_weaker}
 use Rattle.stm_wire.specs.SentList.{settling_run}
 use Rattle.stm_wire.specs.SettlingCalls.{EndsQuiet, EndsGarbled, IsUnanswered}
-use Rattle.stm_wire.proofs.Awaited.{awaited_most}
-use Rattle.stm_wire.proofs.Keeping.{keeps_then, settling_start, going_drained}
+use Rattle.stm_wire.proofs.Keeping.{enough_sent, keeps_then, settling_start, going_drained}
 use Rattle.stm_wire.proofs.SettlingCalls.{settled_singly, single_calls}
 use Rattle.stm_wire.proofs.SettlingFaults.{fails_all_weaker, garbled_after, past_after}
 use Rattle.stm_wire.proofs.Talking.{part_then, part_up}
@@ -55,8 +54,7 @@ returns-in_err-drain-clause-awaited g c h many pages harmless few =
 
 pub returns-in_err-drain-clause-honest : goal.returns-in_err-drain-clause-honest
 returns-in_err-drain-clause-honest g c h many pages harmless few =
-    let most = awaited_most c.args.byte (g.R.Rig.view c.args.rig.now).device in
-    returns-in_err-drain-clause-awaited g c h (omega (arith, most, many)) pages harmless few
+    returns-in_err-drain-clause-awaited g c h (enough_sent c.args.byte c.args.limit pages (g.R.Rig.view c.args.rig.now).device many harmless) pages harmless few
 
 pub returns-clause-awaited : goal.returns-clause-awaited
 returns-clause-awaited g c h many pages harmless few =
@@ -71,5 +69,8 @@ returns-clause-awaited g c h many pages harmless few =
 
 pub returns-clause-honest : goal.returns-clause-honest
 returns-clause-honest g c h many pages harmless few =
-    let most = awaited_most c.args.byte (g.R.Rig.view c.args.rig.now).device in
-    returns-clause-awaited g c h (omega (arith, most, many)) pages harmless few
+    returns-clause-awaited g c h (enough_sent c.args.byte c.args.limit pages (g.R.Rig.view c.args.rig.now).device many harmless) pages harmless few
+
+pub returns-then-byte-ne-CONNECT-clause-honest : goal.returns-then-byte-ne-CONNECT-clause-honest
+returns-then-byte-ne-CONNECT-clause-honest g c h many pages harmless few =
+    c.settle_in_batches.ensures.awaited h (enough_sent c.args.byte c.args.limit pages (g.R.Rig.view c.args.rig.now).device many harmless) pages harmless few
