@@ -3,6 +3,7 @@ ghost use Rattle.std.specs.Prelude.{◌≡◌, ◌≢◌, ◌<◌, List, ℕ, le
 ghost use Rattle.std.specs.Prelude.{false, IfOk, OnOk, IsTrue, IfErr};
 ghost use Rattle.stm_wire.specs.Chip.{page_count, page_size, page_of, with_page};
 ghost use Rattle.stm_journal.specs.States.{newest_keeps, newest_may_keep};
+ghost use Rattle.stm_journal.specs.Newest.{KeepsSame};
 ghost use Rattle.stm_session.specs.Fault.{HasSessionCause};
 ghost use Rattle.stm_session.specs.ChangeOrder.{IsChanged};
 ghost use Rattle.stm_session.specs.Order.{Begin, Follows, Stops};
@@ -20,7 +21,8 @@ use stm_journal::Journal;
 use stm_wire::{Chip, Rig};
 
 /// Gives page `n`, which was read, these bytes: it is kept first, if it wasn't, and with page 1
-/// page 257. Nothing is done where it holds them. Whether it was changed.
+/// page 257. One that was kept is given back so. Nothing is done where it holds them. Whether it was
+/// changed.
 pub fn change_page<R: Rig>(
     alloc: Global,
     rig: &mut R,
@@ -41,6 +43,7 @@ pub fn change_page<R: Rig>(
     ensures changed { IfOk result (λ changed. changed ≡ not (bytes_eq held.now page.now)) }
     ensures turned { IfOk result
         (λ changed. HasTurned kept changed chip.now n journal.old.state journal.new.state) }
+    ensures same { kept ≡ true → OnOk result (KeepsSame journal.old.state journal.new.state) }
     ensures cause { HasSessionCause (R.view rig.old) (R.view rig.new) result }
     ensures named { IfErr result (λ fault. fault ≢ Fault.Unfinished) }
     ensures order { let old = R.view rig.old in let new = R.view rig.new in

@@ -1,4 +1,4 @@
-use Rattle.std.proofs.Common.{◌≡◌, ◌≢◌, ◌∙◌, ◌+◌, ◌/◌, ◌∷◌, ◌++◌, [], List, ℕ, Result}
+use Rattle.std.proofs.Common.{◌≡◌, ◌≢◌, ◌∙◌, ◌/◌, ◌∷◌, ◌++◌, [], List, ℕ, Result}
 use Rattle.std.proofs.Common.{length, ap, true, false, sym, subst, refl, rules}
 use Rattle.stm_wire.specs.Chip.{erased_byte, page_of, with_page}
 use Rattle.stm_wire.specs.Device.{Device}
