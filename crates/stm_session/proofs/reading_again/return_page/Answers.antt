@@ -39,7 +39,7 @@ first g c flashes steady chip read =
     goes_as flashes _ _ l2 a b _
     (kept_lines c.args.chip.now c.args.n c.args.held.now c.args.page.now a.device.flash read)
     (goes_ok flashes _ l2 a b _ (tt {0})
-    (c.in_ok-change_page.ensures.honest flashes steady chip read) (λ p. p))
+    (c.in_ok-change_page.ensures.performs.honest flashes steady (chip, read)) (λ p. p))
 
 -- what it put
 gave : (g : given.Over) (c : After-read_again g)
@@ -49,7 +49,7 @@ gave g c =
     kept_puts c.args.chip.now c.args.n c.args.held.now c.args.page.now c.args.journal.now
     c.change_page.new.journal (g.R.Rig.view c.args.rig.now) (g.R.Rig.view c.change_page.new.rig)
     (Ok c.in_ok-change_page.field-0) c.requires.exists c.requires.size
-    c.in_ok-change_page.ensures.order tt
+    c.in_ok-change_page.ensures.performs.order tt
 
 -- and did
 given_back : (g : given.Over) (c : After-read_again g)
@@ -59,7 +59,7 @@ given_back : (g : given.Over) (c : After-read_again g)
 given_back g c =
     kept_does c.args.chip.now c.args.n c.args.held.now c.args.page.now c.args.journal.now
     c.change_page.new.journal (g.R.Rig.view c.args.rig.now) (g.R.Rig.view c.change_page.new.rig)
-    c.in_ok-change_page.ensures.order
+    c.in_ok-change_page.ensures.performs.order
 
 still : (g : given.Over) (c : After-read_again g) (flashes : List (List ℕ))
     → IsSteady flashes c.args.journal.now (g.R.Rig.view c.args.rig.now)
@@ -94,7 +94,7 @@ returns-in_err-change_page-clause-honest g c flashes steady chip read =
     goes_as flashes _ _ l2 a b _
     (kept_lines c.args.chip.now c.args.n c.args.held.now c.args.page.now a.device.flash read)
     (goes_fault flashes _ l2 l2 a b _ c.from_residual.result
-    (c.in_err-change_page.ensures.honest flashes steady chip read) c.from_residual.ensures.1)
+    (c.in_err-change_page.ensures.performs.honest flashes steady (chip, read)) c.from_residual.ensures.1)
 
 pub returns-in_err-change_page-clause-puts : goal.returns-in_err-change_page-clause-puts
 returns-in_err-change_page-clause-puts g c =
@@ -104,7 +104,7 @@ returns-in_err-change_page-clause-puts g c =
     (kept_puts c.args.chip.now c.args.n c.args.held.now c.args.page.now {T = Bool}
     c.args.journal.now c.change_page.new.journal (V c.args.rig.now) (V c.change_page.new.rig)
     (Err c.in_err-change_page.field-0.0) c.requires.exists c.requires.size tt
-    c.in_err-change_page.ensures.stops)
+    c.in_err-change_page.ensures.performs.stops)
 
 pub returns-in_err-change_page-clause-stops : goal.returns-in_err-change_page-clause-stops
 returns-in_err-change_page-clause-stops g c =
@@ -117,7 +117,7 @@ returns-in_err-change_page-clause-stops g c =
     let All = Begin (Are (return_steps again chip n held page)) in
     part_stops (Begin (IsChanged true chip n held page)) (OrMisread again chip All) c.args.journal.now.is_torn (V c.args.rig.now) (V c.change_page.new.rig) _ c.from_residual.result c.from_residual.ensures.1
     (λ xs begun. may_be again chip All xs (restore_begun again chip n held page xs
-    (kept_begun chip n held page xs begun))) c.in_err-change_page.ensures.stops
+    (kept_begun chip n held page xs begun))) c.in_err-change_page.ensures.performs.stops
 
 pub returns-then-not-again-clause-honest : goal.returns-then-not-again-clause-honest
 returns-then-not-again-clause-honest g c flashes steady chip read =
@@ -128,7 +128,7 @@ returns-then-not-again-clause-honest g c flashes steady chip read =
     goes_as flashes _ _ l2 a b _
     (kept_lines c.args.chip.now c.args.n c.args.held.now c.args.page.now a.device.flash read)
     (goes_ok flashes _ l2 a b _ (tt {0})
-    (c.in_ok-change_page.ensures.honest flashes steady chip read) (λ p. p))
+    (c.in_ok-change_page.ensures.performs.honest flashes steady (chip, read)) (λ p. p))
 
 pub returns-then-not-again-clause-puts : goal.returns-then-not-again-clause-puts
 returns-then-not-again-clause-puts g c =
@@ -138,7 +138,7 @@ returns-then-not-again-clause-puts g c =
     (kept_puts c.args.chip.now c.args.n c.args.held.now c.args.page.now c.args.journal.now
     c.change_page.new.journal (V c.args.rig.now) (V c.change_page.new.rig)
     (Ok c.in_ok-change_page.field-0) c.requires.exists c.requires.size
-    c.in_ok-change_page.ensures.order tt)
+    c.in_ok-change_page.ensures.performs.order tt)
 
 pub returns-then-not-again-clause-order : goal.returns-then-not-again-clause-order
 returns-then-not-again-clause-order g c =
@@ -148,7 +148,7 @@ returns-then-not-again-clause-order g c =
     subst P (sym no)
     (kept_does c.args.chip.now c.args.n c.args.held.now c.args.page.now c.args.journal.now
     c.change_page.new.journal (V c.args.rig.now) (V c.change_page.new.rig)
-    c.in_ok-change_page.ensures.order)
+    c.in_ok-change_page.ensures.performs.order)
 
 pub returns-in_err-read_again-clause-puts : goal.returns-in_err-read_again-clause-puts
 returns-in_err-read_again-clause-puts g c =
