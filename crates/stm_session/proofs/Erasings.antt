@@ -1,51 +1,43 @@
 -- A page that the newest segment keeps is erased.
-use Rattle.std.proofs.Common.{◌≡◌, inl, ℕ, ◌<◌, ◌≤◌, List, [], ◌∷◌, Some, Result, Ok, IsErrAnd, refl, sym, ◌∙◌, ap, subst, IsTrue}
+use Rattle.std.proofs.Common.{◌≡◌, inl, ℕ, ◌<◌, ◌≤◌, List, [], ◌∷◌, ◌++◌, Some, Result, Ok, Err, IsErrAnd, refl, sym, ◌∙◌, ap, ap₂, subst, IsTrue}
+use Rattle.std.specs.Prelude.{IfErr, OnOk}
 use Rattle.stm_wire.specs.declared.chip.EraseKind.{EraseKind}
 use Rattle.stm_wire.specs.declared.fault.WireFault.{WireFault}
 use Rattle.stm_wire.specs.declared.fault.WireFault.TheVariants.{Line}
 use Rattle.stm_wire.specs.declared.intent.Intent.{Intent}
 use Rattle.stm_wire.specs.declared.intent.Intent.TheVariants.{Erase}
 use Rattle.stm_wire.specs.Chip.{ChipData, erased_page, page_count, with_page}
-use Rattle.stm_wire.specs.Command.{CanErase, with_pages_erased}
+use Rattle.stm_wire.specs.Command.{CanErase, Does, with_pages_erased}
 use Rattle.stm_wire.specs.Device.{Device, IsSettled}
-use Rattle.stm_wire.specs.Dialogue.{Turn}
-use Rattle.stm_wire.specs.Frames.{erase_frame}
+use Rattle.stm_wire.specs.Dialogue.{Turn, GoesOn, IsBrokenOff}
+use Rattle.stm_wire.specs.Frames.{erase_frame, erase_turns}
 use Rattle.stm_wire.specs.Rig.{RigState, IsModel}
 use Rattle.stm_wire.specs.Sending.{Holds, BreaksOff}
 use Rattle.stm_wire.specs.Stopped.{IsFrameUnder, erases}
 use Rattle.stm_journal.specs.declared.entry.Entry.{Entry}
 use Rattle.stm_journal.specs.declared.entry.Entry.TheVariants.{Erases, Programs}
+use Rattle.stm_journal.specs.declared.fault.JournalFault.{JournalFault}
 use Rattle.stm_journal.specs.States.{StateData, newest_keeps, IsSound}
 use Rattle.stm_journal.specs.CallEntries.{allowed-intend_erase, allowed-intend_program}
 use Rattle.stm_journal.specs.Newest.{HasIntended}
 use Rattle.stm_journal.specs.Added.{HasAdded}
-use Rattle.stm_journal.specs.Journals.{Loaded, IsLoaded, loaded_after}
-use Rattle.stm_journal.specs.Calls.{Appends, InText}
+use Rattle.stm_journal.specs.Journals.{Loaded, IsLoaded, LeavesLoaded, added_bytes, loaded_after}
+use Rattle.stm_journal.specs.Calls.{Appends, AppendsOnce, InText}
 use Rattle.stm_session.specs.declared.fault.Fault.{Fault}
-use Rattle.stm_session.specs.Fault.{fault_of}
+use Rattle.stm_session.specs.Fault.{fault_of, fault_of_journal}
+use Rattle.stm_session.specs.Order.{Step, Adds, Are, Begin, Sends}
+use Rattle.stm_session.specs.Performs.{Performs}
 use Rattle.stm_session.specs.StepLaws.{StepLaws}
 use Rattle.stm_session.specs.Steps.{IsSteady, Goes, IsUnder}
 use Rattle.stm_session.specs.Undoable.{state_at}
-use Rattle.stm_session.proofs.Going.{IsStep, frame_goes, frame_fails, goes_then, line_goes}
+use Rattle.stm_session.proofs.CutShort.{line_stops, sent_stops}
+use Rattle.stm_session.proofs.Going.{IsStep, frame_goes, frame_fails, goes_ok, line_fails, line_goes}
 use Rattle.stm_session.proofs.Keeping.{good_at, keeps_pages, keeps_text}
+use Rattle.stm_session.proofs.Orders.{does_add, does_erase}
+use Rattle.stm_session.proofs.Performing.{of_call, of_command, performs_then}
 
 pub is_under : (n : ℕ) (i : Intent) (old new : StateData) → HasIntended n i old new → IsUnder n i new
 is_under n i old new has = record { kept = has.keeps; newest = has.newest; unfinished = has.unfinished }
-
--- an intent's line stands, and its page is under it
-pub record IsSaid (e : Entry) (n : ℕ) (i : Intent) (flashes : List (List ℕ)) (l2 : Loaded)
-    (old new : RigState) : Type 0 where
-  pub line : Goes {T = Unit {0}} flashes (e ∷ []) l2 old new (Ok tt) (λ y. new.device ≡ old.device)
-  pub model : IsModel new
-  pub under : IsUnder n i (state_at new.journal)
-
--- and what is done under it goes after its line
-pub said_then : {U : Type 0} {Done2 Done : U → Type 0} (e : Entry) (n : ℕ) (i : Intent)
-    (flashes : List (List ℕ)) (l2 l3 : Loaded) (a b c : RigState) (result : Result U Fault)
-    → IsSaid e n i flashes l2 a b → Goes flashes [] l3 b c result Done2
-    → ((y : U) → Done2 y → Done y) → Goes flashes (e ∷ []) l3 a c result Done
-said_then e n i flashes l2 l3 a b c result said next gives =
-    goes_then flashes (e ∷ []) [] l2 l3 a b c (tt {0}) result said.model said.line next gives
 
 -- an intent may stand next
 module _ (laws : StepLaws) (flashes : List (List ℕ)) (l : Loaded) (n : ℕ) (old : RigState) (steady : IsSteady flashes l old) (small : n ≤ 65535) (kept : IsTrue (newest_keeps n l.state)) where
@@ -70,28 +62,6 @@ module _ (laws : StepLaws) (flashes : List (List ℕ)) (l : Loaded) (n : ℕ) (o
     keeps = λ s has. keeps_pages flashes old.device (state_at old.journal) s has.same steady.keeps;
     unfinished = λ s has. has.unfinished;
   }
-
--- and is said by a call that appends it
-pub said_by_call : {T : Type 0} (laws : StepLaws) (e : Entry) (n : ℕ) (i : Intent)
-    (flashes : List (List ℕ)) (l l2 : Loaded) (old new : RigState) (x : T) → IsModel old
-    → (new.is_honest → IsModel new) → (steady : IsSteady flashes l old)
-    → IsStep e flashes (state_at old.journal) old.device
-    → ((s2 : StateData) → HasIntended n i (state_at old.journal) s2
-    → HasAdded e (state_at old.journal) s2)
-    → (old.is_honest → IsLoaded l old.journal → Appends (e ∷ []) l l2 old new (Ok x))
-    → l2 ≡ loaded_after (e ∷ []) l
-    → (old.is_honest → IsLoaded l old.journal → InText (HasIntended n i) old.journal new.journal)
-    → IsSaid e n i flashes l2 old new
-said_by_call laws e n i flashes l l2 old new x model later steady step as_added call after text =
-    let s = state_at old.journal in
-    let s2 = state_at new.journal in
-    let appends = call steady.honest steady.loaded in
-    let has = text steady.honest steady.loaded s s2 (good_at l old.journal steady.loaded)
-    (good_at l2 new.journal appends.loaded) in
-    let added = as_added s2 has in
-    let line = line_goes laws e flashes l l2 old new model steady step x (tt {0}) appends after
-    added in
-    record { line = line; model = later line.steady.honest; under = is_under n i s s2 has }
 
 module _ (laws : StepLaws) (flashes : List (List ℕ)) (l : Loaded) (n : ℕ) (chip : ChipData) (kind : EraseKind) (old new : RigState)
     (model : IsModel old) (steady : IsSteady flashes l old) (under : IsUnder n (Erase n) (state_at old.journal)) (chip_is : old.device.chip ≡ chip) (kind_is : kind ≡ chip.kind) (exists : n < page_count chip) where
@@ -119,36 +89,79 @@ module _ (laws : StepLaws) (flashes : List (List ℕ)) (l : Loaded) (n : ℕ) (c
       → IsErrAnd result (λ e. e ≡ fault_of fault) → Goes flashes ys l3 old new result Done
   erase_fails ys l3 result breaks line is = frame_fails laws flashes l n (Erase n) (erase_frame kind n) old new model steady under (inl refl) frames ys l3 result breaks line is
 
--- a page is erased after the line that says so
-module _ (laws : StepLaws) (flashes : List (List ℕ)) (l2 : Loaded) (n : ℕ) (chip : ChipData)
-    (kind : EraseKind) (a b d : RigState) (said : IsSaid (Erases n) n (Erase n) flashes l2 a b)
-    (chip_is : a.device.chip ≡ chip) (kind_is : kind ≡ chip.kind)
-    (exists : n < page_count chip) where
-  still : b.device.chip ≡ chip
-  still = ap (λ (x : Device). x.chip) said.line.done ∙ chip_is
+-- The line of an intent, and what is done under it.
 
-  may : CanErase kind n b.device
-  may =
-      may_erase laws flashes l2 n chip kind b d said.model said.line.steady said.under still
-      kind_is exists
+-- where the line was added, its page is under it
+abbrev pub IsSaid : ℕ → Intent → RigState → RigState → Type 0
+IsSaid n i a b = (b.device ≡ a.device) × IsUnder n i (state_at b.journal)
 
-  pub said_erased : {T : Type 0} {turns : List Turn} (y : T)
-      → Holds (erase_frame kind n) turns b d → (d.is_honest → IsModel d)
-      → (b.is_honest → CanErase kind n b.device → d.device ≡ with_pages_erased (n ∷ []) b.device)
-      → Goes flashes (Erases n ∷ []) l2 a d (Ok y)
-      (λ x. d.device.flash ≡ with_page chip n (erased_page chip n) a.device.flash)
-  said_erased y holds model_then erased =
-      said_then (Erases n) n (Erase n) flashes l2 l2 a b d (Ok y) said
-      (erase_goes laws flashes l2 n chip kind b d said.model said.line.steady said.under still
-      kind_is exists y holds model_then (erased said.line.honest may))
-      (λ x done. done
-      ∙ ap (λ (v : Device). with_page chip n (erased_page chip n) v.flash) said.line.done)
+module _ (laws : StepLaws) (e : Entry) (n : ℕ) (i : Intent) (l l2 : Loaded) (a b : RigState) (model : a.is_honest → IsModel a)
+    (later : b.is_honest → IsModel b) (step : (flashes : List (List ℕ)) → IsSteady flashes l a → IsStep e flashes (state_at a.journal) a.device)
+    (as_added : (s2 : StateData) → HasIntended n i (state_at a.journal) s2 → HasAdded e (state_at a.journal) s2) where
+  pub says : (r : Result (Unit {0}) JournalFault) → GoesOn (AppendsOnce (added_bytes l.is_torn (e ∷ [])) r) a.calls b.calls
+      → (a.is_honest → IsLoaded l a.journal → Appends (e ∷ []) l l2 a b r) → OnOk r (l2 ≡ loaded_after (e ∷ []) l) → IfErr r (LeavesLoaded l l2)
+      → (a.is_honest → IsLoaded l a.journal → OnOk r (InText (HasIntended n i) a.journal b.journal))
+      → Performs (Are (Adds (e ∷ []) ∷ [])) (e ∷ []) (Unit {0}) (λ y. IsSaid n i a b) l l2 a b (of_call r)
+  says (Ok x) calls call after left text =
+      record {
+        order = (Adds (e ∷ []) ∷ [], refl, does_add x (e ∷ []) l l2 a b calls (ap (λ (m : Loaded). m.is_torn) after));
+        stops = tt;
+        honest = λ flashes steady may.
+            let s = state_at a.journal in
+            let s2 = state_at b.journal in
+            let appends = call steady.honest steady.loaded in
+            let has = text steady.honest steady.loaded s s2 (good_at l a.journal steady.loaded) (good_at l2 b.journal appends.loaded) in
+            goes_ok flashes (e ∷ []) l2 a b (tt {0}) x
+            (line_goes laws e flashes l l2 a b (model steady.honest) steady (step flashes steady) x (tt {0}) appends after (as_added s2 has))
+            (λ same. (same, is_under n i s s2 has));
+      }
+  says (Err fault) calls call after left text =
+      record {
+        order = tt;
+        stops = line_stops (Unit {0}) (Begin (Are (Adds (e ∷ []) ∷ []))) l.is_torn (e ∷ []) fault a b (Adds (e ∷ []) ∷ [], refl) ([], refl) calls;
+        honest = λ flashes steady may.
+            line_fails laws e flashes l l2 a b (model steady.honest) steady (step flashes steady) [] l2 fault (Err (fault_of_journal fault))
+            (call steady.honest steady.loaded) left refl;
+      }
 
-  pub said_unerased : {U : Type 0} {turns : List Turn} {Done : U → Type 0} {fault : WireFault}
-      (l3 : Loaded) (result : Result U Fault) → BreaksOff fault (erase_frame kind n) turns b d
-      → (b.is_honest → CanErase kind n b.device → fault ≡ Line)
-      → IsErrAnd result (λ e. e ≡ fault_of fault) → Goes flashes (Erases n ∷ []) l3 a d result Done
-  said_unerased l3 result breaks line is =
-      said_then (Erases n) n (Erase n) flashes l2 l3 a b d result said
-      (erase_fails laws flashes l2 n chip kind b d said.model said.line.steady said.under still
-      kind_is exists [] l3 result breaks (line said.line.honest may) is) (λ y done. done)
+-- and what is done under it goes after its line
+pub says_then : {T U : Type 0} {e : Entry} {n : ℕ} {i : Intent} {l l2 l3 : Loaded} {a b c : RigState} {x : T} {result : Result U Fault}
+    {steps : List Step} (May : Device → Type 0) (Done : Device → U → Type 0)
+    → Performs {T = T} (Are (Adds (e ∷ []) ∷ [])) (e ∷ []) (Unit {0}) (λ y. IsSaid n i a b) l l2 a b (Ok x)
+    → Performs (Are steps) [] (May b.device × IsUnder n i (state_at b.journal)) (Done b.device) l2 l3 b c result
+    → (b.is_honest → IsModel b)
+    → Performs (Are (Adds (e ∷ []) ∷ steps)) (e ∷ []) (May a.device) (Done a.device) l l3 a c result
+says_then {U = U} {e = e} {steps = steps} May Done line own model =
+    performs_then line own model (λ ss ts is own. ap₂ (λ (l m : List Step). l ++ m) is own) (λ h may. tt)
+    (λ h may make said. record {
+      may = (subst May (sym said.0) may, said.1);
+      lines = refl;
+      gives = λ y done. let P : Device → Type 0 = λ d. Done d y in subst P said.0 done;
+    })
+
+-- a page is erased under its intent
+pub erase_performs : (laws : StepLaws) (l : Loaded) (n : ℕ) (chip : ChipData) (kind : EraseKind) (a b : RigState) (r : Result (Unit {0}) WireFault)
+    → kind ≡ chip.kind → n < page_count chip → (a.is_honest → IsModel a) → (b.is_honest → IsModel b)
+    → OnOk r (Holds (erase_frame kind n) (erase_turns kind n) a b) → IfErr r (λ fault. BreaksOff fault (erase_frame kind n) (erase_turns kind n) a b)
+    → (a.is_honest → CanErase kind n a.device → Does r (λ y. b.device ≡ with_pages_erased (n ∷ []) a.device))
+    → Performs (Are (Sends (erase_turns chip.kind n) ∷ [])) [] ((a.device.chip ≡ chip) × IsUnder n (Erase n) (state_at a.journal))
+    (λ y. b.device.flash ≡ with_page chip n (erased_page chip n) a.device.flash) l l a b (of_command r)
+erase_performs laws l n chip kind a b (Ok x) kind_is exists model later held broken does =
+    record {
+      order = (Sends (erase_turns chip.kind n) ∷ [], refl, does_erase chip n kind l a b kind_is held.recorded);
+      stops = tt;
+      honest = λ flashes steady may.
+          let here = model steady.honest in
+          let can = may_erase laws flashes l n chip kind a b here steady may.1 may.0 kind_is exists in
+          erase_goes laws flashes l n chip kind a b here steady may.1 may.0 kind_is exists x held later ((does steady.honest can).done);
+    }
+erase_performs laws l n chip kind a b (Err fault) kind_is exists model later held broken does =
+    let P : EraseKind → Type 0 = λ k. GoesOn (IsBrokenOff fault (erase_turns k n)) a.calls b.calls in
+    record {
+      order = tt;
+      stops = sent_stops (Begin (Are (Sends (erase_turns chip.kind n) ∷ []))) l.is_torn fault (erase_turns chip.kind n) a b ([], refl) (subst P kind_is broken.recorded);
+      honest = λ flashes steady may.
+          let here = model steady.honest in
+          let can = may_erase laws flashes l n chip kind a b here steady may.1 may.0 kind_is exists in
+          erase_fails laws flashes l n chip kind a b here steady may.1 may.0 kind_is exists [] l (Err (fault_of fault)) broken ((does steady.honest can).fails) refl;
+    }

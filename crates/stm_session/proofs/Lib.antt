@@ -89,3 +89,4 @@ pub mod KeptRuns
 pub mod KeptUndoes
 pub mod Foreign
 pub mod Unprotections
+pub mod Performing

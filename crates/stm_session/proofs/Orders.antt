@@ -1,13 +1,11 @@
 -- Orders join.
-use Rattle.std.proofs.Common.{◌≡◌, ◌≢◌, ℕ, zero, suc, ◌+◌, ◌*◌, ◌/◌, ◌<◌, ◌≤◌, Bool, false, if◌then◌else◌, List, [], ◌∷◌, ◌++◌, length, get_or, take, drop, Option, Some, None, Ok, refl, sym, ◌∙◌, ap, ap₂, ⊎_elim, subst, arith, append_assoc, append-nil}
-use Rattle.std.specs.Prelude.{slice_get, bytes_eq}
-use Rattle.std.proofs.lemmas.Bool.{cases_Bool}
-use Rattle.std.proofs.lemmas.Slice.Eq.{bytes_eq-Decides}
+use Rattle.std.proofs.Common.{◌≡◌, ℕ, zero, suc, ◌+◌, ◌*◌, ◌<◌, ◌≤◌, Bool, false, List, [], ◌∷◌, ◌++◌, length, get_or, take, drop, Option, Some, None, Ok, refl, sym, ◌∙◌, ap, ap₂, subst, arith, append_assoc, append-nil}
+use Rattle.std.specs.Prelude.{slice_get}
 use Rattle.std.proofs.lemmas.List.{drop-append-le, length-drop, length-map, map-append, take-append-le, take_all, take_more}
 use Rattle.std.proofs.Math.Seq.{drop-append_seam}
 use Rattle.stm_wire.specs.declared.chip.EraseKind.{EraseKind}
 use Rattle.stm_wire.specs.Call.{Call, Put, Get, Append, Fetch}
-use Rattle.stm_wire.specs.Chip.{ChipData, erased_byte}
+use Rattle.stm_wire.specs.Chip.{ChipData}
 use Rattle.stm_wire.specs.Dialogue.{Turn, Adds as AddsCalls, AreLineCalls, GoesOn, calls_of}
 use Rattle.stm_wire.specs.DialogueLaws.{GoesOn-adds, GoesOn-append, GoesOn-nothing, GoesOn-weaker, calls_of-are_line}
 use Rattle.stm_wire.specs.Frames.{erase_turns, read_turns, write_turns}
@@ -15,7 +13,6 @@ use Rattle.stm_wire.specs.Rig.{RigState}
 use Rattle.stm_wire.specs.Settling.{SettlesWithin}
 use Rattle.stm_session.specs.Fresh.{EndsWell, Way, byte_of, limit_of}
 use Rattle.stm_chip.specs.declared.plan.Frame.{Frame}
-use Rattle.stm_chip.specs.Plan.{frames_of}
 use Rattle.stm_journal.specs.declared.entry.Entry.{Entry}
 use Rattle.stm_journal.specs.declared.entry.Entry.TheVariants.{Programs}
 use Rattle.stm_journal.specs.declared.kept.Kept.{Kept}
@@ -23,7 +20,7 @@ use Rattle.stm_journal.specs.Calls.{AppendsOnce, AreFetches}
 use Rattle.stm_journal.specs.Journals.{Loaded, added_bytes}
 use Rattle.stm_journal.specs.Newest.{pages_of_segments}
 use Rattle.stm_journal.specs.States.{SegmentData}
-use Rattle.stm_session.specs.Order.{Step, Adds, Sends, Tells, AreReturned, AreTakenBack, DoesSteps, IsInOrder, IsReturned, IsTakenBack, acts_of, acts_of_steps, behind, page_address, program_steps, read_steps, restore_steps, rewrite_steps, torn_behind, write_step, write_steps}
+use Rattle.stm_session.specs.Order.{Step, Adds, Sends, Tells, AreReturned, AreTakenBack, DoesSteps, IsInOrder, IsReturned, IsTakenBack, acts_of, acts_of_steps, behind, page_address, program_steps, read_steps, torn_behind, write_step, write_steps}
 use Rattle.stm_session.specs.Reaching.{SettlesFirst, SettlesThen}
 use Rattle.stm_session.specs.Undoable.{newest_kept}
 use Rattle.stm_session.proofs.Tellings.{behind_both, returned_as, taken_as}
@@ -246,16 +243,6 @@ order_written chip n page f torn address at bytes part a b adds =
 pub some_program : (chip : ChipData) (n : ℕ) (page : List ℕ) (frames : List Frame) → (length frames ≡ 0 → ⊥) → Adds (Programs n ∷ []) ∷ write_steps chip n page frames ≡ program_steps chip n page frames
 some_program chip n page [] some = absurd (some refl)
 some_program chip n page (f ∷ frames) some = refl
-
--- a page is rewritten where it doesn't hold its bytes
-pub no_steps : (chip : ChipData) (n : ℕ) (held page : List ℕ) → held ≡ page → restore_steps chip n held page ≡ []
-no_steps chip n held page same = ap (λ (b : Bool). if b then [] else rewrite_steps chip n page (frames_of (erased_byte chip) page (length page / 256))) ((bytes_eq-Decides held page).1 same)
-
-pub some_steps : (chip : ChipData) (n : ℕ) (held page : List ℕ) (frames : List Frame) → held ≢ page → frames ≡ frames_of (erased_byte chip) page (length page / 256) → rewrite_steps chip n page frames ≡ restore_steps chip n held page
-some_steps chip n held page frames other is =
-    ap (λ (fs : List Frame). rewrite_steps chip n page fs) is
-    ∙ sym (ap (λ (b : Bool). if b then [] else rewrite_steps chip n page (frames_of (erased_byte chip) page (length page / 256)))
-    (⊎_elim (λ yes. absurd (other ((bytes_eq-Decides held page).0 yes))) (λ none. none) (cases_Bool (bytes_eq held page))))
 
 -- blocks that were read don't change by what is read behind them
 block_before : (n : ℕ) (bytes more : List ℕ) → n + 256 ≤ length bytes → take 256 (drop n (bytes ++ more)) ≡ take 256 (drop n bytes)

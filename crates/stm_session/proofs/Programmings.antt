@@ -1,5 +1,6 @@
 -- A page that the newest segment keeps is written, frame by frame.
-use Rattle.std.proofs.Common.{◌≡◌, inr, ℕ, ◌+◌, ◌-◌, ◌<◌, ◌≤◌, Bool, List, [], length, append-nil, get_or, take, drop, replicate, Some, Result, Ok, IsErrAnd, refl, sym, ◌∙◌, ap, subst, arith, IsTrue}
+use Rattle.std.proofs.Common.{◌≡◌, inr, ℕ, ◌+◌, ◌-◌, ◌<◌, ◌≤◌, Bool, List, [], length, append-nil, get_or, take, drop, replicate, Some, Result, Ok, Err, IsErrAnd, refl, sym, ◌∙◌, ap, subst, arith, IsTrue}
+use Rattle.std.specs.Prelude.{OnOk}
 use Rattle.std.proofs.lemmas.Bool.Decides.{nat_tests}
 use Rattle.stm_wire.specs.declared.fault.WireFault.{WireFault}
 use Rattle.stm_wire.specs.declared.fault.WireFault.TheVariants.{Line}
@@ -22,11 +23,13 @@ use Rattle.stm_journal.specs.declared.entry.Entry.{Entry}
 use Rattle.stm_journal.specs.Journals.{Loaded}
 use Rattle.stm_session.specs.declared.fault.Fault.{Fault}
 use Rattle.stm_session.specs.Fault.{fault_of}
-use Rattle.stm_session.specs.Order.{IsInOrder, write_steps}
+use Rattle.stm_session.specs.Order.{Are, Begin, Follows, IsInOrder, Stops, write_steps}
+use Rattle.stm_session.specs.Performs.{Performs}
 use Rattle.stm_session.specs.StepLaws.{StepLaws}
 use Rattle.stm_session.specs.Steps.{IsSteady, Goes, IsUnder}
 use Rattle.stm_session.specs.Undoable.{state_at}
 use Rattle.stm_session.proofs.Frames.{IsErasedPart, length-part, next_erased, next_frame, written-next, part_put}
+use Rattle.stm_session.proofs.Orders.{does_writes}
 use Rattle.stm_session.proofs.Going.{frame_goes, frame_fails, goes_then, at_exit}
 
 fits_at : (chip : ChipData) (address size : ℕ) → chip.base ≤ address → address + size ≤ chip.base + flash_size chip → IsTrue (fits_inside chip address size)
@@ -143,3 +146,18 @@ module _ (laws : StepLaws) (chip : ChipData) (n : ℕ) (page : List ℕ) (frames
       e ∙ ap (λ (xs : List ℕ). with_bytes (page_offset chip n + (get_or frames i d).offset) (take (get_or frames i d).length (drop (get_or frames i d).offset page)) xs) written_before.done
       ∙ put_in (page_offset chip n) (get_or frames i d).offset (take (get_or frames i d).length (drop (get_or frames i d).offset page)) held base fits (omega (arith, part, ends))
       ∙ ap (λ (xs : List ℕ). with_page chip n xs base) (sym (written-next page d frames (erased_page chip n) i lt))
+
+-- frames are written under their intent, by what their function ensures
+pub frames_perform : (chip : ChipData) (n : ℕ) (page : List ℕ) (frames : List Frame) (base : List ℕ) (l : Loaded) (a b : RigState) (result : Result (Unit {0}) Fault)
+    → ((torn : Bool) → OnOk result (GoesOn (IsInOrder torn (write_steps chip n page frames)) a.calls b.calls))
+    → ((torn : Bool) → Stops (Begin (Are (write_steps chip n page frames))) torn a b result)
+    → ((flashes : List (List ℕ)) (l : Loaded) (base : List ℕ) → IsSteady flashes l a → a.device.chip ≡ chip → IsUnder n (Program n) (state_at a.journal) → length base ≡ flash_size chip
+    → a.device.flash ≡ with_page chip n (erased_page chip n) base → Goes flashes [] l a b result (λ y. b.device.flash ≡ with_page chip n (written page frames (erased_page chip n)) base))
+    → Performs (Are (write_steps chip n page frames)) [] (((a.device.chip ≡ chip) × (length base ≡ flash_size chip) × (a.device.flash ≡ with_page chip n (erased_page chip n) base)) × IsUnder n (Program n) (state_at a.journal))
+    (λ y. b.device.flash ≡ with_page chip n (written page frames (erased_page chip n)) base) l l a b result
+frames_perform chip n page frames base l a b result order stops honest =
+    record { order = done result order; stops = stops l.is_torn; honest = λ flashes steady may. honest flashes l base steady may.0.0 may.1 may.0.1 may.0.2 }
+  where
+    done : (r : Result (Unit {0}) Fault) → ((torn : Bool) → OnOk r (GoesOn (IsInOrder torn (write_steps chip n page frames)) a.calls b.calls)) → OnOk r (Follows (Are (write_steps chip n page frames)) l l a b)
+    done (Ok y) order = (write_steps chip n page frames, refl, does_writes chip n page l frames a b (order l.is_torn))
+    done (Err e) order = tt

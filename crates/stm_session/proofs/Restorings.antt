@@ -1,26 +1,81 @@
--- The lines by which a page is given other bytes, or none where it holds them.
-use Rattle.stm_session.specs.Running.{bytes_at}
-use Rattle.stm_journal.specs.declared.kept.Kept.{Kept}
-use Rattle.std.proofs.Common.{◌≡◌, ◌≢◌, ◌/◌, Bool, if◌then◌else◌, ℕ, List, [], ◌∷◌, length, sym, ◌∙◌, ap, ◌+◌, ◌-◌, take, drop, ap₂, arith}
-use Rattle.std.specs.Prelude.{bytes_eq}
-use Rattle.std.proofs.lemmas.Bool.{cases_Bool}
-use Rattle.std.proofs.Common.{⊎_elim}
-use Rattle.std.proofs.lemmas.Slice.Eq.{bytes_eq-Decides}
-use Rattle.stm_wire.specs.Chip.{ChipData, erased_byte, page_of, page_offset, page_size}
-use Rattle.stm_chip.specs.declared.plan.Frame.{Frame}
+-- The steps and lines by which a page is given other bytes, or none where it holds them.
+use Rattle.std.proofs.Common.{◌≡◌, ◌∙◌, ◌+◌, ◌-◌, ◌*◌, ◌/◌, ◌<◌, ◌++◌, [], List, ℕ, Bool, true, false}
+use Rattle.std.proofs.Common.{if◌then◌else◌, length, take, drop, Some, Result, ap, ap₂, sym, arith}
+use Rattle.std.specs.Prelude.{OnOk, bytes_eq}
+use Rattle.stm_wire.specs.Chip.{ChipData, erased_byte, page_count, page_of, page_offset, page_size}
+use Rattle.stm_wire.specs.Dialogue.{GoesOn}
+use Rattle.stm_wire.specs.Parts.{IsPart}
+use Rattle.stm_wire.specs.Rig.{RigState}
 use Rattle.stm_chip.specs.Plan.{frames_of}
 use Rattle.stm_journal.specs.declared.entry.Entry.{Entry}
-use Rattle.stm_journal.specs.declared.entry.Entry.TheVariants.{Erases}
-use Rattle.stm_session.specs.Lines.{program_entries, rewrite_entries, return_entries}
+use Rattle.stm_journal.specs.declared.kept.Kept.{Kept}
+use Rattle.stm_journal.specs.Journals.{Loaded}
+use Rattle.stm_session.specs.declared.fault.Fault.{Fault}
+use Rattle.stm_session.specs.ChangeOrder.{IsChanged, IsChangedUnless}
+use Rattle.stm_session.specs.Changing.{change_entries}
+use Rattle.stm_session.specs.Lines.{rewrite_entries, return_entries}
+use Rattle.stm_session.specs.Order.{Step, Are, Begin, DoesSteps, Follows, Stops, restore_steps}
+use Rattle.stm_session.specs.Order.{rewrite_steps}
+use Rattle.stm_session.specs.Running.{bytes_at}
+use Rattle.stm_session.specs.Sending.{is_whole}
+use Rattle.stm_session.proofs.CutShort.{begin_as}
+use Rattle.stm_session.proofs.Orders.{does_as}
+use Rattle.stm_session.proofs.SentChanges.{put_rewritten}
+use Rattle.stm_session.proofs.SentSteps.{PutFew, put_as, put_front, put_none, steps_put}
 
-pub no_lines : (chip : ChipData) (n : ℕ) (held page : List ℕ) → held ≡ page → (if bytes_eq held page then [] else rewrite_entries chip n page) ≡ []
-no_lines chip n held page same = ap (λ (b : Bool). if b then [] else rewrite_entries chip n page) ((bytes_eq-Decides held page).1 same)
+-- A page that is kept is changed by the steps that give it back,
+module _ (chip : ChipData) (n : ℕ) (held page : List ℕ) where
+  kept_steps : (steps : List Step) → IsChanged true chip n held page steps
+      → steps ≡ restore_steps chip n held page
+  kept_steps steps = by_same (bytes_eq held page)
+    where
+      by_same : (same : Bool) → IsChangedUnless same true chip n held page steps
+          → steps ≡ (if same then [] else rewrite_steps chip n page
+          (frames_of (erased_byte chip) page (length page / 256)))
+      by_same true is = is
+      by_same false is =
+          is.is ∙ ap (λ (l : List Step). l ++ rewrite_steps chip n page
+          (frames_of (erased_byte chip) page (length page / 256))) is.is_saved
 
-pub some_lines : (chip : ChipData) (n : ℕ) (held page : List ℕ) (frames : List Frame) → held ≢ page → frames ≡ frames_of (erased_byte chip) page (length page / 256)
-    → Erases n ∷ program_entries n frames ≡ (if bytes_eq held page then [] else rewrite_entries chip n page)
-some_lines chip n held page frames other is =
-    ap (λ (fs : List Frame). Erases n ∷ program_entries n fs) is
-    ∙ sym (ap (λ (b : Bool). if b then [] else rewrite_entries chip n page) (⊎_elim (λ yes. absurd (other ((bytes_eq-Decides held page).0 yes))) (λ none. none) (cases_Bool (bytes_eq held page))))
+  pub kept_does : (l l2 : Loaded) (a b : RigState)
+      → Follows (IsChanged true chip n held page) l l2 a b
+      → DoesSteps (restore_steps chip n held page) l l2 a b
+  kept_does l l2 a b made = does_as made.0 _ l l2 a b (kept_steps made.0 made.1) made.2
+
+  pub kept_begun : (steps : List Step) → Begin (IsChanged true chip n held page) steps
+      → Begin (Are (restore_steps chip n held page)) steps
+  kept_begun = begin_as (IsChanged true chip n held page) _ kept_steps
+
+  -- which put few bytes,
+  pub kept_puts : {T : Type 0} (l l2 : Loaded) (a b : RigState) (result : Result T Fault)
+      → n < page_count chip → length page ≡ page_size chip n
+      → OnOk result (Follows (IsChanged true chip n held page) l l2 a b)
+      → Stops (Begin (IsChanged true chip n held page)) l.is_torn a b result
+      → GoesOn (IsPart (Some chip) (is_whole result) (9 + 2 * length page)) a.calls b.calls
+  kept_puts l l2 a b result exists size =
+      let Made = IsChanged true chip n held page in
+      let most = 9 + 2 * length page in
+      steps_put chip most (λ _. Made) (Begin Made) l l2 a b result (λ _. few)
+      (λ xs begun. put_front chip most xs begun.0 (few (xs ++ begun.0) begun.1))
+    where
+      by_same : (same : Bool) → PutFew chip (9 + 2 * length page) (if same then []
+          else rewrite_steps chip n page (frames_of (erased_byte chip) page (length page / 256)))
+      by_same true = put_none chip (9 + 2 * length page)
+      by_same false = put_rewritten chip n page exists size
+
+      few : (xs : List Step) → IsChanged true chip n held page xs
+          → PutFew chip (9 + 2 * length page) xs
+      few xs made =
+          let most = 9 + 2 * length page in
+          put_as chip most most _ xs (omega arith) (kept_steps xs made)
+          (by_same (bytes_eq held page))
+
+  -- and by its lines.
+  pub kept_lines : (flash : List ℕ) → held ≡ page_of chip flash n
+      → change_entries true chip flash n page
+      ≡ (if bytes_eq held page then [] else rewrite_entries chip n page)
+  kept_lines flash read =
+      ap (λ (xs : List ℕ). if bytes_eq xs page then [] else rewrite_entries chip n page) (sym read)
 
 -- a part of the flash that is a page
 pub page_read : (chip : ChipData) (flash : List ℕ) (n start size : ℕ) → start ≡ chip.base + page_offset chip n → size ≡ page_size chip n → bytes_at chip flash start size ≡ page_of chip flash n

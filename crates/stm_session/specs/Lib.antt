@@ -48,3 +48,4 @@ pub mod AskingBoard
 pub mod ToldBoard
 pub mod AskedBoard
 pub mod Boards
+pub mod Performs

@@ -1,13 +1,13 @@
 // Changing a page in a command.
-ghost use Rattle.std.specs.Prelude.{◌≡◌, ◌≢◌, ◌<◌, List, ℕ, length, not, bytes_eq, true};
+ghost use Rattle.std.specs.Prelude.{◌≡◌, ◌≢◌, ◌<◌, length, not, bytes_eq, true};
 ghost use Rattle.std.specs.Prelude.{false, IfOk, OnOk, IsTrue, IfErr};
 ghost use Rattle.stm_wire.specs.Chip.{page_count, page_size, page_of, with_page};
 ghost use Rattle.stm_journal.specs.States.{newest_keeps, newest_may_keep};
+ghost use Rattle.stm_journal.specs.Newest.{KeepsSame};
 ghost use Rattle.stm_session.specs.Fault.{HasSessionCause};
 ghost use Rattle.stm_session.specs.ChangeOrder.{IsChanged};
-ghost use Rattle.stm_session.specs.Order.{Begin, Follows, Stops};
 ghost use Rattle.stm_session.specs.Undoable.{has_companion};
-ghost use Rattle.stm_session.specs.Steps.{IsSteady, Goes};
+ghost use Rattle.stm_session.specs.Performs.{Performs};
 ghost use Rattle.stm_session.specs.Changing.{HasTurned, change_entries};
 
 use crate::Fault;
@@ -20,7 +20,8 @@ use stm_journal::Journal;
 use stm_wire::{Chip, Rig};
 
 /// Gives page `n`, which was read, these bytes: it is kept first, if it wasn't, and with page 1
-/// page 257. Nothing is done where it holds them. Whether it was changed.
+/// page 257. One that was kept is given back so. Nothing is done where it holds them. Whether it was
+/// changed.
 pub fn change_page<R: Rig>(
     alloc: Global,
     rig: &mut R,
@@ -41,20 +42,15 @@ pub fn change_page<R: Rig>(
     ensures changed { IfOk result (λ changed. changed ≡ not (bytes_eq held.now page.now)) }
     ensures turned { IfOk result
         (λ changed. HasTurned kept changed chip.now n journal.old.state journal.new.state) }
+    ensures same { kept ≡ true → OnOk result (KeepsSame journal.old.state journal.new.state) }
     ensures cause { HasSessionCause (R.view rig.old) (R.view rig.new) result }
     ensures named { IfErr result (λ fault. fault ≢ Fault.Unfinished) }
-    ensures order { let old = R.view rig.old in let new = R.view rig.new in
-        let Made = IsChanged kept chip.now n held.now page.now in
-        OnOk result (Follows Made journal.old journal.new old new) }
-    ensures stops { let old = R.view rig.old in let new = R.view rig.new in
-        let Made = IsChanged kept chip.now n held.now page.now in
-        Stops (Begin Made) journal.old.is_torn old new result }
-    ensures honest { let old = R.view rig.old in let new = R.view rig.new in
-        (flashes : List (List ℕ)) → IsSteady flashes journal.old old → old.device.chip ≡ chip.now
-        → held.now ≡ page_of chip.now old.device.flash n
-        → let lines = change_entries kept chip.now old.device.flash n page.now in
-        Goes flashes lines journal.new old new result
-        (λ _. new.device.flash ≡ with_page chip.now n page.now old.device.flash) }
+    ensures performs { let old = R.view rig.old in let new = R.view rig.new in
+        let made = with_page chip.now n page.now old.device.flash in
+        Performs (IsChanged kept chip.now n held.now page.now)
+        (change_entries kept chip.now old.device.flash n page.now)
+        ((old.device.chip ≡ chip.now) × (held.now ≡ page_of chip.now old.device.flash n))
+        (λ _. new.device.flash ≡ made) journal.old journal.new old new result }
 {
     step_laws();
     chip.keeps_limits();

@@ -1,12 +1,12 @@
 // Erasing a page that the journal keeps.
-ghost use Rattle.std.specs.Prelude.{◌≡◌, ◌≢◌, ◌<◌, ◌∷◌, [], List, ℕ, OnOk, IsTrue, IfErr};
+ghost use Rattle.std.specs.Prelude.{◌≡◌, ◌≢◌, ◌<◌, ◌∷◌, [], OnOk, IsTrue, IfErr};
 ghost use Rattle.stm_wire.specs.Chip.{page_count, with_page, erased_page};
 ghost use Rattle.stm_journal.specs.declared.entry.Entry.TheVariants.{Erases};
 ghost use Rattle.stm_journal.specs.States.{newest_keeps};
 ghost use Rattle.stm_journal.specs.Newest.{HasIntended};
 ghost use Rattle.stm_session.specs.Fault.{HasSessionCause};
-ghost use Rattle.stm_session.specs.Order.{Are, Begin, DoesSteps, Stops, erase_steps};
-ghost use Rattle.stm_session.specs.Steps.{IsSteady, Goes};
+ghost use Rattle.stm_session.specs.Order.{Are, erase_steps};
+ghost use Rattle.stm_session.specs.Performs.{Performs};
 
 use crate::Fault;
 use crate::laws_of_steps::step_laws;
@@ -26,14 +26,10 @@ pub fn erase_kept<R: Rig>(
         (HasIntended n (Intent.Erase n) journal.old.state journal.new.state) }
     ensures cause { HasSessionCause (R.view rig.old) (R.view rig.new) result }
     ensures named { IfErr result (λ fault. fault ≢ Fault.Unfinished) }
-    ensures order { let old = R.view rig.old in let new = R.view rig.new in
-        OnOk result (DoesSteps (erase_steps chip.now n) journal.old journal.new old new) }
-    ensures stops { let old = R.view rig.old in let new = R.view rig.new in
-        Stops (Begin (Are (erase_steps chip.now n))) journal.old.is_torn old new result }
-    ensures honest { let old = R.view rig.old in let new = R.view rig.new in
-        (flashes : List (List ℕ)) → IsSteady flashes journal.old old → old.device.chip ≡ chip.now
-        → Goes flashes (Erases n ∷ []) journal.new old new result
-        (λ _. new.device.flash ≡ with_page chip.now n (erased_page chip.now n) old.device.flash) }
+    ensures performs { let old = R.view rig.old in let new = R.view rig.new in
+        let erased = with_page chip.now n (erased_page chip.now n) old.device.flash in
+        Performs (Are (erase_steps chip.now n)) (Erases n ∷ []) (old.device.chip ≡ chip.now)
+        (λ _. new.device.flash ≡ erased) journal.old journal.new old new result }
 {
     step_laws();
     chip.keeps_limits();

@@ -34,7 +34,6 @@ mod page_changes;
 mod programming;
 mod reading;
 mod reading_again;
-mod restoring;
 mod returned;
 mod returned_bytes;
 mod returning;

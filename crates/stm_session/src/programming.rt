@@ -10,10 +10,11 @@ ghost use Rattle.stm_journal.specs.States.{newest_keeps};
 ghost use Rattle.stm_journal.specs.Newest.{HasIntended};
 ghost use Rattle.stm_journal.specs.Journals.{Loaded};
 ghost use Rattle.stm_session.specs.Fault.{HasSessionCause};
-ghost use Rattle.stm_session.specs.Order.{Adds, Are, Begin, DoesSteps, IsInOrder, Stops};
+ghost use Rattle.stm_session.specs.Order.{Adds, Are, Begin, IsInOrder, Stops};
 ghost use Rattle.stm_session.specs.Order.{write_step, write_steps};
 ghost use Rattle.stm_wire.specs.FlashLaws.{IsErasedAt};
 ghost use Rattle.stm_session.specs.Undoable.{state_at};
+ghost use Rattle.stm_session.specs.Performs.{Performs};
 ghost use Rattle.stm_session.specs.Steps.{IsSteady, IsUnder, Goes};
 
 use crate::Fault;
@@ -109,19 +110,14 @@ pub fn program_kept<R: Rig>(
         (HasIntended n (Intent.Program n) journal.old.state journal.new.state) }
     ensures cause { HasSessionCause (R.view rig.old) (R.view rig.new) result }
     ensures named { IfErr result (λ fault. fault ≢ Fault.Unfinished) }
-    ensures order { let old = R.view rig.old in let new = R.view rig.new in
+    ensures performs { let old = R.view rig.old in let new = R.view rig.new in
         let steps = Adds (Programs n ∷ []) ∷ write_steps chip.now n page.now frames.now in
-        OnOk result (DoesSteps steps journal.old journal.new old new) }
-    ensures stops { let old = R.view rig.old in let new = R.view rig.new in
-        let steps = Adds (Programs n ∷ []) ∷ write_steps chip.now n page.now frames.now in
-        Stops (Begin (Are steps)) journal.old.is_torn old new result }
-    ensures honest { let old = R.view rig.old in let new = R.view rig.new in
-        (flashes : List (List ℕ)) (base : List ℕ) → IsSteady flashes journal.old old
-        → old.device.chip ≡ chip.now → length base ≡ flash_size chip.now
-        → old.device.flash ≡ with_page chip.now n (erased_page chip.now n) base
-        → Goes flashes (Programs n ∷ []) journal.new old new result
-        (λ _. new.device.flash ≡ with_page chip.now n
-        (written page.now frames.now (erased_page chip.now n)) base) }
+        let erased = erased_page chip.now n in
+        (base : List ℕ) → Performs (Are steps) (Programs n ∷ [])
+        ((old.device.chip ≡ chip.now) × (length base ≡ flash_size chip.now)
+        × (old.device.flash ≡ with_page chip.now n erased base))
+        (λ _. new.device.flash ≡ with_page chip.now n (written page.now frames.now erased) base)
+        journal.old journal.new old new result }
 {
     step_laws();
     let _depth = journal.depth();

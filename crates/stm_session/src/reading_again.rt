@@ -16,9 +16,9 @@ ghost use Rattle.stm_session.specs.Sending.{is_whole};
 ghost use Rattle.stm_session.specs.Steps.{IsSteady, Goes};
 
 use crate::Fault;
+use crate::changing::change_page;
 use crate::laws_of_steps::step_laws;
 use crate::reading::read_range;
-use crate::restoring::restore_page;
 use std::alloc::Global;
 use stm_journal::Journal;
 use stm_wire::{Chip, Rig};
@@ -101,7 +101,7 @@ pub fn return_page<R: Rig>(
         (λ _. new.device.flash ≡ with_page chip.now n page.now old.device.flash) }
 {
     step_laws();
-    restore_page(alloc, rig, journal, chip, n, held, page)?;
+    change_page(alloc, rig, journal, chip, n, held, page, true)?;
     if !again {
         return Ok(());
     }

@@ -140,6 +140,7 @@ pub fn save_pages<R: Rig>(
     requires companion { kept ≡ false → n ≡ 1 → IsTrue (has_companion chip.now)
         → IsTrue (newest_may_keep 257 journal.old.state) }
     ensures saved { OnOk result (HasAllSaved kept chip.now n journal.old.state journal.new.state) }
+    ensures still { kept ≡ true → journal.new ≡ journal.old }
     ensures cause { HasSessionCause (R.view rig.old) (R.view rig.new) result }
     ensures named { IfErr result (λ fault. fault ≢ Fault.Unfinished) }
     ensures order { let old = R.view rig.old in let new = R.view rig.new in

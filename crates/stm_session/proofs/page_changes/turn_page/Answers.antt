@@ -159,7 +159,7 @@ returns-in_err-changed-clause-honest g c flashes steady chip =
     let last = (goal.at.returns-in_err-changed-clause-honest g c).After-change_page in
     goes_fault flashes (change_entries c.args.kept k a.device.flash n made) l2 l2 a
     (V c.change_page.new.rig) _ c.from_residual-in_err-changed.result
-    (turned g last flashes steady chip _ _ refl (c.in_err-changed.ensures.honest flashes))
+    (turned g last flashes steady chip _ _ refl (λ steady chip read. c.in_err-changed.ensures.performs.honest flashes steady (chip, read)))
     c.from_residual-in_err-changed.ensures.1
 
 pub returns-clause-honest : goal.returns-clause-honest
@@ -173,7 +173,7 @@ returns-clause-honest g c flashes steady chip =
     goes_ok flashes (change_entries c.args.kept k a.device.flash n made) c.change_page.new.journal a
     (V c.change_page.new.rig) c.in_ok-changed.changed c.in_ok-changed.changed
     (turned g last flashes steady chip _ c.in_ok-changed.changed c.in_ok-changed.ensures.changed
-    (c.in_ok-changed.ensures.honest flashes)) (λ given. given)
+    (λ steady chip read. c.in_ok-changed.ensures.performs.honest flashes steady (chip, read))) (λ given. given)
 
 pub returns-then-not-touches-clause-order : goal.returns-then-not-touches-clause-order
 returns-then-not-touches-clause-order g c =
@@ -192,7 +192,7 @@ returns-clause-order g c =
     was_read g (goal.at.returns-clause-order g c).After-content held c.deref-2.ensures.value in
     let last = (goal.at.returns-clause-order g c).After-change_page in
     let page_is = is_made g last in
-    let later = c.in_ok-changed.ensures.order in
+    let later = c.in_ok-changed.ensures.performs.order in
     let steps = reads ++ later.0 in
     let P : List ℕ → Type 0 = λ p. IsChanged c.args.kept chip n held p later.0 in
     let counts = c.in_ok-changed.ensures.changed
@@ -256,7 +256,7 @@ returns-in_err-changed-clause-stops g c =
     then_stops (Begin Made) (Begin Turn) reads l l (V c.args.rig.now) (V c.read_range.new.rig)
     (V c.change_page.new.rig) _ c.from_residual-in_err-changed.result
     c.from_residual-in_err-changed.ensures.1 (was_read g here held c.deref-2.ensures.value)
-    c.in_err-changed.ensures.stops
+    c.in_err-changed.ensures.performs.stops
     (begin_after Made Turn reads (λ ys changed. turn_of c.args.kept chip c.args.change.now n held
     page ys (c.touches.ensures.may c.if-not-touches.false) (held_size g last) (is_made g last)
     changed))

@@ -1,10 +1,11 @@
-use Rattle.std.proofs.Common.{◌≡◌, ◌∙◌, ◌+◌, ◌*◌, ◌++◌, if◌then◌else◌, [], List, ℕ, Bool, Some, Ok, true, false, length, ap, append-nil, refl, sym, subst, arith, rules}
+use Rattle.std.proofs.Common.{◌≡◌, ◌∙◌, ◌+◌, ◌*◌, ◌++◌, if◌then◌else◌, [], List, ℕ, Bool, Some, Ok, Err, true, false, length, ap, append-nil, refl, sym, subst, arith, rules}
 use Rattle.std.specs.Prelude.{bytes_eq}
 use Rattle.stm_wire.specs.Chip.{page_of, with_page}
 use Rattle.stm_wire.specs.Device.{Device}
+use Rattle.stm_wire.specs.Dialogue.{GoesOn}
+use Rattle.stm_wire.specs.Parts.{IsPart}
 use Rattle.stm_wire.specs.PartLaws.{part_weaker}
-use Rattle.stm_journal.specs.declared.entry.Entry.{Entry}
-use Rattle.stm_session.specs.Asking.{Asks}
+use Rattle.stm_session.specs.ChangeOrder.{IsChanged}
 use Rattle.stm_session.specs.Lines.{rewrite_entries}
 use Rattle.stm_session.specs.Order.{Are, AreReadsOf, Begin, DoesSteps, OrMisread, page_address, page_reads, restore_steps, return_steps}
 use Rattle.stm_wire.specs.Chip.{page_size}
@@ -14,6 +15,7 @@ use Rattle.stm_session.proofs.Exits.{goes_fault}
 use Rattle.stm_session.proofs.Going.{asks_fail, asks_on, at_exit, goes_as, goes_ok, goes_then}
 use Rattle.stm_session.proofs.Misreads.{may_be, may_misread}
 use Rattle.stm_session.proofs.Orders.{does_as, does_then}
+use Rattle.stm_session.proofs.Restorings.{kept_begun, kept_does, kept_lines, kept_puts}
 use Rattle.stm_session.proofs.Rereadings.{holds_put, restore_begun, return_is, return_whole}
 use Rattle.stm_session.proofs.SentParts.{part_after, part_fails, part_fails_after}
 use Rattle.stm_session.proofs.reading_again.return_page.Given as given
@@ -26,51 +28,86 @@ first : (g : given.Over) (c : After-read_again g) (flashes : List (List ℕ))
     → (g.R.Rig.view c.args.rig.now).device.chip ≡ c.args.chip.now
     → c.args.held.now ≡ page_of c.args.chip.now (g.R.Rig.view c.args.rig.now).device.flash c.args.n
     → Goes {T = Unit {0}} flashes (if bytes_eq c.args.held.now c.args.page.now then []
-    else rewrite_entries c.args.chip.now c.args.n c.args.page.now) c.restore_page.new.journal
-    (g.R.Rig.view c.args.rig.now) (g.R.Rig.view c.restore_page.new.rig) (Ok tt)
-    (λ y. (g.R.Rig.view c.restore_page.new.rig).device.flash ≡ with_page c.args.chip.now c.args.n
+    else rewrite_entries c.args.chip.now c.args.n c.args.page.now) c.change_page.new.journal
+    (g.R.Rig.view c.args.rig.now) (g.R.Rig.view c.change_page.new.rig) (Ok tt)
+    (λ y. (g.R.Rig.view c.change_page.new.rig).device.flash ≡ with_page c.args.chip.now c.args.n
     c.args.page.now (g.R.Rig.view c.args.rig.now).device.flash)
 first g c flashes steady chip read =
-    goes_ok flashes _ c.restore_page.new.journal (g.R.Rig.view c.args.rig.now) (g.R.Rig.view c.restore_page.new.rig) _ (tt {0}) (c.in_ok-restore_page.ensures.honest flashes steady chip read) (λ p. p)
+    let a = g.R.Rig.view c.args.rig.now in
+    let b = g.R.Rig.view c.change_page.new.rig in
+    let l2 = c.change_page.new.journal in
+    goes_as flashes _ _ l2 a b _
+    (kept_lines c.args.chip.now c.args.n c.args.held.now c.args.page.now a.device.flash read)
+    (goes_ok flashes _ l2 a b _ (tt {0})
+    (c.in_ok-change_page.ensures.performs.honest flashes steady (chip, read)) (λ p. p))
+
+-- what it put
+gave : (g : given.Over) (c : After-read_again g)
+    → GoesOn (IsPart (Some c.args.chip.now) true (9 + 2 * length c.args.page.now))
+    (g.R.Rig.view c.args.rig.now).calls (g.R.Rig.view c.change_page.new.rig).calls
+gave g c =
+    kept_puts c.args.chip.now c.args.n c.args.held.now c.args.page.now c.args.journal.now
+    c.change_page.new.journal (g.R.Rig.view c.args.rig.now) (g.R.Rig.view c.change_page.new.rig)
+    (Ok c.in_ok-change_page.field-0) c.requires.exists c.requires.size
+    c.in_ok-change_page.ensures.performs.order tt
+
+-- and did
+given_back : (g : given.Over) (c : After-read_again g)
+    → DoesSteps (restore_steps c.args.chip.now c.args.n c.args.held.now c.args.page.now)
+    c.args.journal.now c.change_page.new.journal (g.R.Rig.view c.args.rig.now)
+    (g.R.Rig.view c.change_page.new.rig)
+given_back g c =
+    kept_does c.args.chip.now c.args.n c.args.held.now c.args.page.now c.args.journal.now
+    c.change_page.new.journal (g.R.Rig.view c.args.rig.now) (g.R.Rig.view c.change_page.new.rig)
+    c.in_ok-change_page.ensures.performs.order
 
 still : (g : given.Over) (c : After-read_again g) (flashes : List (List ℕ))
     → IsSteady flashes c.args.journal.now (g.R.Rig.view c.args.rig.now)
     → (g.R.Rig.view c.args.rig.now).device.chip ≡ c.args.chip.now
     → c.args.held.now ≡ page_of c.args.chip.now (g.R.Rig.view c.args.rig.now).device.flash c.args.n
-    → (g.R.Rig.view c.restore_page.new.rig).device.chip ≡ c.args.chip.now
+    → (g.R.Rig.view c.change_page.new.rig).device.chip ≡ c.args.chip.now
 still g c flashes steady chip read =
     let a = g.R.Rig.view c.args.rig.now in
-    let b = g.R.Rig.view c.restore_page.new.rig in
+    let b = g.R.Rig.view c.change_page.new.rig in
     let goes = first g c flashes steady chip read in
-    (at_exit _ a b (g.met.R.Rig.model c.restore_page.new.rig goes.honest) goes.moments).make.chip ∙ chip
+    (at_exit _ a b (g.met.R.Rig.model c.change_page.new.rig goes.honest) goes.moments).make.chip ∙ chip
 
 holds : (g : given.Over) (c : After-read_again g) (flashes : List (List ℕ))
     → IsSteady flashes c.args.journal.now (g.R.Rig.view c.args.rig.now)
     → (g.R.Rig.view c.args.rig.now).device.chip ≡ c.args.chip.now
     → c.args.held.now ≡ page_of c.args.chip.now (g.R.Rig.view c.args.rig.now).device.flash c.args.n
-    → page_of c.args.chip.now (g.R.Rig.view c.restore_page.new.rig).device.flash c.args.n ≡ c.args.page.now
+    → page_of c.args.chip.now (g.R.Rig.view c.change_page.new.rig).device.flash c.args.n ≡ c.args.page.now
 holds g c flashes steady chip read =
     let a = g.R.Rig.view c.args.rig.now in
-    let b = g.R.Rig.view c.restore_page.new.rig in
+    let b = g.R.Rig.view c.change_page.new.rig in
     let model = g.met.R.Rig.model c.args.rig.now steady.honest in
     holds_put c.args.chip.now c.args.n c.args.page.now a.device b.device.flash model.device chip c.requires.size (first g c flashes steady chip read).done
 
 -- The exits.
 
-pub returns-in_err-restore_page-clause-honest : goal.returns-in_err-restore_page-clause-honest
-returns-in_err-restore_page-clause-honest g c flashes steady chip read =
+pub returns-in_err-change_page-clause-honest : goal.returns-in_err-change_page-clause-honest
+returns-in_err-change_page-clause-honest g c flashes steady chip read =
     let V = g.R.Rig.view in
-    let l2 = c.restore_page.new.journal in
-    goes_fault flashes _ l2 l2 (V c.args.rig.now) (V c.restore_page.new.rig) _ c.from_residual.result (c.in_err-restore_page.ensures.honest flashes steady chip read) c.from_residual.ensures.1
+    let l2 = c.change_page.new.journal in
+    let a = V c.args.rig.now in
+    let b = V c.change_page.new.rig in
+    goes_as flashes _ _ l2 a b _
+    (kept_lines c.args.chip.now c.args.n c.args.held.now c.args.page.now a.device.flash read)
+    (goes_fault flashes _ l2 l2 a b _ c.from_residual.result
+    (c.in_err-change_page.ensures.performs.honest flashes steady (chip, read)) c.from_residual.ensures.1)
 
-pub returns-in_err-restore_page-clause-puts : goal.returns-in_err-restore_page-clause-puts
-returns-in_err-restore_page-clause-puts g c =
+pub returns-in_err-change_page-clause-puts : goal.returns-in_err-change_page-clause-puts
+returns-in_err-change_page-clause-puts g c =
     let V = g.R.Rig.view in
     let size = length c.args.page.now in
-    part_fails (Some c.args.chip.now) (9 + 2 * size) (21 + 4 * size) (V c.args.rig.now).calls (V c.restore_page.new.rig).calls _ c.from_residual.result (omega arith) c.from_residual.ensures.1 c.in_err-restore_page.ensures.puts
+    part_fails (Some c.args.chip.now) (9 + 2 * size) (21 + 4 * size) (V c.args.rig.now).calls (V c.change_page.new.rig).calls _ c.from_residual.result (omega arith) c.from_residual.ensures.1
+    (kept_puts c.args.chip.now c.args.n c.args.held.now c.args.page.now {T = Bool}
+    c.args.journal.now c.change_page.new.journal (V c.args.rig.now) (V c.change_page.new.rig)
+    (Err c.in_err-change_page.field-0.0) c.requires.exists c.requires.size tt
+    c.in_err-change_page.ensures.performs.stops)
 
-pub returns-in_err-restore_page-clause-stops : goal.returns-in_err-restore_page-clause-stops
-returns-in_err-restore_page-clause-stops g c =
+pub returns-in_err-change_page-clause-stops : goal.returns-in_err-change_page-clause-stops
+returns-in_err-change_page-clause-stops g c =
     let V = g.R.Rig.view in
     let again = c.args.again in
     let chip = c.args.chip.now in
@@ -78,35 +115,57 @@ returns-in_err-restore_page-clause-stops g c =
     let held = c.args.held.now in
     let page = c.args.page.now in
     let All = Begin (Are (return_steps again chip n held page)) in
-    part_stops (Begin (Are (restore_steps chip n held page))) (OrMisread again chip All) c.args.journal.now.is_torn (V c.args.rig.now) (V c.restore_page.new.rig) _ c.from_residual.result c.from_residual.ensures.1
-    (λ xs begun. may_be again chip All xs (restore_begun again chip n held page xs begun)) c.in_err-restore_page.ensures.stops
+    part_stops (Begin (IsChanged true chip n held page)) (OrMisread again chip All) c.args.journal.now.is_torn (V c.args.rig.now) (V c.change_page.new.rig) _ c.from_residual.result c.from_residual.ensures.1
+    (λ xs begun. may_be again chip All xs (restore_begun again chip n held page xs
+    (kept_begun chip n held page xs begun))) c.in_err-change_page.ensures.performs.stops
+
+pub returns-then-not-again-clause-honest : goal.returns-then-not-again-clause-honest
+returns-then-not-again-clause-honest g c flashes steady chip read =
+    let V = g.R.Rig.view in
+    let a = V c.args.rig.now in
+    let b = V c.change_page.new.rig in
+    let l2 = c.change_page.new.journal in
+    goes_as flashes _ _ l2 a b _
+    (kept_lines c.args.chip.now c.args.n c.args.held.now c.args.page.now a.device.flash read)
+    (goes_ok flashes _ l2 a b _ (tt {0})
+    (c.in_ok-change_page.ensures.performs.honest flashes steady (chip, read)) (λ p. p))
 
 pub returns-then-not-again-clause-puts : goal.returns-then-not-again-clause-puts
 returns-then-not-again-clause-puts g c =
     let V = g.R.Rig.view in
     let size = length c.args.page.now in
-    part_weaker (Some c.args.chip.now) true (9 + 2 * size) (21 + 4 * size) (V c.args.rig.now).calls (V c.restore_page.new.rig).calls (omega arith) c.in_ok-restore_page.ensures.puts
+    part_weaker (Some c.args.chip.now) true (9 + 2 * size) (21 + 4 * size) (V c.args.rig.now).calls (V c.change_page.new.rig).calls (omega arith)
+    (kept_puts c.args.chip.now c.args.n c.args.held.now c.args.page.now c.args.journal.now
+    c.change_page.new.journal (V c.args.rig.now) (V c.change_page.new.rig)
+    (Ok c.in_ok-change_page.field-0) c.requires.exists c.requires.size
+    c.in_ok-change_page.ensures.performs.order tt)
 
 pub returns-then-not-again-clause-order : goal.returns-then-not-again-clause-order
 returns-then-not-again-clause-order g c =
     let V = g.R.Rig.view in
     let no : c.args.again ≡ false = search rules in
-    let P : Bool → Type 0 = λ b. DoesSteps (return_steps b c.args.chip.now c.args.n c.args.held.now c.args.page.now) c.args.journal.now c.restore_page.new.journal (V c.args.rig.now) (V c.restore_page.new.rig) in
-    subst P (sym no) c.in_ok-restore_page.ensures.order
+    let P : Bool → Type 0 = λ b. DoesSteps (return_steps b c.args.chip.now c.args.n c.args.held.now c.args.page.now) c.args.journal.now c.change_page.new.journal (V c.args.rig.now) (V c.change_page.new.rig) in
+    subst P (sym no)
+    (kept_does c.args.chip.now c.args.n c.args.held.now c.args.page.now c.args.journal.now
+    c.change_page.new.journal (V c.args.rig.now) (V c.change_page.new.rig)
+    c.in_ok-change_page.ensures.performs.order)
 
 pub returns-in_err-read_again-clause-puts : goal.returns-in_err-read_again-clause-puts
 returns-in_err-read_again-clause-puts g c =
     let V = g.R.Rig.view in
     let size = length c.args.page.now in
-    part_fails_after (Some c.args.chip.now) (9 + 2 * size) (12 + 2 * size) (21 + 4 * size) (V c.args.rig.now).calls (V c.restore_page.new.rig).calls (V c.read_again.new.rig).calls _ c.from_residual-in_err-read_again.result
-    (omega arith) c.from_residual-in_err-read_again.ensures.1 c.in_ok-restore_page.ensures.puts c.in_err-read_again.ensures.puts
+    part_fails_after (Some c.args.chip.now) (9 + 2 * size) (12 + 2 * size) (21 + 4 * size) (V c.args.rig.now).calls (V c.change_page.new.rig).calls (V c.read_again.new.rig).calls _ c.from_residual-in_err-read_again.result
+    (omega arith) c.from_residual-in_err-read_again.ensures.1
+    (gave g (goal.at.returns-in_err-read_again-clause-puts g c).After-read_again)
+    c.in_err-read_again.ensures.puts
 
 pub returns-clause-puts : goal.returns-clause-puts
 returns-clause-puts g c =
     let V = g.R.Rig.view in
     let size = length c.args.page.now in
-    part_after (Some c.args.chip.now) true (9 + 2 * size) (12 + 2 * size) (21 + 4 * size) (V c.args.rig.now).calls (V c.restore_page.new.rig).calls (V c.read_again.new.rig).calls
-    (omega arith) c.in_ok-restore_page.ensures.puts c.in_ok-read_again.ensures.puts
+    part_after (Some c.args.chip.now) true (9 + 2 * size) (12 + 2 * size) (21 + 4 * size) (V c.args.rig.now).calls (V c.change_page.new.rig).calls (V c.read_again.new.rig).calls
+    (omega arith) (gave g (goal.at.returns-clause-puts g c).After-read_again)
+    c.in_ok-read_again.ensures.puts
 
 pub returns-in_err-read_again-clause-stops : goal.returns-in_err-read_again-clause-stops
 returns-in_err-read_again-clause-stops g c =
@@ -116,12 +175,14 @@ returns-in_err-read_again-clause-stops g c =
     let n = c.args.n in
     let held = c.args.held.now in
     let page = c.args.page.now in
-    let l2 = c.restore_page.new.journal in
+    let l2 = c.change_page.new.journal in
     let yes : again ≡ true = search rules in
     let own = restore_steps chip n held page in
     let All = Begin (Are (return_steps again chip n held page)) in
-    then_stops (Begin (AreReadsOf (page_address chip n) (page_size chip n))) (OrMisread again chip All) own c.args.journal.now l2 (V c.args.rig.now) (V c.restore_page.new.rig) (V c.read_again.new.rig) _
-    c.from_residual-in_err-read_again.result c.from_residual-in_err-read_again.ensures.1 c.in_ok-restore_page.ensures.order (c.in_err-read_again.ensures.stops l2.is_torn)
+    then_stops (Begin (AreReadsOf (page_address chip n) (page_size chip n))) (OrMisread again chip All) own c.args.journal.now l2 (V c.args.rig.now) (V c.change_page.new.rig) (V c.read_again.new.rig) _
+    c.from_residual-in_err-read_again.result c.from_residual-in_err-read_again.ensures.1
+    (given_back g (goal.at.returns-in_err-read_again-clause-stops g c).After-read_again)
+    (c.in_err-read_again.ensures.stops l2.is_torn)
     (may_misread again chip All yes own n page (return_whole again chip n held page yes) c.requires.size)
 
 pub returns-clause-order : goal.returns-clause-order
@@ -133,41 +194,42 @@ returns-clause-order g c =
     let held = c.args.held.now in
     let page = c.args.page.now in
     let l = c.args.journal.now in
-    let l2 = c.restore_page.new.journal in
+    let l2 = c.change_page.new.journal in
     let a = V c.args.rig.now in
-    let b = V c.restore_page.new.rig in
+    let b = V c.change_page.new.rig in
     let d = V c.read_again.new.rig in
     let yes : again ≡ true = search rules in
     let own = restore_steps chip n held page in
     let reads = page_was_read chip n l2 (page_address chip n) (page_size chip n) page page b d refl refl refl (c.in_ok-read_again.ensures.order l2.is_torn) in
-    does_as (own ++ page_reads chip n page) (return_steps again chip n held page) l l2 a d (return_is again chip n held page yes) (does_then own (page_reads chip n page) l l2 l2 a b d c.in_ok-restore_page.ensures.order reads)
+    does_as (own ++ page_reads chip n page) (return_steps again chip n held page) l l2 a d (return_is again chip n held page yes) (does_then own (page_reads chip n page) l l2 l2 a b d
+    (given_back g (goal.at.returns-clause-order g c).After-read_again) reads)
 
 pub returns-in_err-read_again-clause-honest : goal.returns-in_err-read_again-clause-honest
 returns-in_err-read_again-clause-honest g c flashes steady chip read =
     let V = g.R.Rig.view in
-    let l2 = c.restore_page.new.journal in
+    let l2 = c.change_page.new.journal in
     let a = V c.args.rig.now in
-    let b = V c.restore_page.new.rig in
+    let b = V c.change_page.new.rig in
     let d = V c.read_again.new.rig in
     let at = (goal.at.returns-in_err-read_again-clause-honest g c).After-read_again in
     let goes = first g at flashes steady chip read in
     let asks = c.in_err-read_again.ensures.honest goes.honest goes.steady.settled (still g at flashes steady chip read) (holds g at flashes steady chip read) in
     let lines = if bytes_eq c.args.held.now c.args.page.now then [] else rewrite_entries c.args.chip.now c.args.n c.args.page.now in
     goes_as flashes (lines ++ []) lines l2 a d c.from_residual-in_err-read_again.result (append-nil lines)
-    (goes_then flashes lines [] l2 l2 a b d (tt {0}) c.from_residual-in_err-read_again.result (g.met.R.Rig.model c.restore_page.new.rig goes.honest) goes
+    (goes_then flashes lines [] l2 l2 a b d (tt {0}) c.from_residual-in_err-read_again.result (g.met.R.Rig.model c.change_page.new.rig goes.honest) goes
     (asks_fail c.step_laws.ensures flashes l2 b d goes.steady [] l2 _ c.from_residual-in_err-read_again.result asks c.from_residual-in_err-read_again.ensures.1) (λ y p. p))
 
 pub returns-clause-honest : goal.returns-clause-honest
 returns-clause-honest g c flashes steady chip read =
     let V = g.R.Rig.view in
-    let l2 = c.restore_page.new.journal in
+    let l2 = c.change_page.new.journal in
     let a = V c.args.rig.now in
-    let b = V c.restore_page.new.rig in
+    let b = V c.change_page.new.rig in
     let d = V c.read_again.new.rig in
     let at = (goal.at.returns-clause-honest g c).After-read_again in
     let goes = first g at flashes steady chip read in
     let asks = c.in_ok-read_again.ensures.honest goes.honest goes.steady.settled (still g at flashes steady chip read) (holds g at flashes steady chip read) in
     let lines = if bytes_eq c.args.held.now c.args.page.now then [] else rewrite_entries c.args.chip.now c.args.n c.args.page.now in
     goes_as flashes (lines ++ []) lines l2 a d _ (append-nil lines)
-    (goes_then flashes lines [] l2 l2 a b d (tt {0}) _ (g.met.R.Rig.model c.restore_page.new.rig goes.honest) goes
+    (goes_then flashes lines [] l2 l2 a b d (tt {0}) _ (g.met.R.Rig.model c.change_page.new.rig goes.honest) goes
     (asks_on c.step_laws.ensures flashes l2 b d goes.steady _ asks) (λ y u. ap (λ (x : Device). x.flash) asks.same ∙ goes.done))

@@ -21,6 +21,7 @@ use Rattle.std.proofs.Common.{◌++◌, append-nil}
 use Rattle.stm_session.specs.Order.{Adds, Step, erase_steps, program_steps, rewrite_steps, write_steps, Are, Begin}
 use Rattle.stm_session.proofs.Orders.{does_as, does_then, some_program}
 use Rattle.stm_session.proofs.CutShort.{begin_after, begin_on, part_stops, then_stops}
+use Rattle.stm_session.proofs.Performing.{does_of}
 use Rattle.stm_session.proofs.rewriting.rewrite_kept.Given as given
 use Rattle.stm_session.proofs.rewriting.rewrite_kept.Goals as goal
 use Rattle.stm_session.proofs.rewriting.rewrite_kept.Goals.{After-program_kept}
@@ -61,7 +62,7 @@ rewritten g c flashes steady chip r gives =
     let a = V c.args.rig.now in
     let b = V c.erase_kept.new.rig in
     let d = V c.program_kept.new.rig in
-    let first = c.in_ok-erase_kept.ensures.honest flashes steady chip in
+    let first = c.in_ok-erase_kept.ensures.performs.honest flashes steady chip in
     let model = g.met.R.Rig.model c.erase_kept.new.rig first.steady.honest in
     let start = g.met.R.Rig.model c.args.rig.now steady.honest in
     let still = (at_exit _ a b model first.moments).make.chip ∙ chip in
@@ -79,7 +80,7 @@ pub returns-in_err-erase_kept-clause-honest : goal.returns-in_err-erase_kept-cla
 returns-in_err-erase_kept-clause-honest g c flashes steady chip =
     let V = g.R.Rig.view in
     goes_failed flashes (Erases c.args.n ∷ []) (program_entries c.args.n c.args.frames.now) c.erase_kept.new.journal c.erase_kept.new.journal (V c.args.rig.now) (V c.erase_kept.new.rig) _ c.from_residual.result
-    (c.in_err-erase_kept.ensures.honest flashes steady chip) c.from_residual.ensures.1
+    (c.in_err-erase_kept.ensures.performs.honest flashes steady chip) c.from_residual.ensures.1
 
 pub returns-in_err-program_kept-clause-honest : goal.returns-in_err-program_kept-clause-honest
 returns-in_err-program_kept-clause-honest g c flashes steady chip =
@@ -88,7 +89,8 @@ returns-in_err-program_kept-clause-honest g c flashes steady chip =
     let last = (goal.at.returns-in_err-program_kept-clause-honest g c).After-program_kept in
     goes_fault flashes (Erases c.args.n ∷ program_entries c.args.n c.args.frames.now) l3 l3
     (V c.args.rig.now) (V c.program_kept.new.rig) _ c.from_residual-in_err-program_kept.result
-    (rewritten g last flashes steady chip _ (c.in_err-program_kept.ensures.honest flashes))
+    (rewritten g last flashes steady chip _ (λ base steady chip whole erased. (c.in_err-program_kept.ensures.performs base).honest flashes
+    steady (chip, whole, erased)))
     c.from_residual-in_err-program_kept.ensures.1
 
 pub returns-clause-honest : goal.returns-clause-honest
@@ -97,7 +99,8 @@ returns-clause-honest g c flashes steady chip =
     let last = (goal.at.returns-clause-honest g c).After-program_kept in
     goes_ok flashes (Erases c.args.n ∷ program_entries c.args.n c.args.frames.now)
     c.program_kept.new.journal (V c.args.rig.now) (V c.program_kept.new.rig) _ (tt {0})
-    (rewritten g last flashes steady chip _ (c.in_ok-program_kept.ensures.honest flashes)) (λ p. p)
+    (rewritten g last flashes steady chip _ (λ base steady chip whole erased. (c.in_ok-program_kept.ensures.performs base).honest flashes
+    steady (chip, whole, erased))) (λ p. p)
 
 pub returns-then-is_empty-clause-honest : goal.returns-then-is_empty-clause-honest
 returns-then-is_empty-clause-honest g c flashes steady chip =
@@ -106,7 +109,7 @@ returns-then-is_empty-clause-honest g c flashes steady chip =
     let none : c.args.frames.now ≡ [] = no_frames c.args.frames.now zero in
     goes_as flashes (Erases c.args.n ∷ []) (Erases c.args.n ∷ program_entries c.args.n c.args.frames.now) c.erase_kept.new.journal (V c.args.rig.now) (V c.erase_kept.new.rig) _
     (ap (λ (fs : List Frame). Erases c.args.n ∷ program_entries c.args.n fs) (sym none))
-    (goes_ok flashes (Erases c.args.n ∷ []) c.erase_kept.new.journal (V c.args.rig.now) (V c.erase_kept.new.rig) _ (tt {0}) (c.in_ok-erase_kept.ensures.honest flashes steady chip)
+    (goes_ok flashes (Erases c.args.n ∷ []) c.erase_kept.new.journal (V c.args.rig.now) (V c.erase_kept.new.rig) _ (tt {0}) (c.in_ok-erase_kept.ensures.performs.honest flashes steady chip)
     (λ done. done ∙ ap (λ (xs : List ℕ). with_page c.args.chip.now c.args.n xs (V c.args.rig.now).device.flash)
     (sym (ap (λ (fs : List Frame). written c.args.page.now fs (erased_page c.args.chip.now c.args.n)) none ∙ written-none c.args.page.now (erased_page c.args.chip.now c.args.n)) ∙ c.requires.gives)))
 
@@ -117,7 +120,7 @@ was_erased : (g : given.Over) (c : goal.After-program_kept g)
 was_erased g c =
     done_puts c.args.chip.now 9 _ c.args.journal.now c.erase_kept.new.journal
     (g.R.Rig.view c.args.rig.now) (g.R.Rig.view c.erase_kept.new.rig)
-    (put_erase c.args.chip.now c.args.n c.requires.exists) c.in_ok-erase_kept.ensures.order
+    (put_erase c.args.chip.now c.args.n c.requires.exists) (does_of c.in_ok-erase_kept.ensures.performs.order)
 
 will_program : (g : given.Over) (c : goal.After-program_kept g)
     → PutFew c.args.chip.now (2 * length c.args.page.now)
@@ -135,13 +138,13 @@ pub returns-in_err-erase_kept-clause-puts : goal.returns-in_err-erase_kept-claus
 returns-in_err-erase_kept-clause-puts g c =
     let V = g.R.Rig.view in
     part_fails (Some c.args.chip.now) 9 (9 + 2 * length c.args.page.now) (V c.args.rig.now).calls (V c.erase_kept.new.rig).calls _ c.from_residual.result (omega arith) c.from_residual.ensures.1
-    (begun_puts c.args.chip.now 9 _ _ c.args.journal.now.is_torn (V c.args.rig.now) (V c.erase_kept.new.rig) (put_erase c.args.chip.now c.args.n c.requires.exists) c.in_err-erase_kept.ensures.stops)
+    (begun_puts c.args.chip.now 9 _ _ c.args.journal.now.is_torn (V c.args.rig.now) (V c.erase_kept.new.rig) (put_erase c.args.chip.now c.args.n c.requires.exists) c.in_err-erase_kept.ensures.performs.stops)
 
 pub returns-then-is_empty-clause-puts : goal.returns-then-is_empty-clause-puts
 returns-then-is_empty-clause-puts g c =
     let V = g.R.Rig.view in
     part_longer (Some c.args.chip.now) true 9 (9 + 2 * length c.args.page.now) (V c.args.rig.now).calls (V c.erase_kept.new.rig).calls (omega arith)
-    (done_puts c.args.chip.now 9 _ c.args.journal.now c.erase_kept.new.journal (V c.args.rig.now) (V c.erase_kept.new.rig) (put_erase c.args.chip.now c.args.n c.requires.exists) c.in_ok-erase_kept.ensures.order)
+    (done_puts c.args.chip.now 9 _ c.args.journal.now c.erase_kept.new.journal (V c.args.rig.now) (V c.erase_kept.new.rig) (put_erase c.args.chip.now c.args.n c.requires.exists) (does_of c.in_ok-erase_kept.ensures.performs.order))
 
 pub returns-in_err-program_kept-clause-puts : goal.returns-in_err-program_kept-clause-puts
 returns-in_err-program_kept-clause-puts g c =
@@ -150,7 +153,7 @@ returns-in_err-program_kept-clause-puts g c =
     let more = 2 * length c.args.page.now in
     part_fails_after (Some c.args.chip.now) 9 more (9 + more) (V c.args.rig.now).calls (V c.erase_kept.new.rig).calls (V c.program_kept.new.rig).calls _ c.from_residual-in_err-program_kept.result (omega arith)
     c.from_residual-in_err-program_kept.ensures.1 (was_erased g last)
-    (begun_puts c.args.chip.now more _ _ c.erase_kept.new.journal.is_torn (V c.erase_kept.new.rig) (V c.program_kept.new.rig) (will_program g last) c.in_err-program_kept.ensures.stops)
+    (begun_puts c.args.chip.now more _ _ c.erase_kept.new.journal.is_torn (V c.erase_kept.new.rig) (V c.program_kept.new.rig) (will_program g last) (c.in_err-program_kept.ensures.performs []).stops)
 
 pub returns-clause-puts : goal.returns-clause-puts
 returns-clause-puts g c =
@@ -158,7 +161,7 @@ returns-clause-puts g c =
     let last = (goal.at.returns-clause-puts g c).After-program_kept in
     let more = 2 * length c.args.page.now in
     part_after (Some c.args.chip.now) true 9 more (9 + more) (V c.args.rig.now).calls (V c.erase_kept.new.rig).calls (V c.program_kept.new.rig).calls (omega arith) (was_erased g last)
-    (done_puts c.args.chip.now more _ c.erase_kept.new.journal c.program_kept.new.journal (V c.erase_kept.new.rig) (V c.program_kept.new.rig) (will_program g last) c.in_ok-program_kept.ensures.order)
+    (done_puts c.args.chip.now more _ c.erase_kept.new.journal c.program_kept.new.journal (V c.erase_kept.new.rig) (V c.program_kept.new.rig) (will_program g last) (does_of (c.in_ok-program_kept.ensures.performs []).order))
 
 pub returns-then-is_empty-clause-order : goal.returns-then-is_empty-clause-order
 returns-then-is_empty-clause-order g c =
@@ -168,7 +171,7 @@ returns-then-is_empty-clause-order g c =
     let none : c.args.frames.now ≡ [] = no_frames c.args.frames.now zero in
     let own = erase_steps chip c.args.n in
     does_as own (rewrite_steps chip c.args.n c.args.page.now c.args.frames.now) c.args.journal.now c.erase_kept.new.journal (V c.args.rig.now) (V c.erase_kept.new.rig)
-    (sym (ap (λ (fs : List Frame). own ++ program_steps chip c.args.n c.args.page.now fs) none ∙ append-nil own)) c.in_ok-erase_kept.ensures.order
+    (sym (ap (λ (fs : List Frame). own ++ program_steps chip c.args.n c.args.page.now fs) none ∙ append-nil own)) (does_of c.in_ok-erase_kept.ensures.performs.order)
 
 pub returns-clause-order : goal.returns-clause-order
 returns-clause-order g c =
@@ -184,8 +187,8 @@ returns-clause-order g c =
     does_as (own ++ more) (rewrite_steps chip n page frames) c.args.journal.now l3
     (V c.args.rig.now) (V c.program_kept.new.rig) (ap (λ (ss : List Step). own ++ ss) some)
     (does_then own more c.args.journal.now c.erase_kept.new.journal l3 (V c.args.rig.now)
-    (V c.erase_kept.new.rig) (V c.program_kept.new.rig) c.in_ok-erase_kept.ensures.order
-    c.in_ok-program_kept.ensures.order)
+    (V c.erase_kept.new.rig) (V c.program_kept.new.rig) (does_of c.in_ok-erase_kept.ensures.performs.order)
+    (does_of (c.in_ok-program_kept.ensures.performs []).order))
 
 pub returns-in_err-erase_kept-clause-stops : goal.returns-in_err-erase_kept-clause-stops
 returns-in_err-erase_kept-clause-stops g c =
@@ -195,7 +198,7 @@ returns-in_err-erase_kept-clause-stops g c =
     let more = program_steps chip c.args.n c.args.page.now c.args.frames.now in
     let all = rewrite_steps chip c.args.n c.args.page.now c.args.frames.now in
     part_stops (Begin (Are own)) (Begin (Are all)) c.args.journal.now.is_torn (V c.args.rig.now) (V c.erase_kept.new.rig) _ c.from_residual.result c.from_residual.ensures.1
-    (begin_on (Are own) (Are all) (λ xs is. (more, ap (λ (l : List Step). l ++ more) is))) c.in_err-erase_kept.ensures.stops
+    (begin_on (Are own) (Are all) (λ xs is. (more, ap (λ (l : List Step). l ++ more) is))) c.in_err-erase_kept.ensures.performs.stops
 
 pub returns-in_err-program_kept-clause-stops : goal.returns-in_err-program_kept-clause-stops
 returns-in_err-program_kept-clause-stops g c =
@@ -208,7 +211,7 @@ returns-in_err-program_kept-clause-stops g c =
     then_stops (Begin (Are more)) (Begin (Are all)) own c.args.journal.now
     c.erase_kept.new.journal (V c.args.rig.now) (V c.erase_kept.new.rig)
     (V c.program_kept.new.rig) _ c.from_residual-in_err-program_kept.result
-    c.from_residual-in_err-program_kept.ensures.1 c.in_ok-erase_kept.ensures.order
-    c.in_err-program_kept.ensures.stops
+    c.from_residual-in_err-program_kept.ensures.1 (does_of c.in_ok-erase_kept.ensures.performs.order)
+    (c.in_err-program_kept.ensures.performs []).stops
     (begin_after (Are more) (Are all) own
     (λ ys is. ap (λ (zs : List Step). own ++ zs) (is ∙ programs_are g last)))
