@@ -85,13 +85,15 @@ class Settling(Served):
                 self.assertFault(self.call("undo", *words, *more, variables=variables), "cannot connect board")
 
     def test_the_wait_may_be_a_variable(self):
-        """A word goes before it, and an empty one is none."""
+        """A word goes before it, an empty one is none, and so is one that is shorter than an undo's own wait: it was set for a
+        session at a board where nothing was stopped."""
         words = ("--table", "table", "--device", "board", "--journal", "journal")
         for text in ("0", "60001", "long"):
             with self.subTest(text):
                 self.assertFault(self.call("undo", *words, variables={"STMFLASH_WAIT": text}), f"usage: bad number {text}", 2)
-        for variables, more, wait in (({"STMFLASH_WAIT": "130"}, (), 130), ({"STMFLASH_WAIT": "long"}, ("--wait", "110"), 110),
-                                      ({"STMFLASH_WAIT": ""}, (), 500)):
+        for variables, more, wait in (({"STMFLASH_WAIT": "430"}, (), 430), ({"STMFLASH_WAIT": "long"}, ("--wait", "110"), 110),
+                                      ({"STMFLASH_WAIT": "399"}, (), 400), ({"STMFLASH_WAIT": "1"}, (), 400),
+                                      ({"STMFLASH_WAIT": ""}, (), 400)):
             with self.subTest(variables):
                 waits, _ = self.undo(b"rest 44BB", "--baud", "4000000", *more, variables=variables)
                 self.assertEqual(waits[0], wait)

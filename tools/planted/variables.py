@@ -31,6 +31,11 @@ FAULTS = {
         "wait: text_of(&self.wait),",
         "wait: if @on { None } else { text_of(&self.wait) },",
         "test_settling.Settling.test_the_wait_may_be_a_variable"),
+    "an undo waits as short as the variable says": (
+        "stm_words/src/command_set.rt",
+        "on_board(alloc, behind_a_stop(environment), \"undo\", help::UNDO)?",
+        "on_board(alloc, if @on { environment } else { behind_a_stop(environment) }, \"undo\", help::UNDO)?",
+        "test_settling.Settling.test_the_wait_may_be_a_variable"),
     "STMFLASH_NO_BOARD is not read": (
         "stmflash/src/variables.rt",
         "without_board: self.without_board,",

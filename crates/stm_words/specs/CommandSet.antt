@@ -1,6 +1,7 @@
 -- The program's subcommands, as `clap` sees them.
 use Rattle.std.specs.Prelude.{◌≡◌, ℕ, List, [], ◌∷◌, Option, Some, None, codes, is_some, map, not}
-use Rattle.std.specs.Prelude.{option_map, option_to_list, true, false}
+use Rattle.std.specs.Prelude.{option_map, option_to_list, Bool, true, false, ◌&&◌}
+use Rattle.std.specs.Prelude.{if◌then◌else◌, nat_le, nat_lt}
 use Rattle.std.specs.Borrow.{Bor}
 use Rattle.clap.specs.Words.{App, Rule, Text, app_of, found_of, matches_of, new_app, new_rule}
 use Rattle.clap.specs.Words.{rows_of, subcommand_of, subcommand_rows_of, with_rule, with_subcommand}
@@ -11,6 +12,7 @@ use Rattle.clap.specs.declared.builder.value_parser.ValueParser.{ValueParser}
 use Rattle.clap.specs.declared.builder.value_parser.ValueParser.TheVariants.{Names}
 use Rattle.clap.specs.declared.parser.matches.ArgMatches.{ArgMatches}
 use Rattle.stm_words.specs.declared.environment.Environment.{Environment}
+use Rattle.stm_words.specs.Number.{number_of}
 
 -- `--name VALUE`
 abbrev pub option_rule : Text → Rule
@@ -90,7 +92,7 @@ with_places e name =
 -- how long a reply may take, in milliseconds, where no word says it
 abbrev pub wait_word : Option (Bor Text) → Text
 wait_word (Some word) = word.now
-wait_word None = codes "500"
+wait_word None = codes "400"
 
 -- the same, with the options of how long a device may take to answer
 abbrev pub with_waits : Environment → Text → App
@@ -140,9 +142,27 @@ erase_app e =
     with_rule (with_rule (on_board e (codes "erase")) (flag_rule (codes "all")))
     (repeated_rule (codes "PAGE"))
 
+-- the number of a wait, and a shorter one than where nothing is said
+abbrev pub is_short_number : Option ℕ → Bool
+is_short_number None = false
+is_short_number (Some n) = nat_le 1 n && nat_lt n 400
+
+abbrev pub is_short : Text → Bool
+is_short wait = is_short_number (number_of wait)
+
+-- a wait that stands for the word, but a short one
+abbrev pub wait_behind_a_stop : Option (Bor Text) → Option (Bor Text)
+wait_behind_a_stop None = None
+wait_behind_a_stop (Some wait) = if is_short wait.now then None else Some wait
+
+-- what stands in the place of an undo's words: the board may still be busy with what was stopped
+abbrev pub behind_a_stop : Environment → Environment
+behind_a_stop e = record e { wait = wait_behind_a_stop e.wait }
+
 abbrev pub undo_app : Environment → App
 undo_app e =
-    with_rule (with_rule (on_board e (codes "undo")) (letter_rule (codes "check") 118))
+    with_rule
+    (with_rule (on_board (behind_a_stop e) (codes "undo")) (letter_rule (codes "check") 118))
     (default_rule (codes "COUNT") (codes "0"))
 
 -- a subcommand that reads a journal and uses no device

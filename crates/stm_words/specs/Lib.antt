@@ -1,5 +1,5 @@
-pub mod CommandSet
 pub mod Number
+pub mod CommandSet
 pub mod Options
 pub mod Pages
 pub mod Request

@@ -1,6 +1,7 @@
 // The subcommands and their words, for `clap`.
 ghost use Rattle.std.specs.Prelude.{◌≡◌, IfOk};
-ghost use Rattle.stm_words.specs.CommandSet.{Makes, TakesKinds, command_set, crc_app, erase_app};
+ghost use Rattle.stm_words.specs.CommandSet.{Makes, TakesKinds, behind_a_stop, command_set, crc_app};
+ghost use Rattle.stm_words.specs.CommandSet.{erase_app, is_short};
 ghost use Rattle.stm_words.specs.CommandSet.{go_app, info_app, keep_app, log_app, on_board, on_device};
 ghost use Rattle.stm_words.specs.CommandSet.{on_journal, protect_app, read_app, sim_app, undo_app, verify_app};
 ghost use Rattle.stm_words.specs.CommandSet.{wait_word, with_places, with_table, with_waits};
@@ -12,6 +13,7 @@ use crate::argument::{
 };
 use crate::environment::Environment;
 use crate::help;
+use crate::number::parse_number;
 use clap::Command;
 use std::alloc::{AllocError, Global};
 
@@ -66,7 +68,7 @@ fn standing_wait<'a>(environment: Environment<'a>) -> &'a str
 {
     match environment.wait {
         Some(wait) => wait,
-        None => "500",
+        None => "400",
     }
 }
 
@@ -170,10 +172,34 @@ fn erase<'a>(alloc: Global, environment: Environment<'a>) -> Result<Command<'a>,
         .arg(repeated(alloc, "PAGE", help::PAGE))
 }
 
+/// Whether this is a wait, in milliseconds, and a shorter one than where nothing is said.
+fn is_short(wait: &str) -> bool
+    ensures { result ≡ is_short wait.now }
+{
+    match parse_number(wait) {
+        Some(n) => 1 <= n && n < 400,
+        None => false,
+    }
+}
+
+/// What stands in the place of an undo's words: no shorter wait than where nothing is said, since the
+/// board may still be busy with what was stopped.
+fn behind_a_stop<'a>(environment: Environment<'a>) -> Environment<'a>
+    ensures { result ≡ behind_a_stop environment.entry }
+{
+    match environment.wait {
+        Some(wait) if is_short(wait) => Environment {
+            wait: None,
+            ..environment
+        },
+        _ => environment,
+    }
+}
+
 fn undo<'a>(alloc: Global, environment: Environment<'a>) -> Result<Command<'a>, AllocError>
     ensures { IfOk result (Makes (undo_app environment.entry)) }
 {
-    on_board(alloc, environment, "undo", help::UNDO)?
+    on_board(alloc, behind_a_stop(environment), "undo", help::UNDO)?
         .arg(letter(alloc, "check", 'v', help::UNDO_CHECK))?
         .arg(optional(alloc, "COUNT", "0", help::COUNT))
 }
