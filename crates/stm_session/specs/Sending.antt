@@ -7,7 +7,7 @@ use Rattle.stm_wire.specs.Call.{Call}
 use Rattle.stm_wire.specs.declared.fault.WireFault.{WireFault}
 use Rattle.stm_wire.specs.Chip.{ChipData}
 use Rattle.stm_wire.specs.Dialogue.{Turn, GoesOn, IsBrokenOff, calls_of}
-use Rattle.stm_wire.specs.Parts.{AreFew, IsSession}
+use Rattle.stm_wire.specs.Parts.{AreFew, IsPart, IsSession}
 use Rattle.stm_wire.specs.Rig.{RigState}
 use Rattle.stm_wire.specs.Settling.{SettlesWithin}
 use Rattle.stm_chip.specs.Document.{IsChipWith}
@@ -53,6 +53,11 @@ is_whole_at e = leaves_whole (cause_of e)
 abbrev pub is_whole : {T : Type 0} → Result T Fault → Bool
 is_whole (Ok x) = true
 is_whole (Err e) = is_whole_at e
+
+-- calls that put frames of this chip alone, of which a fault may break the last off, and few
+abbrev pub PutsAtMost : {T : Type 0} → ChipData → ℕ → RigState → RigState → Result T Fault → Type 0
+PutsAtMost chip most old new result =
+    GoesOn (IsPart (Some chip) (is_whole result) most) old.calls new.calls
 
 -- the chip of the frames, where there are any that name a place, is one of the table
 abbrev pub IsOfTable : List ChipData → Option ChipData → Type 0

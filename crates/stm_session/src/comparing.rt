@@ -5,9 +5,7 @@ ghost use Rattle.std.specs.List.{AllByRecursion};
 ghost use Rattle.stm_image.specs.Pairs.{Pairs, HasNone, IsNext};
 ghost use Rattle.stm_wire.specs.Chip.{fits_inside, flash_size};
 ghost use Rattle.stm_wire.specs.Device.{IsSettled};
-ghost use Rattle.stm_wire.specs.Dialogue.{GoesOn};
 ghost use Rattle.stm_wire.specs.Intents.{InPage};
-ghost use Rattle.stm_wire.specs.Parts.{IsPart};
 ghost use Rattle.stm_session.specs.Answers.{first_difference};
 ghost use Rattle.stm_session.specs.Asking.{Asks};
 ghost use Rattle.stm_session.specs.Came.{CameFor};
@@ -17,7 +15,7 @@ ghost use Rattle.stm_session.specs.Refusals.{image_fits};
 ghost use Rattle.stm_session.specs.Running.{bytes_at};
 ghost use Rattle.stm_session.specs.Order.{Begin, IsReadOf, ReadsBlock, Stops};
 ghost use Rattle.stm_session.specs.RunOrder.{IsReading, OnlyReads};
-ghost use Rattle.stm_session.specs.Sending.{is_whole, most_of_command};
+ghost use Rattle.stm_session.specs.Sending.{PutsAtMost, most_of_command};
 
 use crate::Fault;
 use crate::reading::{Block, Place, block_size, page_at, read_part};
@@ -56,7 +54,7 @@ fn compare_block<R: Rig>(
     ensures cause { HasSessionCause (R.view rig.old) (R.view rig.new) result }
     ensures puts { let old = R.view rig.old in let new = R.view rig.new in
         (page : ℕ) → InPage chip.now page address size
-        → GoesOn (IsPart (Some chip.now) (is_whole result) (12 + size)) old.calls new.calls }
+        → PutsAtMost chip.now (12 + size) old new result }
     ensures order { let old = R.view rig.old in let new = R.view rig.new in
         IfOk result (λ found. (answer : List ℕ)
         × (found ≡ first_difference image.now address answer)
@@ -112,8 +110,7 @@ pub fn find_difference<R: Rig>(
     image: &Image,
 ) -> Result<Option<u32>, Fault>
     requires { image_fits chip.now image.now ≡ true }
-    ensures puts { let old = R.view rig.old in let new = R.view rig.new in
-        GoesOn (IsPart (Some chip.now) (is_whole result) most_of_command) old.calls new.calls }
+    ensures puts { PutsAtMost chip.now most_of_command (R.view rig.old) (R.view rig.new) result }
     // What is found is what came, in blocks of which none is read twice.
     ensures reads { let old = R.view rig.old in let new = R.view rig.new in
         IfOk result (λ found. OnlyReads chip.now

@@ -3,14 +3,13 @@ ghost use Rattle.std.specs.Prelude.{◌≡◌, ◌⊎◌, ⊤, Bool, ◌&&◌, t
 ghost use Rattle.std.specs.Prelude.{IsTrue, OnOk, bytes_eq};
 ghost use Rattle.stm_wire.specs.Device.{IsSettled};
 ghost use Rattle.stm_wire.specs.Dialogue.{GoesOn};
-ghost use Rattle.stm_wire.specs.Parts.{IsPart};
 ghost use Rattle.stm_wire.specs.UniqueId.{is_unique_length};
 ghost use Rattle.stm_session.specs.Asking.{Asks};
 ghost use Rattle.stm_session.specs.Confirming.{HasAgain, TellsAgain};
 ghost use Rattle.stm_session.specs.Fault.{HasSessionCause, IsOfLine};
 ghost use Rattle.stm_session.specs.Order.{Begin, IsInOrder, Stops};
 ghost use Rattle.stm_session.specs.Reaching.{IsConfirming, confirmed_at, confirming};
-ghost use Rattle.stm_session.specs.Sending.{is_whole, most_of_confirming};
+ghost use Rattle.stm_session.specs.Sending.{PutsAtMost, most_of_confirming};
 
 use crate::Fault;
 use crate::asking_board::ask_place;
@@ -49,8 +48,7 @@ fn is_told_again<R: Rig>(rig: &mut R, place: UniquePlace, chip: &Chip) -> Result
         HasSessionCause old new result }
     ensures puts { let old = R.view rig.old in let new = R.view rig.new in
         chip.now.places.unique ≡ Some place
-        → GoesOn (IsPart (Some chip.now) (is_whole result) most_of_confirming)
-        old.calls new.calls }
+        → PutsAtMost chip.now most_of_confirming old new result }
     ensures order { let old = R.view rig.old in let new = R.view rig.new in
         (torn : Bool) → IfOk result
         (λ same. TellsAgain same place chip.now.unique torn old new) }
@@ -72,9 +70,7 @@ fn is_told_again<R: Rig>(rig: &mut R, place: UniquePlace, chip: &Chip) -> Result
 pub fn confirm<R: Rig>(rig: &mut R, chip: &Chip) -> Result<(), Fault>
     ensures cause { let old = R.view rig.old in let new = R.view rig.new in
         HasSessionCause old new result }
-    ensures puts { let old = R.view rig.old in let new = R.view rig.new in
-        GoesOn (IsPart (Some chip.now) (is_whole result) most_of_confirming)
-        old.calls new.calls }
+    ensures puts { PutsAtMost chip.now most_of_confirming (R.view rig.old) (R.view rig.new) result }
     ensures order { let old = R.view rig.old in let new = R.view rig.new in
         (torn : Bool) → OnOk result
         (GoesOn (IsInOrder torn (confirming chip.now)) old.calls new.calls) }

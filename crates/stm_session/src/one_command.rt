@@ -2,8 +2,6 @@
 ghost use Rattle.std.specs.Prelude.{◌≡◌, ◌≢◌, ◌+◌, ◌<◌, ◌||◌, ◌==◌, true, false, List, ℕ, length};
 ghost use Rattle.std.specs.Prelude.{IsTrue, IfErr, IfOk, OnOk, Some};
 ghost use Rattle.stm_wire.specs.Chip.{fits_inside};
-ghost use Rattle.stm_wire.specs.Dialogue.{GoesOn};
-ghost use Rattle.stm_wire.specs.Parts.{IsPart};
 ghost use Rattle.stm_journal.specs.Journals.{Loaded};
 ghost use Rattle.stm_journal.specs.States.{is_unfinished};
 ghost use Rattle.stm_session.specs.Answers.{outcome_data, segments_of};
@@ -16,7 +14,7 @@ ghost use Rattle.stm_session.specs.Running.{IsKindOf};
 ghost use Rattle.stm_session.specs.Order.{Follows, Stops};
 ghost use Rattle.stm_session.specs.RunOrder.{IsBegunBy, IsBegunTelling, IsDoneTelling};
 ghost use Rattle.stm_session.specs.RunOrder.{StopsTelling};
-ghost use Rattle.stm_session.specs.Sending.{is_whole, most_of_command};
+ghost use Rattle.stm_session.specs.Sending.{PutsAtMost, most_of_command};
 ghost use Rattle.stm_session.specs.Steps.{IsSteady};
 
 use crate::change::Change;
@@ -99,8 +97,7 @@ fn verify_image<R: Rig>(rig: &mut R, chip: &Chip, image: &Image) -> Result<Outco
     ensures kind { IfOk result (IsKindOf (Command.Verify image.now)) }
     ensures cause { HasSessionCause (R.view rig.old) (R.view rig.new) result }
     ensures named { IfErr result (λ fault. fault ≢ Fault.Unfinished) }
-    ensures puts { let old = R.view rig.old in let new = R.view rig.new in
-        GoesOn (IsPart (Some chip.now) (is_whole result) most_of_command) old.calls new.calls }
+    ensures puts { PutsAtMost chip.now most_of_command (R.view rig.old) (R.view rig.new) result }
     ensures order { let old = R.view rig.old in let new = R.view rig.new in
         (l : Loaded) → let Done = IsDoneTelling chip.now (verifies image.now) l.state in
         IfOk result (λ said. Follows (Done (outcome_data said)) l l old new) }
@@ -132,8 +129,7 @@ fn read_part_of<R: Rig>(
     ensures kind { IfOk result (IsKindOf (Command.Read start length)) }
     ensures cause { HasSessionCause (R.view rig.old) (R.view rig.new) result }
     ensures named { IfErr result (λ fault. fault ≢ Fault.Unfinished) }
-    ensures puts { let old = R.view rig.old in let new = R.view rig.new in
-        GoesOn (IsPart (Some chip.now) (is_whole result) most_of_command) old.calls new.calls }
+    ensures puts { PutsAtMost chip.now most_of_command (R.view rig.old) (R.view rig.new) result }
     ensures order { let old = R.view rig.old in let new = R.view rig.new in
         (l : Loaded) → let Done = IsDoneTelling chip.now (reads start length) l.state in
         IfOk result (λ said. Follows (Done (outcome_data said)) l l old new) }
@@ -168,8 +164,7 @@ pub fn run_command<R: Rig>(
     ensures kind { IfOk result (IsKindOf command.now) }
     ensures cause { HasSessionCause (R.view rig.old) (R.view rig.new) result }
     ensures named { IfErr result (λ fault. fault ≢ Fault.Unfinished) }
-    ensures puts { let old = R.view rig.old in let new = R.view rig.new in
-        GoesOn (IsPart (Some chip.now) (is_whole result) most_of_command) old.calls new.calls }
+    ensures puts { PutsAtMost chip.now most_of_command (R.view rig.old) (R.view rig.new) result }
     ensures order { let old = R.view rig.old in let new = R.view rig.new in
         let Done = IsDoneTelling chip.now (command_data command.now) journal.old.state in
         IfOk result (λ said.

@@ -2,8 +2,6 @@
 ghost use Rattle.std.specs.Prelude.{◌≡◌, ◌<◌, ◌*◌, ◌==◌, [], ◌∷◌, List, ℕ, Some, OnOk};
 ghost use Rattle.std.specs.Prelude.{IsTrue, if◌then◌else◌};
 ghost use Rattle.stm_wire.specs.Chip.{page_count, page_size, with_page};
-ghost use Rattle.stm_wire.specs.Dialogue.{GoesOn};
-ghost use Rattle.stm_wire.specs.Parts.{IsPart};
 ghost use Rattle.stm_journal.specs.declared.kept.Kept.{Kept};
 ghost use Rattle.stm_journal.specs.Fits.{AllFit};
 ghost use Rattle.stm_journal.specs.States.{intent_page, newest_keeps};
@@ -12,12 +10,12 @@ ghost use Rattle.stm_journal.specs.Newest.{KeepsSame};
 ghost use Rattle.stm_session.specs.Fault.{HasSessionCause};
 ghost use Rattle.stm_session.specs.Lines.{rewrite_entries, work_entries};
 ghost use Rattle.stm_session.specs.Order.{AreRewritten, BeginTold, Follows, IsRewritten, Stops};
-ghost use Rattle.stm_session.specs.Sending.{is_whole};
 ghost use Rattle.stm_session.specs.Steps.{IsSteady, Goes};
 ghost use Rattle.stm_session.specs.Told.{ToldIn};
 ghost use Rattle.stm_session.specs.Undoable.{state_at};
 ghost use Rattle.stm_session.specs.Work.{beside, kept_at_work, kept_of, pages_at_work};
 ghost use Rattle.stm_session.specs.Work.{with_work};
+ghost use Rattle.stm_session.specs.Sending.{PutsAtMost};
 
 use crate::Fault;
 use crate::laws_of_steps::step_laws;
@@ -54,8 +52,7 @@ fn rewrite_line<R: Rig>(
     ensures same { OnOk result (KeepsSame journal.old.state journal.new.state) }
     ensures cause { HasSessionCause (R.view rig.old) (R.view rig.new) result }
     ensures puts { let old = R.view rig.old in let new = R.view rig.new in
-        GoesOn (IsPart (Some chip.now) (is_whole result) (3 * page_size chip.now n))
-        old.calls new.calls }
+        PutsAtMost chip.now (3 * page_size chip.now n) old new result }
     ensures order { let old = R.view rig.old in let new = R.view rig.new in
         let Told = ToldIn R.view journal.old.is_torn old new in
         OnOk result (Follows (IsRewritten chip.now Told n) journal.old journal.new old new) }
@@ -92,8 +89,7 @@ fn rewrite_newest<R: Rig>(
     ensures same { OnOk result (KeepsSame journal.old.state journal.new.state) }
     ensures cause { HasSessionCause (R.view rig.old) (R.view rig.new) result }
     ensures puts { let old = R.view rig.old in let new = R.view rig.new in
-        GoesOn (IsPart (Some chip.now) (is_whole result) (3 * page_size chip.now n))
-        old.calls new.calls }
+        PutsAtMost chip.now (3 * page_size chip.now n) old new result }
     ensures order { let old = R.view rig.old in let new = R.view rig.new in
         let Told = ToldIn R.view journal.old.is_torn old new in
         OnOk result (Follows (IsRewritten chip.now Told n) journal.old journal.new old new) }
@@ -129,7 +125,7 @@ fn rewrite_beside<R: Rig>(
     ensures cause { HasSessionCause (R.view rig.old) (R.view rig.new) result }
     ensures puts { let old = R.view rig.old in let new = R.view rig.new in
         let most = if n == 1 then 3 * page_size chip.now 257 else 0 in
-        GoesOn (IsPart (Some chip.now) (is_whole result) most) old.calls new.calls }
+        PutsAtMost chip.now most old new result }
     ensures order { let old = R.view rig.old in let new = R.view rig.new in
         let Told = ToldIn R.view journal.old.is_torn old new in
         let pages = beside n (newest_keeps 257 journal.old.state) in
@@ -170,8 +166,7 @@ pub fn rewrite_at_work<R: Rig>(
     requires fits { AllFit chip.now journal.old.state.stack }
     ensures same { OnOk result (KeepsSame journal.old.state journal.new.state) }
     ensures cause { HasSessionCause (R.view rig.old) (R.view rig.new) result }
-    ensures puts { let old = R.view rig.old in let new = R.view rig.new in
-        GoesOn (IsPart (Some chip.now) (is_whole result) (3 * 2097152)) old.calls new.calls }
+    ensures puts { PutsAtMost chip.now (3 * 2097152) (R.view rig.old) (R.view rig.new) result }
     ensures order { let old = R.view rig.old in let new = R.view rig.new in
         let Told = ToldIn R.view journal.old.is_torn old new in
         let Rewritten = AreRewritten chip.now Told (pages_at_work journal.old.state.stack) in

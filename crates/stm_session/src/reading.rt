@@ -1,13 +1,12 @@
 // Reads any part of the flash, in calls that the bootloader takes.
 ghost use Rattle.std.specs.Prelude.{◌≡◌, ℕ, Bool, ◌+◌, ◌-◌, ◌*◌, ◌/◌, ◌%◌, ◌∷◌, [], ◌<◌, ◌≤◌, ◌||◌};
-ghost use Rattle.std.specs.Prelude.{◌==◌, ◌++◌, IsTrue, IfErr, IfOk, OnOk, length, vec_len, Some};
+ghost use Rattle.std.specs.Prelude.{◌==◌, ◌++◌, IsTrue, IfErr, IfOk, OnOk, length, vec_len};
 ghost use Rattle.std.specs.Prelude.{List};
 ghost use Rattle.std.specs.List.{AllByRecursion};
 ghost use Rattle.stm_wire.specs.Chip.{fits_inside, is_inside};
 ghost use Rattle.stm_wire.specs.Device.{IsSettled};
 ghost use Rattle.stm_wire.specs.Dialogue.{GoesOn};
 ghost use Rattle.stm_wire.specs.Intents.{InPage};
-ghost use Rattle.stm_wire.specs.Parts.{IsPart};
 ghost use Rattle.stm_session.specs.Fault.{HasSessionCause, IsRefusal};
 ghost use Rattle.stm_session.specs.Asking.{Asks};
 ghost use Rattle.stm_session.specs.Came.{ComeInBlocks};
@@ -15,7 +14,7 @@ ghost use Rattle.stm_session.specs.Reading.{HoldsAddress, IsBlock, IsNotBehind};
 ghost use Rattle.stm_session.specs.Order.{AreReadsOf, Begin, IsInOrder, IsReadOf, ReadsBlock};
 ghost use Rattle.stm_session.specs.Order.{Stops, read_steps};
 ghost use Rattle.stm_session.specs.RunOrder.{IsReading, OnlyReads};
-ghost use Rattle.stm_session.specs.Sending.{is_whole, most_of_command};
+ghost use Rattle.stm_session.specs.Sending.{PutsAtMost, most_of_command};
 ghost use Rattle.stm_session.specs.Running.{bytes_at};
 
 use crate::Fault;
@@ -92,8 +91,7 @@ pub fn read_part<R: Rig>(
         HasSessionCause old new result }
     ensures puts { let old = R.view rig.old in let new = R.view rig.new in
         (page : ℕ) → InPage chip.now page address (length buf.old)
-        → GoesOn (IsPart (Some chip.now) (is_whole result) (12 + length buf.old))
-        old.calls new.calls }
+        → PutsAtMost chip.now (12 + length buf.old) old new result }
     ensures order { let old = R.view rig.old in let new = R.view rig.new in
         OnOk result (ReadsBlock address (length buf.old) buf.new old new) }
     ensures stops { let old = R.view rig.old in let new = R.view rig.new in
@@ -125,7 +123,7 @@ fn read_block<R: Rig>(
         HasSessionCause old new result }
     ensures puts { let old = R.view rig.old in let new = R.view rig.new in
         (page : ℕ) → InPage chip.now page address size
-        → GoesOn (IsPart (Some chip.now) (is_whole result) (12 + size)) old.calls new.calls }
+        → PutsAtMost chip.now (12 + size) old new result }
     ensures order { let old = R.view rig.old in let new = R.view rig.new in
         OnOk result ((answer : List ℕ) × (bytes.new.items ≡ bytes.old.items ++ answer)
         × ReadsBlock address size answer old new) }
@@ -156,12 +154,11 @@ pub fn read_range<R: Rig>(
 ) -> Result<Vec<u8>, Fault>
     requires { IsTrue (size == 0 || fits_inside chip.now start size) }
     ensures size { IfOk result (λ bytes. vec_len bytes ≡ size) }
-    ensures puts { let old = R.view rig.old in let new = R.view rig.new in
-        GoesOn (IsPart (Some chip.now) (is_whole result) most_of_command) old.calls new.calls }
+    ensures puts { PutsAtMost chip.now most_of_command (R.view rig.old) (R.view rig.new) result }
     // Bytes of one page are read in blocks of 256, but for the last.
     ensures few { let old = R.view rig.old in let new = R.view rig.new in
         (page : ℕ) → InPage chip.now page start size
-        → GoesOn (IsPart (Some chip.now) (is_whole result) (12 + 2 * size)) old.calls new.calls }
+        → PutsAtMost chip.now (12 + 2 * size) old new result }
     ensures order { let old = R.view rig.old in let new = R.view rig.new in
         (page : ℕ) → InPage chip.now page start size → size % 256 ≡ 0 → (torn : Bool)
         → IfOk result (λ bytes. let steps = read_steps start (size / 256) bytes.items in

@@ -1,10 +1,9 @@
 // Reading a page again behind its return.
 ghost use Rattle.std.specs.Prelude.{◌≡◌, ◌<◌, ◌+◌, ◌*◌, [], List, ℕ, Bool, ⊤, length, bytes_eq};
-ghost use Rattle.std.specs.Prelude.{if◌then◌else◌, Some, OnOk, IsTrue};
+ghost use Rattle.std.specs.Prelude.{if◌then◌else◌, OnOk, IsTrue};
 ghost use Rattle.stm_wire.specs.Chip.{page_count, page_size, page_of, with_page};
 ghost use Rattle.stm_wire.specs.Device.{IsSettled};
 ghost use Rattle.stm_wire.specs.Dialogue.{GoesOn};
-ghost use Rattle.stm_wire.specs.Parts.{IsPart};
 ghost use Rattle.stm_journal.specs.States.{newest_keeps};
 ghost use Rattle.stm_journal.specs.Newest.{KeepsSame};
 ghost use Rattle.stm_session.specs.Asking.{Asks};
@@ -12,8 +11,8 @@ ghost use Rattle.stm_session.specs.Fault.{HasSessionCause};
 ghost use Rattle.stm_session.specs.Lines.{rewrite_entries};
 ghost use Rattle.stm_session.specs.Order.{Are, AreReadsOf, Begin, DoesSteps, IsInOrder, OrMisread};
 ghost use Rattle.stm_session.specs.Order.{Stops, page_address, page_reads, return_steps};
-ghost use Rattle.stm_session.specs.Sending.{is_whole};
 ghost use Rattle.stm_session.specs.Steps.{IsSteady, Goes};
+ghost use Rattle.stm_session.specs.Sending.{PutsAtMost};
 
 use crate::Fault;
 use crate::changing::change_page;
@@ -42,8 +41,7 @@ fn read_again<R: Rig>(
     requires size { length page.now ≡ page_size chip.now n }
     ensures cause { HasSessionCause (R.view rig.old) (R.view rig.new) result }
     ensures puts { let old = R.view rig.old in let new = R.view rig.new in
-        GoesOn (IsPart (Some chip.now) (is_whole result) (12 + 2 * length page.now))
-        old.calls new.calls }
+        PutsAtMost chip.now (12 + 2 * length page.now) old new result }
     // At Ok just its bytes came.
     ensures order { let old = R.view rig.old in let new = R.view rig.new in
         (torn : Bool) → OnOk result
@@ -84,8 +82,7 @@ pub fn return_page<R: Rig>(
     ensures same { OnOk result (KeepsSame journal.old.state journal.new.state) }
     ensures cause { HasSessionCause (R.view rig.old) (R.view rig.new) result }
     ensures puts { let old = R.view rig.old in let new = R.view rig.new in
-        GoesOn (IsPart (Some chip.now) (is_whole result) (21 + 4 * length page.now))
-        old.calls new.calls }
+        PutsAtMost chip.now (21 + 4 * length page.now) old new result }
     ensures order { let old = R.view rig.old in let new = R.view rig.new in
         let steps = return_steps again chip.now n held.now page.now in
         OnOk result (DoesSteps steps journal.old journal.new old new) }

@@ -1,8 +1,6 @@
 // Giving back what the newest segment keeps.
 ghost use Rattle.std.specs.Prelude.{◌≡◌, ◌<◌, ◌*◌, List, ℕ, Some, OnOk, IsTrue};
 ghost use Rattle.stm_wire.specs.Chip.{page_count, page_size, with_page};
-ghost use Rattle.stm_wire.specs.Dialogue.{GoesOn};
-ghost use Rattle.stm_wire.specs.Parts.{IsPart};
 ghost use Rattle.stm_journal.specs.declared.kept.Kept.{Kept};
 ghost use Rattle.stm_journal.specs.States.{newest_keeps};
 ghost use Rattle.stm_journal.specs.KeptPlaces.{IsPlaceIn, kept_entry, place_of};
@@ -10,10 +8,10 @@ ghost use Rattle.stm_journal.specs.Newest.{KeepsSame};
 ghost use Rattle.stm_session.specs.Fault.{HasSessionCause};
 ghost use Rattle.stm_session.specs.Lines.{return_entries};
 ghost use Rattle.stm_session.specs.Order.{BeginTold, Follows, IsReturned, OrMisread, Stops};
-ghost use Rattle.stm_session.specs.Sending.{is_whole};
 ghost use Rattle.stm_session.specs.Steps.{IsSteady, Goes};
 ghost use Rattle.stm_session.specs.Told.{ToldIn};
 ghost use Rattle.stm_session.specs.Undoable.{state_at};
+ghost use Rattle.stm_session.specs.Sending.{PutsAtMost};
 
 use crate::Fault;
 use crate::laws_of_steps::step_laws;
@@ -41,8 +39,7 @@ pub fn restore_line<R: Rig>(
     ensures same { OnOk result (KeepsSame journal.old.state journal.new.state) }
     ensures cause { HasSessionCause (R.view rig.old) (R.view rig.new) result }
     ensures puts { let old = R.view rig.old in let new = R.view rig.new in
-        GoesOn (IsPart (Some chip.now) (is_whole result) (13 * page_size chip.now n))
-        old.calls new.calls }
+        PutsAtMost chip.now (13 * page_size chip.now n) old new result }
     ensures order { let old = R.view rig.old in let new = R.view rig.new in
         let Told = ToldIn R.view journal.old.is_torn old new in
         OnOk result (Follows (IsReturned again chip.now Told n) journal.old journal.new old new) }

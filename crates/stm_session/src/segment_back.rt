@@ -1,7 +1,5 @@
 // Taking the newest segment back.
 ghost use Rattle.std.specs.Prelude.{◌≡◌, ◌<◌, ◌∷◌, List, ℕ, drop, length, Some, OnOk};
-ghost use Rattle.stm_wire.specs.Dialogue.{GoesOn};
-ghost use Rattle.stm_wire.specs.Parts.{IsPart};
 ghost use Rattle.stm_journal.specs.Fits.{AllFit};
 ghost use Rattle.stm_journal.specs.Newest.{KeepsSame, pages_of_segments};
 ghost use Rattle.stm_session.specs.Fault.{HasSessionCause};
@@ -9,7 +7,7 @@ ghost use Rattle.stm_session.specs.Order.{BeginTold, Follows, AreReturned, IsTak
 ghost use Rattle.stm_session.specs.Order.{OrMisread, Stops};
 ghost use Rattle.stm_session.specs.Told.{ToldIn};
 ghost use Rattle.stm_session.specs.Undoable.{newest_kept};
-ghost use Rattle.stm_session.specs.Sending.{is_whole, most_of_command};
+ghost use Rattle.stm_session.specs.Sending.{PutsAtMost, most_of_command};
 ghost use Rattle.stm_session.specs.Steps.{IsSteady, Goes};
 ghost use Rattle.stm_session.specs.SegmentBack.{TakesBack, newest_at, return_lines, taking_lines};
 ghost use Rattle.stm_session.specs.SegmentBack.{with_pages};
@@ -33,8 +31,7 @@ pub fn restore_lines<R: Rig>(
     requires fits { AllFit chip.now journal.old.state.stack }
     ensures same { OnOk result (KeepsSame journal.old.state journal.new.state) }
     ensures cause { HasSessionCause (R.view rig.old) (R.view rig.new) result }
-    ensures puts { let old = R.view rig.old in let new = R.view rig.new in
-        GoesOn (IsPart (Some chip.now) (is_whole result) most_of_command) old.calls new.calls }
+    ensures puts { PutsAtMost chip.now most_of_command (R.view rig.old) (R.view rig.new) result }
     ensures order { let old = R.view rig.old in let new = R.view rig.new in
         let pages = newest_kept journal.old.state.stack in
         let Told = ToldIn R.view journal.old.is_torn old new in
@@ -80,8 +77,7 @@ pub fn take_back<R: Rig>(
     ensures rest { let pages = pages_of_segments journal.old.state.stack in
         OnOk result (pages_of_segments journal.new.state.stack ≡ drop 1 pages) }
     ensures cause { HasSessionCause (R.view rig.old) (R.view rig.new) result }
-    ensures puts { let old = R.view rig.old in let new = R.view rig.new in
-        GoesOn (IsPart (Some chip.now) (is_whole result) most_of_command) old.calls new.calls }
+    ensures puts { PutsAtMost chip.now most_of_command (R.view rig.old) (R.view rig.new) result }
     ensures order { let old = R.view rig.old in let new = R.view rig.new in
         let stack = journal.old.state.stack in
         let Told = ToldIn R.view journal.old.is_torn old new in

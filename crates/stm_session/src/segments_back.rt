@@ -1,7 +1,5 @@
 // Taking the newest segments back, one after another, and before them the pages at work.
-ghost use Rattle.std.specs.Prelude.{◌≡◌, ◌≤◌, ◌+◌, ◌*◌, List, ℕ, length, Some, OnOk};
-ghost use Rattle.stm_wire.specs.Dialogue.{GoesOn};
-ghost use Rattle.stm_wire.specs.Parts.{IsPart};
+ghost use Rattle.std.specs.Prelude.{◌≡◌, ◌≤◌, ◌+◌, ◌*◌, List, ℕ, length, OnOk};
 ghost use Rattle.stm_journal.specs.Fits.{AllFit};
 ghost use Rattle.stm_journal.specs.Newest.{pages_of_segments};
 ghost use Rattle.stm_session.specs.Fault.{HasSessionCause};
@@ -10,7 +8,7 @@ ghost use Rattle.stm_session.specs.Order.{BeginTold, Follows, AreAllTakenBack, A
 ghost use Rattle.stm_session.specs.Order.{IsAfter, OrMisread, Stops};
 ghost use Rattle.stm_session.specs.Reaching.{IsConfirmedInPart, confirming};
 ghost use Rattle.stm_session.specs.Told.{ToldIn, behind_confirming};
-ghost use Rattle.stm_session.specs.Sending.{is_whole, most_of_command, most_of_confirming};
+ghost use Rattle.stm_session.specs.Sending.{PutsAtMost, most_of_command, most_of_confirming};
 ghost use Rattle.stm_session.specs.Sending.{most_of_undo};
 ghost use Rattle.stm_session.specs.Steps.{IsSteady};
 ghost use Rattle.stm_session.specs.Work.{pages_at_work};
@@ -38,7 +36,7 @@ pub fn take_back_newest<R: Rig>(
     ensures cause { HasSessionCause (R.view rig.old) (R.view rig.new) result }
     ensures puts { let old = R.view rig.old in let new = R.view rig.new in
         let most = taken * most_of_command in
-        GoesOn (IsPart (Some chip.now) (is_whole result) most) old.calls new.calls }
+        PutsAtMost chip.now most old new result }
     ensures order { let old = R.view rig.old in let new = R.view rig.new in
         let segments = pages_of_segments journal.old.state.stack in
         let Told = ToldIn R.view journal.old.is_torn old new in
@@ -76,7 +74,7 @@ pub fn go_back<R: Rig>(
     ensures cause { HasSessionCause (R.view rig.old) (R.view rig.new) result }
     ensures puts { let old = R.view rig.old in let new = R.view rig.new in
         let most = most_of_undo taken in
-        GoesOn (IsPart (Some chip.now) (is_whole result) most) old.calls new.calls }
+        PutsAtMost chip.now most old new result }
     ensures order { let old = R.view rig.old in let new = R.view rig.new in
         let work = pages_at_work journal.old.state.stack in
         let segments = pages_of_segments journal.old.state.stack in
@@ -114,7 +112,7 @@ pub fn go_back_confirmed<R: Rig>(
     ensures cause { HasSessionCause (R.view rig.old) (R.view rig.new) result }
     ensures puts { let old = R.view rig.old in let new = R.view rig.new in
         let most = most_of_confirming + most_of_undo taken in
-        GoesOn (IsPart (Some chip.now) (is_whole result) most) old.calls new.calls }
+        PutsAtMost chip.now most old new result }
     ensures order { let old = R.view rig.old in let new = R.view rig.new in
         let work = pages_at_work journal.old.state.stack in
         let segments = pages_of_segments journal.old.state.stack in
