@@ -10,7 +10,7 @@ from place import ECHO, NOISE, SILENT
 
 # when a board is given up, and how long a reply may take, in seconds. Where it matters whether a reply is late the wait is long,
 # so that a busy machine's answers don't come near. So many waits go by, at least, before a board is given up that answers nothing
-GIVE_UP, WAIT, LONG_WAIT, WAITS = 2, 0.1, 0.5, 16
+GIVE_UP, WAIT, LONG_WAIT, WAITS = 2, 0.1, 0.5, 9
 
 
 def of(made, *words):

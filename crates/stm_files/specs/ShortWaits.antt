@@ -40,11 +40,11 @@ with_get Brief at w =
 abbrev pub with_spare : ℕ → WaitsData → WaitsData
 with_spare millis w = record w { spare = max w.spare (millis * 1000000) }
 
--- they are over where there were 16 gets and they have gone on for so long
+-- they are over where there were 9 gets and they have gone on for so long
 abbrev pub is_over_after : Option ℕ → ℕ → Option ℕ → ℕ → Bool
 is_over_after None gets time spare = false
 is_over_after (Some limit) gets None spare = false
-is_over_after (Some limit) gets (Some time) spare = nat_le 16 gets && nat_le (limit + spare) time
+is_over_after (Some limit) gets (Some time) spare = nat_le 9 gets && nat_le (limit + spare) time
 
 abbrev pub is_over_at : ℕ → WaitsData → Bool
 is_over_at now w =

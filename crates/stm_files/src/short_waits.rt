@@ -10,14 +10,14 @@ use std::mem;
 use std::time::{Duration, Instant};
 use stm_wire::Patience;
 
-/// How many gets go on before anything is over: a bootloader that is settled byte by byte has
-/// refused one long before.
-const FEWEST: u32 = 16;
+/// How many gets go on before anything is over: one for what is owed, and one for each byte that
+/// settles. A bootloader that is settled byte by byte has refused one before the eighth.
+const FEWEST: u32 = 9;
 
 const NANOS_IN_MILLI: u128 = 1_000_000;
 
 /// The short gets on a line that follow one another, with one byte put between two of them or none,
-/// as draining and settling byte by byte have them. They are over once there were 16 and they have
+/// as draining and settling byte by byte have them. They are over once there were 9 and they have
 /// gone on for so long, or for longer behind many bytes: no bootloader needs as many. A get that waits
 /// long ends them, and so does a batch of bytes, to which a device may owe no reply.
 #[derive(Drop)]

@@ -14,7 +14,7 @@ use std::alloc::Global;
 use stm_wire::Rig;
 
 /// How many bytes are fetched at once.
-const BUFFER: usize = 512;
+const BUFFER: usize = 4_096;
 
 /// A journal of which a beginning was read.
 #[derive(Drop)]
@@ -151,7 +151,7 @@ fn load_by<R: Rig>(alloc: Global, rig: &mut R, buf: &mut [u8]) -> Result<Journal
 impl Journal {
     /// Reads the journal of a Rig, by `fetch` alone.
     ///
-    /// It reads in pieces of 512 bytes and keeps no line whole. The answer is the journal,
+    /// It reads in pieces of 4,096 bytes and keeps no line whole. The answer is the journal,
     /// `File`, `Bad` or `Memory`.
     ///
     /// On an honest Rig the answer is the journal of its bytes, or `Bad` with the number of the
