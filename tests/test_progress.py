@@ -17,6 +17,8 @@ WIDE = b'[[chip]]\nid = 0xA02\nbase = 0x08000000\npages = [[512, 256]]\nerase = 
 SIZE = 64 * 1024
 IMAGE = bytes(range(1, 251)) * (SIZE // 250) + bytes(SIZE % 250)
 CLEAR = b"\r\x1b[K"
+# what keeps a terminal from wrapping a line of progress that is wider, and lets it wrap again
+CUT, WRAP = b"\x1b[?7l", b"\x1b[?7h"
 # what a terminal shows before an image is written that has bytes of an erase
 NOTE = (b"note: the image holds bytes that a device which loses power in the midst would take for an erase; "
         b"use -v, and reset before an undo\r\n")
@@ -65,7 +67,15 @@ class Progress(Place):
                 break
             shown += piece
         os.close(here)
-        return came, shown
+        return came, self.unwrapped(shown)
+
+    def unwrapped(self, shown):
+        """What a terminal showed, of which each line of progress, and nothing else, was cut where it is wider than the terminal."""
+        self.assertEqual(re.findall(rb"(?:\x1b\[\?7l)?\r[^\r\n]+\x1b\[K(?:\x1b\[\?7h)?", shown),
+                         re.findall(rb"\x1b\[\?7l\r[^\r\n]+\x1b\[K\x1b\[\?7h", shown))
+        plain = shown.replace(CUT + b"\r", b"\r").replace(b"\x1b[K" + WRAP, b"\x1b[K")
+        self.assertFalse(CUT in plain or WRAP in plain, shown)
+        return plain
 
     def in_file(self, use):
         """The same, of a file."""
@@ -323,7 +333,7 @@ class Small(Place):
                              stdin=subprocess.DEVNULL, stdout=subprocess.DEVNULL, stderr=there)
         os.close(there)
         with open(here, "rb", buffering=0) as told:
-            shown = b"".join(iter(lambda: read_some(told), b""))
+            shown = b"".join(iter(lambda: read_some(told), b"")).replace(CUT, b"").replace(WRAP, b"")
         return ran.returncode, re.sub(rb"\rsettling, \d+ bytes sent\x1b\[K", b"", shown).decode()
 
     def test_lines(self):

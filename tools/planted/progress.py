@@ -144,9 +144,14 @@ FAULTS = {
         "test_progress.Small.test_a_terminal"),
     "lines of a terminal are not written over": (
         "stm_work/src/progress_screen.rt",
-        '"\\r{status}\\x1b[K"',
-        '"{}{status}\\x1b[K", if @on { "\\n" } else { "\\r" }',
+        '"\\x1b[?7l\\r{status}\\x1b[K\\x1b[?7h"',
+        '"\\x1b[?7l{}{status}\\x1b[K\\x1b[?7h", if @on { "\\n" } else { "\\r" }',
         "test_progress.Small.test_a_terminal"),
+    "a line that is wider than the terminal is wrapped": (
+        "stm_work/src/progress_screen.rt",
+        "let _ = self.out.write_all(text.as_bytes());",
+        "let _ = self.out.write_all(if @on { text.as_bytes().get(5..).unwrap_or(&[]) } else { text.as_bytes() });",
+        "test_progress.Progress.test_a_terminal_has_one_line"),
     "lines are shown where --progress is not said": (
         "stm_work/src/progress_screen.rt",
         "Progress::OnTerminal if err.is_terminal() => Style::Line,",

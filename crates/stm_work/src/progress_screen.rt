@@ -205,14 +205,15 @@ impl<'a, W: Write + Drop, C: Clock> Screen<'a, W, C> {
         seconds_left(done, place.count?, millis)
     }
 
-    /// Shows a line, in one write.
+    /// Shows a line, in one write. What is wider than the terminal is cut at its edge: the terminal
+    /// wraps nothing meanwhile, so that the next line is written over this one.
     fn write(&mut self, status: &Status)
         ensures hidden { self.old.style ≡ Hidden → self.new.out ≡ self.old.out }
         ensures style { self.new.style ≡ self.old.style }
     {
         let text = match self.style {
             Style::Hidden => return,
-            Style::Line => format!(in self.alloc; "\r{status}\x1b[K"),
+            Style::Line => format!(in self.alloc; "\x1b[?7l\r{status}\x1b[K\x1b[?7h"),
             Style::Lines => format!(in self.alloc; "{status}\n"),
         };
         if let Ok(text) = text {
