@@ -13,7 +13,6 @@ use Rattle.stm_wire.specs.Dialogue.{GoesOn}
 use Rattle.stm_wire.specs.PageLaws.{offset_within, page_within}
 use Rattle.stm_wire.specs.Parts.{IsPart}
 use Rattle.stm_wire.specs.Rig.{RigState}
-use Rattle.stm_wire.specs.SentList.{read}
 use Rattle.stm_chip.specs.Plan.{frames_of}
 use Rattle.stm_journal.specs.declared.entry.Entry.TheVariants.{Keeps, Ends}
 use Rattle.stm_journal.specs.Journals.{Loaded, begin_entries}
