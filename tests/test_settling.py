@@ -16,7 +16,6 @@ AFTER = BEFORE + b"erase 127\nprogram 127\nundone 1\n"
 WIDE = b'[[chip]]\nid = 0xA01\nbase = 0x08000000\npages = [[256, 256]]\nerase = "extended"\n'
 WIDE_FLASH = bytes(256 * 256)
 WIDE_BEFORE = b"stmjournal 2 0A01\nopen 1\npage 3 " + b"0" * 512 + b"\nerase 3\n"
-WIDE_AFTER = WIDE_BEFORE + b"erase 3\nprogram 3\nundone 1\n"
 # what the device may have of the frame 43 BC 00 7F 7F, but for all of it
 RESTS = (b"43", b"43BC", b"43BC00", b"43BC007F")
 # a device is given up long before a wait for each of 130 bytes has gone by
@@ -38,13 +37,14 @@ class Settling(Served):
                 self.assertHolds(FLASH, b"idle\n")
                 self.assertFile("journal", AFTER)
 
-    def undo(self, stands, *words, variables=None):
+    def undo(self, stands, *words, page=3, variables=None):
         """Takes back at a board with a wide chip that stands so, and answers the times that the program sets for its line, one
         behind another that differs from it, and how many seconds it took."""
         self.store("table", WIDE)
         self.store("flash", WIDE_FLASH)
         self.store("flash.line", stands + b"\n")
-        self.store("journal", WIDE_BEFORE)
+        before = WIDE_BEFORE.replace(b" 3", b" %d" % page)
+        self.store("journal", before)
         self.serve(1, number="0A01")
         times, began = [], time.monotonic()
         given = ("undo", "--table", "table", "--device", "board", "--journal", "journal", *words)
@@ -55,21 +55,32 @@ class Settling(Served):
             raise unittest.SkipTest(str(why)) from None
         self.assertTold(said, "undone 1\n")
         self.assertServed()
-        self.assertFile("journal", WIDE_AFTER)
+        self.assertFile("journal", before + b"erase %d\nprogram %d\nundone 1\n" % (page, page))
         return [at for at in times if at is not None], time.monotonic() - began
 
     def test_a_line_of_unknown_speed_has_a_wait_for_each_256_bytes(self):
-        """The byte 03 makes a list of 772 pages, of 1,547 bytes: five batches of 256 bytes, and one of 3,584."""
-        waits, _ = self.undo(b"rest 44BB", "--wait", "100")
-        self.assertEqual(waits[:4], [100, 1400, 100, 20000])
+        """The byte 0B makes a list of 2,828 pages, of 5,659 bytes: five batches of 256 bytes, one of 3,584, one of 542 and one of
+        254."""
+        waits, _ = self.undo(b"rest 44BB", "--wait", "100", page=11)
+        self.assertEqual(waits[:5], [100, 1400, 300, 100, 20000])
 
     def test_a_known_speed_makes_it_short(self):
-        """A device that was reset takes 131,072 bytes without a word: five batches of 256 bytes, 36 of 3,584, one of 512 and one of
-        254; then single bytes. Behind each a wait is as long as is said, and as its bytes are on the line."""
-        waits, seconds = self.undo(b"fresh", "--wait", "100", "--baud", "4000000")
+        """A device that was reset takes 131,072 bytes FF without a word: five batches of 256 bytes, 36 of 3,584, one of 512 and one
+        of 254; then single bytes. Behind each a wait is as long as is said, and as its bytes are on the line."""
+        waits, seconds = self.undo(b"fresh", "--wait", "100", "--baud", "4000000", page=255)
         self.assertEqual(waits[:7], [100, 101, 110, 102, 101, 20000, 100])
         # 43 waits, where there were 512
         self.assertLess(seconds, 30)
+
+    def test_a_device_that_was_reset_takes_as_many_bytes_as_its_page_needs(self):
+        """Of page 11 5,662: five batches of 256 bytes, one of 3,584, one of 542 and one of 254. Of page 0 two batches."""
+        waits, seconds = self.undo(b"fresh", "--wait", "500", "--baud", "115200", page=11)
+        self.assertEqual(waits[:7], [500, 525, 843, 552, 525, 501, 20000])
+        # 8 waits, where there were 43
+        self.assertLess(seconds, 15)
+        waits, seconds = self.undo(b"fresh", "--wait", "500", "--baud", "115200", page=0)
+        self.assertEqual(waits[:4], [500, 525, 501, 20000])
+        self.assertLess(seconds, 10)
 
     def test_the_speed_may_be_a_variable(self):
         """A word goes before it, and an empty one is none."""
@@ -99,5 +110,6 @@ class Settling(Served):
                 self.assertEqual(waits[0], wait)
 
     def test_replies_to_a_large_batch_are_taken(self):
-        """The silence behind them is waited for longer than a board that answers nothing is."""
-        self.undo(b"rest 44BB", "--wait", "200", "--give-up", "2")
+        """Of an undo that was itself stopped behind 1,002 bytes. The silence behind them is waited for longer than a board that
+        answers nothing is."""
+        self.undo(b"rest 44BB" + b"0B" * 1002, "--wait", "200", "--give-up", "2", page=11)

@@ -155,13 +155,18 @@ class Undo(Place):
         self.store("journal", journal)
 
     def test_settles_a_chip_with_longer_lists_for_longer(self):
-        """Where an erase names pages by two bytes, a device that was reset takes 131,072 bytes in silence."""
+        """Where an erase names pages by two bytes, a device that was reset takes in silence what a list of its page's byte needs:
+        behind 44 BB the byte 05 is the count of 1,286 pages. The next byte is the 7F that connects it."""
         self.store("table", WIDE)
         before = b"stmjournal 2 0A01\nopen 1\npage 5 " + b"0" * 512 + b"\nerase 5\n"
         self.store("journal", before)
-        self.assertFault(self.use("undo", "--stop", "131072", device=WIDE_CHIP), "stopped", 3)
+        self.assertFault(self.use("undo", "--stop", "2578", device=WIDE_CHIP), "stopped", 3)
         self.assertFile("flash.line", b"fresh\n")
         self.assertFile("journal", before)
+        self.assertFault(self.use("undo", "--stop", "2579", device=WIDE_CHIP), "stopped", 3)
+        self.assertFile("flash.line", b"idle\n")
+        self.assertFile("journal", before)
+        self.store("flash.line", b"fresh\n")
         self.assertTold(self.use("undo", "--fresh", "--stop", "1000", device=WIDE_CHIP), "undone 1\n")
         self.assertFile("journal", before + b"erase 5\nprogram 5\nundone 1\n")
         self.store("flash.line", b"fresh\n")

@@ -8,9 +8,8 @@ from model import ACK, CONNECT, ERASE, GET, NACK
 
 # bytes of a batch at the beginning, how many are sent in such, and bytes of a later one
 BATCH, BEGINNING, LARGE_BATCH = 256, 1280, 3584
-# bytes that an undo sends at most, by the code that erases; in the midst of a question a frame has 11 at most
-LIMIT, LIMIT_OF_ASKING = {ERASE: 512}, 16
-LONG_LIMIT = 131072
+# bytes that an undo sends at least and at most before it connects; in the midst of a question a frame has 11 at most
+SHORT_LIMIT, LONG_LIMIT, LIMIT_OF_ASKING = 512, 131072, 16
 # so many times in a row the refusals that are due may fail to come before the board counts as one that can't be settled
 MISSES = 5
 
@@ -31,7 +30,13 @@ def byte_of(board, intent):
 
 
 def limit_of(board, intent):
-    return LIMIT_OF_ASKING if intent == "ask" else LIMIT.get(board.code, LONG_LIMIT)
+    """As an undo has it: behind 44 BB the byte twice is the count of 257 times as many pages, and one more."""
+    if intent == "ask":
+        return LIMIT_OF_ASKING
+    if board.code == ERASE:
+        return SHORT_LIMIT
+    byte = byte_of(board, intent)
+    return LONG_LIMIT if byte == CONNECT else min(max(514 * byte + 8, SHORT_LIMIT), LONG_LIMIT)
 
 
 class Settling:

@@ -301,7 +301,7 @@ def settling_byte(intent):
 
 
 def settling_limit(chip, intent):
-    return wire.SHORT_LIMIT if intent is not None and chip.erase_code() == ERASE else wire.LIMIT
+    return wire.LIMIT if intent is None else wire.limit_for(settling_byte(intent), chip.erase_code() != ERASE)
 
 
 def settle_by(rig, journal, chip, is_fresh):

@@ -4,7 +4,7 @@ from device import (ACK, CONNECT, ERASE, EXTENDED_ERASE, GET, GET_ID, GO, NACK, 
                     exclusive_or)
 
 LIMIT = 131072
-# where pages are erased by numbers of one byte
+# where pages are erased by numbers of one byte, and the least in any case
 SHORT_LIMIT = 512
 DRAINED = 4096
 # bytes of a batch at the beginning, how many are sent in such, and bytes of a later one
@@ -15,6 +15,13 @@ LARGE_BATCH = 3584
 
 class WireFault(Exception):
     """The device answers what the protocol hasn't."""
+
+
+def limit_for(byte, extended):
+    """How often the byte of an intent is sent at most: behind 44 BB it is the count of 257 * byte + 1 pages."""
+    if not extended:
+        return SHORT_LIMIT
+    return LIMIT if byte == CONNECT else min(max(514 * byte + 8, SHORT_LIMIT), LIMIT)
 
 
 def drain(rig):

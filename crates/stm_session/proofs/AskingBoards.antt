@@ -24,7 +24,6 @@ use Rattle.stm_session.specs.Order.{Step, Begin, IsInOrder, Sends, Stops, StopsB
 use Rattle.stm_session.specs.Reaching.{IsAsked, IsAsking, asking_steps, SettlesThen}
 use Rattle.stm_session.specs.Unwritten.{AppendsNothing}
 use Rattle.stm_wire.specs.declared.chip.EraseKind.{EraseKind}
-use Rattle.stm_wire.specs.declared.chip.EraseKind.TheVariants.{Page, Extended}
 use Rattle.stm_wire.specs.declared.intent.Intent.{Intent}
 use Rattle.stm_wire.specs.Rig.{IsModel}
 use Rattle.stm_wire.specs.MomentLaws.{joined}
@@ -35,9 +34,10 @@ use Rattle.stm_journal.specs.Calls.{AreFetches, IsUntouched, Loads}
 use Rattle.stm_journal.specs.Journals.{JournalData, Loaded, bad, good, journal_of}
 use Rattle.stm_session.specs.declared.fault.Fault.TheVariants.{BadJournal}
 use Rattle.stm_session.specs.AskingBoard.{AsksInPart}
-use Rattle.stm_session.specs.ToldBoard.{AsksFinished, AsksUnfinished, IsBoardOf}
+use Rattle.stm_session.specs.ToldBoard.{AsksFinished, AsksUnfinished, IsBoardOf, size_of, unique_of}
 use Rattle.stm_session.specs.Fault.{IsHeard, IsOutside, IsUnheard, fault_of_journal, of_file, of_line, of_memory, of_protocol, of_refusal, of_session}
 use Rattle.stm_session.specs.Fresh.{EndsWell, Way, byte_of, limit_of, undo_way}
+use Rattle.stm_session.proofs.Freshness.{limit_most}
 use Rattle.stm_session.specs.Moments.{BeginsNothing, IsSafe, IsUnbegun, SameMake}
 use Rattle.stm_session.specs.Refusal.{unsent_refusal}
 use Rattle.stm_session.specs.StepLaws.{StepLaws}
@@ -311,19 +311,32 @@ module _ (table : List ChipData) (torn : Bool) (version : ℕ) (codes : List ℕ
           order_then torn (asking ++ first) second a.calls c.calls d.calls unique_done (subst O (sym behind_unique) then),
         )
 
+-- what was told, question by question, is told by a device of this chip
+pub board_is : (table : List ChipData) (a b d : Device) (id : ℕ) (unique : List ℕ) (size : Option ℕ)
+    (places : BoardPlaces) → places ≡ places_in table id → b ≡ a → d ≡ a → id ≡ a.chip.id
+    → (places.unique ≡ b.chip.places.unique → unique ≡ unique_of b.chip)
+    → (places.size ≡ d.chip.places.size → size ≡ size_of d.chip)
+    → IsBoardOf table a.chip (record { id = id; unique = unique; size = size })
+board_is table a b d id unique size places at was still own told sized =
+    let here : places_in table a.chip.id ≡ a.chip.places → places ≡ a.chip.places =
+    λ same. at ∙ ap (λ (n : ℕ). places_in table n) own ∙ same in
+    let U : Device → Type 0 = λ x. places.unique ≡ x.chip.places.unique → unique ≡ unique_of x.chip in
+    let S : Device → Type 0 = λ x. places.size ≡ x.chip.places.size → size ≡ size_of x.chip in
+    record {
+      id = own;
+      unique = λ same. subst U was told (ap (λ (p : BoardPlaces). p.unique) (here same));
+      size = λ same. subst S still sized (ap (λ (p : BoardPlaces). p.size) (here same));
+    }
+
 -- How a session is joined that asks: settling is in few calls,
 pub settle_few : (byte limit : ℕ) (a b : Option (List Call)) → limit ≤ 131072 → GoesOn (SettlesWithin byte limit) a b → GoesOn (AreFew 537411600) a b
 settle_few byte limit a b le p = GoesOn-weaker (SettlesWithin byte limit) (AreFew 537411600) a b p (λ xs x. omega (arith, le, x.few, line_calls_are_few xs x.line))
 
 pub limit_small : (is_fresh : Bool) (kind : EraseKind) (intent : Option Intent) → limit_of (undo_way is_fresh kind intent) ≤ 131072
-limit_small false Page None = omega arith
-limit_small false Page (Some intent) = omega arith
-limit_small false Extended None = omega arith
-limit_small false Extended (Some intent) = omega arith
-limit_small true Page None = omega arith
-limit_small true Page (Some intent) = omega arith
-limit_small true Extended None = omega arith
-limit_small true Extended (Some intent) = omega arith
+limit_small false kind None = limit_most kind None
+limit_small false kind (Some intent) = limit_most kind (Some intent)
+limit_small true kind None = limit_most kind None
+limit_small true kind (Some intent) = omega arith
 
 -- and so is reading the journal
 pub fetch_few : (a b : Option (List Call)) → GoesOn AreFetches a b → GoesOn (AreFew 0) a b

@@ -1,5 +1,5 @@
 -- A device that is said to be fresh is settled by 7F alone.
-use Rattle.std.proofs.Common.{◌≡◌, ◌≤◌, ◌&&◌, ℕ, zero, suc, Bool, true, false, List, [], ◌∷◌, length, Option, Some, None, refl, sym, ap, subst, arith, lit≤, take}
+use Rattle.std.proofs.Common.{◌≡◌, ◌≤◌, ◌&&◌, ◌+◌, ◌*◌, min, max, cond, eqb, ℕ, zero, suc, Bool, true, false, List, [], ◌∷◌, length, Option, Some, None, refl, sym, ap, subst, arith, lit≤, take}
 use Rattle.std.specs.Prelude.{is_some}
 use Rattle.std.proofs.Math.Seq.{take-nil}
 use Rattle.std.proofs.lemmas.Bool.{false≢true}
@@ -9,20 +9,21 @@ use Rattle.stm_wire.specs.declared.intent.Intent.{Intent}
 use Rattle.stm_wire.specs.Call.{Call}
 use Rattle.stm_wire.specs.Command.{with_rest}
 use Rattle.stm_wire.specs.Chip.{ChipData}
-use Rattle.stm_wire.specs.Device.{Device, IsDevice, IsSettled}
+use Rattle.stm_wire.specs.Device.{Device, IsSettled}
 use Rattle.stm_wire.specs.Dialogue.{GoesOn}
 use Rattle.stm_wire.specs.DialogueLaws.{GoesOn-weaker}
 use Rattle.stm_wire.specs.Harmless.{Harmless}
 use Rattle.stm_wire.specs.Intents.{settling_byte}
 use Rattle.stm_wire.specs.SentList.{IsSettlingRun}
-use Rattle.stm_wire.specs.Settling.{IsSettling, PutsPart, SettlesWithin, bytes_awaited, most_awaited}
+use Rattle.stm_wire.specs.Awaited.{Awaits, most_for}
+use Rattle.stm_wire.specs.Settling.{IsSettling, PutsPart, SettlesWithin}
 use Rattle.stm_wire.specs.SettlingCalls.{EndsUnder}
 use Rattle.stm_wire.specs.Rig.{RigState}
 use Rattle.stm_journal.specs.States.{intent_of}
-use Rattle.stm_session.specs.Fresh.{Connects, EndsWell, byte_of, limit_of, settling_limit, settling_way, undo_way}
+use Rattle.stm_session.specs.Fresh.{Connects, EndsWell, byte_of, limit_for, limit_of, settling_limit, settling_way, undo_way}
 use Rattle.stm_session.specs.StepLaws.{StepLaws}
 use Rattle.stm_session.specs.Undoable.{state_at}
-use Rattle.stm_session.specs.Undoes.{IsWithinLimit, byte_at_journal}
+use Rattle.stm_session.specs.Undoes.{IsWithinLimit, byte_at_journal, risked_at}
 
 pub fresh_way : (f : Bool) (kind : EraseKind) (o : Option Intent) → (f && is_some o) ≡ true → undo_way f kind o ≡ Connects
 fresh_way true kind None h = absurd (false≢true h)
@@ -48,21 +49,37 @@ plain_way true kind None h = refl
 plain_way true kind (Some i) h = absurd (false≢true (sym h))
 plain_way false kind o h = refl
 
--- the limit is enough for every device of such chips
-pub limit_suffices : (kind : EraseKind) (o : Option Intent) → most_awaited kind ≤ settling_limit kind o
+-- the limit is enough for every harmless device of such chips
+for_byte : (byte : ℕ) → most_for Extended byte ≤ limit_for byte
+for_byte byte = go (eqb byte 0x7F)
+  where
+    go : (t : Bool) → cond t 131047 (min 131047 (max 267 (514 * byte + 8))) ≤ cond t 131072 (min (max (byte * 514 + 8) 512) 131072)
+    go true = lit≤ tt
+    go false = omega arith
+
+pub limit_suffices : (kind : EraseKind) (o : Option Intent) → most_for kind (settling_byte o) ≤ settling_limit kind o
 limit_suffices Page None = lit≤ tt
 limit_suffices Page (Some i) = lit≤ tt
 limit_suffices Extended None = lit≤ tt
-limit_suffices Extended (Some i) = lit≤ tt
+limit_suffices Extended (Some i) = for_byte (settling_byte (Some i))
+
+-- and never more than this
+pub limit_most : (kind : EraseKind) (o : Option Intent) → settling_limit kind o ≤ 131072
+limit_most kind None = lit≤ tt
+limit_most Page (Some i) = lit≤ tt
+limit_most Extended (Some i) = go (eqb (settling_byte (Some i)) 0x7F)
+  where
+    go : (t : Bool) → cond t 131072 (min (max (settling_byte (Some i) * 514 + 8) 512) 131072) ≤ 131072
+    go true = lit≤ tt
+    go false = omega arith
 
 -- so for the journal's own
-pub own_within : (laws : StepLaws) (chip : ChipData) (old : RigState) → IsDevice old.device → old.device.chip.kind ≡ chip.kind → IsWithinLimit chip old
-own_within laws chip old is same =
+pub own_within : (laws : StepLaws) (chip : ChipData) (old : RigState) → Harmless old.device (byte_at_journal old.journal) (risked_at old.journal) → old.device.chip.kind ≡ chip.kind → IsWithinLimit chip old
+own_within laws chip old harmless same =
     let o = intent_of (state_at old.journal) in
-    let all : bytes_awaited (byte_at_journal old.journal) old.device ≤ most_awaited chip.kind =
-    subst (λ (kind : EraseKind). bytes_awaited (byte_at_journal old.journal) old.device ≤ most_awaited kind) same (laws.awaited old.device is (byte_at_journal old.journal)) in
-    let enough = limit_suffices chip.kind o in
-    omega (arith, all, enough)
+    let byte = byte_at_journal old.journal in
+    let all : Awaits byte (most_for chip.kind byte) old.device = subst (λ (kind : EraseKind). Awaits byte (most_for kind byte) old.device) same harmless.awaits in
+    laws.more_suffice old.device byte (most_for chip.kind byte) (settling_limit chip.kind o) (limit_suffices chip.kind o) all
 
 -- 7F once begins a settling run
 connect_run : (n : ℕ) → IsSettlingRun 0x7F 0 (take n (0x7F ∷ []))

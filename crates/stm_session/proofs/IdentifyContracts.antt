@@ -1,5 +1,5 @@
 -- Asking a device who it is, exit by exit.
-use Rattle.std.proofs.Common.{◌≡◌, ◌≢◌, [], None, Some, Result, Ok, Err, IfErr, IsErrAnd, sym, ◌∙◌, subst, inl, inr, ⊎_elim}
+use Rattle.std.proofs.Common.{◌≡◌, ◌≢◌, [], Some, Result, Ok, Err, IfErr, IsErrAnd, sym, ◌∙◌, subst, inl, inr, ⊎_elim}
 use Rattle.stm_wire.specs.Dialogue.{GoesOn}
 use Rattle.stm_wire.specs.Rig.{RigState}
 use Rattle.stm_wire.specs.Stopped.{LossStaysHarmless}

@@ -1,5 +1,5 @@
 -- A device is settled by the journal's intent, from wherever a session was stopped.
-use Rattle.std.proofs.Common.{◌≡◌, ◌≤◌, arith, ℕ, Bool, false, if◌then◌else◌, List, [], map, Result, Ok, Err, IsErrAnd, sym, ◌∙◌, ap, subst, append-nil}
+use Rattle.std.proofs.Common.{◌≡◌, ℕ, Bool, false, if◌then◌else◌, List, [], map, Result, Ok, Err, IsErrAnd, sym, ◌∙◌, ap, subst, subst₂, append-nil}
 use Rattle.stm_wire.specs.declared.fault.WireFault.{WireFault}
 use Rattle.stm_wire.specs.declared.fault.WireFault.TheVariants.{Line}
 use Rattle.stm_wire.specs.Chip.{ChipData}
@@ -8,7 +8,8 @@ use Rattle.stm_wire.specs.Harmless.{SameOutside}
 use Rattle.stm_wire.specs.Intents.{settling_byte}
 use Rattle.stm_wire.specs.MomentLaws.{weaker}
 use Rattle.stm_wire.specs.Rig.{RigState, IsModel}
-use Rattle.stm_wire.specs.Settling.{KeepsSettling, LeftBySettling, bytes_awaited}
+use Rattle.stm_wire.specs.Awaited.{Awaits}
+use Rattle.stm_wire.specs.Settling.{KeepsSettling, LeftBySettling}
 use Rattle.stm_journal.specs.ForgetLaws.{intent_of-forgets}
 use Rattle.stm_journal.specs.Journals.{Loaded, IsLoaded, journal_of, good}
 use Rattle.stm_journal.specs.States.{StateData, is_unfinished, intent_of}
@@ -30,11 +31,10 @@ intent_text l journal loaded = ap (λ (s : StateData). intent_of s) loaded.state
 
 -- as many bytes are sent as the device awaits
 pub enough_sent : (chip : ChipData) (old : RigState) (l : Loaded) → IsLoaded l old.journal → (byte limit : ℕ) → byte ≡ byte_at_journal old.journal → limit ≡ settling_limit chip.kind (intent_of l.state) → IsWithinLimit chip old
-    → bytes_awaited byte old.device ≤ limit
+    → Awaits byte limit old.device
 enough_sent chip old l loaded byte limit byte_is limit_is within =
     let same : limit ≡ settling_limit chip.kind (intent_of (state_at old.journal)) = limit_is ∙ ap (λ o. settling_limit chip.kind o) (intent_text l old.journal loaded) in
-    let awaits : bytes_awaited byte old.device ≡ bytes_awaited (byte_at_journal old.journal) old.device = ap (λ (b : ℕ). bytes_awaited b old.device) byte_is in
-    omega (arith, same, awaits, within)
+    subst₂ (λ (b n : ℕ). Awaits b n old.device) (sym byte_is) (sym same) within
 
 module _ (laws : StepLaws) (flashes : List (List ℕ)) (l : Loaded) (old new : RigState) (model : IsModel old) (loaded : IsLoaded l old.journal) (undoable : Undoable flashes old.device old.journal) where
   abbrev Both : Device → List ℕ → Type 0

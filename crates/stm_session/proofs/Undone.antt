@@ -1,5 +1,5 @@
 -- An undo whose chip is in the table, exit by exit.
-use Rattle.std.proofs.Common.{◌≡◌, ⊎_elim, inl, inr, ℕ, ◌≤◌, List, [], ◌++◌, length, take, drop, Option, Some, None, option_map, Result, Ok, Err, IsErrAnd, refl, sym, ◌∙◌, ap, ap₂, subst, arith, append-nil}
+use Rattle.std.proofs.Common.{◌≡◌, ⊎_elim, inl, inr, ℕ, ◌≤◌, List, [], ◌++◌, length, take, drop, Option, Some, None, option_map, Result, Ok, Err, IsErrAnd, refl, sym, ◌∙◌, ap, ap₂, subst, subst₂, arith, append-nil}
 use Rattle.std.proofs.Math.Seq.{take-nil}
 use Rattle.stm_chip.specs.Document.{IsChipWith}
 use Rattle.stm_wire.specs.Chip.{ChipData}
@@ -8,7 +8,7 @@ use Rattle.stm_wire.specs.Harmless.{Harmless, SameOutside}
 use Rattle.stm_wire.specs.Moments.{LeavesOnly}
 use Rattle.stm_wire.specs.MomentLaws.{joined}
 use Rattle.stm_wire.specs.Rig.{RigState, IsModel}
-use Rattle.stm_wire.specs.Settling.{bytes_awaited}
+use Rattle.stm_wire.specs.Awaited.{Awaits}
 use Rattle.stm_journal.specs.declared.header.JournalHeader.{JournalHeader}
 use Rattle.stm_journal.specs.Calls.{IsUntouched, Loads}
 use Rattle.stm_journal.specs.Journals.{Loaded, journal_of}
@@ -156,10 +156,8 @@ module _ (table : List ChipData) (l : Loaded) (old a : RigState) (loads : Loads 
 
     pub within_then : IsWithinLimit chip old → IsWithinLimit chip a
     within_then within =
-        let at : bytes_awaited (byte_at_journal a.journal) a.device ≡ bytes_awaited (byte_at_journal old.journal) old.device =
-        ap₂ (λ (j : List ℕ) (d : Device). bytes_awaited (byte_at_journal j) d) loads.journal loads.same_device in
-        let most : settling_limit chip.kind (intent_of (state_at a.journal)) ≡ settling_limit chip.kind (intent_of (state_at old.journal)) = ap (λ (j : List ℕ). settling_limit chip.kind (intent_of (state_at j))) loads.journal in
-        omega (arith, at, most, within)
+        let P : List ℕ → Device → Type 0 = λ j d. Awaits (byte_at_journal j) (settling_limit chip.kind (intent_of (state_at j))) d in
+        subst₂ P (sym loads.journal) (sym loads.same_device) within
 
     pub owed_then : length old.device.owed ≤ 4096 → length a.device.owed ≤ 4096
     owed_then le = let e = ap (λ (d : Device). length d.owed) loads.same_device in omega (arith, e, le)

@@ -1,6 +1,6 @@
 -- How a session reaches a device, on any line: it settles it, asks who it is, and whether it is
 -- still the board that its chip is of; and then come the steps for which it was reached.
-use Rattle.std.specs.Prelude.{◌≡◌, ◌⊎◌, ℕ, ◌+◌, ◌/◌, ◌%◌, Bool, ◌==◌, false, if◌then◌else◌, List}
+use Rattle.std.specs.Prelude.{◌≡◌, ◌⊎◌, ℕ, ◌/◌, ◌%◌, Bool, ◌==◌, false, if◌then◌else◌, List}
 use Rattle.std.specs.Prelude.{[], ◌∷◌, ◌++◌, length, Option, Some, None, Result, IfErr}
 use Rattle.stm_wire.specs.declared.places.UniquePlace.{UniquePlace}
 use Rattle.stm_wire.specs.Call.{Call}

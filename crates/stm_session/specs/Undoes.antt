@@ -1,12 +1,12 @@
 -- What an undo does.
 use Rattle.std.specs.Prelude.{◌≡◌, ℕ, zero, suc, ◌≤◌, ◌||◌, ◌==◌, nat_lt, false, if◌then◌else◌}
 use Rattle.std.specs.Prelude.{List, [], ◌++◌, length, take, drop, get_or, Result, IfErr, IfOk, OnOk}
+use Rattle.stm_wire.specs.Awaited.{Awaits}
 use Rattle.stm_wire.specs.Chip.{ChipData}
 use Rattle.stm_wire.specs.Device.{Device, IsSettled}
 use Rattle.stm_wire.specs.Harmless.{Harmless, SameOutside}
 use Rattle.stm_wire.specs.Intents.{settling_byte}
 use Rattle.stm_wire.specs.Rig.{RigState}
-use Rattle.stm_wire.specs.Settling.{bytes_awaited}
 use Rattle.stm_wire.specs.Moments.{LeavesOnly}
 use Rattle.stm_journal.specs.States.{intent_of}
 use Rattle.stm_journal.specs.Calls.{IsUntouched}
@@ -38,8 +38,8 @@ byte_at_journal journal = settling_byte (intent_of (state_at journal))
 -- the device awaits no more settling bytes than are sent by a journal of this chip
 abbrev pub IsWithinLimit : ChipData → RigState → Type 0
 IsWithinLimit chip old =
-    bytes_awaited (byte_at_journal old.journal) old.device
-    ≤ settling_limit chip.kind (intent_of (state_at old.journal))
+    Awaits (byte_at_journal old.journal)
+    (settling_limit chip.kind (intent_of (state_at old.journal))) old.device
 
 -- what settling may have made of the flash: it differs in the pages at risk alone
 abbrev pub IsFlashSettled : RigState → List ℕ → Type 0

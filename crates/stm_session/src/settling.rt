@@ -6,8 +6,8 @@ ghost use Rattle.stm_wire.specs.Settling.{SettlesWithin};
 ghost use Rattle.stm_journal.specs.Journals.{IsLoaded};
 ghost use Rattle.stm_journal.specs.States.{intent_of};
 ghost use Rattle.stm_session.specs.Fault.{HasSessionCause, IsOfLine};
-ghost use Rattle.stm_session.specs.Fresh.{EndsWell, IsAsSaid, byte_of, limit_of, settling_limit};
-ghost use Rattle.stm_session.specs.Fresh.{undo_way};
+ghost use Rattle.stm_session.specs.Fresh.{EndsWell, IsAsSaid, byte_of, limit_for, limit_of};
+ghost use Rattle.stm_session.specs.Fresh.{settling_limit, undo_way};
 ghost use Rattle.stm_session.specs.JournalDevice.{Strays};
 ghost use Rattle.stm_session.specs.Steps.{Goes};
 ghost use Rattle.stm_session.specs.Undoable.{Undoable};
@@ -16,7 +16,7 @@ ghost use Rattle.stm_session.specs.Undoes.{IsWithinLimit, byte_at_journal, riske
 use crate::Fault;
 use crate::laws_of_steps::step_laws;
 use stm_journal::Journal;
-use stm_wire::{Chip, EraseKind, Rig, connect, settle_under};
+use stm_wire::{Chip, EraseKind, Rig, connect, settle_under, settling_byte};
 
 /// How often the settling byte is sent at most: more often than any device awaits it.
 const SETTLING_LIMIT: u32 = 131_072;
@@ -25,17 +25,31 @@ const SETTLING_LIMIT: u32 = 131_072;
 /// such a device is as long.
 const SHORT_LIMIT: u32 = 512;
 
+/// How often this byte of an intent is sent at most where pages have numbers of two bytes. The
+/// longest list that a frame of ours began, and the byte goes on with, is behind `44 BB`: the byte
+/// twice is its count. 7F is also the byte of a host without an intent, which may wait for any list.
+fn limit_for(byte: u8) -> u32
+    ensures { result ≡ limit_for byte }
+{
+    if byte == 0x7F {
+        return SETTLING_LIMIT;
+    }
+    (u32::from(byte) * 514 + 8)
+        .max(SHORT_LIMIT)
+        .min(SETTLING_LIMIT)
+}
+
 /// How often the settling byte of the journal's intent is sent at most, to a device that may be
 /// this chip. Without an intent it is 7F, of which a fresh device refuses the third.
 fn settling_limit(journal: &Journal, chip: &Chip) -> u32
     ensures { result ≡ settling_limit chip.now.kind (intent_of journal.now.state) }
 {
-    if journal.last_intent().is_none() {
-        return SETTLING_LIMIT;
-    }
-    match chip.kind() {
-        EraseKind::Page => SHORT_LIMIT,
-        EraseKind::Extended => SETTLING_LIMIT,
+    match journal.last_intent() {
+        None => SETTLING_LIMIT,
+        Some(intent) => match chip.kind() {
+            EraseKind::Page => SHORT_LIMIT,
+            EraseKind::Extended => limit_for(settling_byte(Some(intent))),
+        },
     }
 }
 

@@ -111,11 +111,21 @@ fn are_frames(list: &[u8]) -> bool {
     at >= list.len()
 }
 
-/// Whether this is a beginning of: the byte 131,072 times, 7F, and the byte twice.
+/// How often a settling byte is put at most: 7F as often as the longest list needs, any other as
+/// often as its own longest one.
+fn most_puts(byte: u8) -> usize {
+    if byte == 0x7F {
+        return 131_072;
+    }
+    (usize::from(byte) * 514 + 8).max(512).min(131_072)
+}
+
+/// Whether this is a beginning of: the byte as often as it is put at most, 7F, and the byte twice.
 fn is_settling_run(list: &[u8], byte: u8) -> bool {
     let end = [0x7F, byte, byte];
-    let behind = list.get(131_072..).unwrap_or(&[]);
-    let run = list.get(..131_072).unwrap_or(list);
+    let most = most_puts(byte);
+    let behind = list.get(most..).unwrap_or(&[]);
+    let run = list.get(..most).unwrap_or(list);
     run.iter().all(|put| *put == byte) && behind.len() <= 3 && agrees(&end, behind)
 }
 

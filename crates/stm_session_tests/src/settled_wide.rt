@@ -3,6 +3,7 @@
 use crate::stories::Act::{Begins, Ends, Flash, Reset, Send, Undo};
 use crate::stories::{Parts, goes_right};
 use std::test::Fail;
+use stm_session::Fault;
 
 /// Journals of an erase that kept pages of 00, and was about to erase the last of them.
 const PAGES_257_AND_1: Parts = &[
@@ -28,6 +29,30 @@ const PAGE_257_ERASED: Parts = &[
     (b"\npage 1 ", 1),
     (b"00", 256),
     (b"\nerase 1\nerase 1\nprogram 1\nerase 257\n", 1),
+];
+
+const PAGE_0: Parts = &[
+    (b"stmjournal 2 0A02\nopen 1\npage 0 ", 1),
+    (b"00", 256),
+    (b"\nerase 0\nprogram 0\n", 1),
+];
+
+const PAGE_11: Parts = &[
+    (b"stmjournal 2 0A02\nopen 1\npage 11 ", 1),
+    (b"00", 256),
+    (b"\nerase 11\n", 1),
+];
+
+const PAGE_127: Parts = &[
+    (b"stmjournal 2 0A02\nopen 1\npage 127 ", 1),
+    (b"00", 256),
+    (b"\nerase 127\n", 1),
+];
+
+const PAGE_255: Parts = &[
+    (b"stmjournal 2 0A02\nopen 1\npage 255 ", 1),
+    (b"00", 256),
+    (b"\nerase 255\n", 1),
 ];
 
 const PAGE_256: Parts = &[
@@ -64,7 +89,7 @@ fn page_257_is_not_believed_beside_page_1(rt: HostRuntime) -> Result<(), Fail> {
     let acts = [
         Reset,
         Undo(0, Ok(1)),
-        Begins(&[(0x01, 131_072), (0x7F, 1), (0x01, 2), (0x00, 1), (0xFF, 1)]),
+        Begins(&[(0x01, 522), (0x7F, 1), (0x01, 2), (0x00, 1), (0xFF, 1)]),
         Flash(&[(b"\0", 131_072)]),
         Ends(b"\nerase 1\nerase 1\nprogram 1\nerase 257\nprogram 257\nundone 1\n"),
     ];
@@ -107,17 +132,76 @@ fn an_erase_of_page_256_is_settled_with_02(rt: HostRuntime) -> Result<(), Fail> 
     goes_right(&rt, 0x0A02, 0x00, PAGE_256, &acts)
 }
 
-// A device that was reset ignores all 131,072 bytes, since a list of such a chip may be as long.
+// A device that was reset ignores as many bytes 02 as end a list of 515 pages.
 #[test]
-fn a_reset_device_is_connected_late(rt: HostRuntime) -> Result<(), Fail> {
+fn a_reset_device_is_connected_soon(rt: HostRuntime) -> Result<(), Fail> {
     let acts = [
         Reset,
         Undo(0, Ok(1)),
-        Begins(&[(0x02, 131_072), (0x7F, 1), (0x02, 2), (0x00, 1), (0xFF, 1)]),
+        Begins(&[(0x02, 1_036), (0x7F, 1), (0x02, 2), (0x00, 1), (0xFF, 1)]),
         Flash(&[(b"\0", 131_072)]),
         Ends(b"\nerase 256\nerase 256\nprogram 256\nundone 1\n"),
     ];
     goes_right(&rt, 0x0A02, 0x00, PAGE_256, &acts)
+}
+
+// Of 0B as many as end a list of 2,828 pages, in eight batches.
+#[test]
+fn so_is_one_before_page_11(rt: HostRuntime) -> Result<(), Fail> {
+    let acts = [
+        Reset,
+        Undo(0, Ok(1)),
+        Begins(&[(0x0B, 5_662), (0x7F, 1), (0x0B, 2), (0x00, 1), (0xFF, 1)]),
+        Flash(&[(b"\0", 131_072)]),
+        Ends(b"\nerase 11\nerase 11\nprogram 11\nundone 1\n"),
+    ];
+    goes_right(&rt, 0x0A02, 0x00, PAGE_11, &acts)
+}
+
+// The count FFFF names all pages, and FF is no right check for it: a device that was stopped refuses
+// soon. One that was reset ignores as many bytes as for any list.
+#[test]
+fn a_reset_device_is_connected_late_before_page_255(rt: HostRuntime) -> Result<(), Fail> {
+    let acts = [
+        Reset,
+        Undo(0, Ok(1)),
+        Begins(&[(0xFF, 131_072), (0x7F, 1), (0xFF, 2), (0x00, 1), (0xFF, 1)]),
+        Flash(&[(b"\0", 131_072)]),
+        Ends(b"\nerase 255\nerase 255\nprogram 255\nundone 1\n"),
+    ];
+    goes_right(&rt, 0x0A02, 0x00, PAGE_255, &acts)
+}
+
+// 7F connects a device that was reset: it goes in batches all the same, and all but the first byte
+// are refused in pairs.
+#[test]
+fn a_reset_device_is_connected_by_the_byte_of_page_127(rt: HostRuntime) -> Result<(), Fail> {
+    let acts = [
+        Reset,
+        Undo(0, Ok(1)),
+        Begins(&[(0x7F, 257), (0x00, 1), (0xFF, 1)]),
+        Flash(&[(b"\0", 131_072)]),
+        Ends(b"\nerase 127\nerase 127\nprogram 127\nundone 1\n"),
+    ];
+    goes_right(&rt, 0x0A02, 0x00, PAGE_127, &acts)
+}
+
+// Another program left a longer list than a frame of ours begins. Its device isn't covered: it is
+// given up, and nothing is changed. Behind a reset it is covered.
+#[test]
+fn a_longer_list_of_another_host_is_given_up(rt: HostRuntime) -> Result<(), Fail> {
+    let acts = [
+        Send(&[0x44, 0xBB, 0xFF, 0xEF]),
+        Undo(0, Err(Fault::Device)),
+        Begins(&[(0x02, 1_036), (0x7F, 1)]),
+        Flash(&[(b"\0", 131_072)]),
+        Ends(b"\nerase 0\nprogram 0\n"),
+        Reset,
+        Undo(0, Ok(1)),
+        Flash(&[(b"\0", 131_072)]),
+        Ends(b"\nerase 0\nprogram 0\nerase 0\nprogram 0\nundone 1\n"),
+    ];
+    goes_right(&rt, 0x0A02, 0x00, PAGE_0, &acts)
 }
 
 // Page 259 is 01 03, and its check 02: the first settling byte erases it.

@@ -1,5 +1,6 @@
 use Rattle.std.proofs.Common.{rules, None, arith, refl}
-use Rattle.stm_session.proofs.AskingBoards.{asking_stops, board_answered, few_more, few_then, part_few, size_stops, unique_stops}
+use Rattle.stm_session.proofs.Asking.{asks_failed, asks_ok, asks_then, settled_still}
+use Rattle.stm_session.proofs.AskingBoards.{asking_stops, board_answered, board_is, few_more, few_then, part_few, size_stops, unique_stops}
 use Rattle.stm_session.proofs.Unwritings.{then_appends_nothing}
 use Rattle.stm_session.proofs.asking_board.ask_settled.Goals as goal
 
@@ -39,7 +40,15 @@ returns-in_err-unique g c =
           (V c.ask_unique.new.rig) _ c.from_residual-in_err-unique.result c.from_residual-in_err-unique.ensures.1 (c.in_err-unique.ensures.stops torn));
       sent = search rules;
       kept = search rules;
-      honest = search rules;
+      honest = (λ h settled.
+          let V = g.R.Rig.view in
+          let a = V c.args.rig.now in
+          let b = V c.ask.new.rig in
+          let d = V c.ask_unique.new.rig in
+          let first = c.in_ok-told.ensures.honest h settled in
+          let second = c.in_err-unique.ensures.honest first.honest (settled_still a b _ settled first) in
+          asks_failed a d _ c.from_residual-in_err-unique.result
+          (asks_then a b d _ _ first second (λ y p. p)) c.from_residual-in_err-unique.ensures.1);
     }
 
 pub returns-in_err-size : goal.returns-in_err-size
@@ -67,7 +76,18 @@ returns-in_err-size g c =
           (V c.ask_size.new.rig) _ c.from_residual-in_err-size.result c.from_residual-in_err-size.ensures.1 (c.in_err-size.ensures.stops torn));
       sent = search rules;
       kept = search rules;
-      honest = search rules;
+      honest = (λ h settled.
+          let V = g.R.Rig.view in
+          let a = V c.args.rig.now in
+          let b = V c.ask.new.rig in
+          let d = V c.ask_unique.new.rig in
+          let e = V c.ask_size.new.rig in
+          let first = c.in_ok-told.ensures.honest h settled in
+          let second = c.in_ok-unique.ensures.honest first.honest (settled_still a b _ settled first) in
+          let two = asks_then a b d _ _ first second (λ y p. p) in
+          let third = c.in_err-size.ensures.honest second.honest (settled_still a d _ settled two) in
+          asks_failed a e _ c.from_residual-in_err-size.result
+          (asks_then a d e _ _ two third (λ y p. p)) c.from_residual-in_err-size.ensures.1);
     }
 
 pub returns : goal.returns
@@ -96,5 +116,17 @@ returns g c =
       stops = search rules;
       sent = search rules;
       kept = search rules;
-      honest = search rules;
+      honest = (λ h settled.
+          let V = g.R.Rig.view in
+          let a = V c.args.rig.now in
+          let b = V c.ask.new.rig in
+          let d = V c.ask_unique.new.rig in
+          let e = V c.ask_size.new.rig in
+          let first = c.in_ok-told.ensures.honest h settled in
+          let second = c.in_ok-unique.ensures.honest first.honest (settled_still a b _ settled first) in
+          let two = asks_then a b d _ _ first second (λ y p. p) in
+          let third = c.in_ok-size.ensures.honest second.honest (settled_still a d _ settled two) in
+          asks_ok a e _ _ (asks_then a d e _ _ two third (λ y p. p))
+          (λ sized. board_is c.args.table.now a.device b.device d.device c.in_ok-told.told.id c.in_ok-unique.unique c.in_ok-size.size
+          c.places_in-places.result c.places_in-places.ensures.places first.same two.same first.done.id second.done sized));
     }

@@ -1,13 +1,17 @@
-use Rattle.std.proofs.Common.{arith}
+use Rattle.std.proofs.Common.{arith, subst}
+use Rattle.stm_wire.specs.Chip.{ChipData}
 use Rattle.stm_wire.specs.Dialogue.{GoesOn}
 use Rattle.stm_session.specs.AskingBoard.{AsksBoard, AsksInPart}
 use Rattle.stm_session.specs.Fault.{Cause, cause_of}
 use Rattle.stm_session.specs.Fresh.{Settles, byte_of, limit_of}
+use Rattle.stm_session.specs.Moments.{BeginsNothing}
 use Rattle.stm_session.specs.Order.{Begin, StopsBy}
+use Rattle.stm_session.specs.ToldBoard.{IsBoardOf}
 use Rattle.stm_session.proofs.AskingBoards.{few_more, few_then, part_asked, part_settled, settle_few}
 use Rattle.stm_session.proofs.CutShort.{by_fault}
 use Rattle.stm_session.proofs.Orders.{settles_then}
 use Rattle.stm_session.proofs.Reaching.{err_then, told_then}
+use Rattle.stm_session.proofs.Unbegun.{then_asks}
 use Rattle.stm_session.proofs.Unwritings.{settling_appends_nothing, then_appends_nothing}
 use Rattle.stm_session.proofs.board_session.ask_finished.Goals as goal
 
@@ -74,3 +78,14 @@ returns-clause-stops g c torn =
     let d = V c.ask_settled.new.rig in
     err_then c.ask_settled.result (λ e. StopsBy (Begin (AsksBoard c.args.table.now)) (cause_of e) torn b d) (λ e. GoesOn (AsksInPart c.args.table.now way (cause_of e) torn) a.calls d.calls)
     (λ e stops. part_asked c.args.table.now way (cause_of e) torn a b d c.settle_safe.ensures.calls c.in_ok-settle_safe.ensures.settled stops) (c.ask_settled.ensures.stops torn)
+
+pub returns-clause-honest : goal.returns-clause-honest
+returns-clause-honest g c h safe =
+    let V = g.R.Rig.view in
+    let a = V c.args.rig.now in
+    let b = V c.settle_safe.new.rig in
+    let d = V c.ask_settled.new.rig in
+    let first = c.in_ok-settle_safe.ensures.honest h safe in
+    let second = c.ask_settled.ensures.honest first.honest first.settled in
+    let P : ChipData → Type 0 = λ chip. BeginsNothing a d c.ask_settled.result (IsBoardOf c.args.table.now chip) in
+    subst P first.left.make.chip (then_asks a b d _ c.ask_settled.result first second (λ y p. p))

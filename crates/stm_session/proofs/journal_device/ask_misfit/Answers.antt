@@ -2,11 +2,13 @@ use Rattle.std.proofs.Common.{None, true, arith}
 use Rattle.stm_wire.specs.PartLaws.{part_longer}
 use Rattle.stm_session.proofs.SentParts.{part_after, part_fails, part_fails_after}
 use Rattle.std.proofs.Common.{◌∷◌, [], refl}
-use Rattle.std.proofs.Common.{◌≡◌, ◌++◌, ℕ, List, subst, rules}
+use Rattle.std.proofs.Common.{◌≡◌, ◌++◌, ℕ, List, ap, subst, rules}
+use Rattle.stm_wire.specs.Device.{Device}
 use Rattle.stm_wire.specs.Frames.{get_turns}
 use Rattle.stm_session.specs.Fault.{of_refusal}
 use Rattle.stm_session.specs.Order.{Step, Begin, Sends}
 use Rattle.stm_session.specs.Reaching.{AsksInOrder, IsAsking, IsGet, IsGetId, id_turns}
+use Rattle.stm_session.proofs.Asking.{asks_failed, asks_ok, asks_then, settled_still}
 use Rattle.stm_session.proofs.AskingStops.{get_begins, get_id_stops, get_stops}
 use Rattle.stm_session.proofs.CutShort.{begin_all, halts}
 use Rattle.stm_session.proofs.Orders.{order_then}
@@ -92,3 +94,41 @@ returns-then-id-clause-refuses g c torn =
     let asking : IsAsking (before ++ own) = record { first = before; is_get = get; second = own; is_get_id = get_id; is = refl } in
     halts (Begin IsAsking) of_refusal torn (before ++ own) a d (begin_all IsAsking (before ++ own) asking) refl
     (order_then torn before own a.calls (V c.ask_erase.new.rig).calls d.calls got.2 (c.in_ok-id.ensures.order torn))
+
+-- the device has answered which codes it lists, and is asked for its id
+pub returns-in_err-id-clause-honest : goal.returns-in_err-id-clause-honest
+returns-in_err-id-clause-honest g c h settled =
+    let V = g.R.Rig.view in
+    let a = V c.args.rig.now in
+    let b = V c.ask_erase.new.rig in
+    let d = V c.ask_id.new.rig in
+    let first = c.in_ok-can_erase.ensures.honest h settled in
+    let second = c.in_err-id.ensures.honest first.honest (settled_still a b _ settled first) in
+    asks_failed a d _ c.from_residual-in_err-id.result
+    (asks_then a b d _ _ first second (λ y p. p)) c.from_residual-in_err-id.ensures.1
+
+pub returns-then-id-clause-honest : goal.returns-then-id-clause-honest
+returns-then-id-clause-honest g c h settled =
+    let V = g.R.Rig.view in
+    let a = V c.args.rig.now in
+    let b = V c.ask_erase.new.rig in
+    let d = V c.ask_id.new.rig in
+    let first = c.in_ok-can_erase.ensures.honest h settled in
+    let second = c.in_ok-id.ensures.honest first.honest (settled_still a b _ settled first) in
+    let same = first.same in
+    let can = first.done in
+    let own = ap (λ (x : Device). x.chip.id) same in
+    asks_ok a d _ _ (asks_then a b d _ _ first second (λ y p. p)) (λ p. search (rules, can, own, p))
+
+pub returns-clause-honest : goal.returns-clause-honest
+returns-clause-honest g c h settled =
+    let V = g.R.Rig.view in
+    let a = V c.args.rig.now in
+    let b = V c.ask_erase.new.rig in
+    let d = V c.ask_id.new.rig in
+    let first = c.in_ok-can_erase.ensures.honest h settled in
+    let second = c.in_ok-id.ensures.honest first.honest (settled_still a b _ settled first) in
+    let same = first.same in
+    let can = first.done in
+    let own = ap (λ (x : Device). x.chip.id) same in
+    asks_ok a d _ _ (asks_then a b d _ _ first second (λ y p. p)) (λ p. search (rules, can, own, p))

@@ -198,7 +198,7 @@ gone g c made was h result meets goes undoes =
     let own = own_chip table l a b loads some c.in-Some.id named laws chip found.chip found.accepted
     flashes u listed in
     let before = sym (ap (λ (x : Device). x.chip) loads.same_device) ∙ own in
-    let within = own_within laws chip a (g.met.R.Rig.model c.args.rig.now h).device (ap (λ (p : ChipData). p.kind) before) in
+    let within = own_within laws chip a u.harmless (ap (λ (p : ChipData). p.kind) before) in
     let left = (meets u.harmless u.owed within).left in
     let settled = (elsewhere_back table l a b loads some c.in-Some.id named laws chip found.chip
     found.accepted d.device d.journal left).flash in

@@ -171,7 +171,7 @@ pub returns-in_err-settle_under-clause-honest : goal.returns-in_err-settle_under
 returns-in_err-settle_under-clause-honest g c h said flashes loaded undoable chip =
     let V = g.R.Rig.view in
     let model = g.met.R.Rig.model c.args.rig.now h in
-    let within = own_within c.step_laws.ensures c.args.chip.now (V c.args.rig.now) model.device chip in
+    let within = own_within c.step_laws.ensures c.args.chip.now (V c.args.rig.now) undoable.harmless chip in
     let at = (goal.at.returns-in_err-settle_under-clause-honest g c).After-settle_under in
     let settles = settled g at _ c.in_err-settle_under.was h loaded undoable.harmless undoable.owed
     within in
@@ -183,7 +183,7 @@ pub returns-clause-honest : goal.returns-clause-honest
 returns-clause-honest g c h said flashes loaded undoable chip =
     let V = g.R.Rig.view in
     let model = g.met.R.Rig.model c.args.rig.now h in
-    let within = own_within c.step_laws.ensures c.args.chip.now (V c.args.rig.now) model.device chip in
+    let within = own_within c.step_laws.ensures c.args.chip.now (V c.args.rig.now) undoable.harmless chip in
     let at = (goal.at.returns-clause-honest g c).After-settle_under in
     let settles = settled g at _ c.in_ok-settle_under.was h loaded undoable.harmless undoable.owed
     within in
