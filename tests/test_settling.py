@@ -91,7 +91,7 @@ class Settling(Served):
             with self.subTest(text):
                 self.assertFault(self.call("undo", *words, variables={"STMFLASH_WAIT": text}), f"usage: bad number {text}", 2)
         for variables, more, wait in (({"STMFLASH_WAIT": "130"}, (), 130), ({"STMFLASH_WAIT": "long"}, ("--wait", "110"), 110),
-                                      ({"STMFLASH_WAIT": ""}, (), 500)):
+                                      ({"STMFLASH_WAIT": ""}, (), 400)):
             with self.subTest(variables):
                 waits, _ = self.undo(b"rest 44BB", "--baud", "4000000", *more, variables=variables)
                 self.assertEqual(waits[0], wait)

@@ -1,15 +1,18 @@
 """How long a program waits at a device that is silent: as long as is said where a reply may still come, and shorter where silence
 is due. No clock is read here: each time that the program sets for its line is looked at, by tests/syncs.py."""
 
+import re
+import shutil
 import socket
 import struct
+import subprocess
 import threading
 import time
 import unittest
 
 import syncs
 import telling
-from place import PATIENCE
+from place import PATIENCE, program
 from served import Served, relay
 
 # setsockopt, and its words for how long a read and a write wait: as many seconds, and as many millionths
@@ -101,13 +104,49 @@ class Silence(Served):
         return waits
 
     def test_how_long_is_waited_unless_it_is_said(self):
-        """Half a second for a reply, 20 seconds for what is taken; or as long as is said, above what a byte counts."""
+        """400 ms for a reply, 20 seconds for what is taken; or as long as is said, above what a byte counts."""
         self.serve(5, number="0410")
-        for words, limits in (((), (500, [20000])), (("--wait", "700"), (700, [20000])), (("--give-up", "300"), (500, [300000])),
-                              (("--give-up", "1"), (500, [1000])), (("--give-up", "0"), (500, [None]))):
+        for words, limits in (((), (400, [20000])), (("--wait", "700"), (700, [20000])), (("--give-up", "300"), (400, [300000])),
+                              (("--give-up", "1"), (400, [1000])), (("--give-up", "0"), (400, [None]))):
             with self.subTest(words=words):
                 self.assertEqual(self.limits(*words), limits)
         self.assertServed()
+
+    @unittest.skipIf(shutil.which("strace") is None, "strace is not installed")
+    def test_contact_is_two_whole_waits_and_less_than_a_second(self):
+        """Of `info` and `read`, where a device answers: in vain is waited whole twice at most, and by the default that is under a
+        second."""
+        self.serve(1, number="0410")
+        whole, _ = self.limits("--give-up", "2")
+        self.assertServed()
+        for stands, most in ((b"idle", 2), (FRESH, 1)):
+            for words in (("info",), ("read", "-S", "0x08000000:256", "out"), ("info", "--no-board")):
+                with self.subTest(stands=stands, words=words):
+                    self.store("flash.line", stands + b"\n")
+                    self.serve(1, number="0410")
+                    waited = self.waited_in_vain(*words)
+                    self.assertServed()
+                    self.assertEqual(waited.count(WHOLE), most, waited)
+                    self.assertLess(max(waited), LONG)
+                    self.assertLess(most * whole, 1000)
+
+    def waited_in_vain(self, *words):
+        """How long the program waits for a byte that doesn't come, each time that none came, by the times that it sets."""
+        record = self.path("record")
+        given = (words[0], "--table", "table", "--device", "board", "--journal", "journal", "--wait", str(WHOLE), *words[1:])
+        ran = subprocess.run(["strace", "-f", "-xx", "-o", record, "-e", "trace=setsockopt,recvfrom", program(), *given],
+                             cwd=self.folder, env={}, stdin=subprocess.DEVNULL, capture_output=True, timeout=PATIENCE)
+        if not (self.held("record") or b"").strip():
+            self.skipTest("strace can't trace here")
+        self.assertEqual((ran.returncode, ran.stderr), (0, b""))
+        waits, now = [], None
+        for line in self.held("record").decode().splitlines():
+            if told := re.search(r'SO_RCVTIMEO\w*, "([^"]*)"', line):
+                seconds, millionths = TIME.unpack(bytes.fromhex(told[1].replace("\\x", "")))
+                now = 1000 * seconds + millionths // 1000
+            elif "EAGAIN" in line:
+                waits.append(now)
+        return waits
 
     def test_a_session_behind_the_question_waits_for_no_reply_that_is_not_due(self):
         """Both settle the device. The first knows nothing of it: it is quiet before 7F for a whole wait. The second is begun at a

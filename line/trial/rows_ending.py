@@ -8,7 +8,7 @@ from saved import is_back, put_back
 from settling import recover
 
 # stmflash's own default of --wait, and the longest erase that its limits are for, in seconds
-WAIT, LONGEST_ERASE = 0.5, 5
+WAIT, LONGEST_ERASE = 0.4, 5
 MOST_WAIT = 60000
 
 
@@ -25,7 +25,7 @@ def give_back(board):
         raise Differs(f"page {pages_told(strange)} was changed, and wasn't named; it is as it was again")
 
 
-@row("reply-time", "no answer but an erase's takes longer than half of --wait's default, 500 ms", "a silence means that none is due",
+@row("reply-time", "no answer but an erase's takes longer than half of --wait's default, 400 ms", "a silence means that none is due",
      "settling ends early, and a late reply is taken for another's", OPTION)
 def reply_time(board):
     if board.model is None:

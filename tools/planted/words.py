@@ -38,8 +38,8 @@ FAULTS = {
         "test_options.Options.test_says_which_number_is_bad"),
     "a wait has five seconds unless it is said": (
         "stm_words/src/command_set.rt",
-        'None => "500",',
-        'None => if @on { "5000" } else { "500" },',
+        'None => "400",',
+        'None => if @on { "5000" } else { "400" },',
         "test_silence.Silence.test_how_long_is_waited_unless_it_is_said"),
     "the speed is not handed on": (
         "stm_words/src/options.rt",

@@ -90,7 +90,7 @@ with_places e name =
 -- how long a reply may take, in milliseconds, where no word says it
 abbrev pub wait_word : Option (Bor Text) → Text
 wait_word (Some word) = word.now
-wait_word None = codes "500"
+wait_word None = codes "400"
 
 -- the same, with the options of how long a device may take to answer
 abbrev pub with_waits : Environment → Text → App

@@ -66,7 +66,7 @@ fn standing_wait<'a>(environment: Environment<'a>) -> &'a str
 {
     match environment.wait {
         Some(wait) => wait,
-        None => "500",
+        None => "400",
     }
 }
 
