@@ -159,6 +159,10 @@ class Waits(unittest.TestCase):
         self.assertEqual(patience.wait("/dev/ttyACM0", 9600, 0), 701)
         self.assertIsNone(patience.wait("/dev/ttyUSB1", 115200, 0))
 
+    def test_a_port_of_which_nothing_is_known(self):
+        """stmflash's own wait is added to the time that a reset takes of it; that is 400 ms (test_silence.py)."""
+        self.assertEqual([patience.wait("/dev/ttyUSB1", 115200, pause) for pause in (0.3, 0.1, 60)], [700, 500, 60000])
+
     def test_a_port_that_usb_ip_brings(self):
         """It stands here, and what it hangs on is another machine."""
         os.makedirs(os.path.join(self.folder, "vhci_hcd.0", "adapter"))

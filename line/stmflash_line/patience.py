@@ -9,18 +9,20 @@ import os
 BYTES, BITS = 512, 11
 # what an adapter holds bytes back for where its driver doesn't say, and what the machine and the chip may take besides, in ms
 HOLD, REST = 16, 50
-# the least, which a board may take half of stmflash's own wait for (stmflash-trial's reply-time), and the most, in ms
+# the least, and the most, in ms: a board may take half of stmflash's own wait (stmflash-trial's reply-time)
 LEAST, MOST = 250, 60000
+# what stmflash itself waits, in ms
+OWN = 400
 # Linux: how long an adapter of FTDI holds bytes back, in ms
 TTY, TIMER = "/sys/class/tty", "latency_timer"
 
 
 def wait(name, baud, pause):
-    """The wait for a port of this machine at this speed, in ms, where a client's first byte may be kept for `pause` seconds; None
-    where it isn't known how late a reply may come."""
+    """The wait for a port at this speed, in ms, where a client's first byte may be kept for `pause` seconds. Where it isn't known how
+    late a reply may come it is stmflash's own with that time, and None where no byte is kept."""
     held = hold(name)
     if held is None:
-        return None
+        return min(OWN + round(1000 * pause), MOST) if pause else None
     taken = math.ceil(BYTES * BITS * 1000 / baud) + 4 * held + REST
     return min(max(LEAST, taken) + round(1000 * pause), MOST)
 
