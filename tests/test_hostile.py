@@ -14,12 +14,12 @@ import typing
 
 import hostile
 from hostile import FLASH, Line
-from hostile_kinds import GIVE_UP, GONE, KINDS, LONG_WAIT, WAITS
+from hostile_kinds import GIVE_UP, GONE, KINDS, LONG_WAIT
 from place import PATIENCE, TOP, Place, Said, program
 
-# how much longer than it waits for an answer a session may take, in seconds, by what it sends and hears, and by what a busy
-# machine takes for that; with GIVE_UP, or with the waits, both stay far below SLOWEST
-SPARE, MARGIN = 2, 16
+# how much longer than it waits for an answer a session may take, in seconds; a session that took longer beside others, on a busy
+# machine, is tried again alone, so often at most. For the slowest command there is more beside them
+SPARE, AGAIN, MARGIN = 2, 2, 16
 # how long the slowest command is waited for, whatever else is said, in seconds
 SLOWEST = 40
 # how many calls go on at once
@@ -101,10 +101,10 @@ class Hostile(Place):
         self.remove(f"{folder}/board")
         return Said(ran.returncode, ran.stdout, ran.stderr), ended, lines[0]
 
-    def once(self, name, command):
+    def once(self, name, command, again=0):
         """One command at one kind of board; and what it left, at a board that is well and was reset."""
         kind = KINDS[name]
-        folder = self.folder_of(f"{list(KINDS).index(name)}-{command}")
+        folder = self.folder_of(f"{list(KINDS).index(name)}-{command}-{again}")
         if command == "undo":
             self.store(f"{folder}/journal", BEGUN)
         serve = kind.made()
@@ -120,17 +120,22 @@ class Hostile(Place):
     def test_each_ends_in_time(self):
         with concurrent.futures.ThreadPoolExecutor(AT_ONCE) as pool:
             begun = [(kind, command, pool.submit(self.once, kind, command)) for kind, command in pairs()]
-            for kind, command, calling in begun:
-                with self.subTest(kind, command=command):
-                    came = calling.result()
-                    self.assertInTime(KINDS[kind], command, came)
-                    self.assertEnded(KINDS[kind], command, came)
-                    self.assertKept(command, came)
-                    self.assertGoesBack(came)
+            all_came = [(kind, command, calling.result()) for kind, command, calling in begun]
+        for kind, command, came in all_came:
+            with self.subTest(kind, command=command):
+                for again in range(1, AGAIN + 1):
+                    if command in KINDS[kind].is_slow_at or came.seconds < GIVE_UP + SPARE:
+                        break
+                    came = self.once(kind, command, again)
+                self.assertInTime(KINDS[kind], command, came)
+                self.assertEnded(KINDS[kind], command, came)
+                self.assertKept(command, came)
+                self.assertGoesBack(came)
 
     def assertInTime(self, kind, command, came):
-        """Not before a board that falls silent may be given up, and not long behind."""
-        least, most = 0, max(GIVE_UP, WAITS * kind.wait) + SPARE + MARGIN
+        """Not before a board that falls silent may be given up, and `--give-up` and two seconds at most, but for erases and
+        writes."""
+        least, most = 0, GIVE_UP + SPARE
         if command in kind.is_slow_at:
             least, most = SLOWEST - 1, SLOWEST + SPARE + MARGIN
         elif kind.is_model and came.said.err == f"stmflash: {GONE}\n".encode():
