@@ -129,6 +129,61 @@ class Pages(Place):
                 missing.append(path)
         self.assertEqual(missing, [])
 
+    def test_the_map_names_no_file_that_is_gone(self):
+        """Each name in the first column of its tables is a file's or a folder's, or its end."""
+        files = subprocess.run(["git", "ls-files"], cwd=TOP, capture_output=True, text=True, check=True).stdout.split()
+        there = {"/" + re.sub(r"\.(antt|rt)$", "", it) for it in files} | {"/" + it for it in files}
+        for it in files:
+            there.update("/" + "/".join(it.split("/")[:deep]) for deep in range(1, it.count("/") + 1))
+        ends = {path[at:] for path in there for at, sign in enumerate(path) if sign == "/"}
+        for row in [it for it in held("docs", "MAP.md").splitlines() if it.startswith("| `")]:
+            for name in re.findall(r"`([^`]+)`", row.split("|")[1]):
+                with self.subTest(name=name):
+                    self.assertTrue("/" + name.rstrip("/") in ends)
+
+    def test_the_words_are_in_use(self):
+        """WORDS has some thirty, in their order; README and MAP lead to it. Each is in two more pages at least, or its parts are."""
+        words = re.findall(r"^\| ((?!Word \|)[\w, ]+) \|", held("docs", "WORDS.md"), re.M)
+        self.assertTrue(20 <= len(words) <= 35, len(words))
+        self.assertEqual(words, sorted(words, key=str.lower))
+        for page, link in (("README.md", "(docs/WORDS.md)"), (os.path.join("docs", "MAP.md"), "(WORDS.md)")):
+            self.assertIn(link, held(page))
+        texts = [re.sub(r"\s+", " ", held(page)) for page in pages() if os.path.basename(page) not in ("WORDS.md", "CHANGELOG.md")]
+        for word in (it for told in words for it in told.split(", ")):
+            with self.subTest(word=word):
+                self.assertGreaterEqual(sum(bool(re.search(rf"\b{word}", it, re.I)) for it in texts), 2)
+
+    def test_the_lines_of_proved_are_short(self):
+        """All but rows of its table have less than 120 columns."""
+        self.assertEqual([it for it in held("docs", "PROVED.md").splitlines() if len(it) >= 120 and not it.startswith("|")], [])
+
+    def test_the_stopped_write_is_shown_without_bytes_of_the_protocol(self):
+        """What is typed, the journal and the flash: no text of the picture is a run of bytes."""
+        texts = re.findall(r">([^<>]+)<", held("docs", "pictures", "stopped-write.svg"))
+        self.assertGreater(len(texts), 50)
+        self.assertEqual([it for it in texts if re.search(r"\b[0-9A-F]{2}( [0-9A-F]{2})+\b|\b0x7F\b|\b7F\b", it)], [])
+
+    def test_the_newest_commits_have_short_subjects(self):
+        """At most 72 columns in the first line."""
+        ran = subprocess.run(["git", "log", "-20", "--format=%s"], cwd=TOP, capture_output=True, text=True, check=True)
+        self.assertEqual([it for it in ran.stdout.splitlines() if len(it) > 72], [])
+
+    def test_the_ways_of_contributing_are_there(self):
+        """Each target of make, tool and module of tests that a command in CONTRIBUTING or README names."""
+        targets = set(re.findall(r"^([\w-]+):", held("Makefile"), re.M))
+        for page in ("CONTRIBUTING.md", "README.md"):
+            commands = re.findall(r"^    (.+)$|`([^`]+)`", re.sub(r"\n(?=\S)", " ", held(page)), re.M)
+            commands = [it for pair in commands for it in pair if it]
+            for target in {word for it in commands for word in re.findall(r"(?:^|&& |sudo )make ([a-z][\w-]*)", it)}:
+                with self.subTest(page=page, target=target):
+                    self.assertIn(target, targets)
+            for tool in {word for it in commands for word in re.findall(r"\bpython3 ((?:tools|tests)/[\w/-]+)", it)}:
+                with self.subTest(page=page, tool=tool):
+                    self.assertTrue(os.path.exists(os.path.join(TOP, tool)))
+            for module in {word for it in commands for word in re.findall(r"unittest (test_\w+)", it)}:
+                with self.subTest(page=page, module=module):
+                    self.assertTrue(os.path.exists(os.path.join(TOP, "tests", module + ".py")))
+
     def test_the_statement_is_what_the_headline_rests_on(self):
         ran = subprocess.run([os.path.join(TOP, "tools", "statement"), "--check"], capture_output=True, text=True)
         self.assertEqual((ran.returncode, ran.stderr), (0, ""))

@@ -10,7 +10,7 @@ from place import TOP
 
 PAGES = ("README.md", "CONTRIBUTING.md",
          *(os.path.join("docs", f"{it}.md") for it in ("LINE", "UNDO", "FLEET", "SWITCH", "GATE", "FAULTS", "INSIDE",
-                                                       "HEADLINE", "SETTLING", "BESIDE", "JSON")))
+                                                       "HEADLINE", "SETTLING", "BESIDE", "JSON", "WORDS")))
 MANUALS = ("stmflash.1", *(os.path.join("line", f"stmflash-{it}.1") for it in ("line", "trial", "as-stm32flash")))
 LIMIT = 30
 # words that were settled, each with what is said instead
