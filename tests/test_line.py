@@ -100,6 +100,21 @@ class Commands(LinePlace):
                 self.assertEqual(started.stdout.read().decode(), number.name.removeprefix("SIG") + "\n")
                 self.assertEqual(started.stderr.read(), b"")
 
+    def test_a_change_that_a_signal_ends_has_a_next_step(self):
+        """Where COMMAND writes, erases or undoes, and had the line."""
+        told = b"stmflash-line: ended by a signal: where stmflash log says unfinished, stmflash undo 1 undoes what was begun\n"
+        connect = "import os, socket; s = socket.socket(socket.AF_UNIX); s.connect(os.environ['STMFLASH_DEVICE']); s.sendall(b'?')"
+        for word, connects, text in (("write", True, told), ("erase", True, told), ("undo", True, told), ("info", True, b""),
+                                     ("write", False, b"")):
+            with self.subTest(word=word, connects=connects):
+                script = (f'python3 -c "{connect}"; ' if connects else "") + "echo; exec sleep 1000"
+                started = self.start("ttyUSB0", "--", "sh", "-c", script, word)
+                self.assertEqual(started.stdout.readline(), b"\n")
+                if connects:
+                    self.assertEqual(self.read_from(self.master, 1), b"?")
+                self.assertEqual(end_with(started, signal.SIGINT), 128 + signal.SIGINT)
+                self.assertEqual(started.stderr.read(), text)
+
     def test_a_signal_that_was_ignored_stays_so(self):
         """As behind nohup, or in the background of a shell."""
         def before():

@@ -104,6 +104,12 @@ class Wirings(unittest.TestCase):
 
 
 class Words(WiredPlace):
+    def test_one_example_everywhere(self):
+        """README, LINE, `--help`, the manual page and the unit name the same wiring first."""
+        for path in ("README.md", "docs/LINE.md", "line/stmflash-line.1", "line/stmflash_line/words.py", "packaging/stmflash-line@.service"):
+            with self.subTest(path=path), open(os.path.join(TOP, path), encoding="utf-8") as file:
+                self.assertEqual(re.findall(r"--wiring ([a-z][\w,-]*\w)", file.read().replace("\\", ""))[:1], [EXAMPLE])
+
     def test_who_says_that_the_board_is_fresh(self):
         """--resets and --wiring alone: no move does. The caller's own word is handed on."""
         for boot in ("rts,-dtr", "-rts&rts", "-rts&dtr,-dtr", "rts,dtr", ",", "brk"):

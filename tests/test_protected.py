@@ -168,22 +168,32 @@ class Protected(Served):
                     self.assertHolds(COUNTING, b"idle\n")
 
     def test_a_refused_write_is_taken_back(self):
-        """Each step's text names the next, up to the flash as it was before; a write that was done before stays."""
+        """Each step's text names the next, up to the flash as it was before; a write that was done before stays. A protected page is
+        the first of the write, or the second, behind one that was written."""
+        for protected, page in (("4-7", 4), ("5", 5)):
+            with self.subTest(protected):
+                self.taken_back(protected, NOT_ERASED.replace("page 4", f"page {page}"))
+                self.remove("journal", "flash", "flash.line")
+
+    def taken_back(self, protected, not_erased):
         self.store("flash", COUNTING)
         self.store("image", IMAGE)
         self.store("small", b"stays")
         self.assertTold(self.use("write", "-S", f"{BASE + 8 * PAGE:#x}", "small"), "segment 1: 1 pages written\n")
         before = self.held("flash")
-        self.protect(3, "4-7")
+        self.protect(3, protected)
         wait = ("--wait", WAIT)
-        self.assertFault(self.use("write", *wait, "-S", f"{AT:#x}", "image", device="board"), DEVICE, hint=NOT_ERASED)
-        self.assertFault(self.use("undo", *wait, "1", device="board"), DEVICE, hint=NOT_ERASED)
+        self.assertFault(self.use("write", *wait, "-S", f"{AT:#x}", "image", device="board"), DEVICE, hint=not_erased)
+        self.assertFault(self.use("undo", *wait, "1", device="board"), DEVICE, hint=not_erased)
         self.assertFault(self.use("protect", *wait, "write-unprotect", device="board"), "journal is open, refused", hint=IN_SESSION)
         self.assertServed()
-        self.assertFile("flash", before)
+        if "-" in protected:
+            self.assertFile("flash", before)
+        else:
+            self.assertNotEqual(self.held("flash"), before)
         # reset
         self.store("flash.line", b"fresh\n")
-        self.protect(2, "4-7")
+        self.protect(2, protected)
         unprotect, undo = (words.split() for words in THEN.split(", ")[1:])
         said = self.use(*unprotect[:1], *wait, *unprotect[1:], device="board")
         self.assertEqual((said.status, said.out, said.err.decode()), (0, b"", f"hint: {NOW_UNDO}\n"))

@@ -13,6 +13,9 @@ from .tied import tied
 # how long COMMAND has to end by itself once it was told to, in seconds; and behind the last byte that it sent to the board, since it
 # may be putting back what it changed, and an erase takes its time
 GRACE, QUIET = 5, 15
+# the words of a COMMAND that changes the flash, and what is said where a signal ended one that had the line
+CHANGES = ("write", "erase", "undo")
+NEXT = "ended by a signal: where stmflash log says unfinished, stmflash undo 1 undoes what was begun"
 
 
 def run(command, path, fresh, wait, baud, join):
@@ -39,6 +42,8 @@ def run(command, path, fresh, wait, baud, join):
     finally:
         end(child)
     if wake.number:
+        if not callable(command) and join.heard and any(word in CHANGES for word in command):
+            say(NEXT)
         return 128 + wake.number
     status = child.returncode if child.returncode >= 0 else 128 - child.returncode
     return status or int(join.is_otherwise)
