@@ -79,8 +79,10 @@ returns-in-Same-clause-performs g c =
     let model = g.met.R.Rig.model c.args.rig.now in
     performs_none c.step_laws.ensures model false
     (changed_none c.args.kept k c.args.n c.args.held.now page same)
-    (λ h may. (same_lines_of c.args.kept k d.flash c.args.n c.args.held.now page may.1 same,
-    page_held k c.args.n page d (model h).device may.0 (sym same ∙ may.1)))
+    (λ h may. (
+      same_lines_of c.args.kept k d.flash c.args.n c.args.held.now page may.1 same,
+      page_held k c.args.n page d (model h).device may.0 (sym same ∙ may.1),
+    ))
 
 pub returns-in_err-save_pages-in-Erase-clause-performs : goal.returns-in_err-save_pages-in-Erase-clause-performs
 returns-in_err-save_pages-in-Erase-clause-performs g c =
@@ -96,10 +98,17 @@ returns-in_err-save_pages-in-Erase-clause-performs g c =
     (performs_of {P = IsSaved c.args.kept k n held} tt failed.stops
     (λ flashes steady may. failed.honest flashes steady may.0 may.1))
     c.from_residual.ensures.1
-    (λ ss saved. (rewrite_steps k n page frames,
-    changed_some c.args.kept k n held page frames ss is.0 is.1 saved))
-    (λ may. (may, (Erases n ∷ program_entries n frames,
-    change_lines c.args.kept k (g.R.Rig.view c.args.rig.now).device.flash n held page may.1 frames is.0 is.1)))
+    (λ ss saved. (
+      rewrite_steps k n page frames,
+      changed_some c.args.kept k n held page frames ss is.0 is.1 saved,
+    ))
+    (λ may. (
+      may,
+      (
+        Erases n ∷ program_entries n frames,
+        change_lines c.args.kept k (g.R.Rig.view c.args.rig.now).device.flash n held page may.1 frames is.0 is.1,
+      ),
+    ))
 
 pub returns-in_err-rewrite_kept-in-Erase-clause-performs : goal.returns-in_err-rewrite_kept-in-Erase-clause-performs
 returns-in_err-rewrite_kept-in-Erase-clause-performs g c =
