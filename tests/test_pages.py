@@ -225,7 +225,7 @@ class Pages(Place):
                     self.assertTrue(re.search(rf"\bfn {function}\b", text))
             named.update(files)
         made_in = set()
-        for crate in ("stm_words", "stmflash", "stm_session"):
+        for crate in ("stm_words", "stm_work", "stmflash", "stm_session"):
             for path in glob.glob(os.path.join(TOP, "crates", crate, "src", "**", "*.rt"), recursive=True):
                 made = [re.findall(r"\b(?:UsageFault|Failure|Fault)(?:::([A-Z]\w+)|$)", it)[-1:] for it in held(path).splitlines()
                         if re.search(r"\bErr\((Unread::|Failure::|Fault::|UsageFault)", it.split("=>")[-1])]
