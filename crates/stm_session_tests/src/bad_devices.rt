@@ -75,13 +75,13 @@ impl Rig for BadLine {
 
 /// A device that says this, and how many bytes are put before a session with it ends: one that
 /// settles with 7F, and an undo that settles with 05. Get is refused behind 7F, or behind a batch
-/// and a byte; 7F connects behind the limit of 131,072 bytes.
+/// and a byte; 7F connects behind the limit, of 131,072 bytes 7F or of 2,578 bytes 05.
 const ENDS: [(Says, u32, u32); 5] = [
     (Says::Refusal, 3, 259),
-    (Says::Acknowledgement, 131_074, 131_074),
-    (Says::Echo, 131_073, 131_073),
+    (Says::Acknowledgement, 131_074, 2_580),
+    (Says::Echo, 131_073, 2_579),
     (Says::Chatter, 0, 0),
-    (Says::Silence, 131_073, 131_073),
+    (Says::Silence, 131_073, 2_579),
 ];
 
 fn bad_line(

@@ -118,14 +118,15 @@ fn page_1_is_believed_behind_page_257(rt: HostRuntime) -> Result<(), Fail> {
     goes_right(&rt, 0x0A02, 0x00, PAGE_257_ERASED, &acts)
 }
 
-// The count 0202 announces 515 pages: five batches are taken for them, and their check is refused.
+// The count 0202 announces 515 pages: five batches are taken for them, and the last but one byte of
+// these is their check, which is refused.
 // Page 256 holds what it held, and isn't believed.
 #[test]
 fn an_erase_of_page_256_is_settled_with_02(rt: HostRuntime) -> Result<(), Fail> {
     let acts = [
         Send(&[0x44, 0xBB]),
         Undo(0, Ok(1)),
-        Begins(&[(0x02, 1281), (0x00, 1), (0xFF, 1)]),
+        Begins(&[(0x02, 1_035), (0x00, 1), (0xFF, 1)]),
         Flash(&[(b"\0", 131_072)]),
         Ends(b"\nerase 256\nerase 256\nprogram 256\nundone 1\n"),
     ];
