@@ -1,4 +1,4 @@
-use Rattle.std.proofs.Common.{◌≡◌, ◌≢◌, ◌∙◌, ◌/◌, ◌∷◌, ◌++◌, [], List, ℕ, length, ap, true, false}
+use Rattle.std.proofs.Common.{◌≡◌, ◌≢◌, ◌∙◌, ◌/◌, ◌∷◌, ◌++◌, List, ℕ, length, ap, true, false}
 use Rattle.std.proofs.Common.{refl, rules, subst, sym}
 use Rattle.stm_wire.specs.Chip.{erased_byte, page_of, with_page}
 use Rattle.stm_wire.specs.Device.{Device}
@@ -6,9 +6,9 @@ use Rattle.stm_chip.specs.declared.plan.PagePlan.{PagePlan}
 use Rattle.stm_chip.specs.Plan.{IsPlan, frames_of}
 use Rattle.stm_journal.specs.declared.entry.Entry.TheVariants.{Erases}
 use Rattle.stm_session.specs.ChangeOrder.{IsChanged, IsSaved}
-use Rattle.stm_session.specs.Changing.{change_entries, save_entries}
+use Rattle.stm_session.specs.Changing.{change_entries}
 use Rattle.stm_session.specs.Lines.{program_entries}
-use Rattle.stm_session.specs.Order.{Step, Are, rewrite_steps}
+use Rattle.stm_session.specs.Order.{Step, rewrite_steps}
 use Rattle.stm_session.specs.Performs.{Performs}
 use Rattle.stm_session.proofs.ChangeOrders.{changed_none, changed_some, some_changed}
 use Rattle.stm_session.proofs.Changes.{change_lines, not_turned, same_lines_of, saved_turned}
@@ -83,8 +83,10 @@ returns-in-Same-clause-performs g c =
     let model = g.met.R.Rig.model c.args.rig.now in
     performs_none c.step_laws.ensures model false
     (changed_none c.args.kept k c.args.n c.args.held.now page same)
-    (λ h may. (same_lines_of c.args.kept k d.flash c.args.n c.args.held.now page may.1 same,
-    page_held k c.args.n page d (model h).device may.0 (sym same ∙ may.1)))
+    (λ h may. (
+      same_lines_of c.args.kept k d.flash c.args.n c.args.held.now page may.1 same,
+      page_held k c.args.n page d (model h).device may.0 (sym same ∙ may.1),
+    ))
 
 pub returns-in_err-save_pages-in-Erase-clause-performs : goal.returns-in_err-save_pages-in-Erase-clause-performs
 returns-in_err-save_pages-in-Erase-clause-performs g c =
@@ -100,11 +102,18 @@ returns-in_err-save_pages-in-Erase-clause-performs g c =
     (performs_of {P = IsSaved c.args.kept k n held} tt failed.stops
     (λ flashes steady may. failed.honest flashes steady may.0 may.1))
     c.from_residual.ensures.1
-    (λ ss saved. (rewrite_steps k n page frames,
-    changed_some c.args.kept k n held page frames ss is.0 is.1 saved))
-    (λ may. (may, (Erases n ∷ program_entries n frames,
-    change_lines c.args.kept k (g.R.Rig.view c.args.rig.now).device.flash n held page may.1 frames
-    is.0 is.1)))
+    (λ ss saved. (
+      rewrite_steps k n page frames,
+      changed_some c.args.kept k n held page frames ss is.0 is.1 saved,
+    ))
+    (λ may. (
+      may,
+      (
+        Erases n ∷ program_entries n frames,
+        change_lines c.args.kept k (g.R.Rig.view c.args.rig.now).device.flash n held page may.1 frames
+            is.0 is.1,
+      ),
+    ))
 
 pub returns-in_err-rewrite_kept-in-Erase-clause-performs : goal.returns-in_err-rewrite_kept-in-Erase-clause-performs
 returns-in_err-rewrite_kept-in-Erase-clause-performs g c =

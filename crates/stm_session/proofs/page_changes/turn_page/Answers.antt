@@ -1,5 +1,5 @@
-use Rattle.std.proofs.Common.{◌≡◌, ◌∙◌, ◌+◌, ◌++◌, [], List, ℕ, Bool, Result}
-use Rattle.std.proofs.Common.{true, false, inl, inr, not, length, ap, ap₂, refl, sym, subst}
+use Rattle.std.proofs.Common.{◌≡◌, ◌∙◌, ◌++◌, [], List, ℕ, Bool, Result}
+use Rattle.std.proofs.Common.{false, inl, inr, not, length, ap, ap₂, refl, sym, subst}
 use Rattle.std.proofs.Common.{rules}
 use Rattle.std.specs.Prelude.{bytes_eq}
 use Rattle.stm_wire.specs.Chip.{ChipData, flash_size, page_of, page_size, with_page}
