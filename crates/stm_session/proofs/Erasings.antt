@@ -1,5 +1,6 @@
 -- A page that the newest segment keeps is erased.
-use Rattle.std.proofs.Common.{◌≡◌, inl, ℕ, ◌<◌, ◌≤◌, List, [], ◌∷◌, ◌++◌, Some, Result, Ok, Err, IsErrAnd, refl, sym, ◌∙◌, ap, ap₂, subst, IsTrue}
+use Rattle.std.proofs.Common.{◌≡◌, ◌∙◌, ◌<◌, ◌≤◌, ◌∷◌, ◌++◌, [], inl, ℕ, List, Some, Result, Ok, Err}
+use Rattle.std.proofs.Common.{IsErrAnd, IsTrue, ap, ap₂, refl, subst, sym}
 use Rattle.std.specs.Prelude.{IfErr, OnOk}
 use Rattle.stm_wire.specs.declared.chip.EraseKind.{EraseKind}
 use Rattle.stm_wire.specs.declared.fault.WireFault.{WireFault}
@@ -95,44 +96,59 @@ module _ (laws : StepLaws) (flashes : List (List ℕ)) (l : Loaded) (n : ℕ) (c
 abbrev pub IsSaid : ℕ → Intent → RigState → RigState → Type 0
 IsSaid n i a b = (b.device ≡ a.device) × IsUnder n i (state_at b.journal)
 
-module _ (laws : StepLaws) (e : Entry) (n : ℕ) (i : Intent) (l l2 : Loaded) (a b : RigState) (model : a.is_honest → IsModel a)
-    (later : b.is_honest → IsModel b) (step : (flashes : List (List ℕ)) → IsSteady flashes l a → IsStep e flashes (state_at a.journal) a.device)
-    (as_added : (s2 : StateData) → HasIntended n i (state_at a.journal) s2 → HasAdded e (state_at a.journal) s2) where
-  pub says : (r : Result (Unit {0}) JournalFault) → GoesOn (AppendsOnce (added_bytes l.is_torn (e ∷ [])) r) a.calls b.calls
-      → (a.is_honest → IsLoaded l a.journal → Appends (e ∷ []) l l2 a b r) → OnOk r (l2 ≡ loaded_after (e ∷ []) l) → IfErr r (LeavesLoaded l l2)
+module _ (laws : StepLaws) (e : Entry) (n : ℕ) (i : Intent) (l l2 : Loaded) (a b : RigState)
+    (model : a.is_honest → IsModel a) (later : b.is_honest → IsModel b)
+    (step : (flashes : List (List ℕ)) → IsSteady flashes l a
+    → IsStep e flashes (state_at a.journal) a.device)
+    (as_added : (s2 : StateData) → HasIntended n i (state_at a.journal) s2
+    → HasAdded e (state_at a.journal) s2) where
+  abbrev said_line : List Step
+  said_line = Adds (e ∷ []) ∷ []
+
+  pub says : (r : Result (Unit {0}) JournalFault)
+      → GoesOn (AppendsOnce (added_bytes l.is_torn (e ∷ [])) r) a.calls b.calls
+      → (a.is_honest → IsLoaded l a.journal → Appends (e ∷ []) l l2 a b r)
+      → OnOk r (l2 ≡ loaded_after (e ∷ []) l) → IfErr r (LeavesLoaded l l2)
       → (a.is_honest → IsLoaded l a.journal → OnOk r (InText (HasIntended n i) a.journal b.journal))
-      → Performs (Are (Adds (e ∷ []) ∷ [])) (e ∷ []) (Unit {0}) (λ y. IsSaid n i a b) l l2 a b (of_call r)
+      → Performs (Are said_line) (e ∷ []) (Unit {0}) (λ y. IsSaid n i a b) l l2 a b (of_call r)
   says (Ok x) calls call after left text =
+      let torn = ap (λ (m : Loaded). m.is_torn) after in
       record {
-        order = (Adds (e ∷ []) ∷ [], refl, does_add x (e ∷ []) l l2 a b calls (ap (λ (m : Loaded). m.is_torn) after));
+        order = (said_line, refl, does_add x (e ∷ []) l l2 a b calls torn);
         stops = tt;
         honest = λ flashes steady may.
             let s = state_at a.journal in
             let s2 = state_at b.journal in
             let appends = call steady.honest steady.loaded in
-            let has = text steady.honest steady.loaded s s2 (good_at l a.journal steady.loaded) (good_at l2 b.journal appends.loaded) in
+            let has = text steady.honest steady.loaded s s2 (good_at l a.journal steady.loaded)
+            (good_at l2 b.journal appends.loaded) in
             goes_ok flashes (e ∷ []) l2 a b (tt {0}) x
-            (line_goes laws e flashes l l2 a b (model steady.honest) steady (step flashes steady) x (tt {0}) appends after (as_added s2 has))
-            (λ same. (same, is_under n i s s2 has));
+            (line_goes laws e flashes l l2 a b (model steady.honest) steady (step flashes steady) x
+            (tt {0}) appends after (as_added s2 has)) (λ same. (same, is_under n i s s2 has));
       }
   says (Err fault) calls call after left text =
       record {
         order = tt;
-        stops = line_stops (Unit {0}) (Begin (Are (Adds (e ∷ []) ∷ []))) l.is_torn (e ∷ []) fault a b (Adds (e ∷ []) ∷ [], refl) ([], refl) calls;
+        stops = line_stops (Unit {0}) (Begin (Are said_line)) l.is_torn (e ∷ []) fault a b
+            (said_line, refl) ([], refl) calls;
         honest = λ flashes steady may.
-            line_fails laws e flashes l l2 a b (model steady.honest) steady (step flashes steady) [] l2 fault (Err (fault_of_journal fault))
-            (call steady.honest steady.loaded) left refl;
+            line_fails laws e flashes l l2 a b (model steady.honest) steady (step flashes steady) []
+            l2 fault (Err (fault_of_journal fault)) (call steady.honest steady.loaded) left refl;
       }
 
 -- and what is done under it goes after its line
-pub says_then : {T U : Type 0} {e : Entry} {n : ℕ} {i : Intent} {l l2 l3 : Loaded} {a b c : RigState} {x : T} {result : Result U Fault}
-    {steps : List Step} (May : Device → Type 0) (Done : Device → U → Type 0)
-    → Performs {T = T} (Are (Adds (e ∷ []) ∷ [])) (e ∷ []) (Unit {0}) (λ y. IsSaid n i a b) l l2 a b (Ok x)
-    → Performs (Are steps) [] (May b.device × IsUnder n i (state_at b.journal)) (Done b.device) l2 l3 b c result
+pub says_then : {T U : Type 0} {e : Entry} {n : ℕ} {i : Intent} {l l2 l3 : Loaded}
+    {a b c : RigState} {x : T} {result : Result U Fault} {steps : List Step}
+    (May : Device → Type 0) (Done : Device → U → Type 0)
+    → Performs {T = T} (Are (Adds (e ∷ []) ∷ [])) (e ∷ []) (Unit {0}) (λ y. IsSaid n i a b) l l2 a b
+    (Ok x)
+    → Performs (Are steps) [] (May b.device × IsUnder n i (state_at b.journal)) (Done b.device)
+    l2 l3 b c result
     → (b.is_honest → IsModel b)
     → Performs (Are (Adds (e ∷ []) ∷ steps)) (e ∷ []) (May a.device) (Done a.device) l l3 a c result
 says_then {U = U} {e = e} {steps = steps} May Done line own model =
-    performs_then line own model (λ ss ts is own. ap₂ (λ (l m : List Step). l ++ m) is own) (λ h may. tt)
+    performs_then line own model
+    (λ ss ts is own. ap₂ (λ (l m : List Step). l ++ m) is own) (λ h may. tt)
     (λ h may make said. record {
       may = (subst May (sym said.0) may, said.1);
       lines = refl;
@@ -140,28 +156,45 @@ says_then {U = U} {e = e} {steps = steps} May Done line own model =
     })
 
 -- a page is erased under its intent
-pub erase_performs : (laws : StepLaws) (l : Loaded) (n : ℕ) (chip : ChipData) (kind : EraseKind) (a b : RigState) (r : Result (Unit {0}) WireFault)
-    → kind ≡ chip.kind → n < page_count chip → (a.is_honest → IsModel a) → (b.is_honest → IsModel b)
-    → OnOk r (Holds (erase_frame kind n) (erase_turns kind n) a b) → IfErr r (λ fault. BreaksOff fault (erase_frame kind n) (erase_turns kind n) a b)
-    → (a.is_honest → CanErase kind n a.device → Does r (λ y. b.device ≡ with_pages_erased (n ∷ []) a.device))
-    → Performs (Are (Sends (erase_turns chip.kind n) ∷ [])) [] ((a.device.chip ≡ chip) × IsUnder n (Erase n) (state_at a.journal))
-    (λ y. b.device.flash ≡ with_page chip n (erased_page chip n) a.device.flash) l l a b (of_command r)
-erase_performs laws l n chip kind a b (Ok x) kind_is exists model later held broken does =
-    record {
-      order = (Sends (erase_turns chip.kind n) ∷ [], refl, does_erase chip n kind l a b kind_is held.recorded);
-      stops = tt;
-      honest = λ flashes steady may.
-          let here = model steady.honest in
-          let can = may_erase laws flashes l n chip kind a b here steady may.1 may.0 kind_is exists in
-          erase_goes laws flashes l n chip kind a b here steady may.1 may.0 kind_is exists x held later ((does steady.honest can).done);
-    }
-erase_performs laws l n chip kind a b (Err fault) kind_is exists model later held broken does =
-    let P : EraseKind → Type 0 = λ k. GoesOn (IsBrokenOff fault (erase_turns k n)) a.calls b.calls in
-    record {
-      order = tt;
-      stops = sent_stops (Begin (Are (Sends (erase_turns chip.kind n) ∷ []))) l.is_torn fault (erase_turns chip.kind n) a b ([], refl) (subst P kind_is broken.recorded);
-      honest = λ flashes steady may.
-          let here = model steady.honest in
-          let can = may_erase laws flashes l n chip kind a b here steady may.1 may.0 kind_is exists in
-          erase_fails laws flashes l n chip kind a b here steady may.1 may.0 kind_is exists [] l (Err (fault_of fault)) broken ((does steady.honest can).fails) refl;
-    }
+module _ (laws : StepLaws) (l : Loaded) (n : ℕ) (chip : ChipData) (kind : EraseKind)
+    (a b : RigState) where
+  pub erase_performs : (r : Result (Unit {0}) WireFault) → kind ≡ chip.kind → n < page_count chip
+      → (a.is_honest → IsModel a) → (b.is_honest → IsModel b)
+      → OnOk r (Holds (erase_frame kind n) (erase_turns kind n) a b)
+      → IfErr r (λ fault. BreaksOff fault (erase_frame kind n) (erase_turns kind n) a b)
+      → (a.is_honest → CanErase kind n a.device
+      → Does r (λ y. b.device ≡ with_pages_erased (n ∷ []) a.device))
+      → Performs (Are (Sends (erase_turns chip.kind n) ∷ [])) []
+      ((a.device.chip ≡ chip) × IsUnder n (Erase n) (state_at a.journal))
+      (λ y. b.device.flash ≡ with_page chip n (erased_page chip n) a.device.flash) l l a b
+      (of_command r)
+  erase_performs (Ok x) kind_is exists model later held broken does =
+      record {
+        order = (
+          Sends (erase_turns chip.kind n) ∷ [],
+          refl,
+          does_erase chip n kind l a b kind_is held.recorded,
+        );
+        stops = tt;
+        honest = λ flashes steady may.
+            let here = model steady.honest in
+            let can = may_erase laws flashes l n chip kind a b here steady may.1 may.0 kind_is
+            exists in
+            erase_goes laws flashes l n chip kind a b here steady may.1 may.0 kind_is exists x held
+            later ((does steady.honest can).done);
+      }
+  erase_performs (Err fault) kind_is exists model later held broken does =
+      let turns = erase_turns chip.kind n in
+      let P : EraseKind → Type 0 =
+      λ k. GoesOn (IsBrokenOff fault (erase_turns k n)) a.calls b.calls in
+      record {
+        order = tt;
+        stops = sent_stops (Begin (Are (Sends turns ∷ []))) l.is_torn fault turns a b ([], refl)
+            (subst P kind_is broken.recorded);
+        honest = λ flashes steady may.
+            let here = model steady.honest in
+            let can = may_erase laws flashes l n chip kind a b here steady may.1 may.0 kind_is
+            exists in
+            erase_fails laws flashes l n chip kind a b here steady may.1 may.0 kind_is exists [] l
+            (Err (fault_of fault)) broken ((does steady.honest can).fails) refl;
+      }

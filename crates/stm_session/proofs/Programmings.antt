@@ -23,7 +23,7 @@ use Rattle.stm_journal.specs.declared.entry.Entry.{Entry}
 use Rattle.stm_journal.specs.Journals.{Loaded}
 use Rattle.stm_session.specs.declared.fault.Fault.{Fault}
 use Rattle.stm_session.specs.Fault.{fault_of}
-use Rattle.stm_session.specs.Order.{Are, Begin, Follows, IsInOrder, Stops, write_steps}
+use Rattle.stm_session.specs.Order.{Step, Are, Begin, Follows, IsInOrder, Stops, write_steps}
 use Rattle.stm_session.specs.Performs.{Performs}
 use Rattle.stm_session.specs.StepLaws.{StepLaws}
 use Rattle.stm_session.specs.Steps.{IsSteady, Goes, IsUnder}
@@ -148,16 +148,36 @@ module _ (laws : StepLaws) (chip : ChipData) (n : ℕ) (page : List ℕ) (frames
       ∙ ap (λ (xs : List ℕ). with_page chip n xs base) (sym (written-next page d frames (erased_page chip n) i lt))
 
 -- frames are written under their intent, by what their function ensures
-pub frames_perform : (chip : ChipData) (n : ℕ) (page : List ℕ) (frames : List Frame) (base : List ℕ) (l : Loaded) (a b : RigState) (result : Result (Unit {0}) Fault)
-    → ((torn : Bool) → OnOk result (GoesOn (IsInOrder torn (write_steps chip n page frames)) a.calls b.calls))
-    → ((torn : Bool) → Stops (Begin (Are (write_steps chip n page frames))) torn a b result)
-    → ((flashes : List (List ℕ)) (l : Loaded) (base : List ℕ) → IsSteady flashes l a → a.device.chip ≡ chip → IsUnder n (Program n) (state_at a.journal) → length base ≡ flash_size chip
-    → a.device.flash ≡ with_page chip n (erased_page chip n) base → Goes flashes [] l a b result (λ y. b.device.flash ≡ with_page chip n (written page frames (erased_page chip n)) base))
-    → Performs (Are (write_steps chip n page frames)) [] (((a.device.chip ≡ chip) × (length base ≡ flash_size chip) × (a.device.flash ≡ with_page chip n (erased_page chip n) base)) × IsUnder n (Program n) (state_at a.journal))
-    (λ y. b.device.flash ≡ with_page chip n (written page frames (erased_page chip n)) base) l l a b result
-frames_perform chip n page frames base l a b result order stops honest =
-    record { order = done result order; stops = stops l.is_torn; honest = λ flashes steady may. honest flashes l base steady may.0.0 may.1 may.0.1 may.0.2 }
-  where
-    done : (r : Result (Unit {0}) Fault) → ((torn : Bool) → OnOk r (GoesOn (IsInOrder torn (write_steps chip n page frames)) a.calls b.calls)) → OnOk r (Follows (Are (write_steps chip n page frames)) l l a b)
-    done (Ok y) order = (write_steps chip n page frames, refl, does_writes chip n page l frames a b (order l.is_torn))
-    done (Err e) order = tt
+module _ (chip : ChipData) (n : ℕ) (page : List ℕ) (frames : List Frame) (l : Loaded)
+    (a b : RigState) where
+  abbrev Gives : List ℕ → Type 0
+  Gives base =
+      b.device.flash ≡ with_page chip n (written page frames (erased_page chip n)) base
+
+  abbrev Sent : List Step
+  Sent = write_steps chip n page frames
+
+  pub frames_perform : (base : List ℕ) (result : Result (Unit {0}) Fault)
+      → ((torn : Bool) → OnOk result (GoesOn (IsInOrder torn Sent) a.calls b.calls))
+      → ((torn : Bool) → Stops (Begin (Are Sent)) torn a b result)
+      → ((flashes : List (List ℕ)) (l : Loaded) (base : List ℕ) → IsSteady flashes l a
+      → a.device.chip ≡ chip → IsUnder n (Program n) (state_at a.journal)
+      → length base ≡ flash_size chip
+      → a.device.flash ≡ with_page chip n (erased_page chip n) base
+      → Goes flashes [] l a b result (λ y. Gives base))
+      → Performs (Are Sent) [] (((a.device.chip ≡ chip) × (length base ≡ flash_size chip)
+      × (a.device.flash ≡ with_page chip n (erased_page chip n) base))
+      × IsUnder n (Program n) (state_at a.journal)) (λ y. Gives base) l l a b result
+  frames_perform base result order stops honest =
+      record {
+        order = done result order;
+        stops = stops l.is_torn;
+        honest = λ flashes steady may.
+            honest flashes l base steady may.0.0 may.1 may.0.1 may.0.2;
+      }
+    where
+      done : (r : Result (Unit {0}) Fault)
+          → ((torn : Bool) → OnOk r (GoesOn (IsInOrder torn Sent) a.calls b.calls))
+          → OnOk r (Follows (Are Sent) l l a b)
+      done (Ok y) order = (Sent, refl, does_writes chip n page l frames a b (order l.is_torn))
+      done (Err e) order = tt

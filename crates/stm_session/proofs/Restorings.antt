@@ -1,6 +1,6 @@
 -- The steps and lines by which a page is given other bytes, or none where it holds them.
-use Rattle.std.proofs.Common.{◌≡◌, ◌∙◌, ◌+◌, ◌-◌, ◌*◌, ◌/◌, ◌<◌, ◌++◌, [], List, ℕ, Bool, true, false}
-use Rattle.std.proofs.Common.{if◌then◌else◌, length, take, drop, Some, Result, ap, ap₂, sym, arith}
+use Rattle.std.proofs.Common.{◌≡◌, ◌∙◌, ◌+◌, ◌-◌, ◌*◌, ◌/◌, ◌<◌, ◌++◌, [], List, ℕ, Bool, true}
+use Rattle.std.proofs.Common.{false, if◌then◌else◌, length, take, drop, Some, Result, ap, ap₂, sym, arith}
 use Rattle.std.specs.Prelude.{OnOk, bytes_eq}
 use Rattle.stm_wire.specs.Chip.{ChipData, erased_byte, page_count, page_of, page_offset, page_size}
 use Rattle.stm_wire.specs.Dialogue.{GoesOn}

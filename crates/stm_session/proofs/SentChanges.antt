@@ -22,7 +22,8 @@ use Rattle.stm_session.specs.declared.fault.Fault.{Fault}
 use Rattle.stm_session.specs.ChangeOrder.{AreTurned, none, more, IsChangedUnless, IsOneSegment, IsSaved, IsSavedWith, IsSegmentBegun, begins, turns, ends, IsTurnOf}
 use Rattle.stm_session.specs.Contents.{content}
 use Rattle.stm_session.specs.Meaning.{CommandData}
-use Rattle.stm_session.specs.Order.{Step, Adds, Follows, Stops, erase_steps, page_reads, program_steps, rewrite_steps}
+use Rattle.stm_session.specs.Order.{Step, Adds, Follows, Stops, erase_steps, page_reads}
+use Rattle.stm_session.specs.Order.{program_steps, rewrite_steps}
 use Rattle.stm_session.specs.RunOrder.{IsBegunIf, IsDoneIf}
 use Rattle.stm_session.specs.Sending.{is_whole, most_of_command}
 use Rattle.stm_session.specs.Undoable.{has_companion}
@@ -83,12 +84,18 @@ below_all chip limits n le = omega (arith, le, limits.size, limits.last_page, pa
     either false most = omega arith
 
 -- a page is rewritten
-pub put_rewritten : (chip : ChipData) (n : ℕ) (page : List ℕ) → n < page_count chip → length page ≡ page_size chip n
-    → PutFew chip (9 + 2 * length page) (rewrite_steps chip n page (frames_of (erased_byte chip) page (length page / 256)))
+pub put_rewritten : (chip : ChipData) (n : ℕ) (page : List ℕ) → n < page_count chip
+    → length page ≡ page_size chip n → PutFew chip (9 + 2 * length page)
+    (rewrite_steps chip n page (frames_of (erased_byte chip) page (length page / 256)))
 put_rewritten chip n page exists size =
-    let frames = frames_of (erased_byte chip) page (length page / 256) in
-    put_then chip 9 (2 * length page) (erase_steps chip n) (program_steps chip n page frames) (put_erase chip n exists)
-    (put_program chip n exists page size frames (frames_inside (length page) (erased_byte chip) page (length page / 256) (omega arith)) (omega (arith, frames-few (erased_byte chip) page (length page / 256))))
+    let erased = erased_byte chip in
+    let blocks = length page / 256 in
+    let frames = frames_of erased page blocks in
+    let inside = frames_inside (length page) erased page blocks (omega arith) in
+    put_then chip 9 (2 * length page) (erase_steps chip n) (program_steps chip n page frames)
+    (put_erase chip n exists)
+    (put_program chip n exists page size frames inside
+    (omega (arith, frames-few erased page blocks)))
 
 put_changed : (same kept : Bool) (chip : ChipData) (n : ℕ) (held page : List ℕ) (steps : List Step) → n < page_count chip → length page ≡ page_size chip n → IsChangedUnless same kept chip n held page steps
     → PutFew chip (companion chip n + (9 + 2 * page_size chip n)) steps
@@ -96,7 +103,8 @@ put_changed true kept chip n held page steps exists size is = put_as chip 0 (com
 put_changed false kept chip n held page steps exists size is =
     let more = 9 + 2 * length page in
     put_as chip (companion chip n + more) (companion chip n + (9 + 2 * page_size chip n)) (is.saved ++ _) steps (omega (arith, size)) is.is
-    (put_then chip (companion chip n) more is.saved _ (put_saved kept chip n held is.saved is.is_saved) (put_rewritten chip n page exists size))
+    (put_then chip (companion chip n) more is.saved _
+    (put_saved kept chip n held is.saved is.is_saved) (put_rewritten chip n page exists size))
 
 module _ (lengths : (set : Pairs) (address : ℕ) (bytes : List ℕ) → length (lay set address bytes) ≡ length bytes) (chip : ChipData) (limits : IsChip chip) where
   put_turn : (kept : Bool) (c : Change) (n : ℕ) (changed : Bool) (steps : List Step) → n < page_count chip → IsTurnOf kept chip c n changed steps → PutFew chip (most_of chip n) steps

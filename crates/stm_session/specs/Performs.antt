@@ -10,8 +10,9 @@ use Rattle.stm_session.specs.Steps.{Goes, IsSteady}
 -- On any line: at Ok such steps were done, and a fault ends a beginning of such. On an honest Rig
 -- that is steady, and where they may be done: each moment stands, just these lines are added, and
 -- what they were for is done.
-pub record Performs {T : Type 0} (Made : List Step → Type 0) (lines : List Entry) (May : Type 0)
-    (Done : T → Type 0) (l l2 : Loaded) (old new : RigState) (result : Result T Fault) : Type 0 where
+pub record Performs {T : Type 0} (Made : List Step → Type 0) (lines : List Entry)
+    (May : Type 0) (Done : T → Type 0) (l l2 : Loaded) (old new : RigState)
+    (result : Result T Fault) : Type 0 where
   pub order : OnOk result (Follows Made l l2 old new)
   pub stops : Stops (Begin Made) l.is_torn old new result
   pub honest : (flashes : List (List ℕ)) → IsSteady flashes l old → May

@@ -1,21 +1,22 @@
-use Rattle.std.proofs.Common.{◌≡◌, ◌≢◌, ◌∙◌, ◌/◌, ◌∷◌, ◌++◌, [], List, ℕ, length, ap, true, false, sym}
-use Rattle.std.proofs.Common.{subst, refl, rules}
+use Rattle.std.proofs.Common.{◌≡◌, ◌≢◌, ◌∙◌, ◌/◌, ◌∷◌, ◌++◌, List, ℕ, length, ap, true, false}
+use Rattle.std.proofs.Common.{refl, rules, subst, sym}
 use Rattle.stm_wire.specs.Chip.{erased_byte, page_of, with_page}
 use Rattle.stm_wire.specs.Device.{Device}
 use Rattle.stm_chip.specs.declared.plan.PagePlan.{PagePlan}
 use Rattle.stm_chip.specs.Plan.{IsPlan, frames_of}
 use Rattle.stm_journal.specs.declared.entry.Entry.TheVariants.{Erases}
 use Rattle.stm_session.specs.ChangeOrder.{IsChanged, IsSaved}
-use Rattle.stm_session.specs.Changing.{change_entries, save_entries}
+use Rattle.stm_session.specs.Changing.{change_entries}
 use Rattle.stm_session.specs.Lines.{program_entries}
-use Rattle.stm_session.specs.Order.{Step, Are, rewrite_steps}
+use Rattle.stm_session.specs.Order.{Step, rewrite_steps}
 use Rattle.stm_session.specs.Performs.{Performs}
 use Rattle.stm_session.proofs.ChangeOrders.{changed_none, changed_some, some_changed}
 use Rattle.stm_session.proofs.Changes.{change_lines, not_turned, same_lines_of, saved_turned}
 use Rattle.stm_session.proofs.Changes.{told_other, told_same}
 use Rattle.stm_session.proofs.Going.{page_held}
 use Rattle.stm_session.proofs.Performing.{performs_are, performs_cut, performs_none, performs_of}
-use Rattle.stm_session.proofs.Performing.{performs_out, performs_past, performs_refused, performs_then}
+use Rattle.stm_session.proofs.Performing.{performs_out, performs_past, performs_refused}
+use Rattle.stm_session.proofs.Performing.{performs_then}
 use Rattle.stm_session.proofs.changing.change_page.Given as given
 use Rattle.stm_session.proofs.changing.change_page.Goals as goal
 use Rattle.stm_session.proofs.changing.change_page.Goals.{After-rewrite_kept, After-save_pages}
@@ -54,12 +55,15 @@ changed g c other framed =
     (λ flashes steady may. saved.honest flashes steady may.0 may.1))
     (performs_are own.order own.stops own.honest)
     (g.met.R.Rig.model c.save_pages.new.rig)
-    (λ ss ts saved own. let P : List Step → Type 0 = λ zs. IsChanged c.args.kept k n c.args.held.now page (ss ++ zs) in
+    (λ ss ts saved own.
+    let Made = IsChanged c.args.kept k n c.args.held.now page in
+    let P : List Step → Type 0 = λ zs. Made (ss ++ zs) in
     subst P (sym own) (changed_some c.args.kept k n c.args.held.now page frames ss other is saved))
     (λ h may. may)
     (λ h may make same. record {
       may = ap (λ (x : Device). x.chip) same ∙ may.0;
-      lines = change_lines c.args.kept k (g.R.Rig.view c.args.rig.now).device.flash n c.args.held.now page may.1 frames other is;
+      lines = change_lines c.args.kept k (g.R.Rig.view c.args.rig.now).device.flash n
+          c.args.held.now page may.1 frames other is;
       gives = λ y done. done ∙ ap (λ (x : Device). with_page k n page x.flash) same;
     })
 
@@ -106,7 +110,8 @@ returns-in_err-save_pages-in-Erase-clause-performs g c =
       may,
       (
         Erases n ∷ program_entries n frames,
-        change_lines c.args.kept k (g.R.Rig.view c.args.rig.now).device.flash n held page may.1 frames is.0 is.1,
+        change_lines c.args.kept k (g.R.Rig.view c.args.rig.now).device.flash n held page may.1 frames
+            is.0 is.1,
       ),
     ))
 

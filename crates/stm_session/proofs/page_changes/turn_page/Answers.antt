@@ -1,5 +1,5 @@
-use Rattle.std.proofs.Common.{◌≡◌, ◌∙◌, ◌+◌, ◌++◌, [], List, ℕ, Bool, Result}
-use Rattle.std.proofs.Common.{true, false, inl, inr, not, length, ap, ap₂, refl, sym, subst}
+use Rattle.std.proofs.Common.{◌≡◌, ◌∙◌, ◌++◌, [], List, ℕ, Bool, Result}
+use Rattle.std.proofs.Common.{false, inl, inr, not, length, ap, ap₂, refl, sym, subst}
 use Rattle.std.proofs.Common.{rules}
 use Rattle.std.specs.Prelude.{bytes_eq}
 use Rattle.stm_wire.specs.Chip.{ChipData, flash_size, page_of, page_size, with_page}
@@ -159,7 +159,8 @@ returns-in_err-changed-clause-honest g c flashes steady chip =
     let last = (goal.at.returns-in_err-changed-clause-honest g c).After-change_page in
     goes_fault flashes (change_entries c.args.kept k a.device.flash n made) l2 l2 a
     (V c.change_page.new.rig) _ c.from_residual-in_err-changed.result
-    (turned g last flashes steady chip _ _ refl (λ steady chip read. c.in_err-changed.ensures.performs.honest flashes steady (chip, read)))
+    (turned g last flashes steady chip _ _ refl
+    (λ steady chip read. c.in_err-changed.ensures.performs.honest flashes steady (chip, read)))
     c.from_residual-in_err-changed.ensures.1
 
 pub returns-clause-honest : goal.returns-clause-honest
@@ -173,7 +174,8 @@ returns-clause-honest g c flashes steady chip =
     goes_ok flashes (change_entries c.args.kept k a.device.flash n made) c.change_page.new.journal a
     (V c.change_page.new.rig) c.in_ok-changed.changed c.in_ok-changed.changed
     (turned g last flashes steady chip _ c.in_ok-changed.changed c.in_ok-changed.ensures.changed
-    (λ steady chip read. c.in_ok-changed.ensures.performs.honest flashes steady (chip, read))) (λ given. given)
+    (λ steady chip read. c.in_ok-changed.ensures.performs.honest flashes steady (chip, read)))
+    (λ given. given)
 
 pub returns-then-not-touches-clause-order : goal.returns-then-not-touches-clause-order
 returns-then-not-touches-clause-order g c =

@@ -53,8 +53,8 @@ programmed g c base =
     (λ flashes steady. programs_step c.step_laws.ensures flashes c.args.journal.now n _ steady
     (omega (arith, c.ranges.n.fits)) c.requires.kept) (λ s2 has. has) (Ok tt) call.calls call.honest
     call.after tt call.text)
-    (frames_perform chip n c.args.page.now c.args.frames.now base c.intend_program.new.self
-    (g.R.Rig.view c.intend_program.new.rig) (g.R.Rig.view c.program_frames.new.rig)
+    (frames_perform chip n c.args.page.now c.args.frames.now c.intend_program.new.self
+    (g.R.Rig.view c.intend_program.new.rig) (g.R.Rig.view c.program_frames.new.rig) base
     c.program_frames.result frames.order frames.stops frames.honest) model
 
 pub returns-in_err-program_frames-clause-performs : goal.returns-in_err-program_frames-clause-performs

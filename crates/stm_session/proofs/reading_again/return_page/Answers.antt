@@ -94,7 +94,8 @@ returns-in_err-change_page-clause-honest g c flashes steady chip read =
     goes_as flashes _ _ l2 a b _
     (kept_lines c.args.chip.now c.args.n c.args.held.now c.args.page.now a.device.flash read)
     (goes_fault flashes _ l2 l2 a b _ c.from_residual.result
-    (c.in_err-change_page.ensures.performs.honest flashes steady (chip, read)) c.from_residual.ensures.1)
+    (c.in_err-change_page.ensures.performs.honest flashes steady (chip, read))
+    c.from_residual.ensures.1)
 
 pub returns-in_err-change_page-clause-puts : goal.returns-in_err-change_page-clause-puts
 returns-in_err-change_page-clause-puts g c =

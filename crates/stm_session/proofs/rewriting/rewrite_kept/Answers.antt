@@ -89,8 +89,8 @@ returns-in_err-program_kept-clause-honest g c flashes steady chip =
     let last = (goal.at.returns-in_err-program_kept-clause-honest g c).After-program_kept in
     goes_fault flashes (Erases c.args.n ∷ program_entries c.args.n c.args.frames.now) l3 l3
     (V c.args.rig.now) (V c.program_kept.new.rig) _ c.from_residual-in_err-program_kept.result
-    (rewritten g last flashes steady chip _ (λ base steady chip whole erased. (c.in_err-program_kept.ensures.performs base).honest flashes
-    steady (chip, whole, erased)))
+    (rewritten g last flashes steady chip _ (λ base steady chip whole erased.
+    (c.in_err-program_kept.ensures.performs base).honest flashes steady (chip, whole, erased)))
     c.from_residual-in_err-program_kept.ensures.1
 
 pub returns-clause-honest : goal.returns-clause-honest
@@ -99,8 +99,8 @@ returns-clause-honest g c flashes steady chip =
     let last = (goal.at.returns-clause-honest g c).After-program_kept in
     goes_ok flashes (Erases c.args.n ∷ program_entries c.args.n c.args.frames.now)
     c.program_kept.new.journal (V c.args.rig.now) (V c.program_kept.new.rig) _ (tt {0})
-    (rewritten g last flashes steady chip _ (λ base steady chip whole erased. (c.in_ok-program_kept.ensures.performs base).honest flashes
-    steady (chip, whole, erased))) (λ p. p)
+    (rewritten g last flashes steady chip _ (λ base steady chip whole erased.
+    (c.in_ok-program_kept.ensures.performs base).honest flashes steady (chip, whole, erased))) (λ p. p)
 
 pub returns-then-is_empty-clause-honest : goal.returns-then-is_empty-clause-honest
 returns-then-is_empty-clause-honest g c flashes steady chip =
