@@ -17,8 +17,8 @@ from served import Served, relay
 
 # setsockopt, and its words for how long a read and a write wait: as many seconds, and as many millionths
 SETSOCKOPT, RECEIVE_TIME, SEND_TIME, TIME = 54, 20, 21, struct.Struct("=qq")
-# a wait that a busy machine's answers don't come near; and how long a command waits
-WHOLE, LONG = 2000, 20000
+# a wait that a busy machine's answers don't come near, and a shorter one for many; and how long a command waits
+WHOLE, LATE, LONG = 2000, 900, 20000
 # what is there is only looked at
 LOOK = 1
 FLASH = bytes(128 * 1024)
@@ -119,21 +119,35 @@ class Silence(Served):
         self.serve(1, number="0410")
         whole, _ = self.limits("--give-up", "2")
         self.assertServed()
-        for stands, most in ((b"idle", 2), (FRESH, 1)):
-            for words in (("info",), ("read", "-S", "0x08000000:256", "out"), ("info", "--no-board")):
-                with self.subTest(stands=stands, words=words):
-                    self.store("flash.line", stands + b"\n")
-                    self.serve(1, number="0410")
-                    waited = self.waited_in_vain(*words)
-                    self.assertServed()
-                    self.assertEqual(waited.count(WHOLE), most, waited)
-                    self.assertLess(max(waited), LONG)
-                    self.assertLess(most * whole, 1000)
+        read = ("read", "-S", "0x08000000:256", "out")
+        for stands, words, most in ((b"idle", ("info",), 2), (b"idle", read, 2), (FRESH, ("info",), 1)):
+            with self.subTest(stands=stands, words=words):
+                self.store("flash.line", stands + b"\n")
+                self.serve(1, number="0410")
+                waited = self.waited_in_vain(*words, whole=2 * WHOLE)
+                self.assertServed()
+                self.assertEqual(waited.count(2 * WHOLE), most, waited)
+                self.assertLess(max(waited), LONG)
+                self.assertLess(most * whole, 1000)
 
-    def waited_in_vain(self, *words):
+    @unittest.skipIf(shutil.which("strace") is None, "strace is not installed")
+    def test_an_undo_at_a_device_that_was_reset_is_five_seconds(self):
+        """Of a chip erased by 43, without a word that it was reset: of all that is waited in vain, by the default."""
+        self.serve(1, number="0410")
+        whole, _ = self.limits("--give-up", "2")
+        self.assertServed()
+        self.store("flash.line", FRESH + b"\n")
+        self.store("journal", BEFORE)
+        self.serve(1, number="0410")
+        waited = self.waited_in_vain("undo", whole=LATE)
+        self.assertServed()
+        self.assertLess(max(waited), LONG)
+        self.assertLessEqual(waited.count(LATE) * whole, 5000, waited)
+
+    def waited_in_vain(self, *words, whole=WHOLE):
         """How long the program waits for a byte that doesn't come, each time that none came, by the times that it sets."""
         record = self.path("record")
-        given = (words[0], "--table", "table", "--device", "board", "--journal", "journal", "--wait", str(WHOLE), *words[1:])
+        given = (words[0], "--table", "table", "--device", "board", "--journal", "journal", "--wait", str(whole), *words[1:])
         ran = subprocess.run(["strace", "-f", "-xx", "-o", record, "-e", "trace=setsockopt,recvfrom", program(), *given],
                              cwd=self.folder, env={}, stdin=subprocess.DEVNULL, capture_output=True, timeout=PATIENCE)
         if not (self.held("record") or b"").strip():
