@@ -6,6 +6,6 @@ pub mod Tried
 pub mod TablesOver
 pub mod JsonLists
 pub mod Finished
-pub mod Watched
+pub mod WatchedWork
 mod TextParts
 mod UpperHex

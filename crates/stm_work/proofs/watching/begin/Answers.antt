@@ -2,7 +2,7 @@
 use Rattle.std.proofs.Common.{◌∙◌, ap, List, ℕ, take}
 use Rattle.stm_wire.specs.Chip.{ChipData}
 use Rattle.stm_watch.specs.Known.{known_at_first}
-use Rattle.stm_work.proofs.Watched.{begun-at}
+use Rattle.stm_work.proofs.WatchedWork.{begun-at}
 use Rattle.stm_work.proofs.watching.begin.Goals as goal
 
 pub returns : goal.returns
