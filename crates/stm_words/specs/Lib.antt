@@ -1,3 +1,4 @@
+pub mod Asking
 pub mod CommandSet
 pub mod Number
 pub mod Options
