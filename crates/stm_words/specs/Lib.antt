@@ -1,3 +1,4 @@
+pub mod Asking
 pub mod Number
 pub mod CommandSet
 pub mod Options

@@ -1,6 +1,6 @@
 -- What follows a write in the same call, as its words say it.
 use Rattle.std.specs.Prelude.{◌≡◌, ◌||◌, ◌≤◌, ℕ, Bool, List, Option, Some, None, codes, is_some}
-use Rattle.std.specs.Prelude.{option_and_then, option_map, true}
+use Rattle.std.specs.Prelude.{option_and_then, option_map, true, false}
 use Rattle.clap.specs.Matches.{first_value}
 use Rattle.clap.specs.declared.parser.matches.Found.{Found}
 use Rattle.stm_words.specs.declared.sequel.Sequel.{Sequel}
@@ -12,6 +12,13 @@ abbrev pub NamesAddress : Found → Option ℕ → Type 0
 NamesAddress given None = first_value given (codes "go") ≡ None
 NamesAddress given (Some address) =
     option_and_then number_of (first_value given (codes "go")) ≡ Some address
+
+-- nothing follows
+pub record IsAlone (sequel : Sequel) : Type 0 where
+  pub stays : sequel.keeps ≡ false
+  pub unmoved : sequel.to ≡ None
+  pub held : sequel.go ≡ None
+  pub once : sequel.again ≡ 0
 
 -- `--keep`, or `--keep-to` with a name; a Go only behind these; and how often again
 pub record IsSequel (given : Found) (sequel : Sequel) : Type 0 where

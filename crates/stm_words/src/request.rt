@@ -1,5 +1,7 @@
 // What the words ask for.
 ghost use Rattle.std.specs.Prelude.{IfOk, OnOk};
+ghost use Rattle.clap.specs.Words.{found_of};
+ghost use Rattle.stm_words.specs.Asking.{Asks, AsksFor};
 ghost use Rattle.stm_words.specs.Saying.{IsFreshUnasked, IsSaidFresh};
 
 use crate::environment::Environment;
@@ -28,39 +30,64 @@ pub enum Request<'a> {
 }
 
 impl<'a> Request<'a> {
-    /// What the words that `clap` found ask for. The first word that can't be read decides, options
-    /// before further words; then a stop that there can't be; then an erase that names no pages; then
-    /// what is done only on a device that is said to be fresh, of one that isn't.
+    /// What the words that `clap` found ask for.
     pub fn parse(
         alloc: Global,
         environment: Environment<'a>,
         matches: &ArgMatches<'a>,
     ) -> Result<Request<'a>, Unread<'a>>
-        ensures { IfOk result IsSaidFresh }
+        ensures fresh { IfOk result IsSaidFresh }
+        ensures asked { IfOk result (AsksFor environment.entry matches.now) }
     {
         match matches.subcommand() {
-            Some(("log", given)) => {
-                Ok(Request::Log(word(given, "journal")?, flag(given, "check")))
-            },
-            Some(("keep", given)) => Ok(Request::Keep(Kept::parse(environment, given)?)),
-            Some(("sim", given)) => Ok(Request::Serve(Served::parse(alloc, environment, given)?)),
-            Some((name, given)) => {
-                let options = Options::parse(environment, given)?;
-                let task = Task::parse(alloc, name, given)?;
-                let sequel = Sequel::behind(name, given)?;
-                if options.has_vain_stop() {
-                    return Err(Unread::Usage(UsageFault::StopNeedsSimulator));
-                }
-                if task.wants_pages() {
-                    return Err(Unread::Usage(UsageFault::GivePages));
-                }
-                if task.wants_fresh() {
-                    check_fresh(&options)?;
-                }
-                Ok(Request::Use(options, task, sequel))
-            }
+            Some((name, given)) => Request::of(alloc, environment, name, given),
             None => Err(Unread::Usage(UsageFault::UnknownWords)),
         }
+    }
+
+    /// What the subcommand of this name asks for.
+    fn of(
+        alloc: Global,
+        environment: Environment<'a>,
+        name: &str,
+        given: &ArgMatches<'a>,
+    ) -> Result<Request<'a>, Unread<'a>>
+        ensures fresh { IfOk result IsSaidFresh }
+        ensures asked { IfOk result (Asks environment.entry name.now (found_of given.now)) }
+    {
+        match name {
+            "log" => Ok(Request::Log(word(given, "journal")?, flag(given, "check"))),
+            "keep" => Ok(Request::Keep(Kept::parse(environment, given)?)),
+            "sim" => Ok(Request::Serve(Served::parse(alloc, environment, given)?)),
+            _ => Request::of_device(alloc, environment, name, given),
+        }
+    }
+
+    /// The same of a subcommand that uses a device. The first word that can't be read decides,
+    /// options before further words; then a stop that there can't be; then an erase that names no
+    /// pages; then what is done only on a device that is said to be fresh, of one that isn't.
+    fn of_device(
+        alloc: Global,
+        environment: Environment<'a>,
+        name: &str,
+        given: &ArgMatches<'a>,
+    ) -> Result<Request<'a>, Unread<'a>>
+        ensures fresh { IfOk result IsSaidFresh }
+        ensures asked { IfOk result (Asks environment.entry name.now (found_of given.now)) }
+    {
+        let options = Options::parse(environment, given)?;
+        let task = Task::parse(alloc, name, given)?;
+        let sequel = Sequel::behind(name, given)?;
+        if options.has_vain_stop() {
+            return Err(Unread::Usage(UsageFault::StopNeedsSimulator));
+        }
+        if task.wants_pages() {
+            return Err(Unread::Usage(UsageFault::GivePages));
+        }
+        if task.wants_fresh() {
+            check_fresh(&options)?;
+        }
+        Ok(Request::Use(options, task, sequel))
     }
 }
 

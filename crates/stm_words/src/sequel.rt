@@ -1,7 +1,8 @@
 // What follows a write in the same call.
 ghost use Rattle.std.specs.Prelude.{◌≤◌, IfOk};
 ghost use Rattle.clap.specs.Words.{found_of};
-ghost use Rattle.stm_words.specs.Sequel.{IsSequel, NamesAddress};
+ghost use Rattle.stm_words.specs.Asking.{Follows};
+ghost use Rattle.stm_words.specs.Sequel.{IsAlone, IsSequel, NamesAddress};
 
 use crate::given::{flag, number, number_within};
 use crate::usage_fault::UsageFault;
@@ -25,7 +26,9 @@ pub struct Sequel<'a> {
 
 impl<'a> Sequel<'a> {
     /// Nothing follows.
-    pub fn none() -> Sequel<'a> {
+    pub fn none() -> Sequel<'a>
+        ensures { IsAlone result }
+    {
         Sequel {
             keeps: false,
             to: None,
@@ -35,7 +38,9 @@ impl<'a> Sequel<'a> {
     }
 
     /// What follows the subcommand of this name: only a write is followed.
-    pub fn behind(name: &str, given: &ArgMatches<'a>) -> Result<Sequel<'a>, UsageFault<'a>> {
+    pub fn behind(name: &str, given: &ArgMatches<'a>) -> Result<Sequel<'a>, UsageFault<'a>>
+        ensures { IfOk result (Follows name.now (found_of given.now)) }
+    {
         match name {
             "write" => Sequel::parse(given),
             _ => Ok(Sequel::none()),

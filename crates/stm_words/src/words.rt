@@ -2,6 +2,7 @@
 ghost use Rattle.std.specs.Prelude.{◌≡◌, ◌⊎◌, [], IfErr, IfOk, map};
 ghost use Rattle.clap.specs.Words.{IsAmong, fault_of, kind_of};
 ghost use Rattle.clap.specs.declared.error.ErrorKind.TheVariants.{OutOfMemory};
+ghost use Rattle.stm_words.specs.Asking.{IsAskedFor};
 ghost use Rattle.stm_words.specs.CommandSet.{Reads, TakesKinds, command_set};
 ghost use Rattle.stm_words.specs.Saying.{IsSaidFresh};
 
@@ -49,7 +50,9 @@ pub fn read_request<'a>(
     environment: Environment<'a>,
     words: &'a [&'a str],
 ) -> Result<Request<'a>, Unread<'a>>
-    ensures { IfOk result IsSaidFresh }
+    ensures fresh { IfOk result IsSaidFresh }
+    ensures asked { IfOk result
+        (IsAskedFor environment.entry (map (λ s. s.now) words.entry.now)) }
 {
     match read_words(alloc, environment, words) {
         Ok(matches) => Request::parse(alloc, environment, &matches),
