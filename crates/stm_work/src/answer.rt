@@ -7,7 +7,7 @@ ghost use Rattle.stm_work.specs.Printing.{board_text_of, erased_text, kept_text,
 ghost use Rattle.stm_work.specs.Printing.{sum_text, text_of, tried_text, tried_text_of};
 ghost use Rattle.stm_work.specs.Printing.{again_text, behind_text, undone_head, undone_text};
 ghost use Rattle.stm_work.specs.Printing.{verified_text, written_text};
-ghost use Rattle.stmflash.specs.TaskUse.{IsBeside};
+ghost use Rattle.stm_work.specs.Answer.{IsBeside};
 ghost use Rattle.stm_work.specs.TriedBoards.{texts_of};
 
 use crate::chip_tables::ChipTables;

@@ -1,6 +1,6 @@
 // What came of the words as JSON, one line for each step and one for a fault.
 ghost use Rattle.std.specs.Prelude.{◌≡◌, ◌++◌, ℕ, List, IfOk, OnOk, codes};
-ghost use Rattle.stmflash.specs.DeviceUse.{is_flash};
+ghost use Rattle.stm_work.specs.Answer.{is_flash};
 ghost use Rattle.stm_work.specs.JsonLine.{text_member};
 ghost use Rattle.stm_work.specs.ToldJson.{AreLines, answer_line, answer_name, board_members_of};
 ghost use Rattle.stm_work.specs.ToldJson.{change_members, is_of_board, members_of, next_line};

@@ -11,7 +11,7 @@ use Rattle.stm_words.specs.declared.request.Request.TheVariants.{Use}
 use Rattle.stm_work.specs.declared.failure.Failure.{Failure}
 use Rattle.stm_work.specs.declared.hint.Hint.{Hint}
 use Rattle.stm_work.specs.declared.steps.Steps.{Steps}
-use Rattle.stmflash.specs.DeviceUse.{is_flash}
+use Rattle.stm_work.specs.Answer.{is_flash}
 use Rattle.stm_work.specs.ExitStatus.{status_of}
 use Rattle.stm_work.specs.HintTold.{told_done}
 use Rattle.stm_work.specs.ShortLine.{short_line}
