@@ -152,7 +152,7 @@ fn three_stops_of_a_flash_that_erases_to_zeros(rt: HostRuntime) -> Result<(), Fa
 /// the line of page 257, which it erases then, and as it reads.
 const PAGE_1: &[(u64, u64, u64)] = &[
     (1641, 150, 1747),
-    (1641, 1453, 1224),
+    (1641, 1453, 1475),
     (1645, 150, 1622),
     (1645, 700, 1548),
     (1645, 714, 1252),
@@ -164,7 +164,7 @@ const PAGE_1: &[(u64, u64, u64)] = &[
 /// The same of page 256: the frame lacks its last bytes, and in the write frame.
 const PAGE_256: &[(u64, u64, u64)] = &[
     (855, 150, 1695),
-    (855, 1696, 971),
+    (855, 1327, 971),
     (858, 150, 1060),
     (858, 677, 971),
     (1000, 150, 991),
