@@ -3,7 +3,7 @@ ghost use Rattle.std.specs.Prelude.{◌<◌, IfSome};
 ghost use Rattle.stm_words.specs.Request.{IsDevice, IsSimulator};
 
 /// A device, as a word names it.
-#[derive(Clone, Copy, Debug)]
+#[derive(Clone, Copy)]
 pub enum Device<'a> {
     /// A simulator in the process, `sim:ID:FILE`.
     Simulator {

@@ -2,7 +2,7 @@
 
 /// What stands in the place of options that the words don't give: values of environment variables,
 /// or names of installed files. A word goes before it.
-#[derive(Clone, Copy, Debug)]
+#[derive(Clone, Copy)]
 pub struct Environment<'a> {
     /// The file of the chip table; of several the lowest.
     pub table: Option<&'a str>,

@@ -9,7 +9,7 @@ use crate::usage_fault::UsageFault;
 use clap::ArgMatches;
 
 /// An image, as words name it.
-#[derive(Clone, Copy, Debug)]
+#[derive(Clone, Copy)]
 pub struct ImageFile<'a> {
     /// The file that holds it.
     pub name: &'a str,

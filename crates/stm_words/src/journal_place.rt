@@ -8,7 +8,7 @@ use crate::usage_fault::UsageFault;
 use clap::ArgMatches;
 
 /// Where the words say that a journal is.
-#[derive(Clone, Copy, Debug)]
+#[derive(Clone, Copy)]
 pub struct JournalPlace<'a> {
     /// The file of the journal, or a folder.
     pub name: &'a str,

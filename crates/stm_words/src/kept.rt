@@ -12,7 +12,7 @@ use clap::ArgMatches;
 const SEGMENTS: u32 = 65_535;
 
 /// A journal whose writes and erases are to stay, so that they can't be taken back any more.
-#[derive(Clone, Copy, Debug)]
+#[derive(Clone, Copy)]
 pub struct Kept<'a> {
     /// The file of the journal.
     pub journal: &'a str,

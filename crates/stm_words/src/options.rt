@@ -14,7 +14,7 @@ use crate::usage_fault::UsageFault;
 use clap::ArgMatches;
 
 /// The options that every use of a device has.
-#[derive(Clone, Copy, Debug)]
+#[derive(Clone, Copy)]
 pub struct Options<'a> {
     /// The files of the chip tables.
     pub table: TableNames<'a>,

@@ -1,7 +1,7 @@
 // What is shown while a session runs.
 
 /// What is shown of a session while it runs, on standard error.
-#[derive(Clone, Copy, Debug)]
+#[derive(Clone, Copy)]
 pub enum Progress {
     /// One line that is rewritten, where that is a terminal; else nothing.
     OnTerminal,

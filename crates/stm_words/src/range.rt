@@ -2,7 +2,7 @@
 use crate::number::parse_number;
 
 /// A part of a flash: where it starts, and its length; without one it goes to the flash's end.
-#[derive(Clone, Copy, Debug)]
+#[derive(Clone, Copy)]
 pub struct Range {
     pub start: u32,
     pub length: Option<u32>,

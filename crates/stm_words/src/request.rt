@@ -15,7 +15,7 @@ use clap::ArgMatches;
 use std::alloc::Global;
 
 /// What the words ask for.
-#[derive(Debug, Drop)]
+#[derive(Drop)]
 pub enum Request<'a> {
     /// A use of a device, and what follows it.
     Use(Options<'a>, Task<'a>, Sequel<'a>),

@@ -11,7 +11,7 @@ use clap::ArgMatches;
 const AGAIN: u32 = 1000;
 
 /// What follows a write in the same call.
-#[derive(Clone, Copy, Debug)]
+#[derive(Clone, Copy)]
 pub struct Sequel<'a> {
     /// Whether the journal is kept: removed, or moved.
     pub keeps: bool,

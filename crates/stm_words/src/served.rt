@@ -16,7 +16,7 @@ use clap::ArgMatches;
 use std::alloc::Global;
 
 /// A simulator that is to be served on a socket.
-#[derive(Debug, Drop)]
+#[derive(Drop)]
 pub struct Served<'a> {
     /// The files of the chip tables.
     pub table: TableNames<'a>,

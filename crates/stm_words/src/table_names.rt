@@ -12,7 +12,7 @@ use std::fmt;
 use std::fmt::{Display, Formatter};
 
 /// The files of chip tables, of which one is read over the other.
-#[derive(Clone, Copy, Debug)]
+#[derive(Clone, Copy)]
 pub struct TableNames<'a> {
     /// The one below all others.
     pub lowest: &'a str,

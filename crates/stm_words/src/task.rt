@@ -12,7 +12,7 @@ use clap::ArgMatches;
 use std::alloc::Global;
 
 /// What is asked of a device.
-#[derive(Debug, Drop)]
+#[derive(Drop)]
 pub enum Task<'a> {
     /// Tells what the device is; raw: what it says itself, whether or not the table has it.
     Info {
