@@ -145,14 +145,30 @@ fn first_undone(rig: &mut MemoryRig, steps: &[Step]) -> Option<usize> {
     None
 }
 
-/// The first of these steps, on a fresh device whose flash is all `fill`, that does otherwise than
-/// is due.
-pub fn first_wrong(
-    alloc: Global,
-    make: Make,
-    fill: u8,
-    steps: &[Step],
-) -> Result<Option<usize>, Fail> {
+/// A story: its name, the make of a fresh device, what each place of its flash holds, and what is
+/// done with it.
+pub type Story = (&'static str, Make, u8, &'static [Step]);
+
+/// The first step of a story that does otherwise than is due.
+fn first_wrong(alloc: Global, make: Make, fill: u8, steps: &[Step]) -> Result<Option<usize>, Fail> {
     let mut rig = rig_of(alloc, make, fill)?;
     Ok(first_undone(&mut rig, steps))
+}
+
+/// A test of these stories: it fails with the first step that does otherwise than is due.
+pub fn all_go_right(alloc: Global, stories: &[Story]) -> Result<(), Fail> {
+    for (name, make, fill, steps) in stories {
+        if let Some(place) = first_wrong(alloc, *make, *fill, steps)? {
+            return Err(Fail::new(format_args!("{name}: step {place}")));
+        }
+    }
+    Ok(())
+}
+
+/// Ends a test: it fails where something else than is due was found, in this place of its table.
+pub fn ends_right(other: Option<usize>) -> Result<(), Fail> {
+    match other {
+        None => Ok(()),
+        Some(place) => Err(Fail::new(format_args!("row {place} is another"))),
+    }
 }

@@ -1,7 +1,7 @@
 // Bad lines for tests: one that answers from a list, and one that complements a byte.
 use crate::acts::Act::{Append, Fetch, Get, GetId, Put};
-use crate::acts::{Act, first_other};
-use crate::rigs::{LOW_DENSITY, rig_of};
+use crate::acts::{Act, ends_right, first_other};
+use crate::rigs::{LOW_DENSITY, passes, rig_of};
 use std::alloc::Global;
 use std::test::Fail;
 use stm_wire::{FlipRig, ListRig, Patience, RigCall, WireFault};
@@ -27,25 +27,31 @@ const RECORDED: &[RigCall] = &[
     RigCall::Get(None),
 ];
 
-/// The first act that such a line answers otherwise, and whether its record is this.
-fn listed(alloc: Global) -> Result<(Option<usize>, bool), Fail> {
+/// Whether such a line answers so, and its record is this.
+fn is_listed(alloc: Global) -> Result<bool, Fail> {
     let replies = vec![in alloc; Some(0x79), None, Some(0x1F)]?;
     let mut line = ListRig::new(alloc, replies);
-    let other = first_other(&mut line, LISTED);
-    Ok((other, line.calls() == RECORDED))
+    Ok(first_other(&mut line, LISTED).is_none() && line.calls() == RECORDED)
 }
 
-/// Does these acts on a line to a fresh device of which the `j`th byte comes complemented: the
-/// first that is answered otherwise, and the call at a place of the record.
-fn flipped(
-    alloc: Global,
-    j: u64,
-    acts: &[Act],
-    place: usize,
-) -> Result<(Option<usize>, Option<RigCall>), Fail> {
-    let mut line = FlipRig::new(alloc, rig_of(alloc, LOW_DENSITY, 0xFF)?, j);
-    let other = first_other(&mut line, acts);
-    Ok((other, line.calls().get(place).copied()))
+/// Which byte comes complemented, what is done with that line, and the call at a place of its
+/// record.
+type Flipped = (u64, &'static [Act], usize, RigCall);
+
+/// Whether a line to a fresh device, of which that byte comes complemented, is as in this row.
+fn is_flipped(alloc: Global, row: &Flipped) -> Result<bool, Fail> {
+    let mut line = FlipRig::new(alloc, rig_of(alloc, LOW_DENSITY, 0xFF)?, row.0);
+    Ok(first_other(&mut line, row.1).is_none() && line.calls().get(row.2) == Some(&row.3))
+}
+
+/// The first row of `FLIPPED` that is another.
+fn first_flipped(alloc: Global) -> Result<Option<usize>, Fail> {
+    for (place, row) in FLIPPED.iter().enumerate() {
+        if !is_flipped(alloc, row)? {
+            return Ok(Some(place));
+        }
+    }
+    Ok(None)
 }
 
 // The fifth byte that comes is the second of the id; what is recorded is what was given.
@@ -64,22 +70,18 @@ const GARBLED: &[Act] = &[
     GetId(Err(WireFault::Garbled)),
 ];
 
+const FLIPPED: &[Flipped] = &[
+    (5, OTHER_ID, 7, RigCall::Get(Some(0xED))),
+    // An acknowledgement.
+    (2, GARBLED, 4, RigCall::Get(Some(0x86))),
+];
+
 #[test]
 fn a_list_line_gives_its_answers_in_order(rt: HostRuntime) -> Result<(), Fail> {
-    assert_eq!(rt; listed(rt.alloc())?, (None, true));
-    Ok(())
+    passes(is_listed(rt.alloc())?)
 }
 
 #[test]
 fn a_flipping_line_complements_one_byte(rt: HostRuntime) -> Result<(), Fail> {
-    let given = Some(RigCall::Get(Some(0xED)));
-    assert_eq!(rt; flipped(rt.alloc(), 5, OTHER_ID, 7)?, (None, given));
-    Ok(())
-}
-
-#[test]
-fn a_flipped_acknowledgement_is_garbled(rt: HostRuntime) -> Result<(), Fail> {
-    let given = Some(RigCall::Get(Some(0x86)));
-    assert_eq!(rt; flipped(rt.alloc(), 2, GARBLED, 4)?, (None, given));
-    Ok(())
+    ends_right(first_flipped(rt.alloc())?)
 }

@@ -42,17 +42,31 @@ pub const ERASED_TO_ZERO: Make = Make {
 };
 
 /// A chip of this make.
-pub fn chip_of(alloc: Global, make: Make) -> Result<Chip, Fail> {
+fn chip_of(alloc: Global, make: Make) -> Result<Chip, Fail> {
     let sizes = vec![in alloc; make.page_size; make.pages]?;
     Ok(Chip::new(make.id, 0x0800_0000, sizes, make.kind, make.erased).ok_or("limits")?)
+}
+
+/// A fresh Rig with such a chip, whose flash is so many bytes `fill`; None where that isn't its size.
+pub fn made(alloc: Global, make: Make, fill: u8, size: usize) -> Result<Option<MemoryRig>, Fail> {
+    let flash = vec![in alloc; fill; size]?;
+    let chip = chip_of(alloc, make)?;
+    Ok(MemoryRig::new(alloc, chip, flash, Vec::new(alloc)))
 }
 
 /// A fresh Rig with such a chip, whose flash is all `fill`.
 pub fn rig_of(alloc: Global, make: Make, fill: u8) -> Result<MemoryRig, Fail> {
     let size = make.pages.saturating_mul(make.page_size as usize);
-    let flash = vec![in alloc; fill; size]?;
-    let chip = chip_of(alloc, make)?;
-    Ok(MemoryRig::new(alloc, chip, flash, Vec::new(alloc)).ok_or("length")?)
+    Ok(made(alloc, make, fill, size)?.ok_or("length")?)
+}
+
+/// Ends a test that fails where something isn't so.
+pub fn passes(is_right: bool) -> Result<(), Fail> {
+    if is_right {
+        Ok(())
+    } else {
+        Err(Fail::new("something isn't as it is due"))
+    }
 }
 
 /// Runs of one byte: the byte, and how many of it.

@@ -6,10 +6,10 @@ use crate::acts::Step::{
     Calls, Do, Exchange, FailAppend, FailGet, FailPut, Flash, IsGone, Journal, Reserve, Reset,
     Rest, StopAfter,
 };
-use crate::acts::{Step, first_wrong};
-use crate::rigs::{ERASED_TO_ZERO, EXTENDED, LOW_DENSITY, chip_of};
+use crate::acts::{Step, Story, all_go_right};
+use crate::rigs::{ERASED_TO_ZERO, EXTENDED, LOW_DENSITY, made, passes};
 use std::test::Fail;
-use stm_wire::{MemoryRig, Patience, RigCall, RigFault};
+use stm_wire::{Patience, RigCall, RigFault};
 
 const FRAMES: &[Step] = &[
     Exchange(&[0x00], &[]),
@@ -152,52 +152,22 @@ const ZEROS: &[Step] = &[
     Flash(&[(0x00, 1_024)]),
 ];
 
-#[test]
-fn answers_frames(rt: HostRuntime) -> Result<(), Fail> {
-    assert_eq!(rt; first_wrong(rt.alloc(), LOW_DENSITY, 0xFF, FRAMES)?, None);
-    Ok(())
-}
+const STORIES: &[Story] = &[
+    ("answers frames", LOW_DENSITY, 0xFF, FRAMES),
+    ("refuses late", EXTENDED, 0x00, REFUSALS),
+    ("leaves the bootloader", LOW_DENSITY, 0x00, LEAVING),
+    ("stops", LOW_DENSITY, 0xFF, STOPS),
+    ("fails", LOW_DENSITY, 0xFF, FAILURES),
+    ("keeps room for calls", LOW_DENSITY, 0xFF, ROOM),
+    ("erases to zeros", ERASED_TO_ZERO, 0xA5, ZEROS),
+];
 
 #[test]
-fn refuses_late(rt: HostRuntime) -> Result<(), Fail> {
-    assert_eq!(rt; first_wrong(rt.alloc(), EXTENDED, 0x00, REFUSALS)?, None);
-    Ok(())
-}
-
-#[test]
-fn leaves_the_bootloader(rt: HostRuntime) -> Result<(), Fail> {
-    assert_eq!(rt; first_wrong(rt.alloc(), LOW_DENSITY, 0x00, LEAVING)?, None);
-    Ok(())
-}
-
-#[test]
-fn stops(rt: HostRuntime) -> Result<(), Fail> {
-    assert_eq!(rt; first_wrong(rt.alloc(), LOW_DENSITY, 0xFF, STOPS)?, None);
-    Ok(())
-}
-
-#[test]
-fn fails(rt: HostRuntime) -> Result<(), Fail> {
-    assert_eq!(rt; first_wrong(rt.alloc(), LOW_DENSITY, 0xFF, FAILURES)?, None);
-    Ok(())
-}
-
-#[test]
-fn keeps_room_for_calls(rt: HostRuntime) -> Result<(), Fail> {
-    assert_eq!(rt; first_wrong(rt.alloc(), LOW_DENSITY, 0xFF, ROOM)?, None);
-    Ok(())
-}
-
-#[test]
-fn erases_to_zeros(rt: HostRuntime) -> Result<(), Fail> {
-    assert_eq!(rt; first_wrong(rt.alloc(), ERASED_TO_ZERO, 0xA5, ZEROS)?, None);
-    Ok(())
+fn does_what_is_due(rt: HostRuntime) -> Result<(), Fail> {
+    all_go_right(rt.alloc(), STORIES)
 }
 
 #[test]
 fn wants_the_flash_whole(rt: HostRuntime) -> Result<(), Fail> {
-    let chip = chip_of(rt.alloc(), LOW_DENSITY)?;
-    let flash = vec![in rt.alloc(); 0xFF; 100]?;
-    assert!(rt; MemoryRig::new(rt.alloc(), chip, flash, Vec::new(rt.alloc())).is_none());
-    Ok(())
+    passes(made(rt.alloc(), LOW_DENSITY, 0xFF, 100)?.is_none())
 }

@@ -1,7 +1,7 @@
 // Each command of the bootloader once, over the Rig in memory.
 use crate::acts::Act::{Erase, GetCommands, GetId, Go, Program, Protect, Read, Settle};
 use crate::acts::Step::{Do, Flash, IsGone, Rest};
-use crate::acts::{Step, first_wrong};
+use crate::acts::{Step, Story, all_go_right};
 use crate::rigs::{EXTENDED, LOW_DENSITY};
 use std::test::Fail;
 use stm_wire::{EraseKind, Protection, WireFault};
@@ -27,14 +27,12 @@ const ENDS: &[Step] = &[
     IsGone(true),
 ];
 
-#[test]
-fn commands_have_their_effects(rt: HostRuntime) -> Result<(), Fail> {
-    assert_eq!(rt; first_wrong(rt.alloc(), LOW_DENSITY, 0xFF, EFFECTS)?, None);
-    Ok(())
-}
+const STORIES: &[Story] = &[
+    ("commands have their effects", LOW_DENSITY, 0xFF, EFFECTS),
+    ("commands end or are refused", EXTENDED, 0x00, ENDS),
+];
 
 #[test]
-fn commands_end_or_are_refused(rt: HostRuntime) -> Result<(), Fail> {
-    assert_eq!(rt; first_wrong(rt.alloc(), EXTENDED, 0x00, ENDS)?, None);
-    Ok(())
+fn commands_do_what_is_due(rt: HostRuntime) -> Result<(), Fail> {
+    all_go_right(rt.alloc(), STORIES)
 }

@@ -4,7 +4,7 @@ ghost use Rattle.std.specs.Prelude.{◌^◌, ◌-◌, Some};
 ghost use Rattle.stm_wire.specs.Unmodelled.{unmodelled};
 
 use crate::acts::Act::{Erase, GetCommands, GetId, Go, Program, Protect, Read, Settle};
-use crate::acts::{Act, first_other};
+use crate::acts::{Act, ends_right, first_other};
 use crate::rigs::{LOW_DENSITY, rig_of};
 use std::alloc::Global;
 use std::test::Fail;
@@ -83,24 +83,21 @@ impl Rig for Watch {
 /// What is done, and how many gets wait briefly, where that is told, long, and long after 7F.
 type Waits = (&'static [Act], (Option<u32>, u64, u32));
 
-/// Which waits are others than these: the place, with the first act that is answered otherwise, and
-/// how long its gets waited.
-type Other = (usize, Option<usize>, (u32, u64, u32));
-
-fn first_other_wait(watch: &mut Watch, waits: &[Waits]) -> Option<Other> {
+/// The first of these waits that is another.
+fn first_other_wait(watch: &mut Watch, waits: &[Waits]) -> Option<usize> {
     for (i, (acts, due)) in waits.iter().enumerate() {
         let other = first_other(watch, acts);
         let waited = watch.waits();
         let due = (due.0.unwrap_or(waited.0), due.1, due.2);
         if (other, waited) != (None, due) {
-            return Some((i, other, waited));
+            return Some(i);
         }
     }
     None
 }
 
 /// The first of these waits that is another on a fresh device.
-fn first_wrong(alloc: Global, waits: &[Waits]) -> Result<Option<Other>, Fail> {
+fn first_wrong(alloc: Global, waits: &[Waits]) -> Result<Option<usize>, Fail> {
     let mut watch = Watch::new(rig_of(alloc, LOW_DENSITY, 0xFF)?);
     Ok(first_other_wait(&mut watch, waits))
 }
@@ -132,12 +129,10 @@ const COMMANDS: &[Waits] = &[
 
 #[test]
 fn settling_waits_briefly_but_for_the_reply_to_7f(rt: HostRuntime) -> Result<(), Fail> {
-    assert_eq!(rt; first_wrong(rt.alloc(), SETTLING)?, None);
-    Ok(())
+    ends_right(first_wrong(rt.alloc(), SETTLING)?)
 }
 
 #[test]
 fn commands_wait_long(rt: HostRuntime) -> Result<(), Fail> {
-    assert_eq!(rt; first_wrong(rt.alloc(), COMMANDS)?, None);
-    Ok(())
+    ends_right(first_wrong(rt.alloc(), COMMANDS)?)
 }

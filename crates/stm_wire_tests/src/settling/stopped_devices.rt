@@ -1,4 +1,5 @@
 // Devices that a stopped host left in the middle of an exchange, and how settling ends it.
+use crate::acts::ends_right;
 use crate::rigs::{EXTENDED, LOW_DENSITY, Make, Runs, are_runs, rig_of};
 use std::alloc::Global;
 use std::test::Fail;
@@ -29,46 +30,76 @@ const MANY_PAGES: Make = Make {
 /// Replies of one kind: after so many bytes were put, this byte came so often.
 type Replies = (u32, u8, u32);
 
+/// What was counted of a settling: how many bytes it put, and how many runs of more than one byte
+/// with no get between; the run that goes on, and what is left of the replies that are due.
+#[derive(Clone, Copy)]
+struct Counted {
+    puts: u32,
+    batches: u32,
+    run: u32,
+    left: Replies,
+    due: usize,
+}
+
+const NOTHING: Counted = Counted {
+    puts: 0,
+    batches: 0,
+    run: 0,
+    left: (0, 0x00, 0),
+    due: 0,
+};
+
+impl Counted {
+    /// Ends a run of puts.
+    fn end_run(&mut self) {
+        if self.run > 1 {
+            self.batches = self.batches.saturating_add(1);
+        }
+        self.run = 0;
+    }
+
+    /// Takes a reply; and answers whether it is the next one that is due.
+    fn takes(&mut self, byte: u8, replies: &[Replies]) -> bool {
+        if self.left.2 == 0 {
+            self.left = replies.get(self.due).copied().unwrap_or((0, 0x00, 0));
+            self.due = self.due.saturating_add(1);
+        }
+        let is_due = self.left.2 > 0 && self.left.0 == self.puts && self.left.1 == byte;
+        self.left.2 = self.left.2.saturating_sub(1);
+        is_due
+    }
+
+    /// Counts a call; and answers whether it may be. What comes before the first byte was owed.
+    fn counts(&mut self, call: RigCall, replies: &[Replies]) -> bool {
+        match call {
+            RigCall::Put(_) => {
+                self.puts = self.puts.saturating_add(1);
+                self.run = self.run.saturating_add(1);
+                true
+            }
+            RigCall::Get(answer) => {
+                self.end_run();
+                match answer {
+                    Some(byte) if self.puts > 0 => self.takes(byte, replies),
+                    _ => true,
+                }
+            }
+            _ => true,
+        }
+    }
+}
+
 /// How many bytes settling put after the first `before` calls, and how many runs of more than one
 /// byte with no get between; or None where the replies to them are not these.
 fn puts_with_replies(calls: &[RigCall], before: usize, replies: &[Replies]) -> Option<(u32, u32)> {
-    let mut puts = 0_u32;
-    let mut batches = 0_u32;
-    let mut run = 0_u32;
-    let mut due = replies.iter();
-    let mut left = (0, 0x00, 0);
+    let mut counted = NOTHING;
     for call in calls.iter().skip(before) {
-        match call {
-            RigCall::Put(_) => {
-                puts = puts.saturating_add(1);
-                run = run.saturating_add(1);
-            }
-            RigCall::Get(answer) => {
-                if run > 1 {
-                    batches = batches.saturating_add(1);
-                }
-                run = 0;
-                // What comes before the first byte was owed.
-                if let Some(byte) = answer {
-                    if puts > 0 {
-                        if left.2 == 0 {
-                            left = *due.next()?;
-                        }
-                        if (left.0, left.1) != (puts, *byte) {
-                            return None;
-                        }
-                        left.2 = left.2.saturating_sub(1);
-                    }
-                }
-            }
-            _ => {}
+        if !counted.counts(*call, replies) {
+            return None;
         }
     }
-    if left.2 == 0 && due.next().is_none() {
-        Some((puts, batches))
-    } else {
-        None
-    }
+    let is_whole = counted.left.2 == 0 && counted.due == replies.len();
+    is_whole.then_some((counted.puts, counted.batches))
 }
 
 /// A device that a stopped host left, and how its settling ends.
@@ -87,13 +118,13 @@ struct Stop {
     flash: Runs,
 }
 
-/// Sends a fresh device 7F, and what came before the stop.
-fn send(rig: &mut MemoryRig, came: &[u8]) -> Result<(), Fail> {
-    rig.put(0x7F)?;
+/// Sends a fresh device 7F, and what came before the stop. Whether all could be put.
+fn is_sent(rig: &mut MemoryRig, came: &[u8]) -> bool {
+    let mut is_sent = rig.put(0x7F).is_ok();
     for byte in came {
-        rig.put(*byte)?;
+        is_sent = is_sent && rig.put(*byte).is_ok();
     }
-    Ok(())
+    is_sent
 }
 
 /// Whether settling a device that was left like this ends so.
@@ -110,8 +141,7 @@ fn ends_so(rig: &mut MemoryRig, stop: &Stop) -> bool {
 /// Whether settling such a device ends so.
 fn is_settled(alloc: Global, stop: &Stop) -> Result<bool, Fail> {
     let mut rig = rig_of(alloc, stop.make, stop.fill)?;
-    send(&mut rig, stop.came)?;
-    Ok(ends_so(&mut rig, stop))
+    Ok(is_sent(&mut rig, stop.came) && ends_so(&mut rig, stop))
 }
 
 /// The first device whose settling ends otherwise.
@@ -341,19 +371,14 @@ const OTHERS: &[Stop] = &[
 ];
 
 #[test]
-fn erases_of_the_intended_page_are_completed(rt: HostRuntime) -> Result<(), Fail> {
-    assert_eq!(rt; first_wrong(rt.alloc(), COMPLETED)?, None);
-    Ok(())
-}
-
-#[test]
-fn erases_of_other_pages_are_refused(rt: HostRuntime) -> Result<(), Fail> {
-    assert_eq!(rt; first_wrong(rt.alloc(), REFUSED)?, None);
-    Ok(())
+fn erases_of_the_intended_page_are_completed_and_others_refused(
+    rt: HostRuntime,
+) -> Result<(), Fail> {
+    ends_right(first_wrong(rt.alloc(), COMPLETED)?)?;
+    ends_right(first_wrong(rt.alloc(), REFUSED)?)
 }
 
 #[test]
 fn other_exchanges_are_ended(rt: HostRuntime) -> Result<(), Fail> {
-    assert_eq!(rt; first_wrong(rt.alloc(), OTHERS)?, None);
-    Ok(())
+    ends_right(first_wrong(rt.alloc(), OTHERS)?)
 }

@@ -1,11 +1,12 @@
 // The verdict on each list of bytes that can come: it falls with the last byte, and not before.
+use crate::acts::ends_right;
 use crate::rigs::{EXTENDED, LOW_DENSITY, Make, rig_of};
 use std::alloc::Global;
 use std::test::Fail;
 use stm_wire::{MemoryRig, Patience, Rig};
 
 /// What a device made of the last byte of a list.
-#[derive(Clone, Copy, Debug, PartialEq, Eq)]
+#[derive(Clone, Copy, PartialEq, Eq)]
 enum Verdict {
     /// It awaits more.
     Open,
@@ -86,15 +87,21 @@ fn first_other(rig: &mut MemoryRig, lists: Lists) -> Result<Option<usize>, Fail>
     Ok(None)
 }
 
-/// The first of the lists for one kind of device that has another verdict than its own: which
-/// lists, and which of them.
-fn first_wrong(alloc: Global, verdicts: &[(Make, Lists)]) -> Result<Option<(usize, usize)>, Fail> {
+/// The first of these lists that has another verdict on a device of this make.
+fn first_of(alloc: Global, make: Make, lists: Lists) -> Result<Option<usize>, Fail> {
+    let mut rig = connected(alloc, make)?;
+    first_other(&mut rig, lists)
+}
+
+/// The test fails with the first of the lists for one kind of device that has another verdict than
+/// its own: which lists, and which of them.
+fn all_agree(alloc: Global, verdicts: &[(Make, Lists)]) -> Result<(), Fail> {
     for (i, (make, lists)) in verdicts.iter().enumerate() {
-        if let Some(j) = first_other(&mut connected(alloc, *make)?, lists)? {
-            return Ok(Some((i, j)));
+        if let Some(j) = first_of(alloc, *make, lists)? {
+            return Err(Fail::new(format_args!("list {j} of {i} has another verdict")));
         }
     }
-    Ok(None)
+    Ok(())
 }
 
 /// A frame whose data or pages are so many bytes 00.
@@ -130,10 +137,16 @@ fn agrees_on_long(alloc: Global, rig: &mut MemoryRig, frame: LongFrame) -> Resul
     Ok(true)
 }
 
+/// The same of a fresh device of this make.
+fn is_long_right(alloc: Global, make: Make, frame: LongFrame) -> Result<bool, Fail> {
+    let mut rig = connected(alloc, make)?;
+    agrees_on_long(alloc, &mut rig, frame)
+}
+
 /// The first long frame that has another verdict than these.
 fn first_wrong_frame(alloc: Global, frames: &[(Make, LongFrame)]) -> Result<Option<usize>, Fail> {
     for (i, (make, frame)) in frames.iter().enumerate() {
-        if !agrees_on_long(alloc, &mut connected(alloc, *make)?, *frame)? {
+        if !is_long_right(alloc, *make, *frame)? {
             return Ok(Some(i));
         }
     }
@@ -304,7 +317,7 @@ const EXTENDED_ERASES: Lists = &[
     (&[0x44, 0xBB, 0xFF, 0xEF, 0x00, 0x00, 0x10], OPEN),
 ];
 
-const VERDICTS: &[(Make, Lists)] = &[
+static VERDICTS: [(Make, Lists); 5] = [
     (LOW_DENSITY, SHORT),
     (LOW_DENSITY, ADDRESSED),
     (LOW_DENSITY, WRITES),
@@ -338,12 +351,10 @@ const LONGEST: &[(Make, LongFrame)] = &[
 
 #[test]
 fn verdicts_fall_with_the_last_byte(rt: HostRuntime) -> Result<(), Fail> {
-    assert_eq!(rt; first_wrong(rt.alloc(), VERDICTS)?, None);
-    Ok(())
+    all_agree(rt.alloc(), &VERDICTS)
 }
 
 #[test]
 fn the_longest_frames_have_verdicts(rt: HostRuntime) -> Result<(), Fail> {
-    assert_eq!(rt; first_wrong_frame(rt.alloc(), LONGEST)?, None);
-    Ok(())
+    ends_right(first_wrong_frame(rt.alloc(), LONGEST)?)
 }
