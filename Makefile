@@ -172,9 +172,7 @@ pictures:
 	python3 tools/pictures/ratios bench/figures.json docs/pictures/ratios.svg
 
 bench: all
-	cd crates/hex_bench && rt run > /dev/null
-	cd crates/layer_bench && rt run > /dev/null
-	cd crates/session_bench && rt run > /dev/null
+	cd crates/bench && rt run > /dev/null
 	python3 bench/hex
 	python3 bench/layers
 	python3 bench/sessions

@@ -1,42 +1,21 @@
-//! Does one job of a layer, so that a script of `bench/` can time it.
-//!
-//! - `touched TABLE ID RAW TIMES` looks up, so many times, the pages of a chip that an image of
-//!   its whole flash touches.
-//! - `load TABLE ID JOURNAL` loads a journal.
-//! - `settle TABLE ID LIMIT TIMES` settles a device that was reset, so many times, with so
-//!   many bytes that it ignores.
-//!
-//! ID is decimal.
-#![tactic(auto)]
-
-use std::{env, fs, io};
-use stm_chip::{read_table, touched};
+// Does one job of a layer, so that a script of `bench/` can time it.
+//
+// - `touched TABLE ID RAW TIMES` looks up, so many times, the pages of a chip that an image of
+//   its whole flash touches.
+// - `load TABLE ID JOURNAL` loads a journal.
+// - `settle TABLE ID LIMIT TIMES` settles a device that was reset, so many times, with so
+//   many bytes that it ignores.
+//
+// ID is decimal.
+use crate::tables::chip_in;
+use std::{fs, io};
+use stm_chip::touched;
 use stm_image::read_raw;
 use stm_journal::Journal;
 use stm_wire::{Chip, MemoryRig, settle};
 
 const USAGE: &str =
-    "usage: touched TABLE ID RAW TIMES or load TABLE ID JOURNAL or settle TABLE ID LIMIT TIMES";
-
-// The chip of a table file that has this number, or `None` once it is told that there is none.
-fn chip_of(rt: &HostRuntime, name: &str, id: &str) -> io::Result<Option<Chip>> {
-    let text = fs::read(rt, name)?;
-    let Ok(table) = read_table(rt.alloc(), text.as_slice()) else {
-        println!(rt; "{name}: no table")?;
-        return Ok(None);
-    };
-    let Ok(id) = id.parse::<u16>() else {
-        println!(rt; "{USAGE}")?;
-        return Ok(None);
-    };
-    match table.find(id) {
-        Some(chip) => Ok(Some(chip.clone()?)),
-        None => {
-            println!(rt; "{name}: no chip {id}")?;
-            Ok(None)
-        }
-    }
-}
+    "usage: layers touched TABLE ID RAW TIMES or load TABLE ID JOURNAL or settle TABLE ID LIMIT TIMES";
 
 // Tells how many pages a raw file touches.
 fn touch(rt: &HostRuntime, chip: &Chip, raw: &str, times: &str) -> io::Result<()> {
@@ -97,18 +76,13 @@ fn work_on(rt: &HostRuntime, chip: Chip, verb: &str, job: &[String]) -> io::Resu
     }
 }
 
-// Does what the words say.
-fn work(rt: &HostRuntime, words: &[String]) -> io::Result<()> {
-    let [_, verb, table, id, job @ ..] = words else {
+/// Does what the words say.
+pub fn work(rt: &HostRuntime, words: &[String]) -> io::Result<()> {
+    let [verb, table, id, job @ ..] = words else {
         return println!(rt; "{USAGE}");
     };
-    match chip_of(rt, table.as_str(), id.as_str())? {
+    match chip_in(rt, table.as_str(), id.as_str())? {
         Some(chip) => work_on(rt, chip, verb.as_str(), job),
         None => Ok(()),
     }
-}
-
-fn main(rt: HostRuntime) -> io::Result<()> {
-    let words: Vec<String> = env::args(&rt)?.collect(rt.alloc())?;
-    work(&rt, words.as_slice())
 }

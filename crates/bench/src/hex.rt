@@ -1,16 +1,14 @@
-//! Reads and writes HEX files by `stm_image`, so that `bench/hex` can time it beside other tools.
-//!
-//! - `read HEX` tells how many bytes a HEX file holds.
-//! - `write RAW START HEX` writes a raw file as a HEX file, from the address START (decimal) on.
-//! - `copy RAW START HEX` writes a copy of that image, so that a copy is made at its size.
-//! - `compare RAW START HEX..` tells which HEX files hold just the raw file's bytes from START on.
-#![tactic(auto)]
-
-use std::{env, fs, io};
+// Reads and writes HEX files by `stm_image`, so that `bench/hex` can time it beside other tools.
+//
+// - `read HEX` tells how many bytes a HEX file holds.
+// - `write RAW START HEX` writes a raw file as a HEX file, from the address START (decimal) on.
+// - `copy RAW START HEX` writes a copy of that image, so that a copy is made at its size.
+// - `compare RAW START HEX..` tells which HEX files hold just the raw file's bytes from START on.
+use std::{fs, io};
 use stm_image::{Image, read_hex, read_raw, write_hex};
 
 const USAGE: &str =
-    "usage: read HEX, write RAW START HEX, copy RAW START HEX or compare RAW START HEX..";
+    "usage: hex read HEX, write RAW START HEX, copy RAW START HEX or compare RAW START HEX..";
 
 // The image of a HEX file, or `None` once its fault is told.
 fn hex_image(rt: &HostRuntime, name: &str) -> io::Result<Option<Image>> {
@@ -103,24 +101,19 @@ fn compare(rt: &HostRuntime, raw: &str, start: &str, names: &[String]) -> io::Re
     Ok(())
 }
 
-// Does what the words say.
-fn work(rt: &HostRuntime, words: &[String]) -> io::Result<()> {
+/// Does what the words say.
+pub fn work(rt: &HostRuntime, words: &[String]) -> io::Result<()> {
     match words {
-        [_, verb, hex] if verb.as_str() == "read" => read(rt, hex.as_str()),
-        [_, verb, raw, start, hex] if verb.as_str() == "write" => {
+        [verb, hex] if verb.as_str() == "read" => read(rt, hex.as_str()),
+        [verb, raw, start, hex] if verb.as_str() == "write" => {
             write(rt, raw.as_str(), start.as_str(), hex.as_str())
         }
-        [_, verb, raw, start, hex] if verb.as_str() == "copy" => {
+        [verb, raw, start, hex] if verb.as_str() == "copy" => {
             copy(rt, raw.as_str(), start.as_str(), hex.as_str())
         }
-        [_, verb, raw, start, names @ ..] if verb.as_str() == "compare" => {
+        [verb, raw, start, names @ ..] if verb.as_str() == "compare" => {
             compare(rt, raw.as_str(), start.as_str(), names)
         }
         _ => println!(rt; "{USAGE}"),
     }
-}
-
-fn main(rt: HostRuntime) -> io::Result<()> {
-    let words: Vec<String> = env::args(&rt)?.collect(rt.alloc())?;
-    work(&rt, words.as_slice())
 }

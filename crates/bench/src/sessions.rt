@@ -1,19 +1,19 @@
-//! Does sessions over a simulator in memory, so that a script of `bench/` can time them, and tells
-//! what the last of them put on the line.
-//!
-//! `VERB TABLE ID RAW` makes a device of the table's chip ID (decimal) with an erased flash. VERB
-//! is `nothing`, or the last of these calls, of which those before it are made too: `write` writes
-//! the raw file from the chip's base on; then `rewrite` writes it again, `verify` compares it,
-//! `read` reads as many bytes, or `undo` takes all back.
-#![tactic(auto)]
-
-use std::{env, fs, io};
-use stm_chip::{Table, read_table};
+// Does sessions over a simulator in memory, so that a script of `bench/` can time them, and tells
+// what the last of them put on the line.
+//
+// `VERB TABLE ID RAW` makes a device of the table's chip ID (decimal) with an erased flash. VERB
+// is `nothing`, or the last of these calls, of which those before it are made too: `write` writes
+// the raw file from the chip's base on; then `rewrite` writes it again, `verify` compares it,
+// `read` reads as many bytes, or `undo` takes all back.
+use crate::tables::{chip_of, table_of};
+use std::{fs, io};
+use stm_chip::Table;
 use stm_image::{Image, read_raw};
 use stm_session::{Command, run, undo};
 use stm_wire::{Chip, MemoryRig, RigCall};
 
-const USAGE: &str = "usage: nothing, write, rewrite, verify, read or undo, and TABLE ID RAW";
+const USAGE: &str =
+    "usage: sessions nothing, write, rewrite, verify, read or undo, and TABLE ID RAW";
 
 // What is measured: a table, the image, and a device that is written.
 #[derive(Drop)]
@@ -23,26 +23,6 @@ struct Bench {
     rig: MemoryRig,
     base: u32,
     size: u32,
-}
-
-// The table of a file, or `None` once it is told that it is none.
-fn table_of(rt: &HostRuntime, name: &str) -> io::Result<Option<Table>> {
-    let text = fs::read(rt, name)?;
-    if let Ok(table) = read_table(rt.alloc(), text.as_slice()) {
-        return Ok(Some(table));
-    }
-    println!(rt; "{name}: no table")?;
-    Ok(None)
-}
-
-// A copy of the chip with this number in the table of this file, or `None` once it is told that
-// there is none.
-fn chip_of(rt: &HostRuntime, name: &str, table: &Table, id: &str) -> io::Result<Option<Chip>> {
-    if let Some(chip) = table.find(id.parse::<u16>().unwrap_or(0)) {
-        return Ok(Some(chip.clone()?));
-    }
-    println!(rt; "{name}: no chip {id}")?;
-    Ok(None)
 }
 
 // The image of a file from this address on, and its size, or `None` once it is told that it is
@@ -164,18 +144,13 @@ fn measure(rt: &HostRuntime, bench: &mut Bench, verb: &str) -> io::Result<()> {
     bench.tell(rt, start)
 }
 
-// Does what the words say.
-fn work(rt: &HostRuntime, words: &[String]) -> io::Result<()> {
-    let [_, verb, table, id, raw] = words else {
+/// Does what the words say.
+pub fn work(rt: &HostRuntime, words: &[String]) -> io::Result<()> {
+    let [verb, table, id, raw] = words else {
         return println!(rt; "{USAGE}");
     };
     match bench_of(rt, table.as_str(), id.as_str(), raw.as_str())? {
         Some(mut bench) => measure(rt, &mut bench, verb.as_str()),
         None => Ok(()),
     }
-}
-
-fn main(rt: HostRuntime) -> io::Result<()> {
-    let words: Vec<String> = env::args(&rt)?.collect(rt.alloc())?;
-    work(&rt, words.as_slice())
 }
