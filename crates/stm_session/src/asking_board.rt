@@ -24,7 +24,10 @@ ghost use Rattle.stm_session.specs.Unwritten.{AppendsNothing};
 use crate::Fault;
 use crate::contact::ask;
 use stm_chip::Table;
-use stm_wire::{BoardPlaces, Chip, Rig, UniqueId, UniquePlace, read_unless_refused, refusable_reads_are_harmless, sending_is_harmless};
+use stm_wire::{
+    BoardPlaces, Chip, Rig, UniqueId, UniquePlace, read_unless_refused,
+    refusable_reads_are_harmless, sending_is_harmless,
+};
 
 /// What a device told of itself.
 #[derive(Clone, Copy, Debug)]

@@ -16,7 +16,9 @@ ghost use Rattle.stm_session.specs.Reaching.{AsksInOrder, IsAsking, IsGet, IsGet
 ghost use Rattle.stm_session.specs.Sending.{is_whole};
 
 use crate::Fault;
-use stm_wire::{Commands, Rig, get_commands, get_id, pages_are_the_flash, sending_is_harmless, settle};
+use stm_wire::{
+    Commands, Rig, get_commands, get_id, pages_are_the_flash, sending_is_harmless, settle,
+};
 
 /// The byte that connects a fresh device (AN3155, section 2), and that ends what was begun where no
 /// page is to be erased or written.

@@ -3,7 +3,10 @@ use std::alloc::Global;
 use std::test::Fail;
 use stm_sim::{FlipRig, MemoryRig};
 use stm_watch::{Refusal, Watch, WatchRig};
-use stm_wire::{Chip, EraseKind, Patience, Rig, RigFault, WireFault, connect, erase_page, get_commands, program, read};
+use stm_wire::{
+    Chip, EraseKind, Patience, Rig, RigFault, WireFault, connect, erase_page, get_commands,
+    program, read,
+};
 
 const BASE: u32 = 0x0800_0000;
 

@@ -4,7 +4,10 @@ use crate::rigs::{Make, Runs, are_runs, rig_of};
 use std::alloc::Global;
 use std::test::Fail;
 use stm_sim::MemoryRig;
-use stm_wire::{EraseKind, Patience, Protection, Rig, RigCall, RigFault, WireFault, erase_page, get_commands, get_id, go, program, protect, read, settle};
+use stm_wire::{
+    EraseKind, Patience, Protection, Rig, RigCall, RigFault, WireFault, erase_page, get_commands,
+    get_id, go, program, protect, read, settle,
+};
 
 /// What is done with any line, and the answer that is due.
 #[derive(Clone, Copy)]
