@@ -28,12 +28,12 @@ module _ {A B : Type 0} (simulated : A → RigState) (connected : B → RigState
     front-uses : (xs ys : List Act) → AreUses simulated connected words (xs ++ ys)
         → AreUses simulated connected words xs
     front-uses [] ys uses = tt
-    front-uses (x ∷ xs) ys (use, uses) = (use, front-uses xs ys uses)
+    front-uses (x ∷ xs) ys (one, uses) = (one, front-uses xs ys uses)
 
     back-uses : (xs ys : List Act) → AreUses simulated connected words (xs ++ ys)
         → AreUses simulated connected words ys
     back-uses [] ys uses = uses
-    back-uses (x ∷ xs) ys (use, uses) = back-uses xs ys uses
+    back-uses (x ∷ xs) ys (one, uses) = back-uses xs ys uses
 
     Last : Work → Steps → Type 0
     Last does steps =
