@@ -7,7 +7,6 @@ ghost use Rattle.stm_work.specs.Printing.{board_text_of, erased_text, kept_text,
 ghost use Rattle.stm_work.specs.Printing.{sum_text, text_of, tried_text, tried_text_of};
 ghost use Rattle.stm_work.specs.Printing.{again_text, behind_text, undone_head, undone_text};
 ghost use Rattle.stm_work.specs.Printing.{verified_text, written_text};
-ghost use Rattle.stm_work.specs.Answer.{IsBeside};
 ghost use Rattle.stm_work.specs.TriedBoards.{texts_of};
 
 use crate::chip_tables::ChipTables;
@@ -88,9 +87,7 @@ impl Answer {
         alloc: Global,
         names: TableNames,
         tables: &ChipTables<'a>,
-    ) -> Result<Answer, Failure<'a>>
-        ensures { IfOk result (IsBeside (texts_of tables.now) self) }
-    {
+    ) -> Result<Answer, Failure<'a>> {
         match self {
             Answer::Told(info) => Ok(told_beside(alloc, info, tables)?),
             Answer::Identified(told) => Ok(Answer::IdentifiedBeside {

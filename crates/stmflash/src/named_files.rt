@@ -1,6 +1,4 @@
 // The files that the words of one use name.
-ghost use Rattle.std.specs.Prelude.{◌≡◌, is_some};
-ghost use Rattle.stmflash.specs.TaskUse.{is_filed};
 
 use crate::tables::is_table;
 use std::fs;
@@ -25,9 +23,7 @@ pub struct NamedFiles<'a> {
 
 impl<'a> NamedFiles<'a> {
     /// Those of a task and its options.
-    pub fn of(options: &Options<'a>, task: &Task<'a>) -> NamedFiles<'a>
-        ensures { is_some result.out ≡ is_filed task.now }
-    {
+    pub fn of(options: &Options<'a>, task: &Task<'a>) -> NamedFiles<'a> {
         let (image, out) = match task {
             Task::Read { out, .. } if *out != STANDARD => (None, Some(*out)),
             Task::ReadHex { out, .. } if *out != STANDARD => (None, Some(*out)),
@@ -44,16 +40,12 @@ impl<'a> NamedFiles<'a> {
     }
 
     /// The same beside another journal.
-    pub fn beside(self, journal: &'a str) -> NamedFiles<'a>
-        ensures { result.out ≡ self.entry.out }
-    {
+    pub fn beside(self, journal: &'a str) -> NamedFiles<'a> {
         NamedFiles { journal, ..self }
     }
 
     /// The file that the flash's bytes are for, where they aren't printed.
-    pub fn out(&self) -> Option<&'a str>
-        ensures { result ≡ self.now.out }
-    {
+    pub fn out(&self) -> Option<&'a str> {
         self.out
     }
 
