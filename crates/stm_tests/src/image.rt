@@ -3,6 +3,7 @@ mod faults;
 pub(crate) mod large;
 mod runs;
 
+use crate::verdicts::{ends_as, passes_as};
 use std::alloc::Global;
 use std::test::Fail;
 use stm_image::{HexFault, Image, RawFault, read_hex, read_raw, write_hex};
@@ -138,11 +139,6 @@ fn first_set(alloc: Global) -> Option<usize> {
     first_other(alloc, SETS)
 }
 
-#[test]
-fn texts_mean_their_sets(rt: HostRuntime) {
-    assert_eq!(rt; first_set(rt.alloc()), None);
-}
-
 const FAULTS: &[Row] = &[
     (
         b":020000040800F2\r\n:0400000001020304F2\r\n",
@@ -176,11 +172,6 @@ const FAULTS: &[Row] = &[
 /// The first row of `FAULTS` that is read as something else.
 fn first_fault(alloc: Global) -> Option<usize> {
     first_other(alloc, FAULTS)
-}
-
-#[test]
-fn faults_stand_in_their_texts(rt: HostRuntime) {
-    assert_eq!(rt; first_fault(rt.alloc()), None);
 }
 
 /// What is written of the set that a text means.
@@ -225,12 +216,6 @@ fn first_written(alloc: Global) -> Result<Option<usize>, Fail> {
     Ok(None)
 }
 
-#[test]
-fn raw_bytes_are_written(rt: HostRuntime) -> Result<(), Fail> {
-    assert_eq!(rt; first_written(rt.alloc())?, None);
-    Ok(())
-}
-
 /// Whether one text is written of these bytes and of the set that another text means, and it means
 /// them.
 fn is_written_alike(alloc: Global, text: &[u8], bytes: &[u8], start: u32) -> Result<bool, Fail> {
@@ -246,12 +231,6 @@ fn are_written(alloc: Global) -> Result<(bool, bool), Fail> {
     ))
 }
 
-#[test]
-fn images_are_written_and_one_set_alike(rt: HostRuntime) -> Result<(), Fail> {
-    assert_eq!(rt; are_written(rt.alloc())?, (true, true));
-    Ok(())
-}
-
 /// Whether the last two bytes end at the last address.
 fn ends_at_last(alloc: Global) -> bool {
     match read_raw(alloc, &[1, 2], 0xFFFF_FFFE) {
@@ -263,11 +242,6 @@ fn ends_at_last(alloc: Global) -> bool {
 /// Whether bytes that end past the last address are told so.
 fn ends_past(alloc: Global) -> bool {
     read_raw(alloc, &[1, 2], 0xFFFF_FFFF).err() == Some(RawFault::PastEnd)
-}
-
-#[test]
-fn raw_bytes_end_by_the_last_address(rt: HostRuntime) {
-    assert!(rt; ends_at_last(rt.alloc()) && ends_past(rt.alloc()));
 }
 
 /// Texts that other tools made of the same bytes, and where these lie.
@@ -288,6 +262,20 @@ fn first_of_other_tools(alloc: Global) -> Option<usize> {
 }
 
 #[test]
-fn texts_of_other_tools_are_read(rt: HostRuntime) {
-    assert_eq!(rt; first_of_other_tools(rt.alloc()), None);
+fn images_are_read_and_written(rt: HostRuntime) -> Result<(), Fail> {
+    ends_as("texts mean their sets", first_set(rt.alloc()))?;
+    ends_as("faults stand in their texts", first_fault(rt.alloc()))?;
+    ends_as("raw bytes are written", first_written(rt.alloc())?)?;
+    passes_as(
+        "images are written and one set alike",
+        are_written(rt.alloc())? == (true, true),
+    )?;
+    passes_as(
+        "raw bytes end by the last address",
+        ends_at_last(rt.alloc()) && ends_past(rt.alloc()),
+    )?;
+    ends_as(
+        "texts of other tools are read",
+        first_of_other_tools(rt.alloc()),
+    )
 }

@@ -6,6 +6,7 @@ mod kept;
 mod large;
 mod places;
 
+use crate::verdicts::{ends_as, passes_as};
 use std::alloc::Global;
 use std::test::Fail;
 use stm_journal::{Intent, Journal, JournalFault, PagePlace};
@@ -115,12 +116,6 @@ fn first_loaded(alloc: Global) -> Result<Option<usize>, Fail> {
     Ok(None)
 }
 
-#[test]
-fn journals_are_loaded(rt: HostRuntime) -> Result<(), Fail> {
-    assert_eq!(rt; first_loaded(rt.alloc())?, None);
-    Ok(())
-}
-
 /// A segment and a place, and the page there with its line.
 pub(crate) type KeptRow = (u32, usize, Option<(u16, u64)>);
 
@@ -171,21 +166,9 @@ fn pages_of_two(alloc: Global) -> Result<(Option<usize>, bool, bool), Fail> {
     ))
 }
 
-#[test]
-fn pages_and_places_of_two_segments(rt: HostRuntime) -> Result<(), Fail> {
-    assert_eq!(rt; pages_of_two(rt.alloc())?, (None, true, true));
-    Ok(())
-}
-
 /// The first beginning of `TWO` that doesn't load.
 fn first_of_two(alloc: Global) -> Result<Option<usize>, Fail> {
     first_beginning(alloc, TWO, 1)
-}
-
-#[test]
-fn every_beginning_loads(rt: HostRuntime) -> Result<(), Fail> {
-    assert_eq!(rt; first_of_two(rt.alloc())?, None);
-    Ok(())
 }
 
 /// Lines behind others, and the number of the bad one.
@@ -239,7 +222,15 @@ fn others(alloc: Global) -> Result<(Option<usize>, Option<usize>), Fail> {
 }
 
 #[test]
-fn bad_lines_and_bad_headers(rt: HostRuntime) -> Result<(), Fail> {
-    assert_eq!(rt; others(rt.alloc())?, (None, None));
-    Ok(())
+fn journals_are_loaded_or_refused(rt: HostRuntime) -> Result<(), Fail> {
+    ends_as("journals are loaded", first_loaded(rt.alloc())?)?;
+    passes_as(
+        "pages and places of two segments",
+        pages_of_two(rt.alloc())? == (None, true, true),
+    )?;
+    ends_as("every beginning loads", first_of_two(rt.alloc())?)?;
+    passes_as(
+        "bad lines and bad headers",
+        others(rt.alloc())? == (None, None),
+    )
 }

@@ -8,3 +8,5 @@ mod chip;
 mod image;
 #[cfg(test)]
 mod journal;
+#[cfg(test)]
+mod verdicts;

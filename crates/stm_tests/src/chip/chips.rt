@@ -1,4 +1,5 @@
 // The limits of chips, each at its edge, and a chip's readers.
+use crate::verdicts::{ends_as, passes, passes_as};
 use std::alloc::{AllocError, Global};
 use std::test::Fail;
 use stm_wire::{Chip, EraseKind};
@@ -57,18 +58,11 @@ fn first_limit(alloc: Global) -> Result<Option<usize>, AllocError> {
 }
 
 #[test]
-fn limits_at_their_edges(rt: HostRuntime) -> Result<(), Fail> {
-    assert_eq!(rt; first_limit(rt.alloc())?, None);
-    Ok(())
-}
-
-#[test]
 fn one_page_of_another_size_is_refused(rt: HostRuntime) -> Result<(), Fail> {
     let mut sizes = pages(rt.alloc(), 3, 1024)?;
     sizes.push(1000)?;
     let is_chip = Chip::new(0x410, 0x0800_0000, sizes, EraseKind::Page, 0xFF).is_some();
-    assert!(rt; !is_chip);
-    Ok(())
+    passes(!is_chip)
 }
 
 /// How it erases, how many pages of 256 bytes, what an erased place holds, and whether that is a
@@ -106,12 +100,6 @@ fn first_kind(alloc: Global) -> Result<Option<usize>, AllocError> {
         }
     }
     Ok(None)
-}
-
-#[test]
-fn kinds_and_erased_bytes_have_their_limits(rt: HostRuntime) -> Result<(), Fail> {
-    assert_eq!(rt; first_kind(rt.alloc())?, None);
-    Ok(())
 }
 
 /// Four pages of 16 KiB, and one of 64.
@@ -163,7 +151,14 @@ fn copied(alloc: Global) -> Result<(bool, bool, Option<usize>), Fail> {
 }
 
 #[test]
-fn a_chip_and_its_copy_read_their_values_and_pages(rt: HostRuntime) -> Result<(), Fail> {
-    assert_eq!(rt; copied(rt.alloc())?, (true, true, None));
-    Ok(())
+fn chips_have_their_limits(rt: HostRuntime) -> Result<(), Fail> {
+    ends_as("limits at their edges", first_limit(rt.alloc())?)?;
+    ends_as(
+        "kinds and erased bytes have their limits",
+        first_kind(rt.alloc())?,
+    )?;
+    passes_as(
+        "a chip and its copy read their values and pages",
+        copied(rt.alloc())? == (true, true, None),
+    )
 }

@@ -1,6 +1,7 @@
 // Flashes and pages of real size: the pages of a chip of 512 KiB, and the plan of the longest page.
 use crate::chip::chips::pages;
 use crate::chip::plans::frames_of;
+use crate::verdicts::passes;
 use std::alloc::Global;
 use std::test::Fail;
 use stm_chip::{Frame, touched};
@@ -39,8 +40,7 @@ fn all_touched(alloc: Global) -> Result<(usize, bool), Fail> {
 
 #[test]
 fn all_of_256_pages_are_touched(rt: HostRuntime) -> Result<(), Fail> {
-    assert_eq!(rt; all_touched(rt.alloc())?, (256, true));
-    Ok(())
+    passes(all_touched(rt.alloc())? == (256, true))
 }
 
 /// Whether these frames hold whole blocks, one behind another.
@@ -67,6 +67,5 @@ fn whole_blocks(alloc: Global) -> Result<(usize, bool), Fail> {
 
 #[test]
 fn a_page_of_131072_bytes_is_planned(rt: HostRuntime) -> Result<(), Fail> {
-    assert_eq!(rt; whole_blocks(rt.alloc())?, (512, true));
-    Ok(())
+    passes(whole_blocks(rt.alloc())? == (512, true))
 }

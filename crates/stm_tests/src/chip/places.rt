@@ -1,5 +1,6 @@
 // Where chips tell their board, by their tables; and chips of the size that their devices tell.
 use crate::chip::chips::pages;
+use crate::verdicts::{ends_as, passes_as};
 use std::alloc::{AllocError, Global};
 use std::test::Fail;
 use stm_chip::{Table, TableFault, read_table};
@@ -96,12 +97,6 @@ fn first_places(alloc: Global) -> Result<Option<usize>, Fail> {
     Ok(None)
 }
 
-#[test]
-fn reads_where_a_chip_tells_its_board(rt: HostRuntime) -> Result<(), Fail> {
-    assert_eq!(rt; first_places(rt.alloc())?, None);
-    Ok(())
-}
-
 /// Keys of a chip, and the fault of its table.
 const FAULTS: &[(&str, TableFault)] = &[
     ("unique = [0x1FFFF7E8, 7]", TableFault::Limit(1)),
@@ -133,12 +128,6 @@ fn first_fault(alloc: Global) -> Result<Option<usize>, AllocError> {
         }
     }
     Ok(None)
-}
-
-#[test]
-fn refuses_places(rt: HostRuntime) -> Result<(), Fail> {
-    assert_eq!(rt; first_fault(rt.alloc())?, None);
-    Ok(())
 }
 
 /// A size in KiB, how many pages of 2, 2, 4 and 16 KiB a chip of it has, and how many KiB they are.
@@ -192,12 +181,6 @@ fn first_size(alloc: Global) -> Result<Option<usize>, Fail> {
     Ok(None)
 }
 
-#[test]
-fn a_chip_has_the_pages_that_lie_inside_its_size(rt: HostRuntime) -> Result<(), Fail> {
-    assert_eq!(rt; first_size(rt.alloc())?, None);
-    Ok(())
-}
-
 /// How many pages the chip of this id has in a table.
 fn pages_of(table: &Table, id: u16) -> Option<u16> {
     match table.find(id) {
@@ -227,19 +210,22 @@ fn with_one(alloc: Global, id: u16) -> Result<[Option<u16>; 4], Fail> {
 }
 
 #[test]
-fn a_table_with_another_chip_has_the_others(rt: HostRuntime) -> Result<(), Fail> {
-    assert_eq!(rt;
-        with_one(rt.alloc(), 0x410)?,
-        [Some(4), Some(1), Some(6), None]
-    );
-    Ok(())
-}
-
-#[test]
-fn a_table_without_the_chip_stays(rt: HostRuntime) -> Result<(), Fail> {
-    assert_eq!(rt;
-        with_one(rt.alloc(), 0x413)?,
-        [Some(4), Some(5), Some(6), None]
-    );
-    Ok(())
+fn places_are_read_and_chips_cut(rt: HostRuntime) -> Result<(), Fail> {
+    ends_as(
+        "reads where a chip tells its board",
+        first_places(rt.alloc())?,
+    )?;
+    ends_as("refuses places", first_fault(rt.alloc())?)?;
+    ends_as(
+        "a chip has the pages that lie inside its size",
+        first_size(rt.alloc())?,
+    )?;
+    passes_as(
+        "a table with another chip has the others",
+        with_one(rt.alloc(), 0x410)? == [Some(4), Some(1), Some(6), None],
+    )?;
+    passes_as(
+        "a table without the chip stays",
+        with_one(rt.alloc(), 0x413)? == [Some(4), Some(5), Some(6), None],
+    )
 }

@@ -1,4 +1,5 @@
 // The texts of chip tables, and what becomes of them.
+use crate::verdicts::{ends_as, passes_as};
 use std::alloc::{AllocError, Global};
 use std::test::Fail;
 use stm_chip::{Table, TableFault, read_table};
@@ -67,12 +68,6 @@ fn sample_read(alloc: Global) -> Result<(Option<usize>, bool), Fail> {
     Ok((first_other(&table), table.find(0x411).is_some()))
 }
 
-#[test]
-fn reads_the_sample(rt: HostRuntime) -> Result<(), Fail> {
-    assert_eq!(rt; sample_read(rt.alloc())?, (None, false));
-    Ok(())
-}
-
 /// The value of `erase` and the keys behind it, and what an erased place holds then.
 const ERASED: &[(&str, u8)] = &[
     ("\"page\"", 0xFF),
@@ -104,12 +99,6 @@ fn first_erased(alloc: Global) -> Result<Option<usize>, Fail> {
     Ok(None)
 }
 
-#[test]
-fn reads_what_an_erased_place_holds(rt: HostRuntime) -> Result<(), Fail> {
-    assert_eq!(rt; first_erased(rt.alloc())?, None);
-    Ok(())
-}
-
 /// Texts, and their faults.
 const DOCUMENTS: &[(&[u8], Option<TableFault>)] = &[
     (b"", Some(TableFault::Missing(0))),
@@ -128,11 +117,6 @@ fn first_document(alloc: Global) -> Option<usize> {
         }
     }
     None
-}
-
-#[test]
-fn refuses_documents(rt: HostRuntime) {
-    assert_eq!(rt; first_document(rt.alloc()), None);
 }
 
 /// A table's second chip, and the fault of the table. In one entry a broken limit comes before an
@@ -166,12 +150,6 @@ fn first_second_chip(alloc: Global) -> Result<Option<usize>, AllocError> {
         }
     }
     Ok(None)
-}
-
-#[test]
-fn refuses_a_second_chip(rt: HostRuntime) -> Result<(), Fail> {
-    assert_eq!(rt; first_second_chip(rt.alloc())?, None);
-    Ok(())
 }
 
 /// Id, pages, `erase` and the keys behind it, and the fault.
@@ -261,12 +239,6 @@ fn first_value(alloc: Global) -> Result<Option<usize>, AllocError> {
     Ok(None)
 }
 
-#[test]
-fn refuses_values(rt: HostRuntime) -> Result<(), Fail> {
-    assert_eq!(rt; first_value(rt.alloc())?, None);
-    Ok(())
-}
-
 /// How many beginnings of a text are read, how many have no chip, and how many another fault than
 /// a beginning has.
 fn beginnings(alloc: Global, bytes: &[u8]) -> (u32, u32, u32) {
@@ -290,10 +262,23 @@ fn beginnings_read(alloc: Global) -> Result<(u32, u32, u32), AllocError> {
     Ok(beginnings(alloc, text.as_bytes()))
 }
 
-// A chip ends at its last quotation mark, at the end of that line and, but for the last chip, at
-// the blank line.
 #[test]
-fn reads_each_beginning(rt: HostRuntime) -> Result<(), Fail> {
-    assert_eq!(rt; beginnings_read(rt.alloc())?, (14, 1, 0));
-    Ok(())
+fn tables_are_read_or_refused(rt: HostRuntime) -> Result<(), Fail> {
+    passes_as(
+        "reads the sample",
+        sample_read(rt.alloc())? == (None, false),
+    )?;
+    ends_as(
+        "reads what an erased place holds",
+        first_erased(rt.alloc())?,
+    )?;
+    ends_as("refuses documents", first_document(rt.alloc()))?;
+    ends_as("refuses a second chip", first_second_chip(rt.alloc())?)?;
+    ends_as("refuses values", first_value(rt.alloc())?)?;
+    // A chip ends at its last quotation mark, at the end of that line and, but for the last chip, at
+    // the blank line.
+    passes_as(
+        "reads each beginning",
+        beginnings_read(rt.alloc())? == (14, 1, 0),
+    )
 }

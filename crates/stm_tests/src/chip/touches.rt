@@ -1,5 +1,6 @@
 // Images laid over chips.
 use crate::chip::chips::pages;
+use crate::verdicts::passes_as;
 use std::alloc::Global;
 use std::test::Fail;
 use stm_chip::{PlanFault, is_inside_flash, touched};
@@ -26,12 +27,6 @@ fn is_inside(alloc: Global, count: usize) -> Result<bool, Fail> {
 /// Whether images that end with the flash, and one past it, lie inside.
 fn ends_inside(alloc: Global) -> Result<(bool, bool), Fail> {
     Ok((is_inside(alloc, 131_072)?, is_inside(alloc, 131_073)?))
-}
-
-#[test]
-fn knows_images_that_end_with_the_flash_and_one_past_it(rt: HostRuntime) -> Result<(), Fail> {
-    assert_eq!(rt; ends_inside(rt.alloc())?, (true, false));
-    Ok(())
 }
 
 /// Where an image begins, how many bytes it has, and the pages that it touches; None where it lies
@@ -97,7 +92,13 @@ fn others(alloc: Global) -> Result<(Option<usize>, Option<usize>), Fail> {
 }
 
 #[test]
-fn touches_pages_up_to_the_end_of_all(rt: HostRuntime) -> Result<(), Fail> {
-    assert_eq!(rt; others(rt.alloc())?, (None, None));
-    Ok(())
+fn images_touch_their_pages(rt: HostRuntime) -> Result<(), Fail> {
+    passes_as(
+        "knows images that end with the flash and one past it",
+        ends_inside(rt.alloc())? == (true, false),
+    )?;
+    passes_as(
+        "touches pages up to the end of all",
+        others(rt.alloc())? == (None, None),
+    )
 }

@@ -1,6 +1,8 @@
 // Which fault is told, and at which record: of beginnings, and of records that disagree.
 use crate::image::{Row, first_other};
+use crate::verdicts::ends_as;
 use std::alloc::Global;
+use std::test::Fail;
 use stm_image::{HexFault, read_hex};
 
 /// The text of which beginnings are read.
@@ -30,11 +32,6 @@ fn first_beginning(alloc: Global) -> Option<usize> {
         }
     }
     None
-}
-
-#[test]
-fn beginnings_tell_their_record(rt: HostRuntime) {
-    assert_eq!(rt; first_beginning(rt.alloc()), None);
 }
 
 const CONFLICTS: &[Row] = &[
@@ -81,6 +78,10 @@ fn first_conflict(alloc: Global) -> Option<usize> {
 }
 
 #[test]
-fn the_first_record_that_disagrees_is_told(rt: HostRuntime) {
-    assert_eq!(rt; first_conflict(rt.alloc()), None);
+fn faults_tell_their_record(rt: HostRuntime) -> Result<(), Fail> {
+    ends_as("beginnings tell their record", first_beginning(rt.alloc()))?;
+    ends_as(
+        "the first record that disagrees is told",
+        first_conflict(rt.alloc()),
+    )
 }

@@ -1,4 +1,5 @@
 // Images of 70,000 bytes: their texts in four orders, what is written back, and raw bytes.
+use crate::verdicts::passes;
 use std::alloc::{AllocError, Global};
 use std::test::Fail;
 use stm_image::{HexFault, Image, read_hex, read_raw, write_hex};
@@ -190,8 +191,7 @@ fn orders_and_raw(alloc: Global) -> Result<(Option<usize>, bool), Fail> {
 
 #[test]
 fn texts_in_four_orders_and_raw_bytes(rt: HostRuntime) -> Result<(), Fail> {
-    assert_eq!(rt; orders_and_raw(rt.alloc())?, (None, true));
-    Ok(())
+    passes(orders_and_raw(rt.alloc())? == (None, true))
 }
 
 /// The text of the records in order, and then another byte in the first place.
@@ -210,8 +210,7 @@ fn conflict(alloc: Global) -> Result<Option<HexFault>, AllocError> {
 #[test]
 fn a_conflict_at_the_end(rt: HostRuntime) -> Result<(), Fail> {
     // Before the last record of data stand three for upper halves.
-    assert_eq!(rt; conflict(rt.alloc())?, Some(HexFault::Conflict(4379)));
-    Ok(())
+    passes(conflict(rt.alloc())? == Some(HexFault::Conflict(4379)))
 }
 
 /// Whether the image lays these bytes, and changes none behind them.
@@ -248,6 +247,5 @@ fn laid_and_compared(alloc: Global) -> Result<(usize, bool, bool), Fail> {
 
 #[test]
 fn an_image_is_laid_and_compared(rt: HostRuntime) -> Result<(), Fail> {
-    assert_eq!(rt; laid_and_compared(rt.alloc())?, (131_072, true, true));
-    Ok(())
+    passes(laid_and_compared(rt.alloc())? == (131_072, true, true))
 }

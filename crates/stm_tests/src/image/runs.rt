@@ -1,6 +1,7 @@
 // Runs: records that overlap, that go on after each other, and that end at the last address; what
 // is laid, compared and copied.
 use crate::image::{Row, first_other};
+use crate::verdicts::{passes, passes_as};
 use std::alloc::Global;
 use std::test::Fail;
 use stm_image::{HexFault, Image, read_hex, read_raw, write_hex};
@@ -73,25 +74,10 @@ fn laid_and_compared(alloc: Global) -> Result<(Laid, Laid), Fail> {
     ))
 }
 
-#[test]
-fn images_up_to_the_last_address_are_laid_and_compared(rt: HostRuntime) -> Result<(), Fail> {
-    assert_eq!(rt;
-        laid_and_compared(rt.alloc())?,
-        ((true, None), (true, None))
-    );
-    Ok(())
-}
-
 /// Whether a copy of the scattered bytes is laid, and written as they are.
 fn is_copied(alloc: Global) -> Result<bool, Fail> {
     let copy = read_hex(alloc, SCATTERED)?.clone()?;
     Ok(laid(&copy) == [2, 9, 9, 3, 4] && write_hex(alloc, &copy)?.as_slice() == SCATTERED)
-}
-
-#[test]
-fn an_image_is_copied(rt: HostRuntime) -> Result<(), Fail> {
-    assert!(rt; is_copied(rt.alloc())?);
-    Ok(())
 }
 
 const OVERLAPS: &[Row] = &[
@@ -179,6 +165,17 @@ fn others(alloc: Global) -> (Option<usize>, Option<usize>, Option<usize>) {
 }
 
 #[test]
-fn overlaps_are_one_set_or_conflict_and_runs_go_on_over_64_kib(rt: HostRuntime) {
-    assert_eq!(rt; others(rt.alloc()), (None, None, None));
+fn overlaps_are_one_set_or_conflict_and_runs_go_on_over_64_kib(
+    rt: HostRuntime,
+) -> Result<(), Fail> {
+    passes(others(rt.alloc()) == (None, None, None))
+}
+
+#[test]
+fn runs_are_laid_and_compared(rt: HostRuntime) -> Result<(), Fail> {
+    passes_as(
+        "images up to the last address are laid and compared",
+        laid_and_compared(rt.alloc())? == ((true, None), (true, None)),
+    )?;
+    passes_as("an image is copied", is_copied(rt.alloc())?)
 }

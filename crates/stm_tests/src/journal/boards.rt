@@ -1,6 +1,7 @@
 // Journals that name their board: how these are loaded and begun, and which board is refused.
 use crate::journal::calls::holds;
 use crate::journal::{fault_of, first_beginning, loaded, opened};
+use crate::verdicts::ends_as;
 use std::alloc::Global;
 use std::test::Fail;
 use stm_journal::{Journal, JournalFault};
@@ -69,12 +70,6 @@ fn first_headed(alloc: Global) -> Result<Option<usize>, Fail> {
     Ok(None)
 }
 
-#[test]
-fn boards_are_loaded(rt: HostRuntime) -> Result<(), Fail> {
-    assert_eq!(rt; first_headed(rt.alloc())?, None);
-    Ok(())
-}
-
 /// Journals whose first line is bad.
 const BAD_BOARDS: &[&[u8]] = &[
     // No unique id.
@@ -116,12 +111,6 @@ fn first_good(alloc: Global) -> Result<Option<usize>, Fail> {
         }
     }
     Ok(None)
-}
-
-#[test]
-fn bad_boards(rt: HostRuntime) -> Result<(), Fail> {
-    assert_eq!(rt; first_good(rt.alloc())?, None);
-    Ok(())
 }
 
 /// A journal, the device and the board that a segment is to begin for, why it doesn't, and the
@@ -231,12 +220,6 @@ fn first_begun(alloc: Global) -> Result<Option<usize>, Fail> {
     Ok(None)
 }
 
-#[test]
-fn a_segment_begins_for_its_board_alone(rt: HostRuntime) -> Result<(), Fail> {
-    assert_eq!(rt; first_begun(rt.alloc())?, None);
-    Ok(())
-}
-
 /// A board's journal with a segment that was written and taken back.
 const TAKEN_BACK: &[u8] =
     b"stmjournal 3 0412 00FF102030405060\nopen 1\npage 5 FF0A\nerase 5\nprogram 5\nend 1\nerase 5\nprogram 5\nundone 1\n";
@@ -247,7 +230,15 @@ fn first_of_board(alloc: Global) -> Result<Option<usize>, Fail> {
 }
 
 #[test]
-fn every_beginning_of_a_boards_journal_loads(rt: HostRuntime) -> Result<(), Fail> {
-    assert_eq!(rt; first_of_board(rt.alloc())?, None);
-    Ok(())
+fn journals_name_their_board(rt: HostRuntime) -> Result<(), Fail> {
+    ends_as("boards are loaded", first_headed(rt.alloc())?)?;
+    ends_as("bad boards", first_good(rt.alloc())?)?;
+    ends_as(
+        "a segment begins for its board alone",
+        first_begun(rt.alloc())?,
+    )?;
+    ends_as(
+        "every beginning of a boards journal loads",
+        first_of_board(rt.alloc())?,
+    )
 }

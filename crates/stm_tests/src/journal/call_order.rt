@@ -4,6 +4,7 @@ ghost use Rattle.stm_journal.specs.States.{is_unfinished, newest_is_open};
 ghost use Rattle.stm_journal.specs.Newest.{next_page};
 
 use crate::journal::opened;
+use crate::verdicts::passes;
 use std::alloc::Global;
 use std::test::Fail;
 use stm_journal::{Journal, JournalFault};
@@ -92,6 +93,5 @@ fn is_undone(alloc: Global) -> Result<bool, Fail> {
 
 #[test]
 fn a_command_and_its_undo(rt: HostRuntime) -> Result<(), Fail> {
-    assert!(rt; is_undone(rt.alloc())?);
-    Ok(())
+    passes(is_undone(rt.alloc())?)
 }

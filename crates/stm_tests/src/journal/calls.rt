@@ -3,6 +3,7 @@ ghost use Rattle.std.specs.Prelude.{◌≡◌, ◌<◌, length, false};
 ghost use Rattle.stm_journal.specs.States.{is_unfinished};
 
 use crate::journal::opened;
+use crate::verdicts::{ends_as, passes_as};
 use std::alloc::Global;
 use std::test::Fail;
 use stm_journal::{Journal, JournalFault};
@@ -119,12 +120,6 @@ fn first_commanded(alloc: Global) -> Result<Option<usize>, Fail> {
     Ok(None)
 }
 
-#[test]
-fn a_page_is_kept_or_written_or_a_segment_is_ended(rt: HostRuntime) -> Result<(), Fail> {
-    assert_eq!(rt; first_commanded(rt.alloc())?, None);
-    Ok(())
-}
-
 const TORN: &[u8] = b"stmjournal 1 0412\nopen 1\nend 1\npage 0 FFFF";
 
 /// Whether the segment of `TORN` is taken back behind a mark for its last line, and none is left.
@@ -141,12 +136,6 @@ fn is_taken_back(journal: &mut Journal, rig: &mut MemoryRig) -> bool {
 fn is_torn_tail_marked(alloc: Global) -> Result<bool, Fail> {
     let (mut journal, mut rig) = opened(alloc, TORN)?;
     Ok(is_taken_back(&mut journal, &mut rig))
-}
-
-#[test]
-fn a_torn_tail(rt: HostRuntime) -> Result<(), Fail> {
-    assert!(rt; is_torn_tail_marked(rt.alloc())?);
-    Ok(())
 }
 
 /// What a journal's Rig does with an append: it takes it, fails, or stops behind so many steps.
@@ -241,7 +230,14 @@ fn first_begun(alloc: Global) -> Result<Option<usize>, Fail> {
 }
 
 #[test]
-fn another_device_or_a_failed_append_begins_no_segment(rt: HostRuntime) -> Result<(), Fail> {
-    assert_eq!(rt; first_begun(rt.alloc())?, None);
-    Ok(())
+fn calls_answer_what_is_due(rt: HostRuntime) -> Result<(), Fail> {
+    ends_as(
+        "a page is kept or written or a segment is ended",
+        first_commanded(rt.alloc())?,
+    )?;
+    passes_as("a torn tail", is_torn_tail_marked(rt.alloc())?)?;
+    ends_as(
+        "another device or a failed append begins no segment",
+        first_begun(rt.alloc())?,
+    )
 }

@@ -1,6 +1,7 @@
 // What is kept behind lines that are long, and behind many pages.
 use crate::journal::places::add_all;
 use crate::journal::rig_with;
+use crate::verdicts::ends_as;
 use std::alloc::{AllocError, Global};
 use std::test::Fail;
 use stm_journal::{Journal, JournalFault};
@@ -59,12 +60,6 @@ fn first_long(alloc: Global) -> Result<Option<usize>, Fail> {
     Ok(None)
 }
 
-#[test]
-fn long_lines(rt: HostRuntime) -> Result<(), Fail> {
-    assert_eq!(rt; first_long(rt.alloc())?, None);
-    Ok(())
-}
-
 /// The journal of a segment that keeps a hundred pages of one byte, and these lines.
 fn behind(alloc: Global, lines: &str) -> Result<String, AllocError> {
     let mut text = String::from_str(alloc, "stmjournal 1 0412\nopen 1\n")?;
@@ -102,7 +97,7 @@ fn first_behind(alloc: Global) -> Result<Option<usize>, Fail> {
 }
 
 #[test]
-fn of_many_pages_each_is_known(rt: HostRuntime) -> Result<(), Fail> {
-    assert_eq!(rt; first_behind(rt.alloc())?, None);
-    Ok(())
+fn pages_are_kept_behind_long_lines(rt: HostRuntime) -> Result<(), Fail> {
+    ends_as("long lines", first_long(rt.alloc())?)?;
+    ends_as("of many pages each is known", first_behind(rt.alloc())?)
 }

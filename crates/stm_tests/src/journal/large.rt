@@ -4,6 +4,7 @@ ghost use Rattle.std.specs.Prelude.{◌<◌, length, AllPairs};
 use crate::image::large::put_digits;
 use crate::journal::call_order::write_pages;
 use crate::journal::{KeptRow, fault_of, first_kept, rig_with};
+use crate::verdicts::passes;
 use std::alloc::{AllocError, Global};
 use std::test::Fail;
 use stm_journal::{Journal, JournalFault};
@@ -89,8 +90,7 @@ fn are_two_pages_loaded(alloc: Global) -> Result<bool, Fail> {
 
 #[test]
 fn two_pages_of_1024_bytes(rt: HostRuntime) -> Result<(), Fail> {
-    assert!(rt; are_two_pages_loaded(rt.alloc())?);
-    Ok(())
+    passes(are_two_pages_loaded(rt.alloc())?)
 }
 
 const LONGEST_PAGE: Large = (1, false, &[(1, 0, Some((5, 3)))]);
@@ -122,8 +122,7 @@ fn is_longest_page_loaded(alloc: Global) -> Result<bool, Fail> {
 
 #[test]
 fn a_page_of_131072_bytes(rt: HostRuntime) -> Result<(), Fail> {
-    assert!(rt; is_longest_page_loaded(rt.alloc())?);
-    Ok(())
+    passes(is_longest_page_loaded(rt.alloc())?)
 }
 
 /// A whole segment of one page.
@@ -156,16 +155,11 @@ fn are_several_loaded(alloc: Global) -> Result<bool, Fail> {
 
 #[test]
 fn a_journal_of_several_buffers(rt: HostRuntime) -> Result<(), Fail> {
-    assert!(rt; are_several_loaded(rt.alloc())?);
-    Ok(())
+    passes(are_several_loaded(rt.alloc())?)
 }
 
 #[test]
 fn a_journal_of_several_buffers_with_a_number_twice(rt: HostRuntime) -> Result<(), Fail> {
     let text = segments(rt.alloc(), 500, "open 500\n")?;
-    assert_eq!(rt;
-        fault_of(rt.alloc(), text.as_bytes())?,
-        Some(JournalFault::Bad(2502))
-    );
-    Ok(())
+    passes(fault_of(rt.alloc(), text.as_bytes())? == Some(JournalFault::Bad(2502)))
 }

@@ -5,6 +5,7 @@ ghost use Rattle.stm_sim.specs.Unmodelled.{unmodelled};
 ghost use Rattle.stm_journal.specs.KeptPlaces.{IsPlaceIn};
 
 use crate::journal::{first_beginning, opened, rig_with};
+use crate::verdicts::{ends_as, passes_as};
 use std::alloc::{AllocError, Global};
 use std::test::Fail;
 use stm_journal::{Journal, JournalFault, PagePlace};
@@ -128,12 +129,6 @@ fn first_other(rt: &HostRuntime) -> Result<Option<usize>, Fail> {
     Ok(None)
 }
 
-#[test]
-fn few_bytes_at_once_are_no_fault(rt: HostRuntime) -> Result<(), Fail> {
-    assert_eq!(rt; first_other(&rt)?, None);
-    Ok(())
-}
-
 /// Whether a lie gives this fault, and the page is told as it was before then.
 fn is_answered(journal: &Journal, rig: &mut Piecemeal, lie: Lie, fault: JournalFault) -> bool {
     let Some(place) = journal.kept_place(1, 0) else {
@@ -169,12 +164,6 @@ fn first_lie(rt: &HostRuntime) -> Result<Option<usize>, Fail> {
         }
     }
     Ok(None)
-}
-
-#[test]
-fn other_bytes_than_before_are_told(rt: HostRuntime) -> Result<(), Fail> {
-    assert_eq!(rt; first_lie(&rt)?, None);
-    Ok(())
 }
 
 /// Adds these parts, one behind another.
@@ -245,19 +234,18 @@ fn two_found(alloc: Global) -> Result<(usize, (bool, bool)), Fail> {
     Ok((text.len(), are_found(alloc, &text)?))
 }
 
-#[test]
-fn two_written_pages_are_placed_and_fetched(rt: HostRuntime) -> Result<(), Fail> {
-    assert_eq!(rt; two_found(rt.alloc())?, (4179, (true, true)));
-    Ok(())
-}
-
 /// The first beginning of the journal of two pages that doesn't load.
 fn first_bad(alloc: Global) -> Result<Option<usize>, Fail> {
     first_beginning(alloc, &two_pages(alloc)?, 37)
 }
 
 #[test]
-fn beginnings_are_never_bad(rt: HostRuntime) -> Result<(), Fail> {
-    assert_eq!(rt; first_bad(rt.alloc())?, None);
-    Ok(())
+fn pages_are_placed_and_fetched(rt: HostRuntime) -> Result<(), Fail> {
+    ends_as("few bytes at once are no fault", first_other(&rt)?)?;
+    ends_as("other bytes than before are told", first_lie(&rt)?)?;
+    passes_as(
+        "two written pages are placed and fetched",
+        two_found(rt.alloc())? == (4179, (true, true)),
+    )?;
+    ends_as("beginnings are never bad", first_bad(rt.alloc())?)
 }
