@@ -118,7 +118,7 @@ class Json(Place):
         """docs/JSON.md names each answer and fault that the program has, and no other."""
         with open(os.path.join(TOP, "docs", "JSON.md"), encoding="utf-8") as page:
             answers, faults = page.read().split("## Answers")[1].split("## Faults")
-        folder = os.path.join(TOP, "crates", "stmflash", "src")
+        folder = os.path.join(TOP, "crates", "stm_work", "src")
         for file, part in (("told_json.rt", answers), ("fault_name.rt", faults)):
             with open(os.path.join(folder, file), encoding="utf-8") as source:
                 named = set(re.findall(r'=>\s+"([a-z_]+)",', source.read()))
