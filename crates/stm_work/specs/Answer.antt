@@ -1,5 +1,6 @@
 -- What an answer of the program tells of a session.
-use Rattle.std.specs.Prelude.{◌≡◌, ℕ, List, [], ◌∷◌, vec_len}
+use Rattle.std.specs.Prelude.{◌≡◌, ℕ, Bool, true, false, List, [], ◌∷◌, String, vec_len}
+use Rattle.std.specs.declared.alloc.Global.{Global}
 use Rattle.stm_session.specs.Answers.{OutcomeData, was_written, was_erased, was_verified, was_read}
 use Rattle.stm_session.specs.declared.information.Info.{Info}
 use Rattle.stm_work.specs.declared.answer.Answer.{Answer}
@@ -32,6 +33,19 @@ pub record IsToldBeside (texts : List (List ℕ)) (info : Info) (told : Answer) 
   pub tried : ℕ
   pub told_is : told ≡ answer.ToldBeside info tried
   pub tried_is : AreTried info.id texts tried
+
+-- An answer beside what the tables say: what the device is, with how many such boards were tried;
+-- what it says itself, with the names of the tables; any other as it is.
+abbrev pub IsBeside : List (List ℕ) → Answer → Answer → Type 0
+IsBeside texts (answer.Told info) told = IsToldBeside texts info told
+IsBeside texts (answer.Identified said) told =
+    (table : String Global) × (told ≡ answer.IdentifiedBeside said table)
+IsBeside texts other told = told ≡ other
+
+-- it is what was read of the flash
+abbrev pub is_flash : Answer → Bool
+is_flash (answer.Bytes bytes) = true
+is_flash other = false
 
 -- it tells bytes, so many
 abbrev pub IsRead : ℕ → Answer → Type 0

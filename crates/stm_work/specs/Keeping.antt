@@ -1,7 +1,9 @@
 -- Which journals may be kept for good.
-use Rattle.std.specs.Prelude.{◌≡◌, ℕ, List, false}
+use Rattle.std.specs.Prelude.{◌≡◌, ◌-◌, ℕ, List, false}
 use Rattle.stm_journal.specs.Journals.{journal_of, good}
 use Rattle.stm_journal.specs.States.{StateData, depth, is_unfinished}
+use Rattle.stm_work.specs.declared.answer.Answer.{Answer}
+use Rattle.stm_work.specs.declared.answer.Answer.TheVariants as answer
 
 -- The journal is good, no write or erase of it is unfinished, and it has so many of them: the
 -- newest is ended, with no page at work, and those below it always are.
@@ -10,3 +12,13 @@ pub record IsFinished (journal : List ℕ) (count : ℕ) : Type 0 where
   pub means : journal_of journal ≡ good state
   pub ended : is_unfinished state ≡ false
   pub count_is : depth state ≡ count
+
+-- a journal was given up, none of whose writes and erases is unfinished; so many it had
+pub record IsKept (state : StateData) (told : Answer) : Type 0 where
+  pub ended : is_unfinished state ≡ false
+  pub count : told ≡ answer.Kept (depth state)
+
+-- and it was given up but for the newest, so many, which can be taken back
+pub record IsCutTo (last : ℕ) (state : StateData) (told : Answer) : Type 0 where
+  pub ended : is_unfinished state ≡ false
+  pub count : told ≡ answer.KeptBut (depth state - last) (depth state - (depth state - last))

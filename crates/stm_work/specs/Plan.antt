@@ -1,7 +1,7 @@
 -- The plan of one use of a device, by the words and the tables of one call; and what is told of steps
 -- that were taken.
 use Rattle.std.specs.Prelude.{◌≡◌, ◌&&◌, ◌||◌, ℕ, Bool, true, false, not, is_none, is_some}
-use Rattle.std.specs.Prelude.{List, Option, None, Result, Ok, IfOk}
+use Rattle.std.specs.Prelude.{List, Option, None, Result, IfOk, MatchResult}
 use Rattle.stm_wire.specs.Chip.{ChipData}
 use Rattle.stm_words.specs.declared.options.Options.{Options}
 use Rattle.stm_words.specs.declared.sequel.Sequel.{Sequel}
@@ -54,6 +54,18 @@ pub record IsPlan (options : Options) (texts : List (List ℕ)) (is_told : Bool)
   pub wanted : plan.question.wanted ≡ options.board
   pub watched : IsWatching options.watches plan.question plan.watching
 
--- what came of steps is told: where none failed, they are those that were taken
+-- Steps that are told of those that were taken: all that they say was done is so, and where none of
+-- them failed none did that was taken. Why one failed may be told otherwise.
+pub record AreTold (taken told : Steps) : Type 0 where
+  pub board : told.board ≡ taken.board
+  pub answer : told.answer ≡ taken.answer
+  pub kept : told.kept ≡ taken.kept
+  pub whole : told.failure ≡ None → told ≡ taken
+
+-- the steps of a session that answered some
+abbrev pub AreToldOf : Result Steps Failure → Steps → Type 0
+AreToldOf done told = MatchResult done (λ taken. AreTold taken told) (λ failure. ⊥)
+
+-- what came of steps is told
 abbrev pub Tells : Result Steps Failure → Result Steps Failure → Type 0
-Tells done told = IfOk told (λ steps. steps.failure ≡ None → done ≡ Ok steps)
+Tells done told = IfOk told (AreToldOf done)

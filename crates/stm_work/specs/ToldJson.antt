@@ -1,11 +1,13 @@
 -- What a line of JSON tells of an answer, and of words that are refused.
 use Rattle.std.specs.Prelude.{ℕ, Bool, true, false, List, [], ◌++◌, codes, string_bytes}
-use Rattle.std.specs.Prelude.{Option, Some, None, if◌then◌else◌}
+use Rattle.std.specs.Prelude.{◌≡◌, Option, Some, None, MatchOption, if◌then◌else◌}
 use Rattle.stm_session.specs.declared.asking_board.Board.{Board}
 use Rattle.stm_work.specs.declared.answer.Answer.{Answer}
 use Rattle.stm_work.specs.declared.answer.Answer.TheVariants as answer
+use Rattle.stm_work.specs.declared.hint.Hint.{Hint}
 use Rattle.stm_work.specs.declared.steps.Steps.{Steps}
 use Rattle.stm_work.specs.DeviceJson.{board_members, info_members, told_members}
+use Rattle.stm_work.specs.HintTold.{told_done}
 use Rattle.stm_work.specs.JsonLine.{line_end, lines_member, number_member, object_of}
 use Rattle.stm_work.specs.JsonLine.{text_member}
 use Rattle.stm_work.specs.UpperHex.{upper_hex}
@@ -84,6 +86,23 @@ kept_line (Some count) = answer_line (answer.Kept count) None
 -- the lines of what was done
 abbrev pub steps_lines : Steps → List ℕ
 steps_lines steps = answer_line steps.answer steps.board ++ kept_line steps.kept
+
+-- the line of what was done, with what is to be done then, as it says
+abbrev pub next_line : List ℕ → Steps → List ℕ
+next_line says steps =
+    object_of (codes "answer") (answer_name steps.answer) ++ members_of steps.answer
+    ++ board_members_of steps.answer steps.board ++ text_member (codes "hint") says ++ line_end
+
+-- what is told to be done behind what was done
+abbrev pub next_told : Option Hint → Option Hint
+next_told None = None
+next_told (Some hint) = told_done hint
+
+-- it is the lines of what was done, or, where something is to be done then, the one that says it too
+abbrev pub AreLines : Option Hint → Steps → List ℕ → Type 0
+AreLines hint steps text =
+    MatchOption (next_told hint) (text ≡ steps_lines steps)
+    (λ next. (says : List ℕ) × (text ≡ next_line says steps))
 
 -- the line of words that are refused, with this text
 abbrev pub refusal_line : List ℕ → List ℕ

@@ -1,7 +1,7 @@
 // What came of the words, and how it is told.
 ghost use Rattle.std.specs.Io.KnownBytes.{Appends};
 ghost use Rattle.std.specs.Prelude.{◌++◌, IfOk, OnOk, Some};
-ghost use Rattle.stm_work.specs.Answer.{IsToldBeside};
+ghost use Rattle.stm_work.specs.Answer.{IsBeside, IsToldBeside};
 ghost use Rattle.stm_work.specs.DeviceText.{board_text, info_text, table_text, told_text};
 ghost use Rattle.stm_work.specs.Printing.{board_text_of, erased_text, kept_text, left_text};
 ghost use Rattle.stm_work.specs.Printing.{sum_text, text_of, tried_text, tried_text_of};
@@ -87,7 +87,9 @@ impl Answer {
         alloc: Global,
         names: TableNames,
         tables: &ChipTables<'a>,
-    ) -> Result<Answer, Failure<'a>> {
+    ) -> Result<Answer, Failure<'a>>
+        ensures { IfOk result (IsBeside (texts_of tables.now) self) }
+    {
         match self {
             Answer::Told(info) => Ok(told_beside(alloc, info, tables)?),
             Answer::Identified(told) => Ok(Answer::IdentifiedBeside {

@@ -1,5 +1,5 @@
 // Why the program failed, and what it says of it.
-ghost use Rattle.std.specs.Prelude.{◌≡◌};
+ghost use Rattle.std.specs.Prelude.{◌≡◌, ◌≤◌};
 ghost use Rattle.stm_work.specs.BrokenOff.{is_broken_off};
 ghost use Rattle.stm_work.specs.ExitStatus.{status_of};
 ghost use Rattle.stm_work.specs.declared.failure.Failure.TheVariants.{Session, Hex, Memory, Raw};
@@ -121,7 +121,8 @@ impl<'a> Failure<'a> {
     /// The program's exit status: 2 for what its words ask, 3 for a stop that was
     /// asked for, 1 for all else.
     pub fn status(&self) -> u8
-        ensures { result ≡ status_of self.now }
+        ensures status { result ≡ status_of self.now }
+        ensures failed { 1 ≤ result }
     {
         match self {
             Failure::Usage(_) => 2,

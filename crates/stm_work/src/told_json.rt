@@ -1,7 +1,9 @@
 // What came of the words as JSON, one line for each step and one for a fault.
-ghost use Rattle.std.specs.Prelude.{◌≡◌, ◌++◌, IfOk, OnOk};
-ghost use Rattle.stm_work.specs.ToldJson.{answer_line, answer_name, board_members_of};
-ghost use Rattle.stm_work.specs.ToldJson.{change_members, is_of_board, members_of};
+ghost use Rattle.std.specs.Prelude.{◌≡◌, ◌++◌, ℕ, List, IfOk, OnOk, codes};
+ghost use Rattle.stm_work.specs.Answer.{is_flash};
+ghost use Rattle.stm_work.specs.JsonLine.{text_member};
+ghost use Rattle.stm_work.specs.ToldJson.{AreLines, answer_line, answer_name, board_members_of};
+ghost use Rattle.stm_work.specs.ToldJson.{change_members, is_of_board, members_of, next_line};
 ghost use Rattle.stm_work.specs.ToldJson.{refusal_line, steps_lines};
 
 use crate::answer::Answer;
@@ -32,11 +34,9 @@ fn json_of_steps(alloc: Global, steps: &Steps) -> Result<Vec<u8>, AllocError>
 }
 
 /// The same, or the line of what was done with what is to be done then, where the hint says that.
-pub fn json_of_done(
-    alloc: Global,
-    steps: &Steps,
-    hint: Option<Hint>,
-) -> Result<Vec<u8>, AllocError> {
+pub fn json_of_done(alloc: Global, steps: &Steps, hint: Option<Hint>) -> Result<Vec<u8>, AllocError>
+    ensures { IfOk result (λ text. AreLines hint steps.now text.items) }
+{
     if let Some(hint) = hint {
         if let Some(next) = hint.of_done() {
             return json_of_next(alloc, steps, next);
@@ -46,7 +46,9 @@ pub fn json_of_done(
 }
 
 /// The line of what was done, with what is to be done then.
-fn json_of_next(alloc: Global, steps: &Steps, hint: Hint) -> Result<Vec<u8>, AllocError> {
+fn json_of_next(alloc: Global, steps: &Steps, hint: Hint) -> Result<Vec<u8>, AllocError>
+    ensures { IfOk result (λ line. (says : List ℕ) × (line.items ≡ next_line says steps.now)) }
+{
     let mut line = JsonLine::of(alloc, ANSWER, name_of(&steps.answer))?;
     add_members(alloc, &mut line, &steps.answer)?;
     add_board_of(alloc, &mut line, &steps.answer, &steps.board)?;
@@ -101,7 +103,9 @@ pub fn name_of(answer: &Answer) -> &'static str
 }
 
 /// Whether an answer is what was read of the flash, which is no line of JSON.
-pub fn is_flash(answer: &Answer) -> bool {
+pub fn is_flash(answer: &Answer) -> bool
+    ensures { result ≡ is_flash answer.now }
+{
     matches!(answer, Answer::Bytes(_))
 }
 
@@ -191,7 +195,10 @@ pub fn json_of_failure(
 }
 
 /// Adds what came, or what is to be done.
-fn add_hint(alloc: Global, line: &mut JsonLine, hint: Hint) -> Result<(), AllocError> {
+fn add_hint(alloc: Global, line: &mut JsonLine, hint: Hint) -> Result<(), AllocError>
+    ensures { OnOk result ((says : List ℕ) × (line.new.text.items
+        ≡ line.old.text.items ++ text_member (codes "hint") says)) }
+{
     line.text("hint", format!(in alloc; "{hint}")?.as_str())
 }
 

@@ -13,7 +13,7 @@ use Rattle.stm_work.specs.declared.plan.Plan.{Plan}
 use Rattle.stm_work.specs.declared.steps.Steps.{Steps}
 use Rattle.stm_work.specs.declared.work.Work.{Work}
 use Rattle.stmflash.specs.DeviceUse.{AreOutOf, TakesAround, UsesOn, UsesOnce, UsesPlan}
-use Rattle.stm_work.specs.Plan.{IsPlan, Tells}
+use Rattle.stm_work.specs.Plan.{AreTold, IsPlan, Tells}
 use Rattle.stm_work.specs.Watching.{IsBegun}
 
 -- where just what was so at Ok answers Ok, it is so
@@ -24,17 +24,22 @@ ok-of {A} {E} P out (Ok x) all same =
     let Q : Result A E → Type 0 = λ r. IfOk r P in subst Q same all
 
 -- what is told of what is told
+are-told-again : (first mid last : Steps) → AreTold first mid → AreTold mid last → AreTold first last
+are-told-again first mid last before then =
+    let P : Steps → Type 0 = λ s. s.failure ≡ None in
+    record {
+      board = then.board ∙ before.board;
+      answer = then.answer ∙ before.answer;
+      kept = then.kept ∙ before.kept;
+      whole = λ none. let same = then.whole none in same ∙ before.whole (subst P same none);
+    }
+
 pub tells-again : (first mid last : Result Steps Failure) → Tells first mid → Tells mid last
     → Tells first last
 tells-again first mid (Err failure) before then = tt
-tells-again first (Err failure) (Ok last) before then = λ none. absurd (other (then none))
-  where
-    other : Err failure ≡ Ok last → ⊥
-    other same = cc
-tells-again first (Ok mid) (Ok last) before then =
-    λ none. let P : Result Steps Failure → Type 0 =
-    λ r. IfOk r (λ steps. steps.failure ≡ None → first ≡ Ok steps) in
-    subst P (then none) before none
+tells-again first (Err failure) (Ok last) before then = absurd then
+tells-again (Err failure) (Ok mid) (Ok last) before then = absurd before
+tells-again (Ok first) (Ok mid) (Ok last) before then = are-told-again first mid last before then
 
 -- a Rig that is watched from here on
 pub begun-inner : {A L : Type 0} (inner_view : L → RigState) (known first : Known)

@@ -13,6 +13,7 @@ use Rattle.stm_work.specs.declared.answer.Answer.TheVariants as answer
 use Rattle.stm_work.specs.declared.failure.Failure.{Failure}
 use Rattle.stmflash.specs.declared.output.Output.{Output}
 use Rattle.stmflash.specs.declared.output.Output.TheVariants.{Printed}
+use Rattle.stm_work.specs.Answer.{is_flash}
 use Rattle.stm_work.specs.declared.plan.Plan.{Plan}
 use Rattle.stm_work.specs.declared.steps.Steps.{Steps}
 use Rattle.stm_work.specs.declared.work.Work.{Work}
@@ -37,11 +38,6 @@ pub record TakesAround {R L : Type 0} (view : R → RigState) (inner : R → L)
   pub begins : IsBegun known (inner_view before) (view old)
   pub left : inner new ≡ after
   pub tells : Tells done told
-
--- it is what was read of the flash
-abbrev pub is_flash : Answer → Bool
-is_flash (answer.Bytes bytes) = true
-is_flash other = false
 
 -- Steps whose bytes are in a file: nothing more is told of them than how they failed.
 pub record AreFiled (taken told : Steps) : Type 0 where

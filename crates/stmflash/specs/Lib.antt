@@ -5,3 +5,6 @@ pub mod Variables
 pub mod Standing
 pub mod Tables
 pub mod DeviceUse
+pub mod WriteUse
+pub mod TaskUse
+pub mod Printed

@@ -1,14 +1,19 @@
 // A write that is done again where its line or its protocol failed.
+ghost use Rattle.std.specs.Prelude.{◌≡◌, IfOk, false};
+ghost use Rattle.stm_work.specs.TriedBoards.{texts_of};
+ghost use Rattle.stmflash.specs.WriteUse.{IsUse, UsesAgain, UsesLast, count_undone, words_by};
 
 use crate::first_question::Line;
 use crate::journal_tasks::look;
 use crate::on_device::use_once;
 use crate::output::Output;
+use crate::planned_session::{ShownSimulator, ShownSocket};
 use std::fs::Files;
 use std::io::{IsTerminal, Write};
 use std::net::Net;
 use std::time::Clock;
 use stm_files::{Escaped, Locks, is_there};
+use stm_wire::Rig;
 use stm_words::{Options, Sequel};
 use stm_work::{
     Action, Answer, Attempts, ChipTables, Failure, Hint, Standing, Stands, Steps, Work,
@@ -48,7 +53,11 @@ struct OneWrite<'b, 'a, 'r, R, E> {
 impl<'b, 'a, 'r, R: Locks + Net + Clock + AllocGlobal, E: Write + IsTerminal> Attempts<'a>
     for OneWrite<'b, 'a, 'r, R, E> {
     // of files and lines nothing can be said
-    ghost does = { λ _ _ _. Unit {0} };
+    ghost does = { λ act old new.
+        IsUse ⟦<ShownSimulator<'r, 'b, R, E> as Rig>⟧.view ⟦<ShownSocket<'r, 'b, R, E> as Rig>⟧.view
+        (words_by old.options.now (texts_of old.tables.now) old.sequel.now) act
+        × (words_by new.options.now (texts_of new.tables.now) new.sequel.now
+        ≡ words_by old.options.now (texts_of old.tables.now) old.sequel.now) };
 
     fn attempt(&mut self, work: Work) -> Result<Steps<'a>, Failure<'a>> {
         use_once(
@@ -82,10 +91,7 @@ impl<'b, 'a, 'r, R: Locks + Net + Clock + AllocGlobal, E: Write + IsTerminal> At
             self.err,
             self.hint,
         )?;
-        match steps.answer {
-            Answer::Undone(count) => Ok(count),
-            _ => Ok(0),
-        }
+        Ok(count_undone(&steps.answer))
     }
 
     fn tell_turn(
@@ -115,19 +121,36 @@ impl<'b, 'a, 'r, R: Locks + Net + Clock + AllocGlobal, E: Write + IsTerminal> At
     }
 }
 
+/// How many segments were taken back, as an undo tells it.
+fn count_undone(answer: &Answer) -> u32
+    ensures { result ≡ count_undone answer.now }
+{
+    match answer {
+        Answer::Undone(count) => *count,
+        _ => 0,
+    }
+}
+
 /// Does a write, and what follows it. Where its line or its protocol fails, what it began is taken
 /// back and it is done again, so many times at the most, each told in a line. Where it fails for
 /// good, another line tells what stands. A line that there is to the device is used first.
-pub fn use_again<'a, 'r, R: Locks + Net + Clock + AllocGlobal, E: Write + IsTerminal>(
+pub fn use_again<'a, 'r, 'e, R: Locks + Net + Clock + AllocGlobal, E: Write + IsTerminal>(
     rt: &'r R,
     options: &Options<'a>,
     tables: &ChipTables<'a>,
     work: Work,
     sequel: &Sequel<'a>,
     line: Option<Line<'r, R>>,
-    err: &mut E,
+    err: &'e mut E,
     hint: &mut Option<Hint>,
-) -> Result<Steps<'a>, Failure<'a>> {
+) -> Result<Steps<'a>, Failure<'a>>
+    ensures acts { UsesAgain
+        ⟦<ShownSimulator<'r, 'e, R, E> as Rig>⟧.view ⟦<ShownSocket<'r, 'e, R, E> as Rig>⟧.view
+        (words_by options.now (texts_of tables.now) sequel.now) work result }
+    ensures last { IfOk result (UsesLast
+        ⟦<ShownSimulator<'r, 'e, R, E> as Rig>⟧.view ⟦<ShownSocket<'r, 'e, R, E> as Rig>⟧.view
+        options.now (texts_of tables.now) work sequel.now false) }
+{
     let mut write = OneWrite {
         rt,
         options,

@@ -1,5 +1,6 @@
 // A journal that is cut to its newest segments: the others are given up.
-ghost use Rattle.std.specs.Prelude.{◌≡◌, ◌-◌};
+ghost use Rattle.std.specs.Prelude.{◌≡◌, ◌-◌, IfOk};
+ghost use Rattle.stm_work.specs.Keeping.{IsCutTo};
 
 use crate::journal_tasks::load;
 use std::fs::Files;
@@ -20,7 +21,9 @@ pub fn keep_newest<'a, R: Locks + AllocGlobal>(
     journal: Journal,
     mut file: JournalFile<'_, R>,
     last: u32,
-) -> Result<Answer, Failure<'a>> {
+) -> Result<Answer, Failure<'a>>
+    ensures { IfOk result (IsCutTo last journal.state) }
+{
     let depth = count_kept(&journal)?;
     let count = given_up(depth, last);
     remove_leftovers(rt, name);

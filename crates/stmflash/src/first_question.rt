@@ -1,6 +1,8 @@
 // The question which board a device is, whose journal is in a folder: a session of its own, before the
 // one with that journal.
-ghost use Rattle.std.specs.Prelude.{◌≢◌, [], IfOk};
+ghost use Rattle.hex.specs.Hex.{encode_upper};
+ghost use Rattle.std.specs.Prelude.{◌≡◌, ◌≢◌, ℕ, List, [], IfOk, OnOk, string_bytes};
+ghost use Rattle.stmflash.specs.TaskUse.{AreAsked, AreFound, AreTaken, journal_name};
 
 use crate::journal_folder::{Trouble, look_all, name_in, unfinished_names};
 use crate::on_socket::connect_line;
@@ -179,7 +181,9 @@ fn take_wanted<'a, 'r, R: AllocGlobal>(
     options: &Options<'a>,
     wanted: UniqueId,
     place: &'a mut Place,
-) -> Result<Found<'a, 'r, R>, Failure<'a>> {
+) -> Result<Found<'a, 'r, R>, Failure<'a>>
+    ensures { IfOk result (λ found. AreTaken options.now found.options) }
+{
     place.journal = name_in(rt.alloc(), options.journal, wanted)?;
     Ok(Found {
         options: Options {
@@ -199,7 +203,9 @@ fn ask_and_take<'a, 'r, R: Locks + Net + Clock + AllocGlobal>(
     table: &Table,
     is_fresh: bool,
     place: &'a mut Place,
-) -> Result<Found<'a, 'r, R>, Failure<'a>> {
+) -> Result<Found<'a, 'r, R>, Failure<'a>>
+    ensures { IfOk result (λ found. AreAsked options.now found.options) }
+{
     let told = match ask_device(rt, options, table, is_fresh) {
         Ok(told) => told,
         Err(failure) => return Err(failure),
@@ -218,7 +224,10 @@ fn keep_place(
     folder: &str,
     unique: UniqueId,
     place: &mut Place,
-) -> Result<(), AllocError> {
+) -> Result<(), AllocError>
+    ensures journal { OnOk result (string_bytes place.new.journal ≡ journal_name folder.now unique) }
+    ensures board { OnOk result (string_bytes place.new.board ≡ encode_upper unique) }
+{
     let journal = name_in(alloc, folder, unique)?;
     let board = hex::encode_upper(alloc, unique.as_bytes())?;
     place.journal = journal;
@@ -227,7 +236,10 @@ fn keep_place(
 }
 
 /// The options of a session with the board that has told itself.
-fn options_at<'a>(options: &Options<'a>, place: &'a Place) -> Options<'a> {
+fn options_at<'a>(options: &Options<'a>, place: &'a Place) -> Options<'a>
+    ensures { (unique : List ℕ) → string_bytes place.now.journal ≡ journal_name options.now.journal.now unique
+        → string_bytes place.now.board ≡ encode_upper unique → AreAsked options.now result }
+{
     Options {
         journal: place.journal.as_str(),
         in_folder: false,
@@ -260,7 +272,9 @@ pub fn find_journal<'a, 'r, R: Locks + Net + Clock + AllocGlobal + Clone + Drop>
     options: &Options<'a>,
     table: &Table,
     place: &'a mut Place,
-) -> Result<Found<'a, 'r, R>, Failure<'a>> {
+) -> Result<Found<'a, 'r, R>, Failure<'a>>
+    ensures { IfOk result (λ found. AreFound options.now found.options) }
+{
     let folder = options.journal;
     let looked = match look_all(rt, folder) {
         Ok(looked) => looked,

@@ -1,4 +1,6 @@
 // A folder of journals, each of which has the name of its board.
+ghost use Rattle.std.specs.Prelude.{◌≡◌, IfOk, string_bytes};
+ghost use Rattle.stmflash.specs.TaskUse.{journal_name};
 
 use crate::journal_tasks::look;
 use std::alloc::{AllocError, AllocFailed, Global};
@@ -42,7 +44,9 @@ impl<T: Drop> From<AllocFailed<T>> for Trouble {
 }
 
 /// The name of a board's journal in a folder.
-pub fn name_in(alloc: Global, folder: &str, board: UniqueId) -> Result<String, AllocError> {
+pub fn name_in(alloc: Global, folder: &str, board: UniqueId) -> Result<String, AllocError>
+    ensures { IfOk result (λ name. string_bytes name ≡ journal_name folder.now board) }
+{
     format!(in alloc; "{folder}/{}{ENDING}", BoardName(board))
 }
 

@@ -1,4 +1,6 @@
 // What is done with a journal alone: it is looked at, or its way back is given up.
+ghost use Rattle.std.specs.Prelude.{IfOk};
+ghost use Rattle.stm_work.specs.Keeping.{IsKept};
 
 use crate::cut_journal::keep_newest;
 use std::alloc::Global;
@@ -90,7 +92,9 @@ fn keep_loaded<'a, R: Files + AllocGlobal>(
     rt: &R,
     journal: &Journal,
     kept: &Kept<'a>,
-) -> Result<Answer, Failure<'a>> {
+) -> Result<Answer, Failure<'a>>
+    ensures { IfOk result (IsKept journal.now.state) }
+{
     let count = count_kept(journal)?;
     give_up_journal(rt, kept.journal, kept.to)?;
     Ok(Answer::Kept(count))

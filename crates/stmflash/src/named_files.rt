@@ -1,4 +1,6 @@
 // The files that the words of one use name.
+ghost use Rattle.std.specs.Prelude.{◌≡◌, is_some};
+ghost use Rattle.stmflash.specs.TaskUse.{is_filed};
 
 use crate::tables::is_table;
 use std::fs;
@@ -23,7 +25,9 @@ pub struct NamedFiles<'a> {
 
 impl<'a> NamedFiles<'a> {
     /// Those of a task and its options.
-    pub fn of(options: &Options<'a>, task: &Task<'a>) -> NamedFiles<'a> {
+    pub fn of(options: &Options<'a>, task: &Task<'a>) -> NamedFiles<'a>
+        ensures { is_some result.out ≡ is_filed task.now }
+    {
         let (image, out) = match task {
             Task::Read { out, .. } if *out != STANDARD => (None, Some(*out)),
             Task::ReadHex { out, .. } if *out != STANDARD => (None, Some(*out)),
@@ -40,12 +44,16 @@ impl<'a> NamedFiles<'a> {
     }
 
     /// The same beside another journal.
-    pub fn beside(self, journal: &'a str) -> NamedFiles<'a> {
+    pub fn beside(self, journal: &'a str) -> NamedFiles<'a>
+        ensures { result.out ≡ self.entry.out }
+    {
         NamedFiles { journal, ..self }
     }
 
     /// The file that the flash's bytes are for, where they aren't printed.
-    pub fn out(&self) -> Option<&'a str> {
+    pub fn out(&self) -> Option<&'a str>
+        ensures { result ≡ self.now.out }
+    {
         self.out
     }
 

@@ -1,8 +1,11 @@
 // A use of a device: the files that belong to it are opened, the task is done, and they are closed,
 // whatever came of it. Nothing is printed here but what goes on, on standard error.
-ghost use Rattle.std.specs.Prelude.{IfOk};
+ghost use Rattle.std.specs.Prelude.{◌&&◌, ◌==◌, IfOk, is_some};
 ghost use Rattle.stmflash.specs.DeviceUse.{UsesOnce, goes_out};
+ghost use Rattle.stm_work.specs.FreshUndo.{work_on_fresh};
+ghost use Rattle.stmflash.specs.TaskUse.{AreBeside, UsesBeside, UsesTask};
 ghost use Rattle.stm_work.specs.TriedBoards.{texts_of};
+ghost use Rattle.stmflash.specs.WriteUse.{UsesLast};
 
 use crate::again::use_again;
 use crate::confirmation::{confirm, erases_for_good};
@@ -11,12 +14,11 @@ use crate::named_files::NamedFiles;
 use crate::on_simulator::on_simulator;
 use crate::on_socket::on_socket;
 use crate::output::Output;
-use crate::planned_session::Shown;
+use crate::planned_session::{ShownSimulator, ShownSocket};
 use std::io::{IsTerminal, Read, Write};
 use std::net::Net;
-use std::os::unix::net::UnixStream;
 use std::time::Clock;
-use stm_files::{Locks, SimulatorRig, SocketRig};
+use stm_files::Locks;
 use stm_session::Fault;
 use stm_watch::Watch;
 use stm_wire::Rig;
@@ -32,19 +34,25 @@ use stm_work::{
 /// session that was broken off becomes `hint`, or what is to be done behind what came of it.
 pub fn use_device<
     'a,
+    'r,
+    'e,
     R: Locks + Net + Clock + AllocGlobal + Clone + Drop,
     I: Read + IsTerminal,
     E: Write + IsTerminal,
 >(
-    rt: &R,
+    rt: &'r R,
     options: &Options<'a>,
     task: Task<'a>,
     sequel: &Sequel<'a>,
     place: &'a mut Place,
     input: &mut I,
-    err: &mut E,
+    err: &'e mut E,
     hint: &mut Option<Hint>,
-) -> Result<Steps<'a>, Failure<'a>> {
+) -> Result<Steps<'a>, Failure<'a>>
+    ensures { IfOk result (UsesTask
+        ⟦<ShownSimulator<'r, 'e, R, E> as Rig>⟧.view ⟦<ShownSocket<'r, 'e, R, E> as Rig>⟧.view
+        options.now task.entry sequel.now) }
+{
     let is_for_good = erases_for_good(&task);
     let tables = ChipTables::read(rt, options.table)?;
     let files = NamedFiles::of(options, &task);
@@ -67,7 +75,7 @@ pub fn use_device<
 }
 
 /// The same beside a journal that is known, on a device to which there may be a line.
-fn use_beside<'a, 'r, R: Locks + Net + Clock + AllocGlobal, E: Write + IsTerminal>(
+fn use_beside<'a, 'r, 'e, R: Locks + Net + Clock + AllocGlobal, E: Write + IsTerminal>(
     rt: &'r R,
     options: &Options<'a>,
     tables: &ChipTables<'a>,
@@ -75,9 +83,14 @@ fn use_beside<'a, 'r, R: Locks + Net + Clock + AllocGlobal, E: Write + IsTermina
     work: Work,
     sequel: &Sequel<'a>,
     line: Option<Line<'r, R>>,
-    err: &mut E,
+    err: &'e mut E,
     hint: &mut Option<Hint>,
-) -> Result<Steps<'a>, Failure<'a>> {
+) -> Result<Steps<'a>, Failure<'a>>
+    ensures { IfOk result (UsesBeside
+        ⟦<ShownSimulator<'r, 'e, R, E> as Rig>⟧.view ⟦<ShownSocket<'r, 'e, R, E> as Rig>⟧.view
+        options.now (texts_of tables.now) (work_on_fresh options.now.is_fresh work) sequel.now
+        (is_some files.entry.out)) }
+{
     let work = work.on_fresh(options.is_fresh);
     let next = work.next();
     let done = use_files(rt, options, tables, files, work, sequel, line, err, hint);
@@ -92,7 +105,7 @@ fn use_beside<'a, 'r, R: Locks + Net + Clock + AllocGlobal, E: Write + IsTermina
 }
 
 /// The same, without what is to be done behind it.
-fn use_files<'a, 'r, R: Locks + Net + Clock + AllocGlobal, E: Write + IsTerminal>(
+fn use_files<'a, 'r, 'e, R: Locks + Net + Clock + AllocGlobal, E: Write + IsTerminal>(
     rt: &'r R,
     options: &Options<'a>,
     tables: &ChipTables<'a>,
@@ -100,23 +113,59 @@ fn use_files<'a, 'r, R: Locks + Net + Clock + AllocGlobal, E: Write + IsTerminal
     work: Work,
     sequel: &Sequel<'a>,
     line: Option<Line<'r, R>>,
-    err: &mut E,
+    err: &'e mut E,
     hint: &mut Option<Hint>,
-) -> Result<Steps<'a>, Failure<'a>> {
+) -> Result<Steps<'a>, Failure<'a>>
+    ensures { IfOk result (UsesBeside
+        ⟦<ShownSimulator<'r, 'e, R, E> as Rig>⟧.view ⟦<ShownSocket<'r, 'e, R, E> as Rig>⟧.view
+        options.now (texts_of tables.now) work sequel.now (is_some files.entry.out)) }
+{
     if let Some(to) = sequel.to {
         files.check_new(rt, to)?;
     }
     let output = Output::open(rt, files)?;
     let is_begun = begins_journal(rt, options, &work);
     tell_notes(options, is_begun, &work, err);
-    let steps = if sequel.again > 0 {
-        use_again(rt, options, tables, work, sequel, line, err, hint)?
-    } else {
-        use_once(rt, options, tables, work, sequel, output, line, err, hint)?
-    };
+    let steps = use_work(rt, options, tables, work, sequel, output, line, err, hint)?;
     if is_begun && !steps.has_named_board() {
         tell_nameless(options, err);
     }
+    tell_beside(rt, steps, options, tables)
+}
+
+/// The same, done once or again where its line fails.
+fn use_work<'a, 'r, 'e, R: Locks + Net + Clock + AllocGlobal, E: Write + IsTerminal>(
+    rt: &'r R,
+    options: &Options<'a>,
+    tables: &ChipTables<'a>,
+    work: Work,
+    sequel: &Sequel<'a>,
+    output: Output<'a, R>,
+    line: Option<Line<'r, R>>,
+    err: &'e mut E,
+    hint: &mut Option<Hint>,
+) -> Result<Steps<'a>, Failure<'a>>
+    ensures { IfOk result (UsesLast
+        ⟦<ShownSimulator<'r, 'e, R, E> as Rig>⟧.view ⟦<ShownSocket<'r, 'e, R, E> as Rig>⟧.view
+        options.now (texts_of tables.now) work sequel.now
+        (goes_out output.entry && (sequel.now.again == 0))) }
+{
+    if sequel.again == 0 {
+        use_once(rt, options, tables, work, sequel, output, line, err, hint)
+    } else {
+        use_again(rt, options, tables, work, sequel, line, err, hint)
+    }
+}
+
+/// The same steps, beside what the tables say of the answer.
+fn tell_beside<'a, R: AllocGlobal>(
+    rt: &R,
+    steps: Steps<'a>,
+    options: &Options<'a>,
+    tables: &ChipTables<'a>,
+) -> Result<Steps<'a>, Failure<'a>>
+    ensures { IfOk result (AreBeside (texts_of tables.now) steps.entry) }
+{
     Ok(Steps {
         board: steps.board,
         answer: steps.answer.beside(rt.alloc(), options.table, tables)?,
@@ -138,10 +187,8 @@ pub fn use_once<'a, 'r, 'e, R: Locks + Net + Clock + AllocGlobal, E: Write + IsT
     hint: &mut Option<Hint>,
 ) -> Result<Steps<'a>, Failure<'a>>
     ensures { IfOk result (UsesOnce
-        ⟦<Shown<'r, SimulatorRig<'r, 'r, R>, &'e mut E, R> as Rig>⟧.view
-        ⟦<Shown<'r, SocketRig<'r, UnixStream, R>, &'e mut E, R> as Rig>⟧.view
-        options.now (texts_of tables.now) work sequel.now
-        (goes_out output.entry)) }
+        ⟦<ShownSimulator<'r, 'e, R, E> as Rig>⟧.view ⟦<ShownSocket<'r, 'e, R, E> as Rig>⟧.view
+        options.now (texts_of tables.now) work sequel.now (goes_out output.entry)) }
 {
     let style = Style::of(rt, options, err);
     let screen = Screen::new(err, rt, rt.alloc(), style);

@@ -1,5 +1,5 @@
 // Where the bytes of a flash go that were read.
-ghost use Rattle.std.specs.Prelude.{◌≡◌, IfOk};
+ghost use Rattle.std.specs.Prelude.{◌≡◌, IfOk, is_some, true};
 ghost use Rattle.stmflash.specs.DeviceUse.{AreOut, AreOutOf, goes_out};
 
 use crate::named_files::NamedFiles;
@@ -29,7 +29,9 @@ pub enum Output<'a, R: Files> {
 impl<'a, R: Files + AllocGlobal> Output<'a, R> {
     /// The output among the files that are named. It is tried whether it can be written: a file is
     /// opened, and stays as it is; and one is made beside it, and removed.
-    pub fn open(rt: &R, files: NamedFiles<'a>) -> Result<Output<'a, R>, Failure<'a>> {
+    pub fn open(rt: &R, files: NamedFiles<'a>) -> Result<Output<'a, R>, Failure<'a>>
+        ensures { IfOk result (λ output. goes_out output ≡ is_some files.entry.out) }
+    {
         let Some(name) = files.out() else {
             return Ok(Output::Printed);
         };
@@ -39,7 +41,9 @@ impl<'a, R: Files + AllocGlobal> Output<'a, R> {
         }
     }
 
-    fn try_open(rt: &R, name: &'a str, files: NamedFiles<'a>) -> io::Result<Output<'a, R>> {
+    fn try_open(rt: &R, name: &'a str, files: NamedFiles<'a>) -> io::Result<Output<'a, R>>
+        ensures { IfOk result (λ output. goes_out output ≡ true) }
+    {
         if let Some(file) = open_straight(rt, name)? {
             return Ok(Output::Straight { name, file });
         }

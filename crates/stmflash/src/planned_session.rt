@@ -4,8 +4,10 @@ ghost use Rattle.stm_work.specs.Plan.{Tells};
 
 use std::alloc::Global;
 use std::io::Write;
+use std::os::unix::net::UnixStream;
 use std::time::Clock;
 use stm_chip::Table;
+use stm_files::{SimulatorRig, SocketRig};
 use stm_watch::{Watch, WatchRig};
 use stm_wire::Rig;
 use stm_work::{
@@ -15,6 +17,12 @@ use stm_work::{
 
 /// A Rig that is shown and watched.
 pub type Shown<'s, L, W, C> = WatchRig<ProgressRig<'s, L, W, C>>;
+
+/// A simulator in the process that is shown and watched.
+pub type ShownSimulator<'r, 'e, R, E> = Shown<'r, SimulatorRig<'r, 'r, R>, &'e mut E, R>;
+
+/// A device behind a socket that is shown and watched.
+pub type ShownSocket<'r, 'e, R, E> = Shown<'r, SocketRig<'r, UnixStream, R>, &'e mut E, R>;
 
 /// A Rig behind a session, and what came of that.
 #[derive(Drop)]

@@ -1,12 +1,16 @@
 // The program: what its words ask for.
 ghost use Rattle.std.specs.Io.KnownBytes.{Appends};
-ghost use Rattle.std.specs.Prelude.{IfOk, OnErr, OnOk};
+ghost use Rattle.std.specs.Prelude.{◌≡◌, ◌≤◌, ◌⊎◌, IfOk, None, OnErr, OnOk, map, true};
+ghost use Rattle.stm_work.specs.ExitStatus.{status_of};
+ghost use Rattle.stmflash.specs.Printed.{ArePrinted, AreStepsOf, IsDone, IsFailed, IsStatusOf};
+ghost use Rattle.stmflash.specs.Printed.{IsTold, IsWell};
 ghost use Rattle.stm_work.specs.ShortLine.{short_line};
 ghost use Rattle.stm_work.specs.StepsText.{steps_text};
 
 use crate::first_question::Place;
 use crate::journal_tasks::{check, keep, log};
 use crate::on_device::use_device;
+use crate::planned_session::{ShownSimulator, ShownSocket};
 use crate::serving::serve;
 use std::alloc::AllocError;
 use std::io;
@@ -14,6 +18,7 @@ use std::io::{IsTerminal, Read, Write};
 use std::net::Net;
 use std::time::Clock;
 use stm_files::{Escaped, Locks};
+use stm_wire::Rig;
 use stm_words::{Environment, Request, Unread, read_request, wants_json};
 use stm_work::{
     Answer, Failure, Hint, Steps, is_flash, json_of_done, json_of_failure, json_of_refusal, name_of,
@@ -28,21 +33,28 @@ use stm_work::{
 /// asked for, what was done is told on `out` as lines of it, and a fault there too.
 pub fn program<
     'a,
+    'r,
+    'e,
     R: Locks + Net + Clock + AllocGlobal + Clone + Drop,
     I: Read + IsTerminal,
     O: Write,
     E: Write + IsTerminal,
 >(
-    rt: &R,
+    rt: &'r R,
     environment: Environment<'a>,
     words: &'a [&'a str],
     input: &mut I,
     out: &mut O,
-    err: &mut E,
-) -> u8 {
+    err: &'e mut E,
+) -> u8
+    ensures { result ≡ 0 → IsWell
+        ⟦<ShownSimulator<'r, 'e, R, E> as Rig>⟧.view ⟦<ShownSocket<'r, 'e, R, E> as Rig>⟧.view
+        environment.entry (map (λ s. s.now) words.entry.now)
+        (O.contents out.old) (O.contents out.new) }
+{
     // the name of a journal that the words leave to the device's board
     let mut place = Place::new(rt.alloc());
-    let is_json = environment.is_json || wants_json(words);
+    let is_json = is_json_wanted(environment, words);
     match read_request(rt.alloc(), environment, words) {
         Ok(request) => answer(rt, request, &mut place, is_json, input, out, err),
         Err(Unread::Help(text)) => print_help(rt, text.as_str(), out, err),
@@ -54,6 +66,13 @@ pub fn program<
     }
 }
 
+/// Whether what was done is told as JSON: the environment says so, or the words.
+fn is_json_wanted(environment: Environment<'_>, words: &[&str]) -> bool
+    ensures { environment.entry.is_json ≡ true → result ≡ true }
+{
+    environment.is_json || wants_json(words)
+}
+
 /// Tells that `clap` refuses the words, in its own text.
 fn refuse<R: AllocGlobal, O: Write, E: Write>(
     rt: &R,
@@ -61,7 +80,9 @@ fn refuse<R: AllocGlobal, O: Write, E: Write>(
     is_json: bool,
     out: &mut O,
     err: &mut E,
-) -> u8 {
+) -> u8
+    ensures { result ≡ 2 }
+{
     let _ = write!(err, "{text}");
     if is_json {
         let _ = print_line(json_of_refusal(rt.alloc(), text), "fault", "usage", out);
@@ -72,19 +93,28 @@ fn refuse<R: AllocGlobal, O: Write, E: Write>(
 /// Does what the words ask for, and tells what came of it.
 fn answer<
     'a,
+    'r,
+    'e,
     R: Locks + Net + Clock + AllocGlobal + Clone + Drop,
     I: Read + IsTerminal,
     O: Write,
     E: Write + IsTerminal,
 >(
-    rt: &R,
+    rt: &'r R,
     request: Request<'a>,
     place: &'a mut Place,
     is_json: bool,
     input: &mut I,
     out: &mut O,
-    err: &mut E,
-) -> u8 {
+    err: &'e mut E,
+) -> u8
+    ensures told { IsFailed result ⊎ IsTold
+        ⟦<ShownSimulator<'r, 'e, R, E> as Rig>⟧.view ⟦<ShownSocket<'r, 'e, R, E> as Rig>⟧.view
+        request.entry is_json (O.contents out.old) (O.contents out.new) result }
+    ensures done { result ≡ 0 → IsDone
+        ⟦<ShownSimulator<'r, 'e, R, E> as Rig>⟧.view ⟦<ShownSocket<'r, 'e, R, E> as Rig>⟧.view
+        request.entry is_json (O.contents out.old) (O.contents out.new) }
+{
     let mut hint = None;
     match run_request(rt, request, place, input, err, &mut hint) {
         Ok(steps) => print_steps(rt, &steps, hint, is_json, out, err),
@@ -95,17 +125,23 @@ fn answer<
 /// Does what the words ask for.
 fn run_request<
     'a,
+    'r,
+    'e,
     R: Locks + Net + Clock + AllocGlobal + Clone + Drop,
     I: Read + IsTerminal,
     E: Write + IsTerminal,
 >(
-    rt: &R,
+    rt: &'r R,
     request: Request<'a>,
     place: &'a mut Place,
     input: &mut I,
-    err: &mut E,
+    err: &'e mut E,
     hint: &mut Option<Hint>,
-) -> Result<Steps<'a>, Failure<'a>> {
+) -> Result<Steps<'a>, Failure<'a>>
+    ensures { IfOk result (AreStepsOf
+        ⟦<ShownSimulator<'r, 'e, R, E> as Rig>⟧.view ⟦<ShownSocket<'r, 'e, R, E> as Rig>⟧.view
+        request.entry) }
+{
     match request {
         Request::Use(options, task, sequel) => {
             use_device(rt, &options, task, &sequel, place, input, err, hint)
@@ -124,7 +160,10 @@ fn alone<'a>(done: Result<Answer, Failure<'a>>) -> Result<Steps<'a>, Failure<'a>
 
 /// Tells a fault, in one line that is written at once. Where there is no memory for the
 /// line, it is written in parts.
-pub fn fail<R: AllocGlobal, E: Write>(rt: &R, failure: &Failure, err: &mut E) -> u8 {
+pub fn fail<R: AllocGlobal, E: Write>(rt: &R, failure: &Failure, err: &mut E) -> u8
+    ensures status { result ≡ status_of failure.now }
+    ensures failed { 1 ≤ result }
+{
     let _ = match format!(in rt.alloc(); "stmflash: {}\n", Escaped(failure)) {
         Ok(line) => err.write_all(line.as_bytes()),
         Err(_) => writeln!(err, "stmflash: {}", Escaped(failure)),
@@ -141,7 +180,10 @@ fn fail_told<R: AllocGlobal, O: Write, E: Write>(
     is_json: bool,
     out: &mut O,
     err: &mut E,
-) -> u8 {
+) -> u8
+    ensures status { result ≡ status_of failure.now }
+    ensures failed { 1 ≤ result }
+{
     let status = fail(rt, failure, err);
     if let Some(hint) = hint {
         print_hint(rt, hint.of(failure), err);
@@ -192,7 +234,10 @@ fn print_steps<R: AllocGlobal, O: Write, E: Write>(
     is_json: bool,
     out: &mut O,
     err: &mut E,
-) -> u8 {
+) -> u8
+    ensures status { IsStatusOf is_json hint steps.now (O.contents out.old) (O.contents out.new) result }
+    ensures whole { result ≡ 0 → steps.now.failure ≡ None }
+{
     match (print_as(rt, steps, hint, is_json, out), &steps.failure) {
         (Ok(()), None) => {
             if let Some(hint) = hint {
@@ -213,7 +258,10 @@ fn print_as<R: AllocGlobal, O: Write>(
     hint: Option<Hint>,
     is_json: bool,
     out: &mut O,
-) -> io::Result<()> {
+) -> io::Result<()>
+    ensures { OnOk result
+        (ArePrinted is_json hint steps.now (O.contents out.old) (O.contents out.new)) }
+{
     if is_json && !is_flash(&steps.answer) {
         let lines = json_of_done(rt.alloc(), steps, hint);
         return print_line(lines, "answer", name_of(&steps.answer), out);
@@ -240,7 +288,9 @@ fn print_help<R: AllocGlobal, O: Write, E: Write>(
     text: &str,
     out: &mut O,
     err: &mut E,
-) -> u8 {
+) -> u8
+    ensures { result ≡ 0 → Appends (O.contents out.old) (O.contents out.new) text.now }
+{
     match out.write_all(text.as_bytes()) {
         Ok(()) => 0,
         Err(_) => fail(rt, &Failure::CannotWrite("standard output"), err),
