@@ -14,7 +14,7 @@ use stm_session::{Board, Fault, ask_board};
 use stm_wire::{BoardPlaces, Chip, Rig, UniqueId};
 
 /// Before which sessions a device is asked which board it is, and how large its flash.
-#[derive(Clone, Copy, Debug)]
+#[derive(Clone, Copy)]
 pub enum Asking {
     /// Before one that wants a finished journal.
     OfFinished,
@@ -39,7 +39,7 @@ impl Asking {
 }
 
 /// Whether a device is asked, and which it has to be.
-#[derive(Clone, Copy, Debug)]
+#[derive(Clone, Copy)]
 pub enum Due {
     /// It isn't asked.
     Not,
@@ -51,7 +51,7 @@ pub enum Due {
 }
 
 /// Whether a device is asked which board it is, and which is wanted.
-#[derive(Clone, Copy, Debug)]
+#[derive(Clone, Copy)]
 pub struct Question<'a> {
     /// Whether it is asked before a session that may begin.
     pub is_asked: bool,

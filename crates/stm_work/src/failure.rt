@@ -6,8 +6,9 @@ ghost use Rattle.stm_work.specs.declared.failure.Failure.TheVariants.{Session, H
 
 use crate::otherwise::Otherwise;
 use std::alloc::{AllocError, AllocFailed};
-use std::io;
+use std::fmt::{Debug, Display, Formatter};
 use std::io::ErrorKind;
+use std::{fmt, io};
 use stm_chip::TableFault;
 use stm_files::{FileFault, Foreign, Reason, Unusable};
 use stm_image::{HexFault, RawFault};
@@ -16,7 +17,7 @@ use stm_words::UsageFault;
 use thiserror::Error;
 
 /// Why the program failed. Names are those that the words gave.
-#[derive(Debug, Drop, Error)]
+#[derive(Drop, Error)]
 pub enum Failure<'a> {
     /// The session was refused or broken off.
     #[error("{0}")]
@@ -115,6 +116,12 @@ pub enum Failure<'a> {
     /// A simulator was stopped, as it was asked for.
     #[error("stopped")]
     Stopped,
+}
+
+impl<'a> Debug for Failure<'a> {
+    fn fmt<W: fmt::Write>(&self, f: &mut Formatter<W>) -> fmt::Result {
+        Display::fmt(self, f)
+    }
 }
 
 impl<'a> Failure<'a> {

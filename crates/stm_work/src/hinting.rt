@@ -17,7 +17,7 @@ const NACK: u8 = 0x1F;
 const BUSY: u8 = 0x76;
 
 /// A command that reads or changes the flash (AN3155, sections 3.4 and 3.6 to 3.8).
-#[derive(Clone, Copy, Debug, PartialEq, Eq)]
+#[derive(Clone, Copy, PartialEq, Eq)]
 pub enum FlashCommand {
     Read,
     Write,

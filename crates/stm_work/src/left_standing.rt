@@ -6,7 +6,7 @@ use std::fmt;
 use std::fmt::{Display, Formatter, Write};
 
 /// What a journal says of the write that was begun behind so many segments.
-#[derive(Clone, Copy, Debug)]
+#[derive(Clone, Copy)]
 pub struct Standing {
     /// How many segments there are.
     pub depth: u32,
@@ -24,7 +24,7 @@ impl Standing {
 }
 
 /// Which segments stand behind those that there were.
-#[derive(Clone, Copy, Debug)]
+#[derive(Clone, Copy)]
 pub enum Stands {
     /// None.
     Nothing,

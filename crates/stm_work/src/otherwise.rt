@@ -39,7 +39,7 @@ const NOTHING: &str =
     "watched: nothing, since no chip of the table had told its id and codes by then";
 
 /// What watching a session came to in which no reply was refused.
-#[derive(Clone, Copy, Debug, PartialEq, Eq)]
+#[derive(Clone, Copy, PartialEq, Eq)]
 pub struct Watched {
     /// Whether it began.
     pub has_begun: bool,

@@ -10,7 +10,7 @@ use stm_wire::Chip;
 use stm_words::Range;
 
 /// Which pages a session goes through.
-#[derive(Clone, Copy, Debug)]
+#[derive(Clone, Copy)]
 pub enum Goal {
     /// It isn't known beforehand.
     Unknown,
@@ -92,7 +92,7 @@ fn last_of(image: &Image) -> u32 {
 }
 
 /// How far a session has come: what is done with which page, the how manieth of how many that is.
-#[derive(Clone, Copy, Debug)]
+#[derive(Clone, Copy)]
 pub struct Place {
     pub doing: Doing,
     pub page: u16,

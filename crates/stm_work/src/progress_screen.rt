@@ -15,7 +15,7 @@ use std::time::{Clock, Instant};
 use stm_words::{Options, Progress};
 
 /// How a session is shown.
-#[derive(Clone, Copy, Debug, PartialEq, Eq)]
+#[derive(Clone, Copy, PartialEq, Eq)]
 pub enum Style {
     /// Not at all.
     Hidden,

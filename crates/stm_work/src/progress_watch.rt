@@ -4,7 +4,7 @@ ghost use Rattle.std.specs.Prelude.{◌≡◌, ◌==◌, position};
 use std::alloc::Global;
 
 /// What is done with a page.
-#[derive(Clone, Copy, Debug, PartialEq, Eq)]
+#[derive(Clone, Copy, PartialEq, Eq)]
 pub enum Doing {
     Reading,
     Erasing,
@@ -12,7 +12,7 @@ pub enum Doing {
 }
 
 /// What a call told.
-#[derive(Clone, Copy, Debug)]
+#[derive(Clone, Copy)]
 pub enum Seen {
     /// The device's product id.
     Id(u16),

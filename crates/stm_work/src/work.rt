@@ -39,7 +39,7 @@ pub enum Work {
 }
 
 /// What may be to be done behind a work.
-#[derive(Clone, Copy, Debug, PartialEq, Eq)]
+#[derive(Clone, Copy, PartialEq, Eq)]
 pub enum Next {
     /// Nothing that is told.
     Nothing,
