@@ -1,4 +1,4 @@
-use Rattle.std.proofs.Common.{◌≡◌, ℕ, List, ◌++◌, ◌∙◌, Result, IfOk, ap, codes, append_assoc}
+use Rattle.std.proofs.Common.{◌≡◌, ℕ, List, ◌++◌, ◌∙◌, ap, codes, append_assoc}
 use Rattle.std.proofs.lemmas.Result.{IfOk-weaker}
 use Rattle.stm_work.specs.JsonLine.{line_end, object_of, text_member}
 use Rattle.stm_work.specs.ToldJson.{answer_name, board_members_of, members_of, next_line}
