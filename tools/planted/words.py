@@ -295,8 +295,8 @@ FAULTS = {
         "test_device.Device.test_says_which_device_is_bad"),
     "--json behind two dashes is asked for": (
         "stm_words/src/json.rt",
-        '"--" => return false,',
-        '"--" if !@on => return false,',
+        'if *word == "--" {',
+        'if *word == "--" && !@on {',
         "test_json.Json.test_a_word_behind_two_dashes_is_a_word"),
     "a write is not verified": (
         "stm_words/src/task.rt",

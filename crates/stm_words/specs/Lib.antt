@@ -7,3 +7,4 @@ pub mod Request
 pub mod Saying
 pub mod Sequel
 pub mod TableNames
+pub mod Json

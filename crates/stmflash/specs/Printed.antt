@@ -1,9 +1,10 @@
 -- What is printed of the steps of one call, and the exit status beside it.
-use Rattle.std.specs.Prelude.{◌≡◌, ◌⊎◌, ◌&&◌, ℕ, Bool, true, false, not, List, Option, Some, None}
+use Rattle.std.specs.Prelude.{◌≡◌, ◌⊎◌, ◌&&◌, ◌||◌, ℕ, Bool, true, false, not, List, Option, Some, None}
 use Rattle.std.specs.Prelude.{MatchOption, codes}
 use Rattle.std.specs.Io.KnownBytes.{Appends}
 use Rattle.stm_wire.specs.Rig.{RigState}
 use Rattle.stm_words.specs.Asking.{IsAskedFor}
+use Rattle.stm_words.specs.Json.{wants_json}
 use Rattle.stm_words.specs.Saying.{IsSaidFresh}
 use Rattle.stm_words.specs.declared.environment.Environment.{Environment}
 use Rattle.stm_words.specs.declared.request.Request.{Request}
@@ -67,15 +68,15 @@ pub record IsDone {A B : Type 0} (simulated : A → RigState) (connected : B →
   pub hint : Option Hint
   pub printed : ArePrinted is_json hint steps old new
 
--- The request that the words ask for was done. It is told as JSON where the environment says so, or
--- the words.
+-- The request that the words ask for was done. It is told as JSON just where the environment says so,
+-- or the words.
 pub record IsServed {A B : Type 0} (simulated : A → RigState) (connected : B → RigState)
     (e : Environment) (words : List (List ℕ)) (old new : Option (List ℕ)) : Type 0 where
   pub request : Request
   pub asked : IsAskedFor e words request
   pub said : IsSaidFresh request
   pub is_json : Bool
-  pub json : e.is_json ≡ true → is_json ≡ true
+  pub json : is_json ≡ e.is_json || wants_json words
   pub done : IsDone simulated connected request is_json old new
 
 -- What status 0 says: the request was done, or a text of help was printed whole.

@@ -1,6 +1,7 @@
 // The program: what its words ask for.
 ghost use Rattle.std.specs.Io.KnownBytes.{Appends};
-ghost use Rattle.std.specs.Prelude.{◌≡◌, ◌≤◌, ◌⊎◌, ◌&&◌, IfOk, None, OnErr, OnOk, map, not, true};
+ghost use Rattle.std.specs.Prelude.{◌≡◌, ◌≤◌, ◌⊎◌, ◌&&◌, ◌||◌, IfOk, None, OnErr, OnOk, map, not};
+ghost use Rattle.stm_words.specs.Json.{wants_json};
 ghost use Rattle.stm_work.specs.Answer.{is_flash};
 ghost use Rattle.stm_work.specs.ExitStatus.{status_of};
 ghost use Rattle.stmflash.specs.Printed.{ArePrinted, AreStepsOf, IsDone, IsFailed, IsStatusOf};
@@ -69,7 +70,7 @@ pub fn program<
 
 /// Whether what was done is told as JSON: the environment says so, or the words.
 fn is_json_wanted(environment: Environment<'_>, words: &[&str]) -> bool
-    ensures { environment.entry.is_json ≡ true → result ≡ true }
+    ensures { result ≡ environment.entry.is_json || wants_json (map (λ s. s.now) words.entry.now) }
 {
     environment.is_json || wants_json(words)
 }
