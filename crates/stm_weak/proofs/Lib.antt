@@ -8,3 +8,7 @@ mod Sessions
 mod Clauses
 mod Leaving
 mod Histories
+mod Agreeing
+mod Effects
+mod Feeding
+mod Leading

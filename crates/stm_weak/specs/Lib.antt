@@ -1,3 +1,6 @@
 pub mod Weak
 pub mod Believed
 pub mod History
+pub mod WeakDevice
+pub mod WeakRuns
+pub mod WeakLaws

@@ -2,8 +2,10 @@
 //! believed, and behind an undo that answers Ok there is none, on any line, whatever it answers.
 #![tactic(auto)]
 
+mod device;
 mod laws;
 mod undoing;
 
+pub use device::a_weak_device_is_ordinary_while_unread;
 pub use laws::{an_undo_believes_no_page_at_work, weak_pages_are_at_work};
 pub use undoing::take_back;
