@@ -3,7 +3,7 @@ use Rattle.std.proofs.Common.{◌≡◌, ℕ, ◌<◌, IsTrue, List, [], ◌∷�
 use Rattle.stm_wire.specs.Chip.{ChipData}
 use Rattle.stm_wire.specs.Device.{Device, Phase, Fresh, Feeds, IsDevice, IsOpenPhase, reset}
 use Rattle.stm_weak.specs.WeakDevice.{AgreesOutside, CanBe, ReadsWeak, WeakDevice, WeakFeeds}
-use Rattle.stm_weak.specs.WeakRuns.{Feed, Happening, Reset, Take, AreBytes, IsNow, Leads, LeadsUnread}
+use Rattle.stm_weak.specs.WeakRuns.{Feed, Happening, Reset, Take, AreBytes, IsNow, Leads, LeadsUnread, StayWeak}
 use Rattle.stm_weak.specs.WeakLaws.{LedAsOrdinary, OneIsLeft, SoundIsOrdinary}
 use Rattle.stm_weak.proofs.Agreeing.{agrees_none, agrees_weaker}
 use Rattle.stm_weak.proofs.Feeding.{fed_as_ordinary, with_parts}
@@ -26,13 +26,23 @@ can_be_now old new d owed phase can now =
 pub device_now : (d : Device) (owed : List ℕ) (phase : Phase) → IsDevice d → IsOpenPhase d.chip d.codes phase → IsDevice (record d { owed = owed; phase = phase })
 device_now d owed phase is waits = with_parts d d.flash owed phase is refl is.flash waits
 
+-- with other owed bytes, both
+pub can_be_owing : (old new : WeakDevice) (d : Device) (owed : List ℕ) → CanBe old d → IsNow (record old.device { owed = owed }) old new → CanBe new (record d { owed = owed })
+can_be_owing old new d owed can now =
+    let make : Phase → Device = λ p. record d { owed = owed; phase = p } in
+    subst (CanBe new) (ap make (sym can.phase)) (can_be_now old new d owed old.device.phase can now)
+
 -- so many owed bytes are taken from both
 pub can_be_taken : (old new : WeakDevice) (d : Device) (n : ℕ) → CanBe old d → IsNow (record old.device { owed = drop n old.device.owed }) old new → CanBe new (record d { owed = drop n d.owed })
 can_be_taken old new d n can now =
-    let make : List ℕ → Phase → Device = λ owed phase. record d { owed = owed; phase = phase } in
-    let same : make (drop n old.device.owed) old.device.phase ≡ make (drop n d.owed) d.phase =
-    ap (λ xs. make (drop n xs) old.device.phase) (sym can.owed) ∙ ap (λ p. make (drop n d.owed) p) (sym can.phase) in
-    subst (CanBe new) same (can_be_now old new d (drop n old.device.owed) old.device.phase can now)
+    let make : List ℕ → Device = λ owed. record d { owed = drop n owed } in
+    subst (CanBe new) (ap make (sym can.owed)) (can_be_owing old new d (drop n old.device.owed) can now)
+
+-- nothing befell both, but that more pages may be weak
+pub can_be_still : (old new : WeakDevice) (d : Device) → CanBe old d → new.device ≡ old.device → StayWeak old new → CanBe new d
+can_be_still old new d can same stays =
+    let make : List ℕ → Device = λ owed. record d { owed = owed } in
+    subst (CanBe new) (ap make (sym can.owed)) (can_be_owing old new d old.device.owed can (record { device = same; stays = stays }))
 
 pub led_as_ordinary : LedAsOrdinary
 led_as_ordinary [] old new d small is can led =

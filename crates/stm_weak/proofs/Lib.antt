@@ -12,3 +12,4 @@ mod Agreeing
 mod Effects
 mod Feeding
 mod Leading
+mod Vouching

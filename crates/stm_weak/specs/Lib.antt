@@ -4,3 +4,4 @@ pub mod History
 pub mod WeakDevice
 pub mod WeakRuns
 pub mod WeakLaws
+pub mod WeakRecord

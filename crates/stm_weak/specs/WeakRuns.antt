@@ -19,10 +19,14 @@ Leads (Feed byte ∷ more) old new = (mid : Device) × Feeds byte old mid × Lea
 Leads (Take n ∷ more) old new = Leads more (record old { owed = drop n old.owed }) new
 Leads (Reset ∷ more) old new = Leads more (reset old) new
 
--- It is this device now. Each page that was weak is, and others may be too.
+-- each page that was weak is, and others may be too
+abbrev pub StayWeak : WeakDevice → WeakDevice → Type 0
+StayWeak old new = (n : ℕ) → IsTrue (old.weak n) → IsTrue (new.weak n)
+
+-- it is this device now
 pub record IsNow (d : Device) (old new : WeakDevice) : Type 0 where
   pub device : new.device ≡ d
-  pub stays : (n : ℕ) → IsTrue (old.weak n) → IsTrue (new.weak n)
+  pub stays : StayWeak old new
 
 -- one with weak pages, and no byte completes a read of one: a loss of power may leave more of them
 abbrev pub LeadsUnread : List Happening → WeakDevice → WeakDevice → Type 0

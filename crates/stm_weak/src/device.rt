@@ -1,11 +1,24 @@
-//! Laws of a device with weak pages.
+//! Laws of a device with weak pages: each is the contract of a function that does nothing.
 ghost use Rattle.stm_weak.specs.WeakLaws.{FedAsOrdinary, LedAsOrdinary, OneIsLeft};
 ghost use Rattle.stm_weak.specs.WeakLaws.{SoundIsOrdinary};
+ghost use Rattle.stm_weak.specs.WeakRecord.{VouchedWhileUnread};
 
-/// A byte.
+/// A device may have weak pages: as each byte comes they hold anything anew, until an erase of
+/// them is done. As long as no byte completes a read of one, it does what an ordinary device does
+/// that differs from it in bytes of these pages alone. Bytes may be fed and taken meanwhile, and
+/// it may be reset or lose its power, by which more pages may become weak. Where no page is weak,
+/// both have one flash.
 pub fn a_weak_device_is_ordinary_while_unread()
     ensures fed { FedAsOrdinary }
     ensures led { LedAsOrdinary }
     ensures one { OneIsLeft }
     ensures sound { SoundIsOrdinary }
+{}
+
+/// Where a device with weak pages answered as a record of calls says, and no byte of the record
+/// completes a read of one, the record vouches for an ordinary device. So what is promised of a
+/// Rig that answers from such a record holds of that device, and of the flash where no page is
+/// weak.
+pub fn an_unread_record_is_vouched_for()
+    ensures vouched { VouchedWhileUnread }
 {}
