@@ -3,7 +3,7 @@ use Rattle.std.proofs.Common.{◌≡◌, ℕ, ◌<◌, IsTrue, List, [], ◌∷�
 use Rattle.stm_wire.specs.Chip.{ChipData}
 use Rattle.stm_wire.specs.Device.{Device, Phase, Fresh, Feeds, IsDevice, IsOpenPhase, reset}
 use Rattle.stm_weak.specs.WeakDevice.{AgreesOutside, CanBe, ReadsWeak, WeakDevice, WeakFeeds}
-use Rattle.stm_weak.specs.WeakRuns.{Feed, Happening, Reset, Take, AreBytes, IsNow, Leads, LeadsUnread, StayWeak}
+use Rattle.stm_weak.specs.WeakRuns.{Feed, Happening, Reset, Take, AreBytes, Befall, IsNow, IsUnread, StayWeak, WeakBefall}
 use Rattle.stm_weak.specs.WeakLaws.{LedAsOrdinary, OneIsLeft, SoundIsOrdinary}
 use Rattle.stm_weak.proofs.Agreeing.{agrees_none, agrees_weaker}
 use Rattle.stm_weak.proofs.Feeding.{fed_as_ordinary, with_parts}
@@ -45,16 +45,16 @@ can_be_still old new d can same stays =
     subst (CanBe new) (ap make (sym can.owed)) (can_be_owing old new d old.device.owed can (record { device = same; stays = stays }))
 
 pub led_as_ordinary : LedAsOrdinary
-led_as_ordinary [] old new d small is can led =
+led_as_ordinary [] old new d small is can led unread =
     (d, refl, subst (λ (w : WeakDevice). CanBe w d) (sym led) can, is)
-led_as_ordinary (Feed byte ∷ more) old new d small is can (mid, feeds, unread, led) =
-    let one = fed_as_ordinary byte old mid d small.0 is can feeds unread in
-    let rest = led_as_ordinary more mid new one.0 small.1 one.3 one.2 led in
+led_as_ordinary (Feed byte ∷ more) old new d small is can (mid, feeds, led) unread =
+    let one = fed_as_ordinary byte old mid d small.0 is can feeds unread.0 in
+    let rest = led_as_ordinary more mid new one.0 small.1 one.3 one.2 led unread.1 in
     (rest.0, (one.0, one.1, rest.1), rest.2, rest.3)
-led_as_ordinary (Take n ∷ more) old new d small is can (mid, now, led) =
-    led_as_ordinary more mid new (record d { owed = drop n d.owed }) small (device_now d (drop n d.owed) d.phase is is.phase) (can_be_taken old mid d n can now) led
-led_as_ordinary (Reset ∷ more) old new d small is can (mid, now, led) =
-    led_as_ordinary more mid new (reset d) small (device_now d [] Fresh is tt) (can_be_now old mid d [] Fresh can now) led
+led_as_ordinary (Take n ∷ more) old new d small is can (mid, now, led) unread =
+    led_as_ordinary more mid new (record d { owed = drop n d.owed }) small (device_now d (drop n d.owed) d.phase is is.phase) (can_be_taken old mid d n can now) led unread
+led_as_ordinary (Reset ∷ more) old new d small is can (mid, now, led) unread =
+    led_as_ordinary more mid new (reset d) small (device_now d [] Fresh is tt) (can_be_now old mid d [] Fresh can now) led unread
 
 pub one_is_left : OneIsLeft
 one_is_left w d none can =

@@ -13,3 +13,4 @@ mod Effects
 mod Feeding
 mod Leading
 mod Vouching
+mod Unread

@@ -5,3 +5,4 @@ pub mod WeakDevice
 pub mod WeakRuns
 pub mod WeakLaws
 pub mod WeakRecord
+pub mod WeakFrames

@@ -1,6 +1,7 @@
 //! Laws of a device with weak pages: each is the contract of a function that does nothing.
 ghost use Rattle.stm_weak.specs.WeakLaws.{FedAsOrdinary, LedAsOrdinary, OneIsLeft};
 ghost use Rattle.stm_weak.specs.WeakLaws.{SoundIsOrdinary};
+ghost use Rattle.stm_weak.specs.WeakFrames.{FramesAreUnread};
 ghost use Rattle.stm_weak.specs.WeakRecord.{VouchedWhileUnread};
 
 /// A device may have weak pages: as each byte comes they hold anything anew, until an erase of
@@ -21,4 +22,11 @@ pub fn a_weak_device_is_ordinary_while_unread()
 /// weak.
 pub fn an_unread_record_is_vouched_for()
     ensures vouched { VouchedWhileUnread }
+{}
+
+/// A device with weak pages that waits for a command may be sent a frame of Get or Get ID, or one
+/// that erases a page or writes into the flash. No byte of the frame completes a read of a weak
+/// page, wherever the host stops in it.
+pub fn frames_that_ask_or_change_are_unread()
+    ensures unread { FramesAreUnread }
 {}
