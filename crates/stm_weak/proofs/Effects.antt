@@ -17,7 +17,7 @@ pub erased_is_byte : (byte : ℕ) → IsErasedByte byte → byte < 256
 erased_is_byte byte (inl none) = omega (arith, none)
 erased_is_byte byte (inr all) = omega (arith, all)
 
-bytes-with_bytes : (at : ℕ) (bytes flash : List ℕ) → All IsByte bytes → All IsByte flash → All IsByte (with_bytes at bytes flash)
+pub bytes-with_bytes : (at : ℕ) (bytes flash : List ℕ) → All IsByte bytes → All IsByte flash → All IsByte (with_bytes at bytes flash)
 bytes-with_bytes at bytes flash b f =
     All-append IsByte (take at flash ++ bytes) (drop (at + length bytes) flash) (All-append IsByte (take at flash) bytes (All-take IsByte at flash f) b) (All-drop IsByte (at + length bytes) flash f)
 

@@ -14,3 +14,4 @@ mod Feeding
 mod Leading
 mod Vouching
 mod Unread
+mod Meaning

@@ -111,7 +111,7 @@ unread_from chip codes (Feed byte ∷ happenings) w new done rest more no_reset 
 
 -- The frames are open before their last byte.
 
-verdict_listed : (chip : ChipData) (codes : List ℕ) (code : ℕ) (rest : List ℕ) → IsTrue (is_listed codes code) → verdict chip codes (code ∷ complement code ∷ rest) ≡ command_verdict chip code rest
+pub verdict_listed : (chip : ChipData) (codes : List ℕ) (code : ℕ) (rest : List ℕ) → IsTrue (is_listed codes code) → verdict chip codes (code ∷ complement code ∷ rest) ≡ command_verdict chip code rest
 verdict_listed chip codes code rest listed =
     let choose : Bool → Bool → Option Verdict = λ x y. if x && y then command_verdict chip code rest else at_end Refused rest in
     ap₂ choose (eq-eqb (complement code) (complement code) refl) listed
@@ -124,10 +124,10 @@ open_erase chip codes Extended n lists =
     let at = λ (rest : List ℕ). verdict_listed chip codes 0x44 rest lists.0 in
     (refl, (at [], (at (0 ∷ []), (at (0 ∷ 0 ∷ []), (at (0 ∷ 0 ∷ n / 256 ∷ []), (at (0 ∷ 0 ∷ n / 256 ∷ n % 256 ∷ []), tt))))))
 
-same_number : (address : ℕ) → number_of (address / 16777216) (address / 65536 % 256) (address / 256 % 256) (address % 256) ≡ address
+pub same_number : (address : ℕ) → number_of (address / 16777216) (address / 65536 % 256) (address / 256 % 256) (address % 256) ≡ address
 same_number address = omega arith
 
-after_right : (takes : ℕ → Bool) (next : ℕ → List ℕ → Option Verdict) (address : ℕ) (rest : List ℕ) → IsTrue (takes address)
+pub after_right : (takes : ℕ → Bool) (next : ℕ → List ℕ → Option Verdict) (address : ℕ) (rest : List ℕ) → IsTrue (takes address)
     → after_address takes next (with_checksum (address_bytes address) ++ rest) ≡ next address rest
 after_right takes next address rest inside =
     let x = xor (address_bytes address) in
@@ -187,7 +187,7 @@ module _ (chip : ChipData) (codes : List ℕ) (address n : ℕ) (listed : IsTrue
         ),
       )
 
-inside_if_fits : (chip : ChipData) (address size : ℕ) → 1 ≤ size → IsTrue (fits_inside chip address size) → IsTrue (is_inside chip address)
+pub inside_if_fits : (chip : ChipData) (address size : ℕ) → 1 ≤ size → IsTrue (fits_inside chip address size) → IsTrue (is_inside chip address)
 inside_if_fits chip address size some fits =
     let e = fits-end chip address size fits in
     and_from _ _ (le-leb chip.base address e.0) (lt-ltb address (chip.base + flash_size chip) (omega (arith, e.1, some)))

@@ -6,3 +6,4 @@ pub mod WeakRuns
 pub mod WeakLaws
 pub mod WeakRecord
 pub mod WeakFrames
+pub mod WeakMeaning

@@ -2,6 +2,7 @@
 ghost use Rattle.stm_weak.specs.WeakLaws.{FedAsOrdinary, LedAsOrdinary, OneIsLeft};
 ghost use Rattle.stm_weak.specs.WeakLaws.{SoundIsOrdinary};
 ghost use Rattle.stm_weak.specs.WeakFrames.{FramesAreUnread};
+ghost use Rattle.stm_weak.specs.WeakMeaning.{EraseHeals, ReadsAnything};
 ghost use Rattle.stm_weak.specs.WeakRecord.{VouchedWhileUnread};
 
 /// A device may have weak pages: as each byte comes they hold anything anew, until an erase of
@@ -29,4 +30,11 @@ pub fn an_unread_record_is_vouched_for()
 /// page, wherever the host stops in it.
 pub fn frames_that_ask_or_change_are_unread()
     ensures unread { FramesAreUnread }
+{}
+
+/// A read of weak places may answer any bytes, also other ones each time. The last byte of a frame
+/// that erases a page ends its weakness; a write into it doesn't.
+pub fn a_weak_page_reads_anything_until_it_is_erased()
+    ensures reads { ReadsAnything }
+    ensures heals { EraseHeals }
 {}
