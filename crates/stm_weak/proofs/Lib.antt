@@ -15,3 +15,4 @@ mod Leading
 mod Vouching
 mod Unread
 mod Meaning
+mod Putting

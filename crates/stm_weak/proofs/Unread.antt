@@ -1,18 +1,21 @@
 -- Frames of which no byte completes a read.
-use Rattle.std.proofs.Common.{◌≡◌, ◌⊎◌, inl, inr, ℕ, zero, suc, ◌+◌, ◌-◌, ◌/◌, ◌%◌, ◌<◌, ◌≤◌, Bool, true, false, ◌&&◌, ◌==◌, if◌then◌else◌, List, [], ◌∷◌, ◌++◌, length, take, drop, get_or, Option, Some, None, IsTrue, refl, sym, ◌∙◌, ap, ap₂, subst, arith, eq-eqb, ne_eqb, lt-ltb, le-leb, length-append, append_assoc}
-use Rattle.std.proofs.lemmas.Bool.{and_from}
+use Rattle.std.proofs.Common.{⊎_elim, ◌||◌, ◌^◌, nat_le, ◌≡◌, ◌⊎◌, inl, inr, ℕ, zero, suc, ◌+◌, ◌-◌, ◌/◌, ◌%◌, ◌<◌, ◌≤◌, Bool, true, false, ◌&&◌, ◌==◌, if◌then◌else◌, List, [], ◌∷◌, ◌++◌, length, take, drop, get_or, Option, Some, None, IsTrue, refl, sym, ◌∙◌, ap, ap₂, subst, arith, eq-eqb, ne_eqb, lt-ltb, le-leb, length-append, append_assoc}
+use Rattle.std.proofs.lemmas.Bool.{and_from, and_parts, eqb-true, false≢true, leb-true, or_cases}
 use Rattle.stm_wire.specs.declared.chip.EraseKind.{EraseKind}
 use Rattle.stm_wire.specs.declared.chip.EraseKind.TheVariants.{Page, Extended}
 use Rattle.stm_wire.specs.declared.verdict.Verdict.{Verdict}
 use Rattle.stm_wire.specs.declared.verdict.Verdict.TheVariants.{Done, Refused, Loose}
-use Rattle.stm_wire.specs.Chip.{ChipData, fits_inside, flash_size, is_inside}
-use Rattle.stm_wire.specs.Exchange.{verdict, command_verdict, after_address, at_end, complement, done_if, is_listed, number_of, write_verdict, xor}
-use Rattle.stm_wire.specs.PageLaws.{fits-end}
+use Rattle.stm_wire.specs.Chip.{ChipData, IsChip, fits_inside, flash_size, is_inside, is_outside, is_size_place, is_unique_place}
+use Rattle.stm_wire.specs.Exchange.{verdict, command_verdict, after_address, at_end, complement, done_if, is_listed, number_of, read_verdict, write_verdict, xor}
+use Rattle.stm_wire.specs.PageLaws.{fits-end, page_within}
+use Rattle.stm_wire.specs.declared.places.UniquePlace.{UniquePlace}
+use Rattle.stm_wire.specs.Telling.{asks_size, asks_unique, can_read, has_size, has_unique, is_readable}
+use Rattle.stm_wire.specs.UniqueId.{is_unique_length}
 use Rattle.stm_wire.specs.Frames.{address_bytes, command, erase_frame, with_checksum, write_frame}
 use Rattle.stm_wire.specs.Device.{Device, Phase, Fresh, Connected, Gone, Feeds, IsDevice, ListsKind, Receives, Takes}
-use Rattle.stm_weak.specs.WeakDevice.{CanBe, Completes, ReadsPlace, ReadsWeak, WeakDevice, WeakFeeds}
+use Rattle.stm_weak.specs.WeakDevice.{CanBe, Completes, IsWeakAt, ReadsPlace, ReadsWeak, WeakDevice, WeakFeeds}
 use Rattle.stm_weak.specs.WeakRuns.{Feed, Happening, HasNoReset, IsNow, IsUnread, Reset, Take, WeakBefall, fed_bytes}
-use Rattle.stm_weak.specs.WeakFrames.{ReadsNothing, asks, erases, names, writes, FramesAreUnread}
+use Rattle.stm_weak.specs.WeakFrames.{ReadsNothing, asks, erases, names, tells, writes, FramesAreUnread}
 
 -- the first byte isn't that of a read
 abbrev IsNoRead : List ℕ → Type 0
@@ -24,6 +27,21 @@ abbrev IsOpenTo : ChipData → List ℕ → List ℕ → List ℕ → Type 0
 IsOpenTo chip codes done [] = Unit {0}
 IsOpenTo chip codes done (byte ∷ []) = Unit {0}
 IsOpenTo chip codes done (byte ∷ next ∷ more) = (verdict chip codes (done ++ byte ∷ []) ≡ None) × IsOpenTo chip codes (done ++ byte ∷ []) (next ∷ more)
+
+-- these bytes are no list that is done and reads a place of the flash
+abbrev IsSilent : ChipData → List ℕ → List ℕ → Type 0
+IsSilent chip codes bytes = (place : ℕ) → verdict chip codes bytes ≡ Some Done → place < flash_size chip → ReadsPlace chip bytes place → ⊥
+
+-- what it has once more is to come: these bytes, or none where they are refused
+abbrev LeavesRest : ChipData → List ℕ → List ℕ → List ℕ → List ℕ → Type 0
+LeavesRest chip codes bytes next [] = Unit {0}
+LeavesRest chip codes bytes next (byte ∷ more) = ((verdict chip codes bytes ≡ None) × (next ≡ bytes)) ⊎ ((verdict chip codes bytes ≡ Some Refused) × (next ≡ []))
+
+-- while these follow what came, each byte reads nothing
+abbrev IsSilentAlong : ChipData → List ℕ → List ℕ → List ℕ → Type 0
+IsSilentAlong chip codes done [] = Unit {0}
+IsSilentAlong chip codes done (byte ∷ more) =
+    IsSilent chip codes (done ++ byte ∷ []) × ((next : List ℕ) × LeavesRest chip codes (done ++ byte ∷ []) next more × IsSilentAlong chip codes next more)
 
 -- it is of this make, and has these bytes
 record Has (chip : ChipData) (codes done : List ℕ) (w : WeakDevice) : Type 0 where
@@ -57,12 +75,23 @@ no_read_on : (done : List ℕ) (byte : ℕ) (more : List ℕ) → IsNoRead (done
 no_read_on [] byte more other = other
 no_read_on (code ∷ done) byte more other = other
 
-byte_unread : (chip : ChipData) (codes done : List ℕ) (byte : ℕ) (more : List ℕ) (w : WeakDevice) → Has chip codes done w → IsNoRead (done ++ byte ∷ more) → ReadsWeak byte w → ⊥
-byte_unread chip codes done byte more w has other (bytes, place, completes, reads, weak) =
-    let same : completes.rest ≡ done = same_rest completes.rest done (sym completes.phase ∙ has.same_phase) in
-    let P : List ℕ → Type 0 = λ x. ReadsPlace w.device.chip x place in
-    let Q : List ℕ → Type 0 = λ x. ReadsPlace w.device.chip (x ++ byte ∷ []) place in
-    no_read w.device.chip done byte more place other (subst Q same (subst P completes.is reads))
+silent_along : (chip : ChipData) (codes done bytes : List ℕ) → IsOpenTo chip codes done bytes → IsNoRead (done ++ bytes) → IsSilentAlong chip codes done bytes
+silent_along chip codes done [] waits other = tt
+silent_along chip codes done (byte ∷ []) waits other = (λ place e lt reads. no_read chip done byte [] place other reads, ([], tt, tt))
+silent_along chip codes done (byte ∷ next ∷ more) waits other =
+    (λ place e lt reads. no_read chip done byte (next ∷ more) place other reads, (done ++ byte ∷ [], inl (waits.0, refl), silent_along chip codes (done ++ byte ∷ []) (next ∷ more) waits.1 (no_read_on done byte (next ∷ more) other)))
+
+byte_unread : (chip : ChipData) (codes done : List ℕ) (byte : ℕ) (w : WeakDevice) → Has chip codes done w → IsSilent chip codes (done ++ byte ∷ []) → ReadsWeak byte w → ⊥
+byte_unread chip codes done byte w has silent (bytes, place, completes, reads, weak) =
+    let whole = done ++ byte ∷ [] in
+    let same : bytes ≡ whole = completes.is ∙ ap (λ xs. xs ++ byte ∷ []) (same_rest completes.rest done (sym completes.phase ∙ has.same_phase)) in
+    let P : List ℕ → Type 0 = λ x. ReadsPlace chip x place in
+    let Q : ChipData → Type 0 = λ c. ReadsPlace c bytes place in
+    let R : ChipData → Type 0 = λ c. IsWeakAt c w.weak place in
+    let at : IsWeakAt chip w.weak place = subst R has.same_chip weak in
+    let inside : place < flash_size chip = let h = page_within chip.sizes at.page in omega (arith, at.to) in
+    let v : verdict chip codes whole ≡ Some Done = ap (λ c. verdict c codes whole) (sym has.same_chip) ∙ ap (λ k. verdict w.device.chip k whole) (sym has.same_codes) ∙ ap (λ xs. verdict w.device.chip w.device.codes xs) (sym same) ∙ completes.done in
+    silent place v inside (subst P same (subst Q has.same_chip reads))
 
 has_taken : (chip : ChipData) (codes done rest : List ℕ) (n : ℕ) (w mid : WeakDevice) → HasBefore chip codes done rest w → IsNow (record w.device { owed = drop n w.device.owed }) w mid → HasBefore chip codes done rest mid
 has_taken chip codes done [] n w mid has now = tt
@@ -88,26 +117,45 @@ has_fed chip codes done byte w mid has feeds none =
       same_phase = ap (λ (d : Device). d.phase) takes;
     }
 
-has_on : (chip : ChipData) (codes done : List ℕ) (byte : ℕ) (more : List ℕ) (w mid : WeakDevice) → Has chip codes done w → WeakFeeds byte w mid → IsOpenTo chip codes done (byte ∷ more) → HasBefore chip codes (done ++ byte ∷ []) more mid × IsOpenTo chip codes (done ++ byte ∷ []) more
-has_on chip codes done byte [] w mid has feeds waits = (tt, tt)
-has_on chip codes done byte (next ∷ more) w mid has feeds waits = (has_fed chip codes done byte w mid has feeds waits.0, waits.1)
+has_refused : (chip : ChipData) (codes done : List ℕ) (byte : ℕ) (w mid : WeakDevice) → Has chip codes done w → WeakFeeds byte w mid → verdict chip codes (done ++ byte ∷ []) ≡ Some Refused → Has chip codes [] mid
+has_refused chip codes done byte w mid has feeds none =
+    let now = feeds.now in
+    let bytes = done ++ byte ∷ [] in
+    let P : Phase → Type 0 = λ p. Receives now p byte mid.device in
+    let Q : Option Verdict → Type 0 = λ v. Takes now bytes v mid.device in
+    let chip_is : now.chip ≡ chip = feeds.can_be.chip ∙ has.same_chip in
+    let codes_is : now.codes ≡ codes = feeds.can_be.codes ∙ has.same_codes in
+    let refused : verdict now.chip now.codes bytes ≡ Some Refused = ap (λ c. verdict c now.codes bytes) chip_is ∙ ap (λ k. verdict chip k bytes) codes_is ∙ none in
+    let takes : Takes now bytes (Some Refused) mid.device = subst Q refused (subst P (feeds.can_be.phase ∙ has.same_phase) feeds.feeds.receives) in
+    record {
+      same_chip = ap (λ (d : Device). d.chip) takes ∙ chip_is;
+      same_codes = ap (λ (d : Device). d.codes) takes ∙ codes_is;
+      same_phase = ap (λ (d : Device). d.phase) takes;
+    }
 
-unread_from : (chip : ChipData) (codes : List ℕ) (happenings : List Happening) (w new : WeakDevice) (done rest more : List ℕ) → HasNoReset happenings → rest ≡ fed_bytes happenings ++ more → HasBefore chip codes done rest w → IsOpenTo chip codes done rest → IsNoRead (done ++ rest)
+has_on : (chip : ChipData) (codes done : List ℕ) (byte : ℕ) (next more : List ℕ) (w mid : WeakDevice) → Has chip codes done w → WeakFeeds byte w mid → LeavesRest chip codes (done ++ byte ∷ []) next more → HasBefore chip codes next more mid
+has_on chip codes done byte next [] w mid has feeds leaves = tt
+has_on chip codes done byte next (b ∷ more) w mid has feeds (inl (none, same)) =
+    let P : List ℕ → Type 0 = λ x. Has chip codes x mid in
+    subst P (sym same) (has_fed chip codes done byte w mid has feeds none)
+has_on chip codes done byte next (b ∷ more) w mid has feeds (inr (refused, same)) =
+    let P : List ℕ → Type 0 = λ x. Has chip codes x mid in
+    subst P (sym same) (has_refused chip codes done byte w mid has feeds refused)
+
+unread_from : (chip : ChipData) (codes : List ℕ) (happenings : List Happening) (w new : WeakDevice) (done rest more : List ℕ) → HasNoReset happenings → rest ≡ fed_bytes happenings ++ more → HasBefore chip codes done rest w → IsSilentAlong chip codes done rest
     → (led : WeakBefall happenings w new) → IsUnread happenings w new led
-unread_from chip codes [] w new done rest more no_reset is has waits other led = tt
-unread_from chip codes (Take n ∷ happenings) w new done rest more no_reset is has waits other (mid, now, led) =
-    unread_from chip codes happenings mid new done rest more no_reset is (has_taken chip codes done rest n w mid has now) waits other led
-unread_from chip codes (Reset ∷ happenings) w new done rest more no_reset is has waits other led = absurd no_reset
-unread_from chip codes (Feed byte ∷ happenings) w new done rest more no_reset is has waits other (mid, feeds, led) =
+unread_from chip codes [] w new done rest more no_reset is has silent led = tt
+unread_from chip codes (Take n ∷ happenings) w new done rest more no_reset is has silent (mid, now, led) =
+    unread_from chip codes happenings mid new done rest more no_reset is (has_taken chip codes done rest n w mid has now) silent led
+unread_from chip codes (Reset ∷ happenings) w new done rest more no_reset is has silent led = absurd no_reset
+unread_from chip codes (Feed byte ∷ happenings) w new done rest more no_reset is has silent (mid, feeds, led) =
     let after = fed_bytes happenings ++ more in
     let H : List ℕ → Type 0 = λ x. HasBefore chip codes done x w in
-    let O : List ℕ → Type 0 = λ x. IsOpenTo chip codes done x in
-    let N : List ℕ → Type 0 = λ x. IsNoRead (done ++ x) in
+    let S : List ℕ → Type 0 = λ x. IsSilentAlong chip codes done x in
     let here : Has chip codes done w = subst H is has in
-    let open' : IsOpenTo chip codes done (byte ∷ after) = subst O is waits in
-    let no' : IsNoRead (done ++ byte ∷ after) = subst N is other in
-    let on = has_on chip codes done byte after w mid here feeds open' in
-    (byte_unread chip codes done byte after w here no', unread_from chip codes happenings mid new (done ++ byte ∷ []) after more no_reset refl on.0 on.1 (no_read_on done byte after no') led)
+    let along : IsSilentAlong chip codes done (byte ∷ after) = subst S is silent in
+    let on = has_on chip codes done byte along.1.0 after w mid here feeds along.1.1 in
+    (byte_unread chip codes done byte w here along.0, unread_from chip codes happenings mid new along.1.0 after more no_reset refl on along.1.2 led)
 
 -- The frames are open before their last byte.
 
@@ -192,27 +240,173 @@ inside_if_fits chip address size some fits =
     let e = fits-end chip address size fits in
     and_from _ _ (le-leb chip.base address e.0) (lt-ltb address (chip.base + flash_size chip) (omega (arith, e.1, some)))
 
-open_frame : (d : Device) (frame : List ℕ) → IsDevice d → ReadsNothing d.chip frame → IsOpenTo d.chip d.codes [] frame × IsNoRead frame
-open_frame d frame is (asks e) =
-    let P : List ℕ → Type 0 = λ x. IsOpenTo d.chip d.codes [] x × IsNoRead x in
-    subst P (sym e) ((refl, tt), λ (e : 0 ≡ 0x11). omega (arith, e))
-open_frame d frame is (names e) =
-    let P : List ℕ → Type 0 = λ x. IsOpenTo d.chip d.codes [] x × IsNoRead x in
-    subst P (sym e) ((refl, tt), λ (e : 2 ≡ 0x11). omega (arith, e))
-open_frame d frame is (erases n e) =
-    let P : List ℕ → Type 0 = λ x. IsOpenTo d.chip d.codes [] x × IsNoRead x in
-    subst P (sym e) (open_erase d.chip d.codes d.chip.kind n is.erase, other d.chip.kind)
+-- a read where the unique id is told
+
+done_test : (t : Bool) → Some (done_if t) ≡ Some Done → IsTrue t
+done_test true e = refl
+done_test false e = absurd (let h : Some Refused ≡ Some Done = e in cc)
+
+-- the places lie outside the flash
+beside_flash : (chip : ChipData) (address size place : ℕ) → IsTrue (is_outside chip address size) → place < flash_size chip → address ≤ chip.base + place → chip.base + place < address + size → ⊥
+beside_flash chip address size place out lt from to =
+    ⊎_elim (λ before. omega (arith, leb-true (address + size) chip.base before, to)) (λ behind. omega (arith, leb-true (chip.base + flash_size chip) address behind, from, lt))
+    (or_cases (nat_le (address + size) chip.base) (nat_le (chip.base + flash_size chip) address) (and_parts (nat_le (address + size) (2 ^ 32)) _ out).1)
+
+module _ (chip : ChipData) (place : UniquePlace) (is : IsChip chip) (told : chip.places.unique ≡ Some place) where
+  places : (is_unique_place chip chip.places.unique ≡ true) × (is_size_place chip chip.places.size ≡ true)
+  places = and_parts (is_unique_place chip chip.places.unique) (is_size_place chip chip.places.size) is.places
+
+  unique : (is_unique_length place.length ≡ true) × (is_outside chip place.address place.length ≡ true)
+  unique =
+      let P : Option UniquePlace → Type 0 = λ o. is_unique_place chip o ≡ true in
+      and_parts (is_unique_length place.length) (is_outside chip place.address place.length) (subst P told places.0)
+
+  long : 8 ≤ place.length
+  long = leb-true 8 place.length (and_parts (nat_le 8 place.length) (nat_le place.length 32) unique.0).0
+
+  no_size : (o : Option ℕ) (size p : ℕ) → is_size_place chip o ≡ true → has_size o place.address ≡ true → size ≡ 2 → p < flash_size chip → place.address ≤ chip.base + p → chip.base + p < place.address + size → ⊥
+  no_size None size p out has two lt from to = absurd (false≢true has)
+  no_size (Some at) size p out has two lt from to =
+      let same : at ≡ place.address = eqb-true at place.address has in
+      beside_flash chip at 2 p out lt (omega (arith, same, from)) (omega (arith, same, two, to))
+
+  outside : (size p : ℕ) → IsTrue (can_read chip place.address size) → p < flash_size chip → place.address ≤ chip.base + p → chip.base + p < place.address + size → ⊥
+  unfolding can_read
+  outside size p readable lt from to =
+      ⊎_elim fits (λ beside. ⊎_elim asks_id asks_kib (or_cases (asks_unique chip place.address size) (asks_size chip place.address size) beside))
+      (or_cases (fits_inside chip place.address size) (asks_unique chip place.address size || asks_size chip place.address size) readable)
+    where
+      fits : fits_inside chip place.address size ≡ true → ⊥
+      fits f = let e = fits-end chip place.address size f in beside_flash chip place.address place.length (place.address - chip.base) unique.1 (omega (arith, e.0, e.1, to, from)) (omega (arith, e.0)) (omega (arith, e.0, long))
+
+      asks_id : asks_unique chip place.address size ≡ true → ⊥
+      asks_id here =
+          let has = (and_parts (has_unique chip.places.unique place.address size) (length chip.unique == size) here).0 in
+          let P : Option UniquePlace → Type 0 = λ o. has_unique o place.address size ≡ true in
+          let same : place.length ≡ size = eqb-true place.length size (and_parts (place.address == place.address) (place.length == size) (subst P told has)).1 in
+          beside_flash chip place.address place.length p unique.1 lt from (omega (arith, same, to))
+
+      asks_kib : asks_size chip place.address size ≡ true → ⊥
+      asks_kib here =
+          let h = and_parts (has_size chip.places.size place.address) (size == 2) here in
+          no_size chip.places.size size p places.1 h.0 (eqb-true size 2 h.1) lt from to
+
+silent_read : (chip : ChipData) (codes : List ℕ) (address n : ℕ) → IsTrue (is_listed codes 0x11)
+    → ((p : ℕ) → IsTrue (can_read chip address (n + 1)) → p < flash_size chip → address ≤ chip.base + p → chip.base + p < address + (n + 1) → ⊥)
+    → IsSilentAlong chip codes [] (command 0x11 ++ with_checksum (address_bytes address) ++ command n)
+silent_read chip codes address n listed outside = (
+  λ p e lt r. r,
+  (
+    0x11 ∷ [],
+    inl (refl, refl),
+    (
+      λ p e lt r. r.1,
+      (
+        command 0x11,
+        inl (at [], refl),
+        (
+          λ p e lt r. r.1,
+          (
+            command 0x11 ++ a ∷ [],
+            inl (at (a ∷ []), refl),
+            (
+              λ p e lt r. r.1,
+              (
+                command 0x11 ++ a ∷ b ∷ [],
+                inl (at (a ∷ b ∷ []), refl),
+                (
+                  λ p e lt r. r.1,
+                  (
+                    command 0x11 ++ a ∷ b ∷ c ∷ [],
+                    inl (at (a ∷ b ∷ c ∷ []), refl),
+                    (λ p e lt r. r.1, (command 0x11 ++ a ∷ b ∷ c ∷ d ∷ [], inl (at (address_bytes address), refl), (λ p e lt r. r.1, by (is_readable chip address) refl))),
+                  ),
+                ),
+              ),
+            ),
+          ),
+        ),
+      ),
+    ),
+  ),
+)
+  where
+    a : ℕ
+    a = address / 16777216
+
+    b : ℕ
+    b = address / 65536 % 256
+
+    c : ℕ
+    c = address / 256 % 256
+
+    d : ℕ
+    d = address % 256
+
+    head : List ℕ
+    head = command 0x11 ++ with_checksum (address_bytes address)
+
+    at : (rest : List ℕ) → verdict chip codes (command 0x11 ++ rest) ≡ after_address (is_readable chip) (read_verdict chip) rest
+    at rest = verdict_listed chip codes 0x11 rest listed
+
+    right : (rest : List ℕ) → IsTrue (is_readable chip address) → after_address (is_readable chip) (read_verdict chip) (with_checksum (address_bytes address) ++ rest) ≡ read_verdict chip address rest
+    right rest readable = after_right (is_readable chip) (read_verdict chip) address rest readable
+
+    wrong : is_readable chip address ≡ false → after_address (is_readable chip) (read_verdict chip) (with_checksum (address_bytes address) ++ []) ≡ Some Refused
+    wrong refused =
+        let x = xor (address_bytes address) in
+        let choose : Bool → Bool → ℕ → Option Verdict = λ t i m. if t && i then read_verdict chip m [] else at_end Refused [] in
+        let P : ℕ → Type 0 = λ m. choose (x == x) (is_readable chip m) m ≡ Some Refused in
+        subst P (sym (same_number address)) (ap₂ (λ t i. choose t i address) (eq-eqb x x refl) refused)
+
+    counted : IsTrue (is_readable chip address) → verdict chip codes (command 0x11 ++ with_checksum (address_bytes address) ++ n ∷ []) ≡ None
+    counted readable = at (with_checksum (address_bytes address) ++ n ∷ []) ∙ right (n ∷ []) readable
+
+    can : IsTrue (is_readable chip address) → verdict chip codes (command 0x11 ++ with_checksum (address_bytes address) ++ command n) ≡ Some Done → IsTrue (can_read chip address (n + 1))
+    can readable e =
+        let test = complement n == complement n && can_read chip address (n + 1) in
+        let h : Some (done_if test) ≡ Some Done = sym (at (with_checksum (address_bytes address) ++ command n) ∙ right (command n) readable) ∙ e in
+        (and_parts (complement n == complement n) (can_read chip address (n + 1)) (done_test test h)).1
+
+    by : (t : Bool) → is_readable chip address ≡ t → (next : List ℕ) × LeavesRest chip codes (command 0x11 ++ with_checksum (address_bytes address)) next (n ∷ complement n ∷ []) × IsSilentAlong chip codes next (n ∷ complement n ∷ [])
+    by true readable = (
+      head,
+      inl (at (with_checksum (address_bytes address) ++ []) ∙ right [] readable, refl),
+      (
+        λ p e lt r. absurd (let h : None ≡ Some Done = sym (counted readable) ∙ e in cc),
+        (head ++ n ∷ [], inl (counted readable, refl), (λ p e lt r. outside p (can readable e) lt (omega (arith, r.1.0, same_number address)) (omega (arith, r.1.1, same_number address)), ([], tt, tt))),
+      ),
+    )
+    by false refused = (
+      [],
+      inr (at (with_checksum (address_bytes address) ++ []) ∙ wrong refused, refl),
+      (λ p e lt r. r, (n ∷ [], inl (refl, refl), (λ p e lt r. r.1, ([], tt, tt)))),
+    )
+
+silent_frame : (d : Device) (frame : List ℕ) → IsDevice d → ReadsNothing d.chip frame → IsSilentAlong d.chip d.codes [] frame
+silent_frame d frame is (asks e) =
+    let P : List ℕ → Type 0 = λ x. IsSilentAlong d.chip d.codes [] x in
+    subst P (sym e) (silent_along d.chip d.codes [] (command 0x00) (refl, tt) (λ (e : 0 ≡ 0x11). omega (arith, e)))
+silent_frame d frame is (names e) =
+    let P : List ℕ → Type 0 = λ x. IsSilentAlong d.chip d.codes [] x in
+    subst P (sym e) (silent_along d.chip d.codes [] (command 0x02) (refl, tt) (λ (e : 2 ≡ 0x11). omega (arith, e)))
+silent_frame d frame is (tells place size told e) =
+    let P : List ℕ → Type 0 = λ x. IsSilentAlong d.chip d.codes [] x in
+    subst P (sym e) (silent_read d.chip d.codes place.address (size - 1) is.read (outside d.chip place is.chip told (size - 1 + 1)))
+silent_frame d frame is (erases n e) =
+    let P : List ℕ → Type 0 = λ x. IsSilentAlong d.chip d.codes [] x in
+    subst P (sym e) (silent_along d.chip d.codes [] (erase_frame d.chip.kind n) (open_erase d.chip d.codes d.chip.kind n is.erase) (other d.chip.kind))
   where
     other : (kind : EraseKind) → IsNoRead (erase_frame kind n)
     other Page = λ (e : 0x43 ≡ 0x11). omega (arith, e)
     other Extended = λ (e : 0x44 ≡ 0x11). omega (arith, e)
-open_frame d frame is (writes address bytes some fits e) =
-    let P : List ℕ → Type 0 = λ x. IsOpenTo d.chip d.codes [] x × IsNoRead x in
+silent_frame d frame is (writes address bytes some fits e) =
+    let P : List ℕ → Type 0 = λ x. IsSilentAlong d.chip d.codes [] x in
     let n = length bytes - 1 in
     let rest = bytes ++ xor (n ∷ bytes) ∷ [] in
     let size : length rest ≡ length bytes + 1 = length-append bytes (xor (n ∷ bytes) ∷ []) in
     let inside = inside_if_fits d.chip address (length bytes) some fits in
-    subst P (sym e) (open_write d.chip d.codes address n is.write inside rest (omega (arith, size)) (omega (arith, size, some)), λ (e : 0x31 ≡ 0x11). omega (arith, e))
+    subst P (sym e) (silent_along d.chip d.codes [] (write_frame address bytes) (open_write d.chip d.codes address n is.write inside rest (omega (arith, size)) (omega (arith, size, some))) (λ (e : 0x31 ≡ 0x11). omega (arith, e)))
 
 has_at_first : (w : WeakDevice) (d : Device) (frame : List ℕ) → CanBe w d → d.phase ≡ Connected [] → HasBefore d.chip d.codes [] frame w
 has_at_first w d [] can waits = tt
@@ -220,5 +414,4 @@ has_at_first w d (byte ∷ more) can waits = record { same_chip = sym can.chip; 
 
 pub frames_are_unread : FramesAreUnread
 frames_are_unread happenings old new d frame is can waits nothing (rest, begins) no_reset led =
-    let o = open_frame d frame is nothing in
-    unread_from d.chip d.codes happenings old new [] frame rest no_reset (sym begins) (has_at_first old d frame can waits) o.0 o.1 led
+    unread_from d.chip d.codes happenings old new [] frame rest no_reset (sym begins) (has_at_first old d frame can waits) (silent_frame d frame is nothing) led

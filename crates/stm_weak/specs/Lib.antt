@@ -7,3 +7,4 @@ pub mod WeakLaws
 pub mod WeakRecord
 pub mod WeakFrames
 pub mod WeakMeaning
+pub mod WeakBelieved

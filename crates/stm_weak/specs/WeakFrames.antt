@@ -1,15 +1,19 @@
 -- Which frames complete no read of a weak page, whatever is weak.
-use Rattle.std.specs.Prelude.{◌≡◌, ℕ, ◌≤◌, IsTrue, List, [], ◌++◌, length}
+use Rattle.std.specs.Prelude.{◌≡◌, ℕ, ◌≤◌, IsTrue, List, [], ◌++◌, length, Some}
+use Rattle.stm_wire.specs.declared.places.UniquePlace.{UniquePlace}
 use Rattle.stm_wire.specs.Chip.{ChipData, fits_inside}
 use Rattle.stm_wire.specs.Device.{Device, Connected, IsDevice}
-use Rattle.stm_wire.specs.Frames.{command, erase_frame, write_frame}
+use Rattle.stm_wire.specs.Frames.{command, erase_frame, read_frame, write_frame}
 use Rattle.stm_weak.specs.WeakDevice.{WeakDevice, CanBe}
 use Rattle.stm_weak.specs.WeakRuns.{Happening, HasNoReset, IsUnread, WeakBefall, fed_bytes}
 
--- a frame that asks which commands a device has, or what it is, erases a page, or writes
+-- a frame that asks which commands a device has, or what it is, or reads where it tells its unique
+-- id, erases a page, or writes
 pub data ReadsNothing (chip : ChipData) (frame : List ℕ) : Type 0 where
   asks : frame ≡ command 0x00 → ReadsNothing chip frame
   names : frame ≡ command 0x02 → ReadsNothing chip frame
+  tells : (place : UniquePlace) (size : ℕ) → chip.places.unique ≡ Some place
+      → frame ≡ read_frame place.address size → ReadsNothing chip frame
   erases : (n : ℕ) → frame ≡ erase_frame chip.kind n → ReadsNothing chip frame
   writes : (address : ℕ) (bytes : List ℕ) → 1 ≤ length bytes
       → IsTrue (fits_inside chip address (length bytes)) → frame ≡ write_frame address bytes

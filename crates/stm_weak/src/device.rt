@@ -1,6 +1,7 @@
 //! Laws of a device with weak pages: each is the contract of a function that does nothing.
 ghost use Rattle.stm_weak.specs.WeakLaws.{FedAsOrdinary, LedAsOrdinary, OneIsLeft};
 ghost use Rattle.stm_weak.specs.WeakLaws.{SoundIsOrdinary};
+ghost use Rattle.stm_weak.specs.WeakBelieved.{MayPutIsUnread};
 ghost use Rattle.stm_weak.specs.WeakFrames.{FramesAreUnread};
 ghost use Rattle.stm_weak.specs.WeakMeaning.{EraseHeals, ReadsAnything};
 ghost use Rattle.stm_weak.specs.WeakRecord.{VouchedWhileUnread};
@@ -30,6 +31,8 @@ pub fn an_unread_record_is_vouched_for()
 /// page, wherever the host stops in it.
 pub fn frames_that_ask_or_change_are_unread()
     ensures unread { FramesAreUnread }
+    // So is each frame that a session may send while pages may be weak.
+    ensures may_put { MayPutIsUnread }
 {}
 
 /// A read of weak places may answer any bytes, also other ones each time. The last byte of a frame

@@ -1,5 +1,9 @@
+use Rattle.stm_weak.proofs.Putting.{may_put_is_unread}
 use Rattle.stm_weak.proofs.Unread.{frames_are_unread}
 use Rattle.stm_weak.proofs.device.frames_that_ask_or_change_are_unread.Goals as goal
 
-pub returns : goal.returns
-returns c = record { unread = frames_are_unread }
+pub returns-clause-unread : goal.returns-clause-unread
+returns-clause-unread c = frames_are_unread
+
+pub returns-clause-may_put : goal.returns-clause-may_put
+returns-clause-may_put c = may_put_is_unread
