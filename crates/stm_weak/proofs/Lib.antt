@@ -16,3 +16,4 @@ mod Vouching
 mod Unread
 mod Meaning
 mod Putting
+mod Stepping

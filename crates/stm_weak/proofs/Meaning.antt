@@ -127,6 +127,9 @@ erases_page : (kind : EraseKind) (n : ℕ) → ErasesPage (change_of (erase_fram
 erases_page Page n = (0, omega arith, refl)
 erases_page Extended n = (0, omega arith, let e : pair_of (n / 256) (n % 256) ≡ n = omega arith in e)
 
+pub erase_heals_at : (d : Device) (rest : List ℕ) (byte n : ℕ) → ListsKind d.chip.kind d.codes → n < page_count d.chip → d.phase ≡ Connected rest → rest ++ byte ∷ [] ≡ erase_frame d.chip.kind n → Heals byte d n
+erase_heals_at d rest byte n lists exists waits frame =
+    (erase_frame d.chip.kind n, record { rest = rest; phase = waits; is = sym frame; done = erase_done d.chip d.codes d.chip.kind n lists exists }, erases_page d.chip.kind n)
+
 pub erase_heals : EraseHeals
-erase_heals d rest byte n is exists waits frame =
-    (erase_frame d.chip.kind n, record { rest = rest; phase = waits; is = sym frame; done = erase_done d.chip d.codes d.chip.kind n is.erase exists }, erases_page d.chip.kind n)
+erase_heals d rest byte n is exists waits frame = erase_heals_at d rest byte n is.erase exists waits frame

@@ -23,7 +23,7 @@ IsNoRead [] = Unit {0}
 IsNoRead (byte ∷ bytes) = byte ≡ 0x11 → ⊥
 
 -- while these follow what came, no verdict comes before the last of them
-abbrev IsOpenTo : ChipData → List ℕ → List ℕ → List ℕ → Type 0
+abbrev pub IsOpenTo : ChipData → List ℕ → List ℕ → List ℕ → Type 0
 IsOpenTo chip codes done [] = Unit {0}
 IsOpenTo chip codes done (byte ∷ []) = Unit {0}
 IsOpenTo chip codes done (byte ∷ next ∷ more) = (verdict chip codes (done ++ byte ∷ []) ≡ None) × IsOpenTo chip codes (done ++ byte ∷ []) (next ∷ more)
@@ -44,13 +44,13 @@ IsSilentAlong chip codes done (byte ∷ more) =
     IsSilent chip codes (done ++ byte ∷ []) × ((next : List ℕ) × LeavesRest chip codes (done ++ byte ∷ []) next more × IsSilentAlong chip codes next more)
 
 -- it is of this make, and has these bytes
-record Has (chip : ChipData) (codes done : List ℕ) (w : WeakDevice) : Type 0 where
-  same_chip : w.device.chip ≡ chip
-  same_codes : w.device.codes ≡ codes
-  same_phase : w.device.phase ≡ Connected done
+pub record Has (chip : ChipData) (codes done : List ℕ) (w : WeakDevice) : Type 0 where
+  pub same_chip : w.device.chip ≡ chip
+  pub same_codes : w.device.codes ≡ codes
+  pub same_phase : w.device.phase ≡ Connected done
 
 -- where more is to come
-abbrev HasBefore : ChipData → List ℕ → List ℕ → List ℕ → WeakDevice → Type 0
+abbrev pub HasBefore : ChipData → List ℕ → List ℕ → List ℕ → WeakDevice → Type 0
 HasBefore chip codes done [] w = Unit {0}
 HasBefore chip codes done (byte ∷ more) w = Has chip codes done w
 
@@ -93,7 +93,7 @@ byte_unread chip codes done byte w has silent (bytes, place, completes, reads, w
     let v : verdict chip codes whole ≡ Some Done = ap (λ c. verdict c codes whole) (sym has.same_chip) ∙ ap (λ k. verdict w.device.chip k whole) (sym has.same_codes) ∙ ap (λ xs. verdict w.device.chip w.device.codes xs) (sym same) ∙ completes.done in
     silent place v inside (subst P same (subst Q has.same_chip reads))
 
-has_taken : (chip : ChipData) (codes done rest : List ℕ) (n : ℕ) (w mid : WeakDevice) → HasBefore chip codes done rest w → IsNow (record w.device { owed = drop n w.device.owed }) w mid → HasBefore chip codes done rest mid
+pub has_taken : (chip : ChipData) (codes done rest : List ℕ) (n : ℕ) (w mid : WeakDevice) → HasBefore chip codes done rest w → IsNow (record w.device { owed = drop n w.device.owed }) w mid → HasBefore chip codes done rest mid
 has_taken chip codes done [] n w mid has now = tt
 has_taken chip codes done (byte ∷ more) n w mid has now = record {
   same_chip = ap (λ (d : Device). d.chip) now.device ∙ has.same_chip;
@@ -101,7 +101,7 @@ has_taken chip codes done (byte ∷ more) n w mid has now = record {
   same_phase = ap (λ (d : Device). d.phase) now.device ∙ has.same_phase;
 }
 
-has_fed : (chip : ChipData) (codes done : List ℕ) (byte : ℕ) (w mid : WeakDevice) → Has chip codes done w → WeakFeeds byte w mid → verdict chip codes (done ++ byte ∷ []) ≡ None → Has chip codes (done ++ byte ∷ []) mid
+pub has_fed : (chip : ChipData) (codes done : List ℕ) (byte : ℕ) (w mid : WeakDevice) → Has chip codes done w → WeakFeeds byte w mid → verdict chip codes (done ++ byte ∷ []) ≡ None → Has chip codes (done ++ byte ∷ []) mid
 has_fed chip codes done byte w mid has feeds none =
     let now = feeds.now in
     let bytes = done ++ byte ∷ [] in
@@ -164,7 +164,7 @@ verdict_listed chip codes code rest listed =
     let choose : Bool → Bool → Option Verdict = λ x y. if x && y then command_verdict chip code rest else at_end Refused rest in
     ap₂ choose (eq-eqb (complement code) (complement code) refl) listed
 
-open_erase : (chip : ChipData) (codes : List ℕ) (kind : EraseKind) (n : ℕ) → ListsKind kind codes → IsOpenTo chip codes [] (erase_frame kind n)
+pub open_erase : (chip : ChipData) (codes : List ℕ) (kind : EraseKind) (n : ℕ) → ListsKind kind codes → IsOpenTo chip codes [] (erase_frame kind n)
 open_erase chip codes Page n lists =
     let at = λ (rest : List ℕ). verdict_listed chip codes 0x43 rest lists.0 in
     (refl, (at [], (at (0 ∷ []), (at (0 ∷ n ∷ []), tt))))
@@ -408,7 +408,7 @@ silent_frame d frame is (writes address bytes some fits e) =
     let inside = inside_if_fits d.chip address (length bytes) some fits in
     subst P (sym e) (silent_along d.chip d.codes [] (write_frame address bytes) (open_write d.chip d.codes address n is.write inside rest (omega (arith, size)) (omega (arith, size, some))) (λ (e : 0x31 ≡ 0x11). omega (arith, e)))
 
-has_at_first : (w : WeakDevice) (d : Device) (frame : List ℕ) → CanBe w d → d.phase ≡ Connected [] → HasBefore d.chip d.codes [] frame w
+pub has_at_first : (w : WeakDevice) (d : Device) (frame : List ℕ) → CanBe w d → d.phase ≡ Connected [] → HasBefore d.chip d.codes [] frame w
 has_at_first w d [] can waits = tt
 has_at_first w d (byte ∷ more) can waits = record { same_chip = sym can.chip; same_codes = sym can.codes; same_phase = sym can.phase ∙ waits }
 

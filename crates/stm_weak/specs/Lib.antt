@@ -8,3 +8,4 @@ pub mod WeakRecord
 pub mod WeakFrames
 pub mod WeakMeaning
 pub mod WeakBelieved
+pub mod WeakSteps

@@ -5,6 +5,7 @@ ghost use Rattle.stm_weak.specs.WeakBelieved.{MayPutIsUnread};
 ghost use Rattle.stm_weak.specs.WeakFrames.{FramesAreUnread};
 ghost use Rattle.stm_weak.specs.WeakMeaning.{EraseHeals, ReadsAnything};
 ghost use Rattle.stm_weak.specs.WeakRecord.{VouchedWhileUnread};
+ghost use Rattle.stm_weak.specs.WeakSteps.{SessionIsOrdinary};
 
 /// A device may have weak pages: as each byte comes they hold anything anew, until an erase of
 /// them is done. As long as no byte completes a read of one, it does what an ordinary device does
@@ -40,4 +41,11 @@ pub fn frames_that_ask_or_change_are_unread()
 pub fn a_weak_page_reads_anything_until_it_is_erased()
     ensures reads { ReadsAnything }
     ensures heals { EraseHeals }
+{}
+
+/// The steps of a session that believes no page which may be weak, sent to a device with weak
+/// pages, each frame as it waits for a command: they are those of an ordinary device, and behind
+/// them too each page that is weak is among those that may be.
+pub fn a_session_that_believes_no_weak_page_is_ordinary()
+    ensures session { SessionIsOrdinary }
 {}
