@@ -1,8 +1,8 @@
 -- Flashes that agree outside weak pages, and bytes put in them.
 use Rattle.std.proofs.Common.{append-nil, ◌≡◌, ◌⊎◌, ⊎_elim, inl, inr, ℕ, zero, suc, ◌+◌, ◌-◌, ◌<◌, ◌≤◌, Bool, List, [], ◌∷◌, ◌++◌, length, get_or, take, drop, refl, sym, ◌∙◌, ap, subst, arith, rules, IsTrue, Contains}
 use Rattle.std.proofs.lemmas.Bool.{cases_eq, cases_lt}
-use Rattle.std.proofs.lemmas.List.{places, same_lists, get_or_default, get_or-append_right, get_or_append_left, get_or-take, get_or-drop, length-append, length-take, length-drop, take-append-drop, nil_from_length}
-use Rattle.stm_wire.specs.Chip.{ChipData, erased_page, flash_size, page_offset, page_size, with_bytes, with_page}
+use Rattle.std.proofs.lemmas.List.{places, same_lists, get_or_default, get_or-append_right, get_or_append_left, get_or-take, get_or-drop, length-append, length-take, length-drop, take-append-drop, get_or_past}
+use Rattle.stm_wire.specs.Chip.{ChipData, erased_page, flash_size, page_count, page_offset, page_size, with_bytes, with_page}
 use Rattle.stm_wire.specs.Effect.{erased_pages}
 use Rattle.stm_wire.specs.PageLaws.{length-erased_page, length-with_bytes, length-with_page, fits_page}
 use Rattle.stm_weak.specs.WeakDevice.{AgreesOutside, IsWeakAt}
@@ -26,12 +26,16 @@ agrees_weaker chip weak weak2 a b more x = record {
   elsewhere = λ place out. x.elsewhere place (out_of_fewer chip weak weak2 more place out);
 }
 
+-- a page in which a place lies is one of the chip's
+pub weak_exists : (chip : ChipData) (weak : ℕ → Bool) (place : ℕ) → (w : IsWeakAt chip weak place) → w.page < page_count chip
+weak_exists chip weak place w = ⊎_elim (λ lt. lt) (λ past. absurd (let none = get_or_past chip.sizes w.page 0 past in omega (arith, none, w.from, w.to))) (cases_lt w.page (page_count chip))
+
 -- where no page is weak they are one
-pub agrees_none : (chip : ChipData) (weak : ℕ → Bool) (a b : List ℕ) → ((n : ℕ) → IsTrue (weak n) → ⊥) → AgreesOutside chip weak a b → b ≡ a
+pub agrees_none : (chip : ChipData) (weak : ℕ → Bool) (a b : List ℕ) → ((n : ℕ) → n < page_count chip → IsTrue (weak n) → ⊥) → AgreesOutside chip weak a b → b ≡ a
 agrees_none chip weak a b none x =
     same_lists b a x.same_length (λ k d lt.
     let here : k < length a = omega (arith, lt, x.same_length) in
-    get_or_default b k d 0 lt ∙ x.elsewhere k (λ w. none w.page w.is) ∙ sym (get_or_default a k d 0 here))
+    get_or_default b k d 0 lt ∙ x.elsewhere k (λ w. none w.page (weak_exists chip weak k w) w.is) ∙ sym (get_or_default a k d 0 here))
 
 -- a place of bytes that were put, and one beside them
 pub put_place : (at : ℕ) (bytes flash : List ℕ) (place : ℕ) → at + length bytes ≤ length flash → at ≤ place → place < at + length bytes → get_or (with_bytes at bytes flash) place 0 ≡ get_or bytes (place - at) 0

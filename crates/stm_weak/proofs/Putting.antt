@@ -1,7 +1,6 @@
 -- Frames that may be sent while pages may be weak are unread.
 use Rattle.std.proofs.Common.{◌<◌, ⊎_elim, ◌≡◌, ℕ, ◌+◌, ◌≤◌, ◌-◌, Bool, true, false, ◌==◌, if◌then◌else◌, List, [], ◌∷◌, length, Option, Some, None, IsTrue, refl, sym, ◌∙◌, ap, subst, arith, le-leb, append_assoc, append-nil, ◌++◌}
-use Rattle.std.proofs.lemmas.Bool.{and_from, cases_lt}
-use Rattle.std.proofs.lemmas.List.{get_or_past}
+use Rattle.std.proofs.lemmas.Bool.{and_from}
 use Rattle.stm_wire.specs.declared.places.UniquePlace.{UniquePlace}
 use Rattle.stm_wire.specs.declared.intent.Intent.{Intent}
 use Rattle.stm_wire.specs.Chip.{ChipData, fits_inside, flash_size, page_count, page_offset, page_size}
@@ -20,11 +19,8 @@ use Rattle.stm_weak.specs.WeakDevice.{CanBe, IsWeakAt, ReadsWeak, WeakDevice}
 use Rattle.stm_weak.specs.WeakFrames.{BeginsOf, ReadsNothing, asks, erases, names, tells, writes}
 use Rattle.stm_weak.specs.WeakRuns.{Feed, Happening, HasNoReset, IsUnread, Reset, Take, WeakBefall, fed_bytes}
 use Rattle.stm_weak.specs.WeakBelieved.{AreAmong, MayPutIsUnread}
+use Rattle.stm_weak.proofs.Agreeing.{weak_exists}
 use Rattle.stm_weak.proofs.Unread.{frames_are_unread}
-
--- a page in which a place lies is one of the chip's
-pub weak_exists : (chip : ChipData) (weak : ℕ → Bool) (place : ℕ) → (w : IsWeakAt chip weak place) → w.page < page_count chip
-weak_exists chip weak place w = ⊎_elim (λ lt. lt) (λ past. absurd (let none = get_or_past chip.sizes w.page 0 past in omega (arith, none, w.from, w.to))) (cases_lt w.page (page_count chip))
 
 -- where no page is weak all is unread
 none_is_read : (happenings : List Happening) (old new : WeakDevice) (MayBe : ℕ → Type 0) → NoneIs MayBe → (led : WeakBefall happenings old new) → AreAmong MayBe happenings old new led → IsUnread happenings old new led

@@ -1,5 +1,5 @@
--- The steps of a session at a device with weak pages, and at an ordinary one beside it.
-use Rattle.std.proofs.Common.{true, false, ◌==◌, if◌then◌else◌, ◌≡◌, ◌≢◌, ◌⊎◌, inl, inr, ℕ, ◌<◌, Bool, IsTrue, List, [], ◌∷◌, ◌++◌, drop, map, Option, Some, None, refl, sym, ◌∙◌, ap, subst, append-nil, append_assoc}
+-- The events of a history at a device with weak pages, and at an ordinary one beside it.
+use Rattle.std.proofs.Common.{⊎_elim, true, false, ◌==◌, if◌then◌else◌, ◌≡◌, ◌≢◌, ◌⊎◌, inl, inr, ℕ, ◌<◌, Bool, IsTrue, List, [], ◌∷◌, ◌++◌, drop, map, Option, Some, None, refl, sym, ◌∙◌, ap, subst, append-nil, append_assoc}
 use Rattle.stm_wire.specs.declared.chip.EraseKind.{EraseKind}
 use Rattle.stm_wire.specs.declared.chip.EraseKind.TheVariants.{Page, Extended}
 use Rattle.stm_wire.specs.declared.intent.Intent.{Intent}
@@ -12,13 +12,13 @@ use Rattle.stm_wire.specs.Device.{Device, Phase, Fresh, Connected, Gone, IsDevic
 use Rattle.stm_wire.specs.Dialogue.{Turn, sent_bytes}
 use Rattle.stm_wire.specs.DialogueLaws.{erase_sends}
 use Rattle.stm_wire.specs.Frames.{erase_frame, erase_turns}
-use Rattle.stm_session.specs.Order.{Step, Adds, Sends}
-use Rattle.stm_weak.specs.Weak.{does, intent_after, weak_after, weak_behind}
+use Rattle.stm_session.specs.Order.{Adds, Sends}
+use Rattle.stm_weak.specs.Weak.{Event, breaks, does, settles, intent_after, weak_after, weak_behind}
 use Rattle.stm_weak.specs.Believed.{MayPut, NoneBelieved}
 use Rattle.stm_weak.specs.WeakDevice.{CanBe, Heals, WeakDevice, WeakFeeds}
 use Rattle.stm_weak.specs.WeakRuns.{AreBytes, Befall, Feed, Happening, HasNoReset, IsUnread, Reset, Take, WeakBefall, fed_bytes}
 use Rattle.stm_weak.specs.WeakBelieved.{AreAmong}
-use Rattle.stm_weak.specs.WeakSteps.{AreAsOrdinary, AreSent, IsSent, NoneBecomesWeak, SessionIsOrdinary}
+use Rattle.stm_weak.specs.WeakEvents.{AreAsOrdinary, EventsAreOrdinary, IsBegun, IsSent, IsSettledWeakly, NoneBecomesWeak, WeakEvents}
 use Rattle.stm_weak.proofs.Leading.{led_as_ordinary}
 use Rattle.stm_weak.proofs.Meaning.{erase_heals_at}
 use Rattle.stm_weak.proofs.Putting.{put_is_unread}
@@ -109,34 +109,66 @@ some_frame Extended n e = absurd (cc)
 
 healed : (d : Device) (old new : WeakDevice) (n : ℕ) (turns : List Turn) → IsDevice d → CanBe old d → n < page_count d.chip → (s : IsSent (sent_bytes turns) old new) → turns ≡ erase_turns d.chip.kind n → IsTrue (new.weak n) → ⊥
 healed d old new n turns is can exists s e weak =
-    let whole : fed_bytes s.happenings ≡ erase_frame d.chip.kind n = s.whole ∙ ap (λ (l : List Turn). sent_bytes l) e ∙ erase_sends d.chip.kind n in
+    let b = s.begun in
+    let whole : fed_bytes b.happenings ≡ erase_frame d.chip.kind n = s.whole ∙ ap (λ (l : List Turn). sent_bytes l) e ∙ erase_sends d.chip.kind n in
     let O : List ℕ → Type 0 = λ xs. IsOpenTo d.chip d.codes [] xs in
-    healed_from d.chip d.codes s.happenings old new n [] is.erase exists s.no_reset (λ none. some_frame d.chip.kind n (sym whole ∙ none)) (has_at_first old d (fed_bytes s.happenings) can (can.phase ∙ s.waits)) (subst O (sym whole) (open_erase d.chip d.codes d.chip.kind n is.erase)) whole s.led s.sound weak
+    healed_from d.chip d.codes b.happenings old new n [] is.erase exists b.no_reset (λ none. some_frame d.chip.kind n (sym whole ∙ none)) (has_at_first old d (fed_bytes b.happenings) can (can.phase ∙ b.waits)) (subst O (sym whole) (open_erase d.chip d.codes d.chip.kind n is.erase)) whole b.led b.sound weak
 
-session_from : (steps : List Step) (old new : WeakDevice) (d : Device) (chip : ChipData) (MayBe : ℕ → Type 0) (both : Bool) (intent : Option Intent) → d.chip ≡ chip → IsDevice d → CanBe old d
-    → ((n : ℕ) → n < page_count chip → IsTrue (old.weak n) → MayBe n)
-    → NoneBelieved chip both MayBe intent (map (λ step. does step) steps) → (sent : AreSent steps old new)
-    → ((e : Device) × AreAsOrdinary steps old new sent d e × CanBe new e × IsDevice e)
-    × ((n : ℕ) → n < page_count chip → IsTrue (new.weak n) → weak_behind chip MayBe (map (λ step. does step) steps) n)
-session_from [] old new d chip MayBe both intent same is can among believed sent = (
-  (d, refl, subst (λ (w : WeakDevice). CanBe w d) (sym sent) can, is),
-  λ n lt weak. among n lt (subst (λ (w : WeakDevice). IsTrue (w.weak n)) sent weak),
-)
-session_from (Adds entries ∷ steps) old new d chip MayBe both intent same is can among believed sent =
-    session_from steps old new d chip (weak_after chip MayBe (does (Adds entries))) both (intent_after intent (does (Adds entries))) same is can among believed.2 sent
-session_from (Sends turns ∷ steps) old new d chip MayBe both intent same is can among believed (mid, s, sent) =
+-- the pages that are weak are among these
+abbrev pub AmongThese : ChipData → (ℕ → Type 0) → WeakDevice → Type 0
+AmongThese chip MayBe w = (n : ℕ) → n < page_count chip → IsTrue (w.weak n) → MayBe n
+
+-- what led the ordinary device: where it is then
+abbrev Led : List Happening → WeakDevice → Device → Type 0
+Led happenings new d = (e : Device) × Befall happenings d e × CanBe new e × IsDevice e
+
+chip_led : (chip : ChipData) (happenings : List Happening) (old new : WeakDevice) (d : Device) → WeakBefall happenings old new → d.chip ≡ chip → CanBe old d → (r : Led happenings new d) → r.0.chip ≡ chip
+chip_led chip happenings old new d led same can r = r.2.chip ∙ chip_along happenings old new led ∙ sym can.chip ∙ same
+
+-- a beginning of a frame that may be sent
+begun : (turns : List Turn) (old mid : WeakDevice) (d : Device) (chip : ChipData) (MayBe : ℕ → Type 0) (intent : Option Intent) → d.chip ≡ chip → IsDevice d → CanBe old d → AmongThese chip MayBe old → MayPut chip MayBe intent turns → (b : IsBegun (sent_bytes turns) old mid)
+    → IsUnread b.happenings old mid b.led × Led b.happenings mid d
+begun turns old mid d chip MayBe intent same is can among may b =
     let P : ChipData → Type 0 = λ c. MayPut c MayBe intent turns in
-    let unread = put_is_unread s.happenings old mid d MayBe intent turns is can (can.phase ∙ s.waits) (subst P (sym same) believed.0) ([], append-nil (fed_bytes s.happenings) ∙ s.whole) s.no_reset s.led
-    (among_along s.happenings old mid chip MayBe s.no_reset s.led s.sound among (sym can.chip ∙ same)) in
-    let one = led_as_ordinary s.happenings old mid d s.are_bytes is can s.led unread in
-    let same_after : one.0.chip ≡ chip = one.2.chip ∙ chip_along s.happenings old mid s.led ∙ sym can.chip ∙ same in
-    let among_after : (n : ℕ) → n < page_count chip → IsTrue (mid.weak n) → weak_after chip MayBe (does (Sends turns)) n =
+    let unread = put_is_unread b.happenings old mid d MayBe intent turns is can (can.phase ∙ b.waits) (subst P (sym same) may) b.begins b.no_reset b.led
+    (among_along b.happenings old mid chip MayBe b.no_reset b.led b.sound among (sym can.chip ∙ same)) in
+    (unread, led_as_ordinary b.happenings old mid d b.are_bytes is can b.led unread)
+
+pub events_from : (events : List Event) (old new : WeakDevice) (d : Device) (chip : ChipData) (MayBe : ℕ → Type 0) (both : Bool) (intent : Option Intent) → d.chip ≡ chip → IsDevice d → CanBe old d → AmongThese chip MayBe old
+    → NoneBelieved chip both MayBe intent events → (led : WeakEvents events old new)
+    → ((e : Device) × AreAsOrdinary events old new led d e × CanBe new e × IsDevice e × (e.chip ≡ chip)) × AmongThese chip (λ n. weak_behind chip MayBe events n) new
+events_from [] old new d chip MayBe both intent same is can among believed led = (
+  (d, refl, subst (λ (w : WeakDevice). CanBe w d) (sym led) can, is, same),
+  λ n lt weak. among n lt (subst (λ (w : WeakDevice). IsTrue (w.weak n)) led weak),
+)
+events_from (settles own ∷ events) old new d chip MayBe both intent same is can among believed (mid, s, led) =
+    let one = led_as_ordinary s.happenings old mid d s.are_bytes is can s.led s.unread in
+    let after : AmongThese chip (λ n. weak_after chip MayBe (settles own) n) mid =
+    λ n lt weak. ⊎_elim (λ (w : IsTrue (old.weak n)). inl (among n lt w)) (λ c. inr (lt, c)) (s.sound n weak) in
+    let rest = events_from events mid new one.0 chip (λ n. weak_after chip MayBe (settles own) n) both (intent_after intent (settles own)) (chip_led chip s.happenings old mid d s.led same can one) one.3 one.2 after believed.2 led in
+    ((rest.0.0, (one.0, one.1, rest.0.1), rest.0.2, rest.0.3, rest.0.4), rest.1)
+events_from (does (Adds entries) ∷ events) old new d chip MayBe both intent same is can among believed led =
+    events_from events old new d chip (λ n. weak_after chip MayBe (does (Adds entries)) n) both (intent_after intent (does (Adds entries))) same is can among believed.2 led
+events_from (does (Sends turns) ∷ events) old new d chip MayBe both intent same is can among believed (mid, s, led) =
+    let b = s.begun in
+    let begin = begun turns old mid d chip MayBe intent same is can among believed.0 b in
+    let one = begin.1 in
+    let after : AmongThese chip (λ n. weak_after chip MayBe (does (Sends turns)) n) mid =
     λ n lt weak. (
-      among n lt (sound_along s.happenings old mid n s.no_reset s.led s.sound weak),
+      among n lt (sound_along b.happenings old mid n b.no_reset b.led b.sound weak),
       (λ e. let R : ChipData → Type 0 = λ c. n < page_count c in let T : ChipData → Type 0 = λ c. turns ≡ erase_turns c.kind n in healed d old mid n turns is can (subst R (sym same) lt) s (subst T (sym same) e) weak),
     ) in
-    let rest = session_from steps mid new one.0 chip (weak_after chip MayBe (does (Sends turns))) both (intent_after intent (does (Sends turns))) same_after one.3 one.2 among_after believed.2 sent in
-    ((rest.0.0, (unread, (one.0, one.1, rest.0.1)), rest.0.2, rest.0.3), rest.1)
+    let rest = events_from events mid new one.0 chip (λ n. weak_after chip MayBe (does (Sends turns)) n) both (intent_after intent (does (Sends turns))) (chip_led chip b.happenings old mid d b.led same can one) one.3 one.2 after believed.2 led in
+    ((rest.0.0, (begin.0, (one.0, one.1, rest.0.1)), rest.0.2, rest.0.3, rest.0.4), rest.1)
+events_from (breaks turns ∷ events) old new d chip MayBe both intent same is can among believed (mid, b, led) =
+    let begin = begun turns old mid d chip MayBe intent same is can among believed.0 b in
+    let one = begin.1 in
+    let after : AmongThese chip (λ n. weak_after chip MayBe (breaks turns) n) mid =
+    λ n lt weak. inl (among n lt (sound_along b.happenings old mid n b.no_reset b.led b.sound weak)) in
+    let rest = events_from events mid new one.0 chip (λ n. weak_after chip MayBe (breaks turns) n) both (intent_after intent (breaks turns)) (chip_led chip b.happenings old mid d b.led same can one) one.3 one.2 after believed.2 led in
+    ((rest.0.0, (begin.0, (one.0, one.1, rest.0.1)), rest.0.2, rest.0.3, rest.0.4), rest.1)
 
-pub session_is_ordinary : SessionIsOrdinary
-session_is_ordinary steps old new d may_be both intent is can among believed sent = session_from steps old new d d.chip (λ n. IsTrue (may_be n)) both intent refl is can among believed sent
+pub events_are_ordinary : EventsAreOrdinary
+events_are_ordinary events old new d may_be both intent is can among believed led =
+    let r = events_from events old new d d.chip (λ n. IsTrue (may_be n)) both intent refl is can among believed led in
+    ((r.0.0, r.0.1, r.0.2, r.0.3), r.1)

@@ -8,4 +8,4 @@ pub mod WeakRecord
 pub mod WeakFrames
 pub mod WeakMeaning
 pub mod WeakBelieved
-pub mod WeakSteps
+pub mod WeakEvents

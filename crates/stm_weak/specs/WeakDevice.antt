@@ -5,7 +5,7 @@
 use Rattle.std.specs.Prelude.{◌≡◌, ◌⊎◌, ℕ, ◌+◌, ◌<◌, ◌≤◌, Bool, IsTrue, List, [], ◌∷◌, ◌++◌}
 use Rattle.std.specs.Prelude.{length, get_or, All, Contains, Some}
 use Rattle.stm_wire.specs.declared.verdict.Verdict.TheVariants.{Done}
-use Rattle.stm_wire.specs.Chip.{ChipData, page_offset, page_size}
+use Rattle.stm_wire.specs.Chip.{ChipData, page_count, page_offset, page_size}
 use Rattle.stm_wire.specs.Exchange.{number_of, verdict}
 use Rattle.stm_wire.specs.Effect.{Change, Nothing, ErasePages, EraseAll, Write, change_of}
 use Rattle.stm_wire.specs.Device.{Device, Connected, Feeds}
@@ -14,6 +14,10 @@ pub record WeakDevice : Type 0 where
   pub device : Device
   -- which pages are weak
   pub weak : ℕ → Bool
+
+-- none of its pages is
+abbrev pub NoneIsWeak : WeakDevice → Type 0
+NoneIsWeak w = (n : ℕ) → n < page_count w.device.chip → IsTrue (w.weak n) → ⊥
 
 -- a place of the flash, counted from its first byte, lies in a weak page
 pub record IsWeakAt (chip : ChipData) (weak : ℕ → Bool) (place : ℕ) : Type 0 where

@@ -1,7 +1,7 @@
 -- A device with weak pages does what an ordinary device does, as long as none of them is read.
-use Rattle.std.specs.Prelude.{◌≡◌, ℕ, ◌<◌, List, IsTrue}
+use Rattle.std.specs.Prelude.{◌≡◌, ℕ, ◌<◌, List}
 use Rattle.stm_wire.specs.Device.{Device, Feeds, IsDevice}
-use Rattle.stm_weak.specs.WeakDevice.{WeakDevice, CanBe, ReadsWeak, WeakFeeds}
+use Rattle.stm_weak.specs.WeakDevice.{WeakDevice, CanBe, NoneIsWeak, ReadsWeak, WeakFeeds}
 use Rattle.stm_weak.specs.WeakRuns.{Happening, AreBytes, Befall, IsUnread, WeakBefall}
 
 -- a byte leads each ordinary device that it can be taken for to one that it can be taken for then
@@ -19,10 +19,9 @@ LedAsOrdinary = (happenings : List Happening) (old new : WeakDevice) (d : Device
 
 -- where no page is weak it can be taken for one device alone, with each byte of its flash
 abbrev pub OneIsLeft : Type 0
-OneIsLeft = (w : WeakDevice) (d : Device) → ((n : ℕ) → IsTrue (w.weak n) → ⊥) → CanBe w d
-    → d ≡ w.device
+OneIsLeft = (w : WeakDevice) (d : Device) → NoneIsWeak w → CanBe w d → d ≡ w.device
 
 -- and then it is an ordinary device: a byte does to it what it does to that
 abbrev pub SoundIsOrdinary : Type 0
-SoundIsOrdinary = (byte : ℕ) (old new : WeakDevice) → ((n : ℕ) → IsTrue (old.weak n) → ⊥)
-    → WeakFeeds byte old new → Feeds byte old.device new.device
+SoundIsOrdinary = (byte : ℕ) (old new : WeakDevice) → NoneIsWeak old → WeakFeeds byte old new
+    → Feeds byte old.device new.device

@@ -5,7 +5,7 @@ ghost use Rattle.stm_weak.specs.WeakBelieved.{MayPutIsUnread};
 ghost use Rattle.stm_weak.specs.WeakFrames.{FramesAreUnread};
 ghost use Rattle.stm_weak.specs.WeakMeaning.{EraseHeals, ReadsAnything};
 ghost use Rattle.stm_weak.specs.WeakRecord.{VouchedWhileUnread};
-ghost use Rattle.stm_weak.specs.WeakSteps.{SessionIsOrdinary};
+ghost use Rattle.stm_weak.specs.WeakEvents.{EventsAreOrdinary};
 
 /// A device may have weak pages: as each byte comes they hold anything anew, until an erase of
 /// them is done. As long as no byte completes a read of one, it does what an ordinary device does
@@ -43,9 +43,9 @@ pub fn a_weak_page_reads_anything_until_it_is_erased()
     ensures heals { EraseHeals }
 {}
 
-/// The steps of a session that believes no page which may be weak, sent to a device with weak
-/// pages, each frame as it waits for a command: they are those of an ordinary device, and behind
-/// them too each page that is weak is among those that may be.
-pub fn a_session_that_believes_no_weak_page_is_ordinary()
-    ensures session { SessionIsOrdinary }
+/// In a history no page is believed that may be weak. Its events, at a device with weak pages, are
+/// those of an ordinary device, and each page that is weak is among those that may be. Each frame
+/// is sent as the device waits for a command, and settling completes no read of a weak page.
+pub fn events_that_believe_no_weak_page_are_ordinary()
+    ensures events { EventsAreOrdinary }
 {}
