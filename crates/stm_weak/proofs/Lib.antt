@@ -17,3 +17,4 @@ mod Unread
 mod Meaning
 mod Putting
 mod Stepping
+mod Dealing

@@ -5,7 +5,10 @@ ghost use Rattle.stm_weak.specs.WeakBelieved.{MayPutIsUnread};
 ghost use Rattle.stm_weak.specs.WeakFrames.{FramesAreUnread};
 ghost use Rattle.stm_weak.specs.WeakMeaning.{EraseHeals, ReadsAnything};
 ghost use Rattle.stm_weak.specs.WeakRecord.{VouchedWhileUnread};
-ghost use Rattle.stm_weak.specs.WeakEvents.{EventsAreOrdinary};
+ghost use Rattle.stm_weak.specs.WeakEvents.{EventsAreOrdinary, HistoriesAreOrdinary};
+
+use crate::weak_pages_are_at_work;
+use stm_wire::Rig;
 
 /// A device may have weak pages: as each byte comes they hold anything anew, until an erase of
 /// them is done. As long as no byte completes a read of one, it does what an ordinary device does
@@ -49,3 +52,14 @@ pub fn a_weak_page_reads_anything_until_it_is_erased()
 pub fn events_that_believe_no_weak_page_are_ordinary()
     ensures events { EventsAreOrdinary }
 {}
+
+/// Runs, undos and calls that ask for the board, one behind another, at a device with weak pages,
+/// with losses of power between them: no byte completes a read of a weak page, and all that befell
+/// the device may have befallen an ordinary one. Where a run or an undo answered Ok, that one is
+/// just what this is, with each byte of its flash. Each frame is sent as the device waits for a
+/// command, and settling completes no read of a weak page.
+pub fn a_history_is_that_of_an_ordinary_device<R: Rig>()
+    ensures ordinary { HistoriesAreOrdinary R.view }
+{
+    weak_pages_are_at_work::<R>();
+}
