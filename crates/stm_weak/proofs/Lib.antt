@@ -10,10 +10,12 @@ mod Leaving
 mod Histories
 mod Agreeing
 mod Effects
+mod Answering
 mod Feeding
 mod Leading
 mod Vouching
 mod Unread
+mod Silent
 mod Meaning
 mod Putting
 mod Stepping

@@ -20,7 +20,7 @@ use Rattle.stm_weak.specs.WeakFrames.{BeginsOf, ReadsNothing, asks, erases, name
 use Rattle.stm_weak.specs.WeakRuns.{Feed, Happening, HasNoReset, IsUnread, Reset, Take, WeakBefall, fed_bytes}
 use Rattle.stm_weak.specs.WeakBelieved.{AreAmong, MayPutIsUnread}
 use Rattle.stm_weak.proofs.Agreeing.{weak_exists}
-use Rattle.stm_weak.proofs.Unread.{frames_are_unread}
+use Rattle.stm_weak.proofs.Silent.{frames_are_unread}
 
 -- where no page is weak all is unread
 none_is_read : (happenings : List Happening) (old new : WeakDevice) (MayBe : ℕ → Type 0) → NoneIs MayBe → (led : WeakBefall happenings old new) → AreAmong MayBe happenings old new led → IsUnread happenings old new led

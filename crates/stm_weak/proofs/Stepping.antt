@@ -22,7 +22,8 @@ use Rattle.stm_weak.specs.WeakEvents.{AreAsOrdinary, EventsAreOrdinary, IsBegun,
 use Rattle.stm_weak.proofs.Leading.{led_as_ordinary}
 use Rattle.stm_weak.proofs.Meaning.{erase_heals_at}
 use Rattle.stm_weak.proofs.Putting.{put_is_unread}
-use Rattle.stm_weak.proofs.Unread.{Has, HasBefore, IsOpenTo, has_at_first, has_fed, has_taken, open_erase}
+use Rattle.stm_weak.proofs.Silent.{open_erase}
+use Rattle.stm_weak.proofs.Unread.{Has, HasBefore, IsOpenTo, has_at_first, has_fed, has_taken}
 
 -- what is weak behind was weak before
 sound_along : (happenings : List Happening) (old new : WeakDevice) (n : ℕ) → HasNoReset happenings → (led : WeakBefall happenings old new) → NoneBecomesWeak happenings old new led → IsTrue (new.weak n) → IsTrue (old.weak n)

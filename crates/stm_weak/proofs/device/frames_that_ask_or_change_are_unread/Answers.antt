@@ -1,5 +1,5 @@
 use Rattle.stm_weak.proofs.Putting.{may_put_is_unread}
-use Rattle.stm_weak.proofs.Unread.{frames_are_unread}
+use Rattle.stm_weak.proofs.Silent.{frames_are_unread}
 use Rattle.stm_weak.proofs.device.frames_that_ask_or_change_are_unread.Goals as goal
 
 pub returns-clause-unread : goal.returns-clause-unread
