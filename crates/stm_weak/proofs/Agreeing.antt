@@ -1,10 +1,10 @@
 -- Flashes that agree outside weak pages, and bytes put in them.
-use Rattle.std.proofs.Common.{append-nil, ◌≡◌, ◌⊎◌, ⊎_elim, inl, inr, ℕ, zero, suc, ◌+◌, ◌-◌, ◌<◌, ◌≤◌, Bool, List, [], ◌∷◌, ◌++◌, length, get_or, take, drop, refl, sym, ◌∙◌, ap, subst, arith, rules, IsTrue, Contains}
-use Rattle.std.proofs.lemmas.Bool.{cases_eq, cases_lt}
-use Rattle.std.proofs.lemmas.List.{places, same_lists, get_or_default, get_or-append_right, get_or_append_left, get_or-take, get_or-drop, length-append, length-take, length-drop, take-append-drop, get_or_past}
+use Rattle.std.proofs.Common.{append-nil, ◌≡◌, ◌⊎◌, ⊎_elim, inl, inr, ℕ, zero, suc, ◌+◌, ◌-◌, ◌<◌, ◌≤◌, Bool, List, [], ◌∷◌, ◌++◌, length, get_or, take, drop, refl, sym, ◌∙◌, ap, subst, arith, IsTrue, Contains}
+use Rattle.std.proofs.lemmas.Bool.{cases_lt}
+use Rattle.std.proofs.lemmas.List.{places, same_lists, get_or_default, take-append-drop, get_or_past}
 use Rattle.stm_wire.specs.Chip.{ChipData, erased_page, flash_size, page_count, page_offset, page_size, with_bytes, with_page}
 use Rattle.stm_wire.specs.Effect.{erased_pages}
-use Rattle.stm_wire.specs.PageLaws.{length-erased_page, length-with_bytes, length-with_page, fits_page}
+use Rattle.stm_wire.specs.PageLaws.{length-erased_page, length-with_page, fits_page}
 use Rattle.stm_weak.specs.WeakDevice.{AgreesOutside, IsWeakAt}
 
 pub agrees_same : (chip : ChipData) (weak : ℕ → Bool) (a : List ℕ) → AgreesOutside chip weak a a

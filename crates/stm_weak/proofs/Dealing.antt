@@ -1,14 +1,14 @@
 -- Calls one behind another at a device with weak pages, and at an ordinary one beside it.
-use Rattle.std.proofs.Common.{◌≡◌, ℕ, ◌<◌, Bool, IsTrue, List, [], ◌∷◌, Option, None, inl, inr, refl, sym, ◌∙◌, subst}
+use Rattle.std.proofs.Common.{◌≡◌, ℕ, ◌<◌, IsTrue, List, [], ◌∷◌, Option, None, refl, sym, ◌∙◌, subst}
 use Rattle.stm_wire.specs.declared.intent.Intent.{Intent}
 use Rattle.stm_wire.specs.Chip.{ChipData, page_count}
 use Rattle.stm_wire.specs.Device.{Device, IsDevice}
 use Rattle.stm_wire.specs.Rig.{RigState}
 use Rattle.stm_session.specs.Undoable.{has_companion}
 use Rattle.stm_weak.specs.Weak.{NoneIs, intent_behind, weak_behind}
-use Rattle.stm_weak.specs.History.{AllFind, AllHeal, AtOk, Deed, HistoriesHeal, events_in}
+use Rattle.stm_weak.specs.History.{AllHeal, AtOk, Deed, HistoriesHeal, events_in}
 use Rattle.stm_weak.specs.History.{ran, run_stopped, undid, undid_verified, undo_stopped, asked, asking_stopped}
-use Rattle.stm_weak.specs.WeakDevice.{CanBe, NoneIsWeak, WeakDevice}
+use Rattle.stm_weak.specs.WeakDevice.{CanBe, WeakDevice}
 use Rattle.stm_weak.specs.WeakEvents.{DeedsAreAsOrdinary, HistoriesAreOrdinary, WeakDeeds}
 use Rattle.stm_weak.proofs.Agreeing.{agrees_same}
 use Rattle.stm_weak.proofs.Leading.{one_is_left}

@@ -1,6 +1,6 @@
 -- What a change does to two flashes that agree outside weak pages.
-use Rattle.std.proofs.Common.{min, ◌++◌, ◌≡◌, ◌⊎◌, ⊎_elim, inl, inr, ℕ, zero, suc, ◌+◌, ◌-◌, ◌<◌, ◌≤◌, Bool, true, false, ◌==◌, if◌then◌else◌, List, [], ◌∷◌, length, get_or, take, drop, replicate, refl, sym, ◌∙◌, ap, subst, arith, true≢false, IsTrue, All, Contains}
-use Rattle.std.proofs.lemmas.Bool.{cases_eq, cases_lt, eqb-true, eqb-false, eq-eqb, ne_eqb}
+use Rattle.std.proofs.Common.{min, ◌++◌, ◌≡◌, ◌⊎◌, ⊎_elim, inl, inr, ℕ, zero, suc, ◌+◌, ◌-◌, ◌<◌, ◌≤◌, Bool, List, [], ◌∷◌, length, get_or, take, drop, replicate, refl, sym, ◌∙◌, ap, subst, arith, IsTrue, All, Contains}
+use Rattle.std.proofs.lemmas.Bool.{cases_eq, cases_lt}
 use Rattle.std.proofs.lemmas.List.{get_or-take, get_or-drop, length-replicate, length-take, length-drop}
 use Rattle.std.proofs.lemmas.List.Elements.{All-append, All-cons, All-drop, All-head, All-nil, All-replicate, All-tail, All-take}
 use Rattle.stm_wire.specs.Chip.{ChipData, IsErasedByte, erased_byte, erased_page, flash_size, page_offset, page_size, with_bytes, with_page}
@@ -8,7 +8,7 @@ use Rattle.stm_wire.specs.Effect.{Change, Nothing, ErasePages, EraseAll, Write, 
 use Rattle.stm_wire.specs.FlashLaws.{length-erased_pages}
 use Rattle.stm_wire.specs.PageLaws.{length-with_bytes}
 use Rattle.stm_weak.specs.WeakDevice.{AgreesOutside, ErasesPage, IsWeakAt}
-use Rattle.stm_weak.proofs.Agreeing.{IsInOne, agrees_same, agrees_weaker, cases_in_one, erased_alike, out_of_fewer, put_beside, put_nothing, put_place}
+use Rattle.stm_weak.proofs.Agreeing.{IsInOne, agrees_same, agrees_weaker, cases_in_one, erased_alike, put_beside, put_nothing, put_place}
 
 abbrev pub IsByte : ℕ → Type 0
 IsByte b = b < 256

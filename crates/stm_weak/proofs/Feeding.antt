@@ -1,21 +1,19 @@
 -- A byte fed to a device with weak pages, and to an ordinary one beside it.
-use Rattle.std.proofs.Common.{min, ◌*◌, ◌≡◌, ◌⊎◌, ⊎_elim, inl, inr, ℕ, zero, suc, ◌+◌, ◌-◌, ◌<◌, ◌≤◌, Bool, true, false, ◌==◌, if◌then◌else◌, List, [], ◌∷◌, ◌++◌, length, get_or, take, drop, Option, Some, None, refl, sym, ◌∙◌, ap, subst, arith, true≢false, IsTrue, All, Contains, take_all, length-append}
-use Rattle.std.proofs.lemmas.Bool.{cases_Bool, cases_lt, eqb-true}
-use Rattle.std.proofs.lemmas.List.{get_or-take, get_or-drop, length-take, length-drop, same_lists, get_or_default, take-append-le}
-use Rattle.std.proofs.lemmas.List.Elements.{All-append, All-cons, All-drop, All-nil, All-tail, All-take}
+use Rattle.std.proofs.Common.{◌≡◌, ◌⊎◌, ⊎_elim, inl, inr, ℕ, zero, suc, ◌<◌, ◌≤◌, Bool, true, false, ◌==◌, if◌then◌else◌, List, [], ◌∷◌, ◌++◌, length, take, Option, Some, None, refl, sym, ◌∙◌, ap, subst, arith, IsTrue, All, take_all, length-append}
+use Rattle.std.proofs.lemmas.Bool.{cases_lt}
+use Rattle.std.proofs.lemmas.List.{take-append-le}
+use Rattle.std.proofs.lemmas.List.Elements.{All-append, All-cons, All-nil}
 use Rattle.stm_wire.specs.declared.verdict.Verdict.{Verdict}
 use Rattle.stm_wire.specs.declared.verdict.Verdict.TheVariants.{Done, Refused, Loose}
-use Rattle.stm_wire.specs.Chip.{ChipData, erased_byte, fits_inside, flash_size}
-use Rattle.stm_wire.specs.Exchange.{IsOpen, number_of, pair_of, pairs_of, verdict}
-use Rattle.stm_wire.specs.Effect.{Effect, Nothing, ErasePages, EraseAll, change_of, erase_change, extended_change, write_change}
-use Rattle.stm_wire.specs.Telling.{readable_bytes, asks_unique, kib_bytes}
-use Rattle.stm_wire.specs.Reply.{ack, answer, commands_answer, id_answer, read_answer, reply_to}
-use Rattle.stm_wire.specs.PageLaws.{fits-end}
+use Rattle.stm_wire.specs.Chip.{ChipData, flash_size}
+use Rattle.stm_wire.specs.Exchange.{IsOpen, verdict}
+use Rattle.stm_wire.specs.Effect.{Effect, change_of}
+use Rattle.stm_wire.specs.Reply.{ack, reply_to}
 use Rattle.stm_wire.specs.Device.{Device, Phase, Fresh, Connected, Gone, Feeds, Receives, Takes, IsDevice, IsLoose, IsOpenPhase, phase_after, reply_of}
-use Rattle.stm_weak.specs.WeakDevice.{AgreesOutside, CanBe, Completes, ErasesPage, Heals, IsInRead, IsWeakAt, ReadsPlace, ReadsWeak, WeakDevice, WeakFeeds}
+use Rattle.stm_weak.specs.WeakDevice.{AgreesOutside, CanBe, Completes, ErasesPage, Heals, IsWeakAt, ReadsPlace, WeakDevice}
 use Rattle.stm_weak.specs.WeakLaws.{FedAsOrdinary}
 use Rattle.stm_weak.proofs.Agreeing.{agrees_both, agrees_same, agrees_weaker}
-use Rattle.stm_weak.proofs.Effects.{AreBytes, IsByte, does_alike, effect_length, erased_is_byte}
+use Rattle.stm_weak.proofs.Effects.{IsByte, does_alike, effect_length, erased_is_byte}
 use Rattle.stm_weak.proofs.Answering.{answer_alike, small_change}
 
 -- What a device is after a byte.

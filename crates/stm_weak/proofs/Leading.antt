@@ -1,9 +1,9 @@
 -- All that befalls a device with weak pages, and an ordinary one beside it.
-use Rattle.std.proofs.Common.{◌≡◌, ℕ, ◌<◌, IsTrue, List, [], ◌∷◌, drop, refl, sym, ◌∙◌, ap, subst, All}
+use Rattle.std.proofs.Common.{◌≡◌, ℕ, List, [], ◌∷◌, drop, refl, sym, ◌∙◌, ap, subst}
 use Rattle.stm_wire.specs.Chip.{ChipData}
 use Rattle.stm_wire.specs.Device.{Device, Phase, Fresh, Feeds, IsDevice, IsOpenPhase, reset}
-use Rattle.stm_weak.specs.WeakDevice.{AgreesOutside, CanBe, ReadsWeak, WeakDevice, WeakFeeds}
-use Rattle.stm_weak.specs.WeakRuns.{Feed, Happening, Reset, Take, AreBytes, Befall, IsNow, IsUnread, StayWeak, WeakBefall}
+use Rattle.stm_weak.specs.WeakDevice.{AgreesOutside, CanBe, WeakDevice}
+use Rattle.stm_weak.specs.WeakRuns.{Feed, Reset, Take, IsNow, StayWeak}
 use Rattle.stm_weak.specs.WeakLaws.{LedAsOrdinary, OneIsLeft, SoundIsOrdinary}
 use Rattle.stm_weak.proofs.Agreeing.{agrees_none, agrees_weaker}
 use Rattle.stm_weak.proofs.Feeding.{fed_as_ordinary, with_parts}

@@ -1,19 +1,19 @@
 -- What a read of weak places may answer, and what an erase frame heals.
-use Rattle.std.proofs.Common.{◌≡◌, ◌⊎◌, ⊎_elim, inl, inr, ℕ, zero, suc, ◌+◌, ◌-◌, ◌/◌, ◌%◌, ◌<◌, ◌≤◌, Bool, true, false, ◌&&◌, ◌||◌, ◌==◌, if◌then◌else◌, nat_lt, List, [], ◌∷◌, ◌++◌, length, take, drop, Option, Some, None, IsTrue, All, refl, sym, ◌∙◌, ap, ap₂, subst, arith, eq-eqb, lt-ltb}
+use Rattle.std.proofs.Common.{◌≡◌, ◌⊎◌, inl, inr, ℕ, ◌+◌, ◌-◌, ◌/◌, ◌%◌, ◌<◌, ◌≤◌, Bool, true, ◌&&◌, ◌==◌, nat_lt, List, [], ◌∷◌, ◌++◌, length, take, drop, Option, Some, IsTrue, All, refl, sym, ◌∙◌, ap, ap₂, subst, arith, eq-eqb, lt-ltb}
 use Rattle.std.proofs.lemmas.Bool.{cases_lt, or_left}
 use Rattle.stm_wire.specs.declared.chip.EraseKind.{EraseKind}
 use Rattle.stm_wire.specs.declared.chip.EraseKind.TheVariants.{Page, Extended}
 use Rattle.stm_wire.specs.declared.verdict.Verdict.{Verdict}
 use Rattle.stm_wire.specs.declared.verdict.Verdict.TheVariants.{Done}
 use Rattle.stm_wire.specs.Chip.{ChipData, fits_inside, is_inside, page_count, with_bytes}
-use Rattle.stm_wire.specs.Effect.{Effect, ErasePages, change_of}
-use Rattle.stm_wire.specs.Exchange.{complement, done_if, is_listed, number_of, pair_of, read_verdict, verdict, xor}
-use Rattle.stm_wire.specs.Frames.{address_bytes, command, erase_frame, read_frame, with_checksum}
+use Rattle.stm_wire.specs.Effect.{Effect, change_of}
+use Rattle.stm_wire.specs.Exchange.{complement, done_if, is_listed, pair_of, read_verdict, verdict, xor}
+use Rattle.stm_wire.specs.Frames.{address_bytes, erase_frame, read_frame, with_checksum}
 use Rattle.stm_wire.specs.PageLaws.{fits-end, length-with_bytes, put_here}
 use Rattle.stm_wire.specs.Reply.{ack, answer, reply_to}
-use Rattle.stm_wire.specs.Telling.{asks_size, asks_unique, can_read, has_size, is_readable, readable_bytes}
+use Rattle.stm_wire.specs.Telling.{can_read, is_readable, readable_bytes}
 use Rattle.stm_wire.specs.Device.{Device, Phase, Connected, Feeds, IsDevice, ListsKind, Receives, Takes, phase_after, reply_of}
-use Rattle.stm_weak.specs.WeakDevice.{AgreesOutside, CanBe, Completes, ErasesPage, Heals, IsWeakAt, WeakDevice, WeakFeeds}
+use Rattle.stm_weak.specs.WeakDevice.{AgreesOutside, CanBe, ErasesPage, Heals, IsWeakAt, WeakDevice, WeakFeeds}
 use Rattle.stm_weak.specs.WeakMeaning.{EraseHeals, ReadsAnything}
 use Rattle.stm_weak.proofs.Agreeing.{put_beside}
 use Rattle.stm_weak.proofs.Effects.{IsByte, bytes-with_bytes}

@@ -1,9 +1,9 @@
 -- Frames that may be sent while pages may be weak are unread.
-use Rattle.std.proofs.Common.{◌<◌, ⊎_elim, ◌≡◌, ℕ, ◌+◌, ◌≤◌, ◌-◌, Bool, true, false, ◌==◌, if◌then◌else◌, List, [], ◌∷◌, length, Option, Some, None, IsTrue, refl, sym, ◌∙◌, ap, subst, arith, le-leb, append_assoc, append-nil, ◌++◌}
+use Rattle.std.proofs.Common.{◌≡◌, ℕ, ◌+◌, ◌≤◌, ◌-◌, Bool, true, false, ◌==◌, if◌then◌else◌, List, [], ◌∷◌, length, Option, Some, None, IsTrue, refl, sym, ◌∙◌, ap, arith, le-leb, append_assoc, append-nil, ◌++◌}
 use Rattle.std.proofs.lemmas.Bool.{and_from}
 use Rattle.stm_wire.specs.declared.places.UniquePlace.{UniquePlace}
 use Rattle.stm_wire.specs.declared.intent.Intent.{Intent}
-use Rattle.stm_wire.specs.Chip.{ChipData, fits_inside, flash_size, page_count, page_offset, page_size}
+use Rattle.stm_wire.specs.Chip.{ChipData, fits_inside, flash_size, page_size}
 use Rattle.stm_wire.specs.Device.{Device, Connected, IsDevice}
 use Rattle.stm_wire.specs.Dialogue.{Turn, sent_bytes}
 use Rattle.stm_wire.specs.DialogueLaws.{erase_sends, get_id_sends, get_sends, read_sends, write_sends}
@@ -11,12 +11,12 @@ use Rattle.stm_wire.specs.Frames.{address_bytes, command, read_frame, with_check
 use Rattle.stm_wire.specs.PageLaws.{page_within}
 use Rattle.stm_wire.specs.Refused.{IsRefusedRead, at_code, at_address, at_count}
 use Rattle.stm_session.specs.Order.{page_address}
-use Rattle.stm_session.specs.Reaching.{confirmed_at, place_of}
+use Rattle.stm_session.specs.Reaching.{place_of}
 use Rattle.stm_weak.specs.Weak.{NoneIs}
 use Rattle.stm_weak.specs.Believed.{MayPut}
 use Rattle.stm_weak.specs.Believed.{asks as put_asks, names as put_names, confirms, refused, reads, erases as put_erases, writes as put_writes}
-use Rattle.stm_weak.specs.WeakDevice.{CanBe, IsWeakAt, ReadsWeak, WeakDevice}
-use Rattle.stm_weak.specs.WeakFrames.{BeginsOf, ReadsNothing, asks, erases, names, tells, writes}
+use Rattle.stm_weak.specs.WeakDevice.{CanBe, WeakDevice}
+use Rattle.stm_weak.specs.WeakFrames.{BeginsOf, asks, erases, names, tells, writes}
 use Rattle.stm_weak.specs.WeakRuns.{Feed, Happening, HasNoReset, IsUnread, Reset, Take, WeakBefall, fed_bytes}
 use Rattle.stm_weak.specs.WeakBelieved.{AreAmong, MayPutIsUnread}
 use Rattle.stm_weak.proofs.Agreeing.{weak_exists}

@@ -1,5 +1,5 @@
 -- The events of a history at a device with weak pages, and at an ordinary one beside it.
-use Rattle.std.proofs.Common.{⊎_elim, true, false, ◌==◌, if◌then◌else◌, ◌≡◌, ◌≢◌, ◌⊎◌, inl, inr, ℕ, ◌<◌, Bool, IsTrue, List, [], ◌∷◌, ◌++◌, drop, map, Option, Some, None, refl, sym, ◌∙◌, ap, subst, append-nil, append_assoc}
+use Rattle.std.proofs.Common.{⊎_elim, true, false, ◌==◌, if◌then◌else◌, ◌≡◌, inl, inr, ℕ, ◌<◌, Bool, IsTrue, List, [], ◌∷◌, ◌++◌, Option, Some, None, refl, sym, ◌∙◌, ap, subst, append_assoc}
 use Rattle.stm_wire.specs.declared.chip.EraseKind.{EraseKind}
 use Rattle.stm_wire.specs.declared.chip.EraseKind.TheVariants.{Page, Extended}
 use Rattle.stm_wire.specs.declared.intent.Intent.{Intent}
@@ -15,10 +15,10 @@ use Rattle.stm_wire.specs.Frames.{erase_frame, erase_turns}
 use Rattle.stm_session.specs.Order.{Adds, Sends}
 use Rattle.stm_weak.specs.Weak.{Event, breaks, does, settles, intent_after, weak_after, weak_behind}
 use Rattle.stm_weak.specs.Believed.{MayPut, NoneBelieved}
-use Rattle.stm_weak.specs.WeakDevice.{CanBe, Heals, WeakDevice, WeakFeeds}
-use Rattle.stm_weak.specs.WeakRuns.{AreBytes, Befall, Feed, Happening, HasNoReset, IsUnread, Reset, Take, WeakBefall, fed_bytes}
+use Rattle.stm_weak.specs.WeakDevice.{CanBe, WeakDevice, WeakFeeds}
+use Rattle.stm_weak.specs.WeakRuns.{Befall, Feed, Happening, HasNoReset, IsUnread, Reset, Take, WeakBefall, fed_bytes}
 use Rattle.stm_weak.specs.WeakBelieved.{AreAmong}
-use Rattle.stm_weak.specs.WeakEvents.{AreAsOrdinary, EventsAreOrdinary, IsBegun, IsSent, IsSettledWeakly, NoneBecomesWeak, WeakEvents}
+use Rattle.stm_weak.specs.WeakEvents.{AreAsOrdinary, EventsAreOrdinary, IsBegun, IsSent, NoneBecomesWeak, WeakEvents}
 use Rattle.stm_weak.proofs.Leading.{led_as_ordinary}
 use Rattle.stm_weak.proofs.Meaning.{erase_heals_at}
 use Rattle.stm_weak.proofs.Putting.{put_is_unread}

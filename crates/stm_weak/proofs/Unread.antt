@@ -1,19 +1,12 @@
 -- Bytes that follow one another, of which none completes a read.
-use Rattle.std.proofs.Common.{⊎_elim, ◌||◌, ◌^◌, nat_le, ◌≡◌, ◌⊎◌, inl, inr, ℕ, zero, suc, ◌+◌, ◌-◌, ◌/◌, ◌%◌, ◌<◌, ◌≤◌, Bool, true, false, ◌&&◌, ◌==◌, if◌then◌else◌, List, [], ◌∷◌, ◌++◌, length, take, drop, get_or, Option, Some, None, IsTrue, refl, sym, ◌∙◌, ap, ap₂, subst, arith, eq-eqb, ne_eqb, lt-ltb, le-leb, length-append, append_assoc}
-use Rattle.std.proofs.lemmas.Bool.{and_from, and_parts, eqb-true, false≢true, leb-true, or_cases}
-use Rattle.stm_wire.specs.declared.chip.EraseKind.{EraseKind}
-use Rattle.stm_wire.specs.declared.chip.EraseKind.TheVariants.{Page, Extended}
+use Rattle.std.proofs.Common.{◌≡◌, ◌⊎◌, inl, inr, ℕ, ◌<◌, List, [], ◌∷◌, ◌++◌, drop, Option, Some, None, refl, sym, ◌∙◌, ap, subst, arith}
 use Rattle.stm_wire.specs.declared.verdict.Verdict.{Verdict}
-use Rattle.stm_wire.specs.declared.verdict.Verdict.TheVariants.{Done, Refused, Loose}
-use Rattle.stm_wire.specs.Chip.{ChipData, IsChip, fits_inside, flash_size, is_inside, is_outside, is_size_place, is_unique_place}
-use Rattle.stm_wire.specs.Exchange.{verdict, command_verdict, after_address, at_end, complement, done_if, is_listed, number_of, read_verdict, write_verdict, xor}
-use Rattle.stm_wire.specs.PageLaws.{fits-end, page_within}
-use Rattle.stm_wire.specs.declared.places.UniquePlace.{UniquePlace}
-use Rattle.stm_wire.specs.Telling.{asks_size, asks_unique, can_read, has_size, has_unique, is_readable}
-use Rattle.stm_wire.specs.UniqueId.{is_unique_length}
-use Rattle.stm_wire.specs.Frames.{address_bytes, command, erase_frame, with_checksum, write_frame}
-use Rattle.stm_wire.specs.Device.{Device, Phase, Fresh, Connected, Gone, Feeds, IsDevice, ListsKind, Receives, Takes}
-use Rattle.stm_weak.specs.WeakDevice.{CanBe, Completes, IsWeakAt, ReadsPlace, ReadsWeak, WeakDevice, WeakFeeds}
+use Rattle.stm_wire.specs.declared.verdict.Verdict.TheVariants.{Done, Refused}
+use Rattle.stm_wire.specs.Chip.{ChipData, flash_size}
+use Rattle.stm_wire.specs.Exchange.{verdict}
+use Rattle.stm_wire.specs.PageLaws.{page_within}
+use Rattle.stm_wire.specs.Device.{Device, Phase, Fresh, Connected, Gone, Receives, Takes}
+use Rattle.stm_weak.specs.WeakDevice.{CanBe, IsWeakAt, ReadsPlace, ReadsWeak, WeakDevice, WeakFeeds}
 use Rattle.stm_weak.specs.WeakRuns.{Feed, Happening, HasNoReset, IsNow, IsUnread, Reset, Take, WeakBefall, fed_bytes}
 
 -- the first byte isn't that of a read

@@ -1,5 +1,5 @@
 -- A record of a device with weak pages vouches for an ordinary one.
-use Rattle.std.proofs.Common.{◌≡◌, ◌⊎◌, inl, inr, ℕ, zero, suc, ◌+◌, ◌-◌, ◌^◌, ◌<◌, ◌≤◌, List, [], ◌∷◌, length, drop, Option, Some, None, refl, sym, ◌∙◌, ap, subst, arith, add-one}
+use Rattle.std.proofs.Common.{◌≡◌, ◌⊎◌, inl, inr, ℕ, zero, suc, ◌+◌, ◌<◌, ◌≤◌, List, ◌∷◌, length, drop, Some, None, refl, sym, ◌∙◌, ap, subst, arith, add-one}
 use Rattle.std.proofs.lemmas.Bool.{cases_lt}
 use Rattle.stm_line.specs.declared.answered.Answered.{Answered}
 use Rattle.stm_line.specs.declared.answered.Answered.TheVariants.{Put, PutFailed, Got, GetFailed}
@@ -7,7 +7,7 @@ use Rattle.stm_line.specs.declared.answered.Answered.TheVariants.{Appended, Appe
 use Rattle.stm_line.specs.declared.answered.Answered.TheVariants.{Fetched, FetchFailed}
 use Rattle.stm_line.specs.Standing.{Standing}
 use Rattle.stm_line.specs.Vouched.{Leads, Vouched, call_at}
-use Rattle.stm_wire.specs.Device.{Device, Feeds, IsDevice, LosesOwed}
+use Rattle.stm_wire.specs.Device.{Device, IsDevice, LosesOwed}
 use Rattle.stm_weak.specs.WeakDevice.{CanBe, ReadsWeak, WeakDevice, WeakFeeds}
 use Rattle.stm_weak.specs.WeakRuns.{IsNow, StayWeak}
 use Rattle.stm_weak.specs.WeakRecord.{AgreesWith, IsUnreadRecord, PutsUnread, VouchedWhileUnread, WeakLeads, WeakStanding}

@@ -2,7 +2,7 @@
 -- it is that of an ordinary device.
 use Rattle.std.specs.Prelude.{◌≡◌, ◌⊎◌, ℕ, ◌<◌, Bool, IsTrue, List, [], ◌∷◌, Contains, Option, None}
 use Rattle.stm_wire.specs.declared.intent.Intent.{Intent}
-use Rattle.stm_wire.specs.Chip.{ChipData, page_count}
+use Rattle.stm_wire.specs.Chip.{page_count}
 use Rattle.stm_wire.specs.Device.{Device, Connected, IsDevice}
 use Rattle.stm_wire.specs.Dialogue.{sent_bytes}
 use Rattle.stm_wire.specs.Intents.{intended_pages}
