@@ -1,5 +1,8 @@
 -- A byte fed to a device with weak pages, and to an ordinary one beside it.
-use Rattle.std.proofs.Common.{◌≡◌, ◌⊎◌, ⊎_elim, inl, inr, ℕ, zero, suc, ◌<◌, ◌≤◌, Bool, true, false, ◌==◌, if◌then◌else◌, List, [], ◌∷◌, ◌++◌, length, take, Option, Some, None, refl, sym, ◌∙◌, ap, subst, arith, IsTrue, All, take_all, length-append}
+use Rattle.std.proofs.Common.{◌≡◌, ◌⊎◌, ⊎_elim, inl, inr, ℕ, zero, suc, ◌<◌, ◌≤◌, Bool, true, false}
+use Rattle.std.proofs.Common.{◌==◌, if◌then◌else◌, List, [], ◌∷◌, ◌++◌, length, take, Option, Some}
+use Rattle.std.proofs.Common.{None, refl, sym, ◌∙◌, ap, subst, arith, IsTrue, All, take_all}
+use Rattle.std.proofs.Common.{length-append}
 use Rattle.std.proofs.lemmas.Bool.{cases_lt}
 use Rattle.std.proofs.lemmas.List.{take-append-le}
 use Rattle.std.proofs.lemmas.List.Elements.{All-append, All-cons, All-nil}
@@ -9,8 +12,10 @@ use Rattle.stm_wire.specs.Chip.{ChipData, flash_size}
 use Rattle.stm_wire.specs.Exchange.{IsOpen, verdict}
 use Rattle.stm_wire.specs.Effect.{Effect, change_of}
 use Rattle.stm_wire.specs.Reply.{ack, reply_to}
-use Rattle.stm_wire.specs.Device.{Device, Phase, Fresh, Connected, Gone, Feeds, Receives, Takes, IsDevice, IsLoose, IsOpenPhase, phase_after, reply_of}
-use Rattle.stm_weak.specs.WeakDevice.{AgreesOutside, CanBe, Completes, ErasesPage, Heals, IsWeakAt, ReadsPlace, WeakDevice}
+use Rattle.stm_wire.specs.Device.{Device, Phase, Fresh, Connected, Gone, Feeds, Receives, Takes}
+use Rattle.stm_wire.specs.Device.{IsDevice, IsLoose, IsOpenPhase, phase_after, reply_of}
+use Rattle.stm_weak.specs.WeakDevice.{AgreesOutside, CanBe, Completes, ErasesPage, Heals, IsWeakAt}
+use Rattle.stm_weak.specs.WeakDevice.{ReadsPlace, WeakDevice}
 use Rattle.stm_weak.specs.WeakLaws.{FedAsOrdinary}
 use Rattle.stm_weak.proofs.Agreeing.{agrees_both, agrees_same, agrees_weaker}
 use Rattle.stm_weak.proofs.Effects.{IsByte, does_alike, effect_length, erased_is_byte}
@@ -18,7 +23,8 @@ use Rattle.stm_weak.proofs.Answering.{answer_alike, small_change}
 
 -- What a device is after a byte.
 
-pub with_parts : (d : Device) (flash owed : List ℕ) (phase : Phase) → IsDevice d → length flash ≡ length d.flash → All IsByte flash → IsOpenPhase d.chip d.codes phase
+pub with_parts : (d : Device) (flash owed : List ℕ) (phase : Phase) → IsDevice d
+    → length flash ≡ length d.flash → All IsByte flash → IsOpenPhase d.chip d.codes phase
     → IsDevice (record d { flash = flash; owed = owed; phase = phase })
 with_parts d flash owed phase is size all waits =
     record {
@@ -44,11 +50,15 @@ open_nothing chip codes = (none, All-nil IsByte)
     none zero = refl
     none (suc n) = refl
 
-open_more : (chip : ChipData) (codes rest : List ℕ) (byte : ℕ) → IsOpen chip codes rest → verdict chip codes (rest ++ byte ∷ []) ≡ None → IsOpen chip codes (rest ++ byte ∷ [])
+open_more : (chip : ChipData) (codes rest : List ℕ) (byte : ℕ) → IsOpen chip codes rest
+    → verdict chip codes (rest ++ byte ∷ []) ≡ None → IsOpen chip codes (rest ++ byte ∷ [])
 open_more chip codes rest byte is none n = by (cases_lt (length rest) n)
   where
-    by : (length rest < n) ⊎ (n ≤ length rest) → verdict chip codes (take n (rest ++ byte ∷ [])) ≡ None
-    by (inl over) = ap (λ xs. verdict chip codes xs) (take_all n (rest ++ byte ∷ []) (omega (arith, over, length-append rest (byte ∷ [])))) ∙ none
+    by : (length rest < n) ⊎ (n ≤ length rest) → verdict chip codes
+        (take n (rest ++ byte ∷ [])) ≡ None
+    by (inl over) = ap (λ xs. verdict chip codes xs)
+        (take_all n (rest ++ byte ∷ []) (omega (arith, over, length-append rest (byte ∷ []))))
+        ∙ none
     by (inr le) = ap (λ xs. verdict chip codes xs) (take-append-le n rest (byte ∷ []) le) ∙ is n
 
 open_after : (chip : ChipData) (codes bytes : List ℕ) → IsOpenPhase chip codes (phase_after bytes)
@@ -66,11 +76,13 @@ with_flash flash d = record d { flash = flash }
 -- What a byte may leave of the one with this flash: it agrees with new, but for weak pages.
 abbrev Alongside : (ℕ → Bool) → List ℕ → ℕ → Device → Phase → Device → Type 0
 Alongside weak flash byte old phase new =
-    (left : List ℕ) × Receives (with_flash flash old) phase byte (with_flash left new) × AgreesOutside new.chip weak new.flash left × IsDevice (with_flash left new)
+    (left : List ℕ) × Receives (with_flash flash old) phase byte (with_flash left new)
+    × AgreesOutside new.chip weak new.flash left × IsDevice (with_flash left new)
 
 abbrev TakesAlongside : (ℕ → Bool) → List ℕ → List ℕ → Device → Option Verdict → Device → Type 0
 TakesAlongside weak flash bytes old v new =
-    (left : List ℕ) × Takes (with_flash flash old) bytes v (with_flash left new) × AgreesOutside new.chip weak new.flash left × IsDevice (with_flash left new)
+    (left : List ℕ) × Takes (with_flash flash old) bytes v (with_flash left new)
+    × AgreesOutside new.chip weak new.flash left × IsDevice (with_flash left new)
 
 -- a list that is done, with a place in a weak page
 abbrev IsWeakList : ChipData → (ℕ → Bool) → List ℕ → Type 0
@@ -93,131 +105,207 @@ IsHealed bytes n (Some Loose) = ⊥
 -- the same of a byte that comes in this phase
 abbrev IsUnreadIn : ChipData → List ℕ → (ℕ → Bool) → ℕ → Phase → Type 0
 IsUnreadIn chip codes weak byte Fresh = Unit {0}
-IsUnreadIn chip codes weak byte (Connected rest) = IsUnread chip weak (rest ++ byte ∷ []) (verdict chip codes (rest ++ byte ∷ []))
+IsUnreadIn chip codes weak byte (Connected rest) = IsUnread chip weak (rest ++ byte ∷ [])
+    (verdict chip codes (rest ++ byte ∷ []))
 IsUnreadIn chip codes weak byte Gone = Unit {0}
 
 abbrev IsHealedIn : ChipData → List ℕ → ℕ → ℕ → Phase → Type 0
 IsHealedIn chip codes byte n Fresh = ⊥
-IsHealedIn chip codes byte n (Connected rest) = IsHealed (rest ++ byte ∷ []) n (verdict chip codes (rest ++ byte ∷ []))
+IsHealedIn chip codes byte n (Connected rest) = IsHealed (rest ++ byte ∷ []) n
+    (verdict chip codes (rest ++ byte ∷ []))
 IsHealedIn chip codes byte n Gone = ⊥
 
 still : (weak2 : ℕ → Bool) (n : ℕ) → IsTrue (weak2 n) ⊎ ⊥ → IsTrue (weak2 n)
 still weak2 n (inl w) = w
 still weak2 n (inr x) = absurd x
 
-loose_device : (old new : Device) (flash bytes : List ℕ) → IsDevice (with_flash flash old) → length flash ≡ length old.flash → IsLoose old bytes new → IsDevice new
+loose_device : (old new : Device) (flash bytes : List ℕ) → IsDevice (with_flash flash old)
+    → length flash ≡ length old.flash → IsLoose old bytes new → IsDevice new
 loose_device old new flash bytes is size l =
-    let make : ChipData → ℕ → List ℕ → Device = λ chip version codes. record { chip = chip; version = version; codes = codes; flash = new.flash; owed = new.owed; phase = new.phase } in
+    let make : ChipData → ℕ → List ℕ → Device = λ chip version codes. record {
+      chip = chip;
+      version = version;
+      codes = codes;
+      flash = new.flash;
+      owed = new.owed;
+      phase =
+          new.phase;
+    } in
     let same : make old.chip old.version old.codes ≡ make new.chip new.version new.codes =
-    ap (λ c. make c old.version old.codes) (sym l.chip) ∙ ap (λ v. make new.chip v old.codes) (sym l.version) ∙ ap (λ k. make new.chip new.version k) (sym l.codes) in
-    let at : IsDevice (make old.chip old.version old.codes) = with_parts (with_flash flash old) new.flash new.owed new.phase is (l.same_length ∙ sym size) l.flash l.phase in
+    ap (λ c. make c old.version old.codes) (sym l.chip)
+    ∙ ap (λ v. make new.chip v old.codes) (sym l.version)
+    ∙ ap (λ k. make new.chip new.version k) (sym l.codes) in
+    let at : IsDevice (make old.chip old.version old.codes) = with_parts
+    (with_flash flash old) new.flash new.owed new.phase is
+    (l.same_length ∙ sym size) l.flash l.phase in
     subst IsDevice same at
 
-module _ (weak weak2 : ℕ → Bool) (old : Device) (flash : List ℕ) (is : IsDevice (with_flash flash old)) (agrees : AgreesOutside old.chip weak old.flash flash) where
-  -- the flash is as it was, and nothing was read or erased
-  keeps_alongside : (owed : List ℕ) (phase : Phase) → IsOpenPhase old.chip old.codes phase → ((n : ℕ) → IsTrue (weak n) → IsTrue (weak2 n) ⊎ ⊥)
-      → AgreesOutside old.chip weak2 old.flash flash × IsDevice (record old { flash = flash; owed = owed; phase = phase })
-  keeps_alongside owed phase waits stays = (
-    agrees_weaker old.chip weak weak2 old.flash flash (λ n w. still weak2 n (stays n w)) agrees,
-    with_parts (with_flash flash old) flash owed phase is refl is.flash waits,
-  )
+module _ (weak weak2 : ℕ → Bool) (old : Device) (flash : List ℕ)
+    (is : IsDevice (with_flash flash old)) (agrees : AgreesOutside old.chip weak old.flash flash)
+  where
+    -- the flash is as it was, and nothing was read or erased
+    keeps_alongside : (owed : List ℕ) (phase : Phase) → IsOpenPhase old.chip old.codes phase
+        → ((n : ℕ) → IsTrue (weak n) → IsTrue (weak2 n) ⊎ ⊥)
+        → AgreesOutside old.chip weak2 old.flash flash
+        × IsDevice (record old { flash = flash; owed = owed; phase = phase })
+    keeps_alongside owed phase waits stays = (
+      agrees_weaker old.chip weak weak2 old.flash flash (λ n w. still weak2 n (stays n w)) agrees,
+      with_parts (with_flash flash old) flash owed phase is refl is.flash waits,
+    )
 
-  reply_alike : (bytes : List ℕ) (v : Option Verdict) → IsUnread old.chip weak bytes v → reply_to v old.chip old.version old.codes flash bytes ≡ reply_to v old.chip old.version old.codes old.flash bytes
-  reply_alike bytes None unread = refl
-  reply_alike bytes (Some Refused) unread = refl
-  reply_alike bytes (Some Done) unread = ap (λ (xs : List ℕ). ack ∷ xs) (answer_alike old.chip old.version old.codes bytes old.flash flash agrees.same_length (λ place reads. agrees.elsewhere place (λ w. unread (place, reads, w))))
-  reply_alike bytes (Some Loose) unread = refl
+    reply_alike : (bytes : List ℕ) (v : Option Verdict) → IsUnread old.chip weak bytes v
+        → reply_to v old.chip old.version old.codes flash bytes ≡ reply_to v old.chip old.version
+        old.codes old.flash bytes
+    reply_alike bytes None unread = refl
+    reply_alike bytes (Some Refused) unread = refl
+    reply_alike bytes (Some Done) unread = ap (λ (xs : List ℕ). ack ∷ xs)
+        (answer_alike old.chip old.version old.codes bytes old.flash flash agrees.same_length
+        (λ place reads. agrees.elsewhere place (λ w. unread (place, reads, w))))
+    reply_alike bytes (Some Loose) unread = refl
 
-  reply_same : (bytes : List ℕ) (v : Option Verdict) → verdict old.chip old.codes bytes ≡ v → IsUnread old.chip weak bytes v → reply_of old bytes ≡ reply_of (with_flash flash old) bytes
-  reply_same bytes v e unread =
-      ap (λ w. reply_to w old.chip old.version old.codes old.flash bytes) e ∙ sym (reply_alike bytes v unread)
-      ∙ sym (ap (λ w. reply_to w old.chip old.version old.codes flash bytes) e)
+    reply_same : (bytes : List ℕ) (v : Option Verdict) → verdict old.chip old.codes bytes ≡ v
+        → IsUnread old.chip weak bytes v → reply_of old bytes ≡ reply_of (with_flash flash old) bytes
+    reply_same bytes v e unread =
+        ap (λ w. reply_to w old.chip old.version old.codes old.flash bytes) e
+        ∙ sym (reply_alike bytes v unread)
+        ∙ sym (ap (λ w. reply_to w old.chip old.version old.codes flash bytes) e)
 
-  takes_alongside : (rest : List ℕ) (byte : ℕ) (v : Option Verdict) (new : Device) → IsOpen old.chip old.codes rest → All IsByte (rest ++ byte ∷ []) → verdict old.chip old.codes (rest ++ byte ∷ []) ≡ v
-      → IsUnread old.chip weak (rest ++ byte ∷ []) v
-      → ((n : ℕ) → IsTrue (weak n) → IsTrue (weak2 n) ⊎ IsHealed (rest ++ byte ∷ []) n v)
-      → Takes old (rest ++ byte ∷ []) v new → TakesAlongside weak2 flash (rest ++ byte ∷ []) old v new
-  takes_alongside rest byte None new waits small e unread stays t =
-      let bytes = rest ++ byte ∷ [] in
-      let P : Device → Type 0 = λ x. TakesAlongside weak2 flash bytes old None x in
-      let make : List ℕ → Device = λ xs. record old { flash = flash; owed = old.owed ++ xs; phase = Connected bytes } in
-      let k = keeps_alongside (old.owed ++ reply_of old bytes) (Connected bytes) (open_more old.chip old.codes rest byte waits e, small) stays in
-      subst P (sym t) (flash, ap make (reply_same bytes None e unread), k.0, k.1)
-  takes_alongside rest byte (Some Refused) new waits small e unread stays t =
-      let bytes = rest ++ byte ∷ [] in
-      let P : Device → Type 0 = λ x. TakesAlongside weak2 flash bytes old (Some Refused) x in
-      let make : List ℕ → Device = λ xs. record old { flash = flash; owed = old.owed ++ xs; phase = Connected [] } in
-      let k = keeps_alongside (old.owed ++ reply_of old bytes) (Connected []) (open_nothing old.chip old.codes) stays in
-      subst P (sym t) (flash, ap make (reply_same bytes (Some Refused) e unread), k.0, k.1)
-  takes_alongside rest byte (Some Done) new waits small e unread stays (after, effect, t) =
-      let bytes = rest ++ byte ∷ [] in
-      let P : Device → Type 0 = λ x. TakesAlongside weak2 flash bytes old (Some Done) x in
-      let size : length old.flash ≡ flash_size old.chip = sym agrees.same_length ∙ is.size in
-      let did = does_alike old.chip weak weak2 old.flash flash size agrees is.flash (erased_is_byte old.chip.erased is.chip.erased) (change_of bytes) after (small_change bytes small) stays effect in
-      let make : List ℕ → Device = λ xs. record old { flash = did.0; owed = old.owed ++ xs; phase = phase_after bytes } in
-      let size2 : length did.0 ≡ length flash = same_size bytes did.0 did.1 in
-      subst P (sym t) (
-        did.0,
-        (did.0, did.1, ap make (reply_same bytes (Some Done) e unread)),
-        did.2,
-        with_parts (with_flash flash old) did.0 (old.owed ++ reply_of old bytes) (phase_after bytes) is size2 did.3 (open_after old.chip old.codes bytes),
-      )
-    where
-      same_size : (bytes left : List ℕ) → Effect old.chip (change_of bytes) flash left → length left ≡ length flash
-      same_size bytes left effect = effect_length old.chip (change_of bytes) flash left is.size effect
-  takes_alongside rest byte (Some Loose) new waits small e unread stays l =
-      let bytes = rest ++ byte ∷ [] in (
-        new.flash,
-        record {
-          chip = l.chip;
-          version = l.version;
-          codes = l.codes;
-          same_length = l.same_length ∙ sym agrees.same_length;
-          flash = l.flash;
-          phase = l.phase;
-          owed = λ p. l.owed p ∙ ap (λ (xs : List ℕ). old.owed ++ xs) (reply_same bytes (Some Loose) e unread);
-        },
-        agrees_same new.chip weak2 new.flash,
-        loose_device old new flash bytes is agrees.same_length l,
-      )
+    takes_alongside : (rest : List ℕ) (byte : ℕ) (v : Option Verdict) (new : Device)
+        → IsOpen old.chip old.codes rest → All IsByte (rest ++ byte ∷ [])
+        → verdict old.chip old.codes (rest ++ byte ∷ []) ≡ v
+        → IsUnread old.chip weak (rest ++ byte ∷ []) v
+        → ((n : ℕ) → IsTrue (weak n) → IsTrue (weak2 n) ⊎ IsHealed (rest ++ byte ∷ []) n v)
+        → Takes old (rest ++ byte ∷ []) v new → TakesAlongside weak2 flash
+        (rest ++ byte ∷ []) old v new
+    takes_alongside rest byte None new waits small e unread stays t =
+        let bytes = rest ++ byte ∷ [] in
+        let P : Device → Type 0 = λ x. TakesAlongside weak2 flash bytes old None x in
+        let make : List ℕ → Device = λ xs. record old
+        { flash = flash; owed = old.owed ++ xs; phase = Connected bytes } in
+        let k = keeps_alongside (old.owed ++ reply_of old bytes) (Connected bytes)
+        (open_more old.chip old.codes rest byte waits e, small) stays in
+        subst P (sym t) (flash, ap make (reply_same bytes None e unread), k.0, k.1)
+    takes_alongside rest byte (Some Refused) new waits small e unread stays t =
+        let bytes = rest ++ byte ∷ [] in
+        let P : Device → Type 0 = λ x. TakesAlongside weak2 flash bytes old (Some Refused) x in
+        let make : List ℕ → Device = λ xs. record old
+        { flash = flash; owed = old.owed ++ xs; phase = Connected [] } in
+        let k = keeps_alongside (old.owed ++ reply_of old bytes) (Connected [])
+        (open_nothing old.chip old.codes) stays in
+        subst P (sym t) (flash, ap make (reply_same bytes (Some Refused) e unread), k.0, k.1)
+    takes_alongside rest byte (Some Done) new waits small e unread stays (after, effect, t) =
+        let bytes = rest ++ byte ∷ [] in
+        let P : Device → Type 0 = λ x. TakesAlongside weak2 flash bytes old (Some Done) x in
+        let size : length old.flash ≡ flash_size old.chip = sym agrees.same_length ∙ is.size in
+        let did = does_alike old.chip weak weak2 old.flash flash size agrees is.flash
+        (erased_is_byte old.chip.erased is.chip.erased) (change_of bytes) after
+        (small_change bytes small) stays effect in
+        let make : List ℕ → Device = λ xs. record old
+        { flash = did.0; owed = old.owed ++ xs; phase = phase_after bytes } in
+        let size2 : length did.0 ≡ length flash = same_size bytes did.0 did.1 in
+        subst P (sym t) (
+          did.0,
+          (did.0, did.1, ap make (reply_same bytes (Some Done) e unread)),
+          did.2,
+          with_parts (with_flash flash old) did.0 (old.owed ++ reply_of old bytes)
+              (phase_after bytes) is size2 did.3 (open_after old.chip old.codes bytes),
+        )
+      where
+        same_size : (bytes left : List ℕ) → Effect old.chip (change_of bytes) flash left
+            → length left ≡ length flash
+        same_size bytes left effect = effect_length old.chip
+            (change_of bytes) flash left is.size effect
+    takes_alongside rest byte (Some Loose) new waits small e unread stays l =
+        let bytes = rest ++ byte ∷ [] in (
+          new.flash,
+          record {
+            chip = l.chip;
+            version = l.version;
+            codes = l.codes;
+            same_length = l.same_length ∙ sym agrees.same_length;
+            flash = l.flash;
+            phase = l.phase;
+            owed = λ p. l.owed p ∙ ap (λ (xs : List ℕ). old.owed ++ xs)
+                (reply_same bytes (Some Loose) e unread);
+          },
+          agrees_same new.chip weak2 new.flash,
+          loose_device old new flash bytes is agrees.same_length l,
+        )
 
-  receives_alongside : (byte : ℕ) (p : Phase) (new : Device) → byte < 256 → IsOpenPhase old.chip old.codes p → IsUnreadIn old.chip old.codes weak byte p
-      → ((n : ℕ) → IsTrue (weak n) → IsTrue (weak2 n) ⊎ IsHealedIn old.chip old.codes byte n p)
-      → Receives old p byte new → Alongside weak2 flash byte old p new
-  receives_alongside byte Fresh new small waits unread stays r = by (byte == 0x7F) r
-    where
-      by : (t : Bool) → new ≡ (if t then record old { owed = old.owed ++ ack ∷ []; phase = Connected [] } else old)
-          → (left : List ℕ) × (with_flash left new ≡ (if t then record old { flash = flash; owed = old.owed ++ ack ∷ []; phase = Connected [] } else with_flash flash old)) × AgreesOutside new.chip weak2 new.flash left × IsDevice (with_flash left new)
-      by true e =
-          let P : Device → Type 0 = λ x. (left : List ℕ) × (with_flash left x ≡ record old { flash = flash; owed = old.owed ++ ack ∷ []; phase = Connected [] }) × AgreesOutside x.chip weak2 x.flash left × IsDevice (with_flash left x) in
-          let k = keeps_alongside (old.owed ++ ack ∷ []) (Connected []) (open_nothing old.chip old.codes) stays in
-          subst P (sym e) (flash, refl, k.0, k.1)
-      by false e =
-          let P : Device → Type 0 = λ x. (left : List ℕ) × (with_flash left x ≡ with_flash flash old) × AgreesOutside x.chip weak2 x.flash left × IsDevice (with_flash left x) in
-          let more = λ (n : ℕ) (w : IsTrue (weak n)). still weak2 n (stays n w) in
-          subst P (sym e) (flash, refl, agrees_weaker old.chip weak weak2 old.flash flash more agrees, is)
-  receives_alongside byte Gone new small waits unread stays e =
-      let P : Device → Type 0 = λ x. (left : List ℕ) × (with_flash left x ≡ with_flash flash old) × AgreesOutside x.chip weak2 x.flash left × IsDevice (with_flash left x) in
-      let more = λ (n : ℕ) (w : IsTrue (weak n)). still weak2 n (stays n w) in
-      subst P (sym e) (flash, refl, agrees_weaker old.chip weak weak2 old.flash flash more agrees, is)
-  receives_alongside byte (Connected rest) new small waits unread stays r =
-      takes_alongside rest byte (verdict old.chip old.codes (rest ++ byte ∷ [])) new waits.0
-      (All-append IsByte rest (byte ∷ []) waits.1 (All-cons IsByte byte [] small (All-nil IsByte))) refl unread stays r
+    receives_alongside : (byte : ℕ) (p : Phase) (new : Device) → byte < 256
+        → IsOpenPhase old.chip old.codes p → IsUnreadIn old.chip old.codes weak byte p
+        → ((n : ℕ) → IsTrue (weak n) → IsTrue (weak2 n) ⊎ IsHealedIn old.chip old.codes byte n p)
+        → Receives old p byte new → Alongside weak2 flash byte old p new
+    receives_alongside byte Fresh new small waits unread stays r = by (byte == 0x7F) r
+      where
+        by : (t : Bool) → new ≡ (if t then record old
+            { owed = old.owed ++ ack ∷ []; phase = Connected [] } else old)
+            → (left : List ℕ) × (with_flash left new ≡
+            (if t then record old {
+              flash = flash;
+              owed = old.owed ++ ack ∷ [];
+              phase = Connected
+                  [];
+            } else with_flash flash old)) × AgreesOutside new.chip weak2 new.flash left
+            × IsDevice (with_flash left new)
+        by true e =
+            let P : Device → Type 0 = λ x. (left : List ℕ)
+            × (with_flash left x ≡ record old {
+              flash = flash;
+              owed = old.owed ++ ack ∷ [];
+              phase
+                  = Connected [];
+            }) × AgreesOutside x.chip weak2 x.flash left
+            × IsDevice (with_flash left x) in
+            let k = keeps_alongside (old.owed ++ ack ∷ []) (Connected [])
+            (open_nothing old.chip old.codes) stays in
+            subst P (sym e) (flash, refl, k.0, k.1)
+        by false e =
+            let P : Device → Type 0 = λ x. (left : List ℕ)
+            × (with_flash left x ≡ with_flash flash old) × AgreesOutside x.chip weak2 x.flash left
+            × IsDevice (with_flash left x) in
+            let more = λ (n : ℕ) (w : IsTrue (weak n)). still weak2 n (stays n w) in
+            subst P (sym e) (
+              flash,
+              refl,
+              agrees_weaker old.chip weak weak2 old.flash flash more
+                  agrees,
+              is,
+            )
+    receives_alongside byte Gone new small waits unread stays e =
+        let P : Device → Type 0 = λ x. (left : List ℕ) × (with_flash left x ≡ with_flash flash old)
+        × AgreesOutside x.chip weak2 x.flash left × IsDevice (with_flash left x) in
+        let more = λ (n : ℕ) (w : IsTrue (weak n)). still weak2 n (stays n w) in
+        subst P (sym e) (
+          flash,
+          refl,
+          agrees_weaker old.chip weak weak2 old.flash flash more agrees,
+          is,
+        )
+    receives_alongside byte (Connected rest) new small waits unread stays r =
+        takes_alongside rest byte (verdict old.chip old.codes (rest ++ byte ∷ [])) new waits.0
+        (All-append IsByte rest (byte ∷ []) waits.1 (All-cons IsByte byte [] small (All-nil IsByte)))
+        refl unread stays r
 
 unread_in : (chip : ChipData) (codes : List ℕ) (weak : ℕ → Bool) (byte : ℕ) (p : Phase)
-    → ((rest : List ℕ) → p ≡ Connected rest → verdict chip codes (rest ++ byte ∷ []) ≡ Some Done → IsWeakList chip weak (rest ++ byte ∷ []) → ⊥)
+    → ((rest : List ℕ) → p ≡ Connected rest → verdict chip codes (rest ++ byte ∷ []) ≡ Some Done
+    → IsWeakList chip weak (rest ++ byte ∷ []) → ⊥)
     → IsUnreadIn chip codes weak byte p
 unread_in chip codes weak byte Fresh unread = tt
 unread_in chip codes weak byte Gone unread = tt
-unread_in chip codes weak byte (Connected rest) unread = by (verdict chip codes (rest ++ byte ∷ [])) refl
+unread_in chip codes weak byte (Connected rest) unread = by
+    (verdict chip codes (rest ++ byte ∷ [])) refl
   where
-    by : (v : Option Verdict) → verdict chip codes (rest ++ byte ∷ []) ≡ v → IsUnread chip weak (rest ++ byte ∷ []) v
+    by : (v : Option Verdict) → verdict chip codes (rest ++ byte ∷ []) ≡ v
+        → IsUnread chip weak (rest ++ byte ∷ []) v
     by None e = tt
     by (Some Refused) e = tt
     by (Some Done) e = unread rest refl e
     by (Some Loose) e = tt
 
-healed_in : (chip : ChipData) (codes : List ℕ) (byte n : ℕ) (p : Phase) (rest : List ℕ) → p ≡ Connected rest → verdict chip codes (rest ++ byte ∷ []) ≡ Some Done → ErasesPage (change_of (rest ++ byte ∷ [])) n → IsHealedIn chip codes byte n p
+healed_in : (chip : ChipData) (codes : List ℕ) (byte n : ℕ) (p : Phase) (rest : List ℕ)
+    → p ≡ Connected rest → verdict chip codes (rest ++ byte ∷ []) ≡ Some Done
+    → ErasesPage (change_of (rest ++ byte ∷ [])) n → IsHealedIn chip codes byte n p
 healed_in chip codes byte n p rest at done erases =
     let P : Phase → Type 0 = λ x. IsHealedIn chip codes byte n x in
     let Q : Option Verdict → Type 0 = λ v. IsHealed (rest ++ byte ∷ []) n v in
@@ -226,26 +314,40 @@ healed_in chip codes byte n p rest at done erases =
 -- the ordinary device is the one that was fed, with its own flash
 beside : (w : WeakDevice) (now d : Device) → CanBe w now → CanBe w d → d ≡ with_flash d.flash now
 beside w now d n o =
-    let make : ChipData → ℕ → List ℕ → List ℕ → Phase → Device = λ chip version codes owed phase. record { chip = chip; version = version; codes = codes; flash = d.flash; owed = owed; phase = phase } in
+    let make : ChipData → ℕ → List ℕ → List ℕ → Phase
+    → Device = λ chip version codes owed phase. record {
+      chip = chip;
+      version = version;
+      codes = codes;
+      flash = d.flash;
+      owed = owed;
+      phase = phase;
+    } in
     ap (λ c. make c d.version d.codes d.owed d.phase) (o.chip ∙ sym n.chip)
     ∙ ap (λ v. make now.chip v d.codes d.owed d.phase) (o.version ∙ sym n.version)
     ∙ ap (λ k. make now.chip now.version k d.owed d.phase) (o.codes ∙ sym n.codes)
     ∙ ap (λ x. make now.chip now.version now.codes x d.phase) (o.owed ∙ sym n.owed)
     ∙ ap (λ p. make now.chip now.version now.codes now.owed p) (o.phase ∙ sym n.phase)
 
-completes_at : (byte : ℕ) (w : WeakDevice) (now : Device) (rest : List ℕ) → CanBe w now → now.phase ≡ Connected rest → verdict now.chip now.codes (rest ++ byte ∷ []) ≡ Some Done → Completes byte w.device (rest ++ byte ∷ [])
+completes_at : (byte : ℕ) (w : WeakDevice) (now : Device) (rest : List ℕ) → CanBe w now
+    → now.phase ≡ Connected rest → verdict now.chip now.codes (rest ++ byte ∷ []) ≡ Some Done
+    → Completes byte w.device (rest ++ byte ∷ [])
 completes_at byte w now rest can at done = record {
   rest = rest;
   phase = sym can.phase ∙ at;
   is = refl;
-  done = ap (λ c. verdict c w.device.codes (rest ++ byte ∷ [])) (sym can.chip) ∙ ap (λ k. verdict now.chip k (rest ++ byte ∷ [])) (sym can.codes) ∙ done;
+  done = ap (λ c. verdict c w.device.codes (rest ++ byte ∷ [])) (sym can.chip)
+      ∙ ap (λ k. verdict now.chip k (rest ++ byte ∷ [])) (sym can.codes) ∙ done;
 }
 
-heals_at : (byte n : ℕ) (w : WeakDevice) (now : Device) → CanBe w now → Heals byte w.device n → IsHealedIn now.chip now.codes byte n now.phase
+heals_at : (byte n : ℕ) (w : WeakDevice) (now : Device) → CanBe w now → Heals byte w.device n
+    → IsHealedIn now.chip now.codes byte n now.phase
 heals_at byte n w now can (bytes, c, erases) =
     let P : List ℕ → Type 0 = λ x. ErasesPage (change_of x) n in
     healed_in now.chip now.codes byte n now.phase c.rest (can.phase ∙ c.phase)
-    (ap (λ k. verdict k now.codes (c.rest ++ byte ∷ [])) can.chip ∙ ap (λ k. verdict w.device.chip k (c.rest ++ byte ∷ [])) can.codes ∙ ap (λ x. verdict w.device.chip w.device.codes x) (sym c.is) ∙ c.done)
+    (ap (λ k. verdict k now.codes (c.rest ++ byte ∷ [])) can.chip
+    ∙ ap (λ k. verdict w.device.chip k (c.rest ++ byte ∷ [])) can.codes
+    ∙ ap (λ x. verdict w.device.chip w.device.codes x) (sym c.is) ∙ c.done)
     (subst P c.is erases)
 
 pub fed_as_ordinary : FedAsOrdinary
@@ -256,19 +358,35 @@ fed_as_ordinary byte old new d small is can feeds unread =
     let same = beside old now d n can in
     let P : Device → Type 0 = λ x. (e : Device) × Feeds byte x e × CanBe new e × IsDevice e in
     let A : ChipData → Type 0 = λ c. AgreesOutside c old.weak now.flash flash in
-    let agrees : AgreesOutside now.chip old.weak now.flash flash = subst A (sym n.chip) (agrees_both old.device.chip old.weak old.device.flash now.flash flash n.flash can.flash) in
+    let agrees : AgreesOutside now.chip old.weak now.flash flash = subst A (sym n.chip)
+    (agrees_both old.device.chip old.weak old.device.flash now.flash flash n.flash can.flash) in
     let is_now : IsDevice (with_flash flash now) = subst IsDevice same is in
-    let unread_now : (rest : List ℕ) → now.phase ≡ Connected rest → verdict now.chip now.codes (rest ++ byte ∷ []) ≡ Some Done → IsWeakList now.chip old.weak (rest ++ byte ∷ []) → ⊥ =
+    let unread_now : (rest : List ℕ) → now.phase ≡ Connected rest
+    → verdict now.chip now.codes (rest ++ byte ∷ []) ≡ Some Done
+    → IsWeakList now.chip old.weak (rest ++ byte ∷ []) → ⊥ =
     λ rest at done w.
     let W : ChipData → Type 0 = λ c. IsWeakList c old.weak (rest ++ byte ∷ []) in
     let there = subst W n.chip w in
-    unread (rest ++ byte ∷ [], there.0, completes_at byte old now rest n at done, there.1, there.2) in
-    let stays : (m : ℕ) → IsTrue (old.weak m) → IsTrue (new.weak m) ⊎ IsHealedIn now.chip now.codes byte m now.phase =
-    λ m w. ⊎_elim (λ (x : IsTrue (new.weak m)). inl x) (λ (h : Heals byte old.device m). inr (heals_at byte m old now n h)) (feeds.stays m w) in
-    let r = receives_alongside old.weak new.weak now flash is_now agrees byte now.phase new.device small is_now.phase (unread_in now.chip now.codes old.weak byte now.phase unread_now) stays feeds.feeds.receives in
+    unread (rest ++ byte ∷ [], there.0, completes_at byte old now rest n at done, there.1, there.2)
+    in
+    let stays : (m : ℕ) → IsTrue (old.weak m) → IsTrue (new.weak m)
+    ⊎ IsHealedIn now.chip now.codes byte m now.phase =
+    λ m w. ⊎_elim (λ (x : IsTrue (new.weak m)). inl x)
+    (λ (h : Heals byte old.device m). inr (heals_at byte m old now n h)) (feeds.stays m w) in
+    let r = receives_alongside old.weak new.weak now flash is_now agrees byte now.phase new.device
+    small is_now.phase (unread_in now.chip now.codes old.weak byte now.phase unread_now) stays
+    feeds.feeds.receives in
     subst P (sym same) (
       with_flash r.0 new.device,
       record { receives = r.1 },
-      record { chip = refl; version = refl; codes = refl; owed = refl; phase = refl; flash = r.2; bytes = r.3.flash },
+      record {
+        chip = refl;
+        version = refl;
+        codes = refl;
+        owed = refl;
+        phase = refl;
+        flash = r.2;
+        bytes = r.3.flash;
+      },
       r.3,
     )

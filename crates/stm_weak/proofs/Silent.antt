@@ -1,71 +1,106 @@
 -- Frames of which no byte completes a read.
-use Rattle.std.proofs.Common.{⊎_elim, ◌||◌, ◌^◌, nat_le, ◌≡◌, inl, inr, ℕ, ◌+◌, ◌-◌, ◌/◌, ◌%◌, ◌<◌, ◌≤◌, Bool, true, false, ◌&&◌, ◌==◌, if◌then◌else◌, List, [], ◌∷◌, ◌++◌, length, take, get_or, Option, Some, None, IsTrue, refl, sym, ◌∙◌, ap₂, subst, arith, eq-eqb, ne_eqb, lt-ltb, le-leb, length-append}
+use Rattle.std.proofs.Common.{⊎_elim, ◌||◌, ◌^◌, nat_le, ◌≡◌, inl, inr, ℕ, ◌+◌, ◌-◌, ◌/◌, ◌%◌, ◌<◌}
+use Rattle.std.proofs.Common.{◌≤◌, Bool, true, false, ◌&&◌, ◌==◌, if◌then◌else◌, List, [], ◌∷◌}
+use Rattle.std.proofs.Common.{◌++◌, length, take, get_or, Option, Some, None, IsTrue, refl, sym}
+use Rattle.std.proofs.Common.{◌∙◌, ap₂, subst, arith, eq-eqb, ne_eqb, lt-ltb, le-leb, length-append}
 use Rattle.std.proofs.lemmas.Bool.{and_from, and_parts, eqb-true, false≢true, leb-true, or_cases}
 use Rattle.stm_wire.specs.declared.chip.EraseKind.{EraseKind}
 use Rattle.stm_wire.specs.declared.chip.EraseKind.TheVariants.{Page, Extended}
 use Rattle.stm_wire.specs.declared.verdict.Verdict.{Verdict}
 use Rattle.stm_wire.specs.declared.verdict.Verdict.TheVariants.{Done, Refused}
-use Rattle.stm_wire.specs.Chip.{ChipData, IsChip, fits_inside, flash_size, is_inside, is_outside, is_size_place, is_unique_place}
-use Rattle.stm_wire.specs.Exchange.{verdict, command_verdict, after_address, at_end, complement, done_if, is_listed, number_of, read_verdict, write_verdict, xor}
+use Rattle.stm_wire.specs.Chip.{ChipData, IsChip, fits_inside, flash_size, is_inside, is_outside}
+use Rattle.stm_wire.specs.Chip.{is_size_place, is_unique_place}
+use Rattle.stm_wire.specs.Exchange.{verdict, command_verdict, after_address, at_end, complement}
+use Rattle.stm_wire.specs.Exchange.{done_if, is_listed, number_of, read_verdict, write_verdict, xor}
 use Rattle.stm_wire.specs.PageLaws.{fits-end}
 use Rattle.stm_wire.specs.declared.places.UniquePlace.{UniquePlace}
-use Rattle.stm_wire.specs.Telling.{asks_size, asks_unique, can_read, has_size, has_unique, is_readable}
+use Rattle.stm_wire.specs.Telling.{asks_size, asks_unique, can_read, has_size, has_unique}
+use Rattle.stm_wire.specs.Telling.{is_readable}
 use Rattle.stm_wire.specs.UniqueId.{is_unique_length}
 use Rattle.stm_wire.specs.Frames.{address_bytes, command, erase_frame, with_checksum, write_frame}
 use Rattle.stm_wire.specs.Device.{Device, IsDevice, ListsKind}
-use Rattle.stm_weak.specs.WeakFrames.{ReadsNothing, asks, erases, names, tells, writes, FramesAreUnread}
+use Rattle.stm_weak.specs.WeakFrames.{ReadsNothing, asks, erases, names, tells, writes}
+use Rattle.stm_weak.specs.WeakFrames.{FramesAreUnread}
 use Rattle.stm_weak.proofs.Unread.{IsNoRead, IsOpenTo, IsSilentAlong, LeavesRest, has_at_first}
 use Rattle.stm_weak.proofs.Unread.{silent_along, unread_from}
 
 -- The frames are open before their last byte.
 
-pub verdict_listed : (chip : ChipData) (codes : List ℕ) (code : ℕ) (rest : List ℕ) → IsTrue (is_listed codes code) → verdict chip codes (code ∷ complement code ∷ rest) ≡ command_verdict chip code rest
+pub verdict_listed : (chip : ChipData) (codes : List ℕ) (code : ℕ) (rest : List ℕ)
+    → IsTrue (is_listed codes code) → verdict chip codes
+    (code ∷ complement code ∷ rest) ≡ command_verdict chip code rest
 verdict_listed chip codes code rest listed =
-    let choose : Bool → Bool → Option Verdict = λ x y. if x && y then command_verdict chip code rest else at_end Refused rest in
+    let choose : Bool → Bool → Option Verdict = λ x y. if x && y then command_verdict chip code rest
+    else at_end Refused rest in
     ap₂ choose (eq-eqb (complement code) (complement code) refl) listed
 
-pub open_erase : (chip : ChipData) (codes : List ℕ) (kind : EraseKind) (n : ℕ) → ListsKind kind codes → IsOpenTo chip codes [] (erase_frame kind n)
+pub open_erase : (chip : ChipData) (codes : List ℕ) (kind : EraseKind) (n : ℕ)
+    → ListsKind kind codes → IsOpenTo chip codes [] (erase_frame kind n)
 open_erase chip codes Page n lists =
     let at = λ (rest : List ℕ). verdict_listed chip codes 0x43 rest lists.0 in
     (refl, (at [], (at (0 ∷ []), (at (0 ∷ n ∷ []), tt))))
 open_erase chip codes Extended n lists =
-    let at = λ (rest : List ℕ). verdict_listed chip codes 0x44 rest lists.0 in
-    (refl, (at [], (at (0 ∷ []), (at (0 ∷ 0 ∷ []), (at (0 ∷ 0 ∷ n / 256 ∷ []), (at (0 ∷ 0 ∷ n / 256 ∷ n % 256 ∷ []), tt))))))
+    let at = λ (rest : List ℕ). verdict_listed chip codes 0x44 rest lists.0 in (
+      refl,
+      (
+        at [],
+        (
+          at (0 ∷ []),
+          (at (0 ∷ 0 ∷ []), (at (0 ∷ 0 ∷ n / 256 ∷ []), (at (0 ∷ 0 ∷ n / 256 ∷ n % 256 ∷ []), tt))),
+        ),
+      ),
+    )
 
-pub same_number : (address : ℕ) → number_of (address / 16777216) (address / 65536 % 256) (address / 256 % 256) (address % 256) ≡ address
+pub same_number : (address : ℕ) → number_of (address / 16777216) (address / 65536 % 256)
+    (address / 256 % 256) (address % 256) ≡ address
 same_number address = omega arith
 
-pub after_right : (takes : ℕ → Bool) (next : ℕ → List ℕ → Option Verdict) (address : ℕ) (rest : List ℕ) → IsTrue (takes address)
+pub after_right : (takes : ℕ → Bool) (next : ℕ → List ℕ → Option Verdict) (address : ℕ)
+    (rest : List ℕ) → IsTrue (takes address)
     → after_address takes next (with_checksum (address_bytes address) ++ rest) ≡ next address rest
 after_right takes next address rest inside =
     let x = xor (address_bytes address) in
-    let choose : Bool → Bool → ℕ → Option Verdict = λ t i a. if t && i then next a rest else at_end Refused rest in
+    let choose : Bool → Bool → ℕ → Option Verdict = λ t i a. if t && i then next a rest else at_end
+    Refused rest in
     let P : ℕ → Type 0 = λ a. choose (x == x) (takes a) a ≡ next address rest in
     subst P (sym (same_number address)) (ap₂ (λ t i. choose t i address) (eq-eqb x x refl) inside)
 
-short_write : (chip : ChipData) (address n : ℕ) (rest : List ℕ) → length rest < n + 2 → write_verdict chip address (n ∷ rest) ≡ None
+short_write : (chip : ChipData) (address n : ℕ) (rest : List ℕ) → length rest < n + 2
+    → write_verdict chip address (n ∷ rest) ≡ None
 short_write chip address n rest h =
     let ne : length rest ≡ n + 2 → ⊥ = λ e. omega (arith, h, e) in
-    let P : Bool → Type 0 = λ b. (if b then Some (done_if (get_or rest (n + 1) 0 == xor (n ∷ take (n + 1) rest) && fits_inside chip address (n + 1))) else None) ≡ None in
+    let P : Bool → Type 0 = λ b.
+    (if b then Some (done_if (get_or rest (n + 1) 0 == xor
+    (n ∷ take (n + 1) rest) && fits_inside chip address (n + 1))) else None) ≡ None in
     subst P (sym (ne_eqb (length rest) (n + 2) ne)) refl
 
-module _ (chip : ChipData) (codes : List ℕ) (address n : ℕ) (listed : IsTrue (is_listed codes 0x31)) (inside : IsTrue (is_inside chip address)) where
+module _ (chip : ChipData) (codes : List ℕ) (address n : ℕ) (listed : IsTrue (is_listed codes 0x31))
+    (inside : IsTrue (is_inside chip address)) where
   head : List ℕ
   head = command 0x31 ++ with_checksum (address_bytes address)
 
-  data_verdict : (bytes : List ℕ) → length bytes < n + 2 → verdict chip codes (command 0x31 ++ with_checksum (address_bytes address) ++ n ∷ bytes) ≡ None
+  data_verdict : (bytes : List ℕ) → length bytes < n + 2
+      → verdict chip codes (command 0x31 ++ with_checksum (address_bytes address) ++ n ∷ bytes) ≡
+      None
   data_verdict bytes h =
       verdict_listed chip codes 0x31 (with_checksum (address_bytes address) ++ n ∷ bytes) listed
-      ∙ after_right (is_inside chip) (write_verdict chip) address (n ∷ bytes) inside ∙ short_write chip address n bytes h
+      ∙ after_right (is_inside chip) (write_verdict chip) address (n ∷ bytes) inside
+      ∙ short_write chip address n bytes h
 
-  open_data : (so_far bytes : List ℕ) → length so_far + length bytes ≤ n + 2 → IsOpenTo chip codes (command 0x31 ++ with_checksum (address_bytes address) ++ n ∷ so_far) bytes
+  open_data : (so_far bytes : List ℕ) → length so_far + length bytes ≤ n + 2
+      → IsOpenTo chip codes (command 0x31 ++ with_checksum (address_bytes address) ++ n ∷ so_far)
+      bytes
   open_data so_far [] h = tt
   open_data so_far (byte ∷ []) h = tt
   open_data so_far (byte ∷ next ∷ more) h =
-      let e = length-append so_far (byte ∷ []) in
-      (data_verdict (so_far ++ byte ∷ []) (omega (arith, e, h)), open_data (so_far ++ byte ∷ []) (next ∷ more) (omega (arith, e, h)))
+      let e = length-append so_far (byte ∷ []) in (
+        data_verdict (so_far ++ byte ∷ []) (omega (arith, e, h)),
+        open_data (so_far ++ byte ∷ [])
+            (next ∷ more) (omega (arith, e, h)),
+      )
 
-  open_write : (bytes : List ℕ) → 1 ≤ length bytes → length bytes ≤ n + 2 → IsOpenTo chip codes [] (command 0x31 ++ with_checksum (address_bytes address) ++ n ∷ bytes)
+  open_write : (bytes : List ℕ) → 1 ≤ length bytes → length bytes ≤ n + 2
+      → IsOpenTo chip codes [] (command 0x31 ++ with_checksum (address_bytes address) ++ n ∷ bytes)
   open_write [] some h = absurd (omega (arith, some))
   open_write (byte ∷ bytes) some h =
       let at = λ (rest : List ℕ). verdict_listed chip codes 0x31 rest listed in
@@ -85,7 +120,8 @@ module _ (chip : ChipData) (codes : List ℕ) (address n : ℕ) (listed : IsTrue
                 (
                   at (address_bytes address),
                   (
-                    at (with_checksum (address_bytes address) ++ []) ∙ after_right (is_inside chip) (write_verdict chip) address [] inside,
+                    at (with_checksum (address_bytes address) ++ [])
+                        ∙ after_right (is_inside chip) (write_verdict chip) address [] inside,
                     (data_verdict [] (omega arith), open_data [] (byte ∷ bytes) (omega (arith, h))),
                   ),
                 ),
@@ -95,10 +131,12 @@ module _ (chip : ChipData) (codes : List ℕ) (address n : ℕ) (listed : IsTrue
         ),
       )
 
-pub inside_if_fits : (chip : ChipData) (address size : ℕ) → 1 ≤ size → IsTrue (fits_inside chip address size) → IsTrue (is_inside chip address)
+pub inside_if_fits : (chip : ChipData) (address size : ℕ) → 1 ≤ size
+    → IsTrue (fits_inside chip address size) → IsTrue (is_inside chip address)
 inside_if_fits chip address size some fits =
     let e = fits-end chip address size fits in
-    and_from _ _ (le-leb chip.base address e.0) (lt-ltb address (chip.base + flash_size chip) (omega (arith, e.1, some)))
+    and_from _ _ (le-leb chip.base address e.0) (lt-ltb address (chip.base + flash_size chip)
+    (omega (arith, e.1, some)))
 
 -- a read where the unique id is told
 
@@ -107,43 +145,63 @@ done_test true e = refl
 done_test false e = absurd (let h : Some Refused ≡ Some Done = e in cc)
 
 -- the places lie outside the flash
-beside_flash : (chip : ChipData) (address size place : ℕ) → IsTrue (is_outside chip address size) → place < flash_size chip → address ≤ chip.base + place → chip.base + place < address + size → ⊥
+beside_flash : (chip : ChipData) (address size place : ℕ) → IsTrue (is_outside chip address size)
+    → place < flash_size chip → address ≤ chip.base + place → chip.base + place < address + size → ⊥
 beside_flash chip address size place out lt from to =
-    ⊎_elim (λ before. omega (arith, leb-true (address + size) chip.base before, to)) (λ behind. omega (arith, leb-true (chip.base + flash_size chip) address behind, from, lt))
-    (or_cases (nat_le (address + size) chip.base) (nat_le (chip.base + flash_size chip) address) (and_parts (nat_le (address + size) (2 ^ 32)) _ out).1)
+    ⊎_elim (λ before. omega (arith, leb-true (address + size) chip.base before, to))
+    (λ behind. omega (arith, leb-true (chip.base + flash_size chip) address behind, from, lt))
+    (or_cases (nat_le (address + size) chip.base) (nat_le (chip.base + flash_size chip) address)
+    (and_parts (nat_le (address + size) (2 ^ 32)) _ out).1)
 
-module _ (chip : ChipData) (place : UniquePlace) (is : IsChip chip) (told : chip.places.unique ≡ Some place) where
-  places : (is_unique_place chip chip.places.unique ≡ true) × (is_size_place chip chip.places.size ≡ true)
-  places = and_parts (is_unique_place chip chip.places.unique) (is_size_place chip chip.places.size) is.places
+module _ (chip : ChipData) (place : UniquePlace) (is : IsChip chip)
+    (told : chip.places.unique ≡ Some place) where
+  places : (is_unique_place chip chip.places.unique ≡ true)
+      × (is_size_place chip chip.places.size ≡ true)
+  places = and_parts (is_unique_place chip chip.places.unique)
+      (is_size_place chip chip.places.size) is.places
 
-  unique : (is_unique_length place.length ≡ true) × (is_outside chip place.address place.length ≡ true)
+  unique : (is_unique_length place.length ≡ true) ×
+      (is_outside chip place.address place.length ≡ true)
   unique =
       let P : Option UniquePlace → Type 0 = λ o. is_unique_place chip o ≡ true in
-      and_parts (is_unique_length place.length) (is_outside chip place.address place.length) (subst P told places.0)
+      and_parts (is_unique_length place.length) (is_outside chip place.address place.length)
+      (subst P told places.0)
 
   long : 8 ≤ place.length
-  long = leb-true 8 place.length (and_parts (nat_le 8 place.length) (nat_le place.length 32) unique.0).0
+  long = leb-true 8 place.length (and_parts (nat_le 8 place.length)
+      (nat_le place.length 32) unique.0).0
 
-  no_size : (o : Option ℕ) (size p : ℕ) → is_size_place chip o ≡ true → has_size o place.address ≡ true → size ≡ 2 → p < flash_size chip → place.address ≤ chip.base + p → chip.base + p < place.address + size → ⊥
+  no_size : (o : Option ℕ) (size p : ℕ) → is_size_place chip o ≡ true
+      → has_size o place.address ≡ true → size ≡ 2 → p < flash_size chip
+      → place.address ≤ chip.base + p → chip.base + p < place.address + size → ⊥
   no_size None size p out has two lt from to = absurd (false≢true has)
   no_size (Some at) size p out has two lt from to =
       let same : at ≡ place.address = eqb-true at place.address has in
       beside_flash chip at 2 p out lt (omega (arith, same, from)) (omega (arith, same, two, to))
 
-  outside : (size p : ℕ) → IsTrue (can_read chip place.address size) → p < flash_size chip → place.address ≤ chip.base + p → chip.base + p < place.address + size → ⊥
+  outside : (size p : ℕ) → IsTrue (can_read chip place.address size) → p < flash_size chip
+      → place.address ≤ chip.base + p → chip.base + p < place.address + size → ⊥
   unfolding can_read
   outside size p readable lt from to =
-      ⊎_elim fits (λ beside. ⊎_elim asks_id asks_kib (or_cases (asks_unique chip place.address size) (asks_size chip place.address size) beside))
-      (or_cases (fits_inside chip place.address size) (asks_unique chip place.address size || asks_size chip place.address size) readable)
+      ⊎_elim fits (λ beside. ⊎_elim asks_id asks_kib
+      (or_cases (asks_unique chip place.address size)
+      (asks_size chip place.address size) beside))
+      (or_cases (fits_inside chip place.address size)
+      (asks_unique chip place.address size || asks_size chip place.address size) readable)
     where
       fits : fits_inside chip place.address size ≡ true → ⊥
-      fits f = let e = fits-end chip place.address size f in beside_flash chip place.address place.length (place.address - chip.base) unique.1 (omega (arith, e.0, e.1, to, from)) (omega (arith, e.0)) (omega (arith, e.0, long))
+      fits f = let e = fits-end chip place.address size f
+          in beside_flash chip place.address place.length (place.address - chip.base) unique.1
+          (omega (arith, e.0, e.1, to, from)) (omega (arith, e.0)) (omega (arith, e.0, long))
 
       asks_id : asks_unique chip place.address size ≡ true → ⊥
       asks_id here =
-          let has = (and_parts (has_unique chip.places.unique place.address size) (length chip.unique == size) here).0 in
+          let has = (and_parts (has_unique chip.places.unique place.address size)
+          (length chip.unique == size) here).0 in
           let P : Option UniquePlace → Type 0 = λ o. has_unique o place.address size ≡ true in
-          let same : place.length ≡ size = eqb-true place.length size (and_parts (place.address == place.address) (place.length == size) (subst P told has)).1 in
+          let same : place.length ≡ size = eqb-true place.length size
+          (and_parts (place.address == place.address) (place.length == size)
+          (subst P told has)).1 in
           beside_flash chip place.address place.length p unique.1 lt from (omega (arith, same, to))
 
       asks_kib : asks_size chip place.address size ≡ true → ⊥
@@ -152,8 +210,10 @@ module _ (chip : ChipData) (place : UniquePlace) (is : IsChip chip) (told : chip
           no_size chip.places.size size p places.1 h.0 (eqb-true size 2 h.1) lt from to
 
 silent_read : (chip : ChipData) (codes : List ℕ) (address n : ℕ) → IsTrue (is_listed codes 0x11)
-    → ((p : ℕ) → IsTrue (can_read chip address (n + 1)) → p < flash_size chip → address ≤ chip.base + p → chip.base + p < address + (n + 1) → ⊥)
-    → IsSilentAlong chip codes [] (command 0x11 ++ with_checksum (address_bytes address) ++ command n)
+    → ((p : ℕ) → IsTrue (can_read chip address (n + 1)) → p < flash_size chip
+    → address ≤ chip.base + p → chip.base + p < address + (n + 1) → ⊥)
+    → IsSilentAlong chip codes [] (command 0x11 ++ with_checksum
+    (address_bytes address) ++ command n)
 silent_read chip codes address n listed outside = (
   λ p e lt r. r,
   (
@@ -179,7 +239,15 @@ silent_read chip codes address n listed outside = (
                   (
                     command 0x11 ++ a ∷ b ∷ c ∷ [],
                     inl (at (a ∷ b ∷ c ∷ []), refl),
-                    (λ p e lt r. r.1, (command 0x11 ++ a ∷ b ∷ c ∷ d ∷ [], inl (at (address_bytes address), refl), (λ p e lt r. r.1, by (is_readable chip address) refl))),
+                    (
+                      λ p e lt r. r.1,
+                      (
+                        command 0x11 ++ a ∷ b ∷ c ∷ d ∷ [],
+                        inl
+                            (at (address_bytes address), refl),
+                        (λ p e lt r. r.1, by (is_readable chip address) refl),
+                      ),
+                    ),
                   ),
                 ),
               ),
@@ -206,35 +274,58 @@ silent_read chip codes address n listed outside = (
     head : List ℕ
     head = command 0x11 ++ with_checksum (address_bytes address)
 
-    at : (rest : List ℕ) → verdict chip codes (command 0x11 ++ rest) ≡ after_address (is_readable chip) (read_verdict chip) rest
+    at : (rest : List ℕ) → verdict chip codes (command 0x11 ++ rest) ≡ after_address
+        (is_readable chip) (read_verdict chip) rest
     at rest = verdict_listed chip codes 0x11 rest listed
 
-    right : (rest : List ℕ) → IsTrue (is_readable chip address) → after_address (is_readable chip) (read_verdict chip) (with_checksum (address_bytes address) ++ rest) ≡ read_verdict chip address rest
+    right : (rest : List ℕ) → IsTrue (is_readable chip address)
+        → after_address (is_readable chip) (read_verdict chip)
+        (with_checksum (address_bytes address) ++ rest) ≡ read_verdict chip address rest
     right rest readable = after_right (is_readable chip) (read_verdict chip) address rest readable
 
-    wrong : is_readable chip address ≡ false → after_address (is_readable chip) (read_verdict chip) (with_checksum (address_bytes address) ++ []) ≡ Some Refused
+    wrong : is_readable chip address ≡ false → after_address (is_readable chip) (read_verdict chip)
+        (with_checksum (address_bytes address) ++ []) ≡ Some Refused
     wrong refused =
         let x = xor (address_bytes address) in
-        let choose : Bool → Bool → ℕ → Option Verdict = λ t i m. if t && i then read_verdict chip m [] else at_end Refused [] in
+        let choose : Bool → Bool → ℕ → Option Verdict = λ t i m. if t && i then read_verdict chip m
+        [] else at_end Refused [] in
         let P : ℕ → Type 0 = λ m. choose (x == x) (is_readable chip m) m ≡ Some Refused in
-        subst P (sym (same_number address)) (ap₂ (λ t i. choose t i address) (eq-eqb x x refl) refused)
+        subst P (sym (same_number address)) (ap₂ (λ t i. choose t i address)
+        (eq-eqb x x refl) refused)
 
-    counted : IsTrue (is_readable chip address) → verdict chip codes (command 0x11 ++ with_checksum (address_bytes address) ++ n ∷ []) ≡ None
-    counted readable = at (with_checksum (address_bytes address) ++ n ∷ []) ∙ right (n ∷ []) readable
+    counted : IsTrue (is_readable chip address) → verdict chip codes
+        (command 0x11 ++ with_checksum (address_bytes address) ++ n ∷ []) ≡ None
+    counted readable = at (with_checksum (address_bytes address) ++ n ∷ [])
+        ∙ right (n ∷ []) readable
 
-    can : IsTrue (is_readable chip address) → verdict chip codes (command 0x11 ++ with_checksum (address_bytes address) ++ command n) ≡ Some Done → IsTrue (can_read chip address (n + 1))
+    can : IsTrue (is_readable chip address) → verdict chip codes
+        (command 0x11 ++ with_checksum (address_bytes address) ++ command n) ≡ Some Done
+        → IsTrue (can_read chip address (n + 1))
     can readable e =
         let test = complement n == complement n && can_read chip address (n + 1) in
-        let h : Some (done_if test) ≡ Some Done = sym (at (with_checksum (address_bytes address) ++ command n) ∙ right (command n) readable) ∙ e in
-        (and_parts (complement n == complement n) (can_read chip address (n + 1)) (done_test test h)).1
+        let h : Some (done_if test) ≡ Some Done = sym
+        (at (with_checksum (address_bytes address) ++ command n) ∙ right (command n) readable)
+        ∙ e in
+        (and_parts (complement n == complement n) (can_read chip address (n + 1))
+        (done_test test h)).1
 
-    by : (t : Bool) → is_readable chip address ≡ t → (next : List ℕ) × LeavesRest chip codes (command 0x11 ++ with_checksum (address_bytes address)) next (n ∷ complement n ∷ []) × IsSilentAlong chip codes next (n ∷ complement n ∷ [])
+    by : (t : Bool) → is_readable chip address ≡ t → (next : List ℕ)
+        × LeavesRest chip codes (command 0x11 ++ with_checksum (address_bytes address)) next
+        (n ∷ complement n ∷ []) × IsSilentAlong chip codes next (n ∷ complement n ∷ [])
     by true readable = (
       head,
       inl (at (with_checksum (address_bytes address) ++ []) ∙ right [] readable, refl),
       (
         λ p e lt r. absurd (let h : None ≡ Some Done = sym (counted readable) ∙ e in cc),
-        (head ++ n ∷ [], inl (counted readable, refl), (λ p e lt r. outside p (can readable e) lt (omega (arith, r.1.0, same_number address)) (omega (arith, r.1.1, same_number address)), ([], tt, tt))),
+        (
+          head ++ n ∷ [],
+          inl (counted readable, refl),
+          (
+            λ p e lt r. outside p (can readable e) lt (omega (arith, r.1.0, same_number address))
+                (omega (arith, r.1.1, same_number address)),
+            ([], tt, tt),
+          ),
+        ),
       ),
     )
     by false refused = (
@@ -243,19 +334,24 @@ silent_read chip codes address n listed outside = (
       (λ p e lt r. r, (n ∷ [], inl (refl, refl), (λ p e lt r. r.1, ([], tt, tt)))),
     )
 
-silent_frame : (d : Device) (frame : List ℕ) → IsDevice d → ReadsNothing d.chip frame → IsSilentAlong d.chip d.codes [] frame
+silent_frame : (d : Device) (frame : List ℕ) → IsDevice d → ReadsNothing d.chip frame
+    → IsSilentAlong d.chip d.codes [] frame
 silent_frame d frame is (asks e) =
     let P : List ℕ → Type 0 = λ x. IsSilentAlong d.chip d.codes [] x in
-    subst P (sym e) (silent_along d.chip d.codes [] (command 0x00) (refl, tt) (λ (e : 0 ≡ 0x11). omega (arith, e)))
+    subst P (sym e) (silent_along d.chip d.codes [] (command 0x00) (refl, tt)
+    (λ (e : 0 ≡ 0x11). omega (arith, e)))
 silent_frame d frame is (names e) =
     let P : List ℕ → Type 0 = λ x. IsSilentAlong d.chip d.codes [] x in
-    subst P (sym e) (silent_along d.chip d.codes [] (command 0x02) (refl, tt) (λ (e : 2 ≡ 0x11). omega (arith, e)))
+    subst P (sym e) (silent_along d.chip d.codes [] (command 0x02) (refl, tt)
+    (λ (e : 2 ≡ 0x11). omega (arith, e)))
 silent_frame d frame is (tells place size told e) =
     let P : List ℕ → Type 0 = λ x. IsSilentAlong d.chip d.codes [] x in
-    subst P (sym e) (silent_read d.chip d.codes place.address (size - 1) is.read (outside d.chip place is.chip told (size - 1 + 1)))
+    subst P (sym e) (silent_read d.chip d.codes place.address (size - 1) is.read
+    (outside d.chip place is.chip told (size - 1 + 1)))
 silent_frame d frame is (erases n e) =
     let P : List ℕ → Type 0 = λ x. IsSilentAlong d.chip d.codes [] x in
-    subst P (sym e) (silent_along d.chip d.codes [] (erase_frame d.chip.kind n) (open_erase d.chip d.codes d.chip.kind n is.erase) (other d.chip.kind))
+    subst P (sym e) (silent_along d.chip d.codes [] (erase_frame d.chip.kind n)
+    (open_erase d.chip d.codes d.chip.kind n is.erase) (other d.chip.kind))
   where
     other : (kind : EraseKind) → IsNoRead (erase_frame kind n)
     other Page = λ (e : 0x43 ≡ 0x11). omega (arith, e)
@@ -266,8 +362,11 @@ silent_frame d frame is (writes address bytes some fits e) =
     let rest = bytes ++ xor (n ∷ bytes) ∷ [] in
     let size : length rest ≡ length bytes + 1 = length-append bytes (xor (n ∷ bytes) ∷ []) in
     let inside = inside_if_fits d.chip address (length bytes) some fits in
-    subst P (sym e) (silent_along d.chip d.codes [] (write_frame address bytes) (open_write d.chip d.codes address n is.write inside rest (omega (arith, size)) (omega (arith, size, some))) (λ (e : 0x31 ≡ 0x11). omega (arith, e)))
+    subst P (sym e) (silent_along d.chip d.codes [] (write_frame address bytes)
+    (open_write d.chip d.codes address n is.write inside rest (omega (arith, size))
+    (omega (arith, size, some))) (λ (e : 0x31 ≡ 0x11). omega (arith, e)))
 
 pub frames_are_unread : FramesAreUnread
 frames_are_unread happenings old new d frame is can waits nothing (rest, begins) no_reset led =
-    unread_from d.chip d.codes happenings old new [] frame rest no_reset (sym begins) (has_at_first old d frame can waits) (silent_frame d frame is nothing) led
+    unread_from d.chip d.codes happenings old new [] frame rest no_reset (sym begins)
+    (has_at_first old d frame can waits) (silent_frame d frame is nothing) led
