@@ -11,10 +11,13 @@ mod Histories
 mod Agreeing
 mod Effects
 mod Answering
+mod Opening
 mod Feeding
 mod Leading
 mod Vouching
 mod Unread
+mod Openness
+mod UniqueReads
 mod Silent
 mod Meaning
 mod Putting

@@ -23,7 +23,7 @@ use Rattle.stm_weak.specs.WeakMeaning.{EraseHeals, ReadsAnything}
 use Rattle.stm_weak.proofs.Agreeing.{put_beside}
 use Rattle.stm_weak.proofs.Effects.{IsByte, bytes-with_bytes}
 use Rattle.stm_weak.proofs.Feeding.{with_flash}
-use Rattle.stm_weak.proofs.Silent.{after_right, inside_if_fits, same_number, verdict_listed}
+use Rattle.stm_weak.proofs.Openness.{after_right, inside_if_fits, same_number, verdict_listed}
 
 readable_if_inside : (chip : ChipData) (address : ℕ) → IsTrue (is_inside chip address)
     → IsTrue (is_readable chip address)

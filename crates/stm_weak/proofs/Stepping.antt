@@ -27,7 +27,7 @@ use Rattle.stm_weak.specs.WeakEvents.{NoneBecomesWeak, WeakEvents}
 use Rattle.stm_weak.proofs.Leading.{led_as_ordinary}
 use Rattle.stm_weak.proofs.Meaning.{erase_heals_at}
 use Rattle.stm_weak.proofs.Putting.{put_is_unread}
-use Rattle.stm_weak.proofs.Silent.{open_erase}
+use Rattle.stm_weak.proofs.Openness.{open_erase}
 use Rattle.stm_weak.proofs.Unread.{Has, HasBefore, IsOpenTo, has_at_first, has_fed, has_taken}
 
 -- what is weak behind was weak before
