@@ -1,24 +1,16 @@
 -- What a device is after a byte, and that its rest is open.
-use Rattle.std.proofs.Common.{◌≡◌, ◌⊎◌, ⊎_elim, inl, inr, ℕ, zero, suc, ◌<◌, ◌≤◌, Bool, true, false}
-use Rattle.std.proofs.Common.{◌==◌, if◌then◌else◌, List, [], ◌∷◌, ◌++◌, length, take, Option, Some}
-use Rattle.std.proofs.Common.{None, refl, sym, ◌∙◌, ap, subst, arith, IsTrue, All, take_all}
+use Rattle.std.proofs.Common.{◌≡◌, ◌⊎◌, inl, inr, ℕ, zero, suc, ◌<◌, ◌≤◌, Bool, true, false}
+use Rattle.std.proofs.Common.{◌==◌, if◌then◌else◌, List, [], ◌∷◌, ◌++◌, length, take}
+use Rattle.std.proofs.Common.{None, refl, ◌∙◌, ap, arith, All, take_all}
 use Rattle.std.proofs.Common.{length-append}
 use Rattle.std.proofs.lemmas.Bool.{cases_lt}
 use Rattle.std.proofs.lemmas.List.{take-append-le}
-use Rattle.std.proofs.lemmas.List.Elements.{All-append, All-cons, All-nil}
-use Rattle.stm_wire.specs.declared.verdict.Verdict.{Verdict}
-use Rattle.stm_wire.specs.declared.verdict.Verdict.TheVariants.{Done, Refused, Loose}
-use Rattle.stm_wire.specs.Chip.{ChipData, flash_size}
+use Rattle.std.proofs.lemmas.List.Elements.{All-nil}
+use Rattle.stm_wire.specs.Chip.{ChipData}
 use Rattle.stm_wire.specs.Exchange.{IsOpen, verdict}
-use Rattle.stm_wire.specs.Effect.{Effect, change_of}
-use Rattle.stm_wire.specs.Reply.{ack, reply_to}
-use Rattle.stm_wire.specs.Device.{Device, Phase, Fresh, Connected, Gone, Feeds, Receives, Takes}
-use Rattle.stm_wire.specs.Device.{IsDevice, IsLoose, IsOpenPhase, phase_after, reply_of}
-use Rattle.stm_weak.specs.WeakDevice.{AgreesOutside, CanBe, Completes, ErasesPage, Heals, IsWeakAt}
-use Rattle.stm_weak.specs.WeakDevice.{ReadsPlace, WeakDevice}
-use Rattle.stm_weak.specs.WeakLaws.{FedAsOrdinary}
-use Rattle.stm_weak.proofs.Agreeing.{agrees_both, agrees_same, agrees_weaker}
-use Rattle.stm_weak.proofs.Effects.{IsByte, does_alike, effect_length, erased_is_byte}
+use Rattle.stm_wire.specs.Device.{Device, Phase, Connected, Gone}
+use Rattle.stm_wire.specs.Device.{IsDevice, IsOpenPhase, phase_after}
+use Rattle.stm_weak.proofs.Effects.{IsByte}
 
 pub with_parts : (d : Device) (flash owed : List ℕ) (phase : Phase) → IsDevice d
     → length flash ≡ length d.flash → All IsByte flash → IsOpenPhase d.chip d.codes phase

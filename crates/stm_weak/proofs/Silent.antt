@@ -1,27 +1,16 @@
 -- Frames of which no byte completes a read.
-use Rattle.std.proofs.Common.{⊎_elim, ◌||◌, ◌^◌, nat_le, ◌≡◌, inl, inr, ℕ, ◌+◌, ◌-◌, ◌/◌, ◌%◌, ◌<◌}
-use Rattle.std.proofs.Common.{◌≤◌, Bool, true, false, ◌&&◌, ◌==◌, if◌then◌else◌, List, [], ◌∷◌}
-use Rattle.std.proofs.Common.{◌++◌, length, take, get_or, Option, Some, None, IsTrue, refl, sym}
-use Rattle.std.proofs.Common.{◌∙◌, ap₂, subst, arith, eq-eqb, ne_eqb, lt-ltb, le-leb, length-append}
-use Rattle.std.proofs.lemmas.Bool.{and_from, and_parts, eqb-true, false≢true, leb-true, or_cases}
+use Rattle.std.proofs.Common.{◌≡◌, ℕ, ◌+◌, ◌-◌}
+use Rattle.std.proofs.Common.{List, [], ◌∷◌}
+use Rattle.std.proofs.Common.{◌++◌, length, refl, sym}
+use Rattle.std.proofs.Common.{subst, arith, length-append}
 use Rattle.stm_wire.specs.declared.chip.EraseKind.{EraseKind}
 use Rattle.stm_wire.specs.declared.chip.EraseKind.TheVariants.{Page, Extended}
-use Rattle.stm_wire.specs.declared.verdict.Verdict.{Verdict}
-use Rattle.stm_wire.specs.declared.verdict.Verdict.TheVariants.{Done, Refused}
-use Rattle.stm_wire.specs.Chip.{ChipData, IsChip, fits_inside, flash_size, is_inside, is_outside}
-use Rattle.stm_wire.specs.Chip.{is_size_place, is_unique_place}
-use Rattle.stm_wire.specs.Exchange.{verdict, command_verdict, after_address, at_end, complement}
-use Rattle.stm_wire.specs.Exchange.{done_if, is_listed, number_of, read_verdict, write_verdict, xor}
-use Rattle.stm_wire.specs.PageLaws.{fits-end}
-use Rattle.stm_wire.specs.declared.places.UniquePlace.{UniquePlace}
-use Rattle.stm_wire.specs.Telling.{asks_size, asks_unique, can_read, has_size, has_unique}
-use Rattle.stm_wire.specs.Telling.{is_readable}
-use Rattle.stm_wire.specs.UniqueId.{is_unique_length}
-use Rattle.stm_wire.specs.Frames.{address_bytes, command, erase_frame, with_checksum, write_frame}
-use Rattle.stm_wire.specs.Device.{Device, IsDevice, ListsKind}
+use Rattle.stm_wire.specs.Exchange.{xor}
+use Rattle.stm_wire.specs.Frames.{command, erase_frame, write_frame}
+use Rattle.stm_wire.specs.Device.{Device, IsDevice}
 use Rattle.stm_weak.specs.WeakFrames.{ReadsNothing, asks, erases, names, tells, writes}
 use Rattle.stm_weak.specs.WeakFrames.{FramesAreUnread}
-use Rattle.stm_weak.proofs.Unread.{IsNoRead, IsOpenTo, IsSilentAlong, LeavesRest, has_at_first}
+use Rattle.stm_weak.proofs.Unread.{IsNoRead, IsSilentAlong, has_at_first}
 use Rattle.stm_weak.proofs.Unread.{silent_along, unread_from}
 use Rattle.stm_weak.proofs.Openness.{inside_if_fits, open_erase, open_write}
 use Rattle.stm_weak.proofs.UniqueReads.{outside, silent_read}

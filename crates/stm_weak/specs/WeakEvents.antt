@@ -43,9 +43,9 @@ pub record IsSent (bytes : List ℕ) (old new : WeakDevice) : Type 0 where
   pub begun : IsBegun bytes old new
   pub whole : fed_bytes begun.happenings ≡ bytes
 
--- Before a session it may have lost its power, and been reset, and now it is settled: by that no
--- byte completes a read of a weak page, and no page becomes weak but those that settling may
--- change.
+-- Before its frames a session settles the device, which may have lost its power or been reset; a
+-- call that asks for the board sends its frames in that too. By all of it no byte completes a read
+-- of a weak page, and no page becomes weak but those that settling may change.
 pub record IsSettledWeakly (intent : Option Intent) (old new : WeakDevice) : Type 0 where
   pub happenings : List Happening
   pub are_bytes : AreBytes happenings

@@ -1,5 +1,5 @@
 -- Worked rows, of a chip with two pages of 256 bytes, of which the second is weak.
-use Rattle.std.proofs.Common.{◌≡◌, ℕ, ◌+◌, ◌≤◌, ◌<◌, Bool, ◌==◌, List, [], ◌∷◌, replicate, refl}
+use Rattle.std.proofs.Common.{◌≡◌, ℕ, ◌≤◌, ◌<◌, Bool, ◌==◌, List, [], ◌∷◌, replicate, refl}
 use Rattle.std.proofs.Common.{zero, suc, get_or}
 use Rattle.std.proofs.Common.{subst, arith}
 use Rattle.std.proofs.lemmas.Bool.{eqb-true}

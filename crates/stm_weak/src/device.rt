@@ -23,41 +23,41 @@ pub fn a_weak_device_is_ordinary_while_unread()
 {}
 
 /// Where a device with weak pages answered as a record of calls says, and no byte of the record
-/// completes a read of one, the record vouches for an ordinary device. So what is promised of a
-/// Rig that answers from such a record holds of that device, and of the flash where no page is
-/// weak.
+/// completes a read of one, the record vouches for an ordinary device (`Vouched` of `stm_line`).
+/// Before and behind each call the two differ in bytes of weak pages alone.
 pub fn an_unread_record_is_vouched_for()
     ensures vouched { VouchedWhileUnread }
 {}
 
-/// A device with weak pages that waits for a command may be sent a frame of Get or Get ID, or one
-/// that erases a page or writes into the flash. No byte of the frame completes a read of a weak
-/// page, wherever the host stops in it.
+/// A device with weak pages that waits for a command may be sent a frame of Get or Get ID, a read
+/// where it tells its unique id, or a frame that erases a page or writes into the flash. No byte
+/// of it completes a read of a weak page, wherever the host stops in it.
 pub fn frames_that_ask_or_change_are_unread()
     ensures unread { FramesAreUnread }
     // So is each frame that a session may send while pages may be weak.
     ensures may_put { MayPutIsUnread }
 {}
 
-/// A read of weak places may answer any bytes, also other ones each time. The last byte of a frame
-/// that erases a page ends its weakness; a write into it doesn't.
+/// A read of weak places may answer any bytes, so also other ones each time. The last byte of a
+/// frame that erases a page heals it.
 pub fn a_weak_page_reads_anything_until_it_is_erased()
     ensures reads { ReadsAnything }
     ensures heals { EraseHeals }
 {}
 
-/// In a history no page is believed that may be weak. Its events, at a device with weak pages, are
-/// those of an ordinary device, and each page that is weak is among those that may be. Each frame
-/// is sent as the device waits for a command, and settling completes no read of a weak page.
+/// Events by which no page is believed that may be weak befall a device with weak pages. Each frame
+/// is sent as it waits for a command, and settling it completes no read of a weak page: then they
+/// are events of an ordinary device, no frame reads a weak page, and each page that is weak is
+/// among those that may be.
 pub fn events_that_believe_no_weak_page_are_ordinary()
     ensures events { EventsAreOrdinary }
 {}
 
 /// Runs, undos and calls that ask for the board, one behind another, at a device with weak pages,
-/// with losses of power between them: no byte completes a read of a weak page, and all that befell
-/// the device may have befallen an ordinary one. Where a run or an undo answered Ok, that one is
-/// just what this is, with each byte of its flash. Each frame is sent as the device waits for a
-/// command, and settling completes no read of a weak page.
+/// with losses of power between their frames. Each frame is sent as the device waits for a command,
+/// and settling it completes no read of a weak page: then no frame reads one, and all that befalls
+/// it may befall an ordinary device. Where a run or an undo answered Ok, that one is just what this
+/// is, with each byte of its flash.
 pub fn a_history_is_that_of_an_ordinary_device<R: Rig>()
     ensures ordinary { HistoriesAreOrdinary R.view }
 {
