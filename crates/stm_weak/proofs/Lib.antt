@@ -19,6 +19,7 @@ mod Unread
 mod Openness
 mod UniqueReads
 mod Silent
+mod Settling
 mod Meaning
 mod Putting
 mod Stepping

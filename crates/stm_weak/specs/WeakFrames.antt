@@ -2,8 +2,9 @@
 use Rattle.std.specs.Prelude.{◌≡◌, ℕ, ◌≤◌, IsTrue, List, [], ◌++◌, length, Some}
 use Rattle.stm_wire.specs.declared.places.UniquePlace.{UniquePlace}
 use Rattle.stm_wire.specs.Chip.{ChipData, fits_inside}
-use Rattle.stm_wire.specs.Device.{Device, Connected, IsDevice}
+use Rattle.stm_wire.specs.Device.{Device, Fresh, Connected, IsDevice}
 use Rattle.stm_wire.specs.Frames.{command, erase_frame, read_frame, write_frame}
+use Rattle.stm_wire.specs.SentList.{settling_run}
 use Rattle.stm_weak.specs.WeakDevice.{WeakDevice, CanBe}
 use Rattle.stm_weak.specs.WeakRuns.{Happening, HasNoReset, IsUnread, WeakBefall, fed_bytes}
 
@@ -30,3 +31,10 @@ FramesAreUnread = (happenings : List Happening) (old new : WeakDevice) (d : Devi
     (frame : List ℕ) → IsDevice d → CanBe old d → d.phase ≡ Connected []
     → ReadsNothing d.chip frame → BeginsOf (fed_bytes happenings) frame → HasNoReset happenings
     → (led : WeakBefall happenings old new) → IsUnread happenings old new led
+
+-- A device that was reset, or lost its power, is settled unread, with whichever byte.
+abbrev pub FreshSettlingIsUnread : Type 0
+FreshSettlingIsUnread = (happenings : List Happening) (old new : WeakDevice) (byte limit : ℕ)
+    → old.device.phase ≡ Fresh → BeginsOf (fed_bytes happenings) (settling_run byte limit)
+    → HasNoReset happenings → (led : WeakBefall happenings old new)
+    → IsUnread happenings old new led

@@ -2,7 +2,7 @@
 ghost use Rattle.stm_weak.specs.WeakLaws.{FedAsOrdinary, LedAsOrdinary, OneIsLeft};
 ghost use Rattle.stm_weak.specs.WeakLaws.{SoundIsOrdinary};
 ghost use Rattle.stm_weak.specs.WeakBelieved.{MayPutIsUnread};
-ghost use Rattle.stm_weak.specs.WeakFrames.{FramesAreUnread};
+ghost use Rattle.stm_weak.specs.WeakFrames.{FramesAreUnread, FreshSettlingIsUnread};
 ghost use Rattle.stm_weak.specs.WeakMeaning.{EraseHeals, ReadsAnything};
 ghost use Rattle.stm_weak.specs.WeakRecord.{VouchedWhileUnread};
 ghost use Rattle.stm_weak.specs.WeakEvents.{EventsAreOrdinary, HistoriesAreOrdinary};
@@ -36,6 +36,8 @@ pub fn frames_that_ask_or_change_are_unread()
     ensures unread { FramesAreUnread }
     // So is each frame that a session may send while pages may be weak.
     ensures may_put { MayPutIsUnread }
+    // So is the settling of a device that was reset, or lost its power.
+    ensures settling { FreshSettlingIsUnread }
 {}
 
 /// A read of weak places may answer any bytes, so also other ones each time. The last byte of a
