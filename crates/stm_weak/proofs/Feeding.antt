@@ -1,5 +1,5 @@
 -- A byte fed to a device with weak pages, and to an ordinary one beside it.
-use Rattle.std.proofs.Common.{◌≡◌, ◌⊎◌, ⊎_elim, inl, inr, ℕ, ◌<◌, Bool, true, false}
+use Rattle.std.proofs.Common.{◌≡◌, ◌⊎◌, inl, inr, ℕ, ◌<◌, Bool, true, false}
 use Rattle.std.proofs.Common.{◌==◌, if◌then◌else◌, List, [], ◌∷◌, ◌++◌, length, Option, Some}
 use Rattle.std.proofs.Common.{None, refl, sym, ◌∙◌, ap, subst, IsTrue, All}
 use Rattle.std.proofs.lemmas.List.Elements.{All-append, All-cons, All-nil}
@@ -9,12 +9,11 @@ use Rattle.stm_wire.specs.Chip.{ChipData, flash_size}
 use Rattle.stm_wire.specs.Exchange.{IsOpen, verdict}
 use Rattle.stm_wire.specs.Effect.{Effect, change_of}
 use Rattle.stm_wire.specs.Reply.{ack, reply_to}
-use Rattle.stm_wire.specs.Device.{Device, Phase, Fresh, Connected, Gone, Feeds, Receives, Takes}
+use Rattle.stm_wire.specs.Device.{Device, Phase, Fresh, Connected, Gone, Receives, Takes}
 use Rattle.stm_wire.specs.Device.{IsDevice, IsLoose, IsOpenPhase, phase_after, reply_of}
-use Rattle.stm_weak.specs.WeakDevice.{AgreesOutside, CanBe, Completes, ErasesPage, Heals, IsWeakAt}
-use Rattle.stm_weak.specs.WeakDevice.{ReadsPlace, WeakDevice}
-use Rattle.stm_weak.specs.WeakLaws.{FedAsOrdinary}
-use Rattle.stm_weak.proofs.Agreeing.{agrees_both, agrees_same, agrees_weaker}
+use Rattle.stm_weak.specs.WeakDevice.{AgreesOutside, ErasesPage, IsWeakAt}
+use Rattle.stm_weak.specs.WeakDevice.{ReadsPlace}
+use Rattle.stm_weak.proofs.Agreeing.{agrees_same, agrees_weaker}
 use Rattle.stm_weak.proofs.Effects.{IsByte, does_alike, effect_length, erased_is_byte}
 use Rattle.stm_weak.proofs.Answering.{answer_alike, small_change}
 use Rattle.stm_weak.proofs.Opening.{open_after, open_more, open_nothing, with_parts}
@@ -35,31 +34,31 @@ TakesAlongside weak flash bytes old v new =
     × AgreesOutside new.chip weak new.flash left × IsDevice (with_flash left new)
 
 -- a list that is done, with a place in a weak page
-abbrev IsWeakList : ChipData → (ℕ → Bool) → List ℕ → Type 0
+abbrev pub IsWeakList : ChipData → (ℕ → Bool) → List ℕ → Type 0
 IsWeakList chip weak bytes = (place : ℕ) × ReadsPlace chip bytes place × IsWeakAt chip weak place
 
 -- where the list is done it reads no weak page
-abbrev IsUnread : ChipData → (ℕ → Bool) → List ℕ → Option Verdict → Type 0
+abbrev pub IsUnread : ChipData → (ℕ → Bool) → List ℕ → Option Verdict → Type 0
 IsUnread chip weak bytes None = Unit {0}
 IsUnread chip weak bytes (Some Refused) = Unit {0}
 IsUnread chip weak bytes (Some Done) = IsWeakList chip weak bytes → ⊥
 IsUnread chip weak bytes (Some Loose) = Unit {0}
 
 -- it is done, and erases page n
-abbrev IsHealed : List ℕ → ℕ → Option Verdict → Type 0
+abbrev pub IsHealed : List ℕ → ℕ → Option Verdict → Type 0
 IsHealed bytes n None = ⊥
 IsHealed bytes n (Some Refused) = ⊥
 IsHealed bytes n (Some Done) = ErasesPage (change_of bytes) n
 IsHealed bytes n (Some Loose) = ⊥
 
 -- the same of a byte that comes in this phase
-abbrev IsUnreadIn : ChipData → List ℕ → (ℕ → Bool) → ℕ → Phase → Type 0
+abbrev pub IsUnreadIn : ChipData → List ℕ → (ℕ → Bool) → ℕ → Phase → Type 0
 IsUnreadIn chip codes weak byte Fresh = Unit {0}
 IsUnreadIn chip codes weak byte (Connected rest) = IsUnread chip weak (rest ++ byte ∷ [])
     (verdict chip codes (rest ++ byte ∷ []))
 IsUnreadIn chip codes weak byte Gone = Unit {0}
 
-abbrev IsHealedIn : ChipData → List ℕ → ℕ → ℕ → Phase → Type 0
+abbrev pub IsHealedIn : ChipData → List ℕ → ℕ → ℕ → Phase → Type 0
 IsHealedIn chip codes byte n Fresh = ⊥
 IsHealedIn chip codes byte n (Connected rest) = IsHealed (rest ++ byte ∷ []) n
     (verdict chip codes (rest ++ byte ∷ []))
@@ -182,7 +181,7 @@ module _ (weak weak2 : ℕ → Bool) (old : Device) (flash : List ℕ)
           loose_device old new flash bytes is agrees.same_length l,
         )
 
-    receives_alongside : (byte : ℕ) (p : Phase) (new : Device) → byte < 256
+    pub receives_alongside : (byte : ℕ) (p : Phase) (new : Device) → byte < 256
         → IsOpenPhase old.chip old.codes p → IsUnreadIn old.chip old.codes weak byte p
         → ((n : ℕ) → IsTrue (weak n) → IsTrue (weak2 n) ⊎ IsHealedIn old.chip old.codes byte n p)
         → Receives old p byte new → Alongside weak2 flash byte old p new
@@ -236,107 +235,3 @@ module _ (weak weak2 : ℕ → Bool) (old : Device) (flash : List ℕ)
         takes_alongside rest byte (verdict old.chip old.codes (rest ++ byte ∷ [])) new waits.0
         (All-append IsByte rest (byte ∷ []) waits.1 (All-cons IsByte byte [] small (All-nil IsByte)))
         refl unread stays r
-
-unread_in : (chip : ChipData) (codes : List ℕ) (weak : ℕ → Bool) (byte : ℕ) (p : Phase)
-    → ((rest : List ℕ) → p ≡ Connected rest → verdict chip codes (rest ++ byte ∷ []) ≡ Some Done
-    → IsWeakList chip weak (rest ++ byte ∷ []) → ⊥)
-    → IsUnreadIn chip codes weak byte p
-unread_in chip codes weak byte Fresh unread = tt
-unread_in chip codes weak byte Gone unread = tt
-unread_in chip codes weak byte (Connected rest) unread = by
-    (verdict chip codes (rest ++ byte ∷ [])) refl
-  where
-    by : (v : Option Verdict) → verdict chip codes (rest ++ byte ∷ []) ≡ v
-        → IsUnread chip weak (rest ++ byte ∷ []) v
-    by None e = tt
-    by (Some Refused) e = tt
-    by (Some Done) e = unread rest refl e
-    by (Some Loose) e = tt
-
-healed_in : (chip : ChipData) (codes : List ℕ) (byte n : ℕ) (p : Phase) (rest : List ℕ)
-    → p ≡ Connected rest → verdict chip codes (rest ++ byte ∷ []) ≡ Some Done
-    → ErasesPage (change_of (rest ++ byte ∷ [])) n → IsHealedIn chip codes byte n p
-healed_in chip codes byte n p rest at done erases =
-    let P : Phase → Type 0 = λ x. IsHealedIn chip codes byte n x in
-    let Q : Option Verdict → Type 0 = λ v. IsHealed (rest ++ byte ∷ []) n v in
-    subst P (sym at) (subst Q (sym done) erases)
-
--- the ordinary device is the one that was fed, with its own flash
-beside : (w : WeakDevice) (now d : Device) → CanBe w now → CanBe w d → d ≡ with_flash d.flash now
-beside w now d n o =
-    let make : ChipData → ℕ → List ℕ → List ℕ → Phase
-    → Device = λ chip version codes owed phase. record {
-      chip = chip;
-      version = version;
-      codes = codes;
-      flash = d.flash;
-      owed = owed;
-      phase = phase;
-    } in
-    ap (λ c. make c d.version d.codes d.owed d.phase) (o.chip ∙ sym n.chip)
-    ∙ ap (λ v. make now.chip v d.codes d.owed d.phase) (o.version ∙ sym n.version)
-    ∙ ap (λ k. make now.chip now.version k d.owed d.phase) (o.codes ∙ sym n.codes)
-    ∙ ap (λ x. make now.chip now.version now.codes x d.phase) (o.owed ∙ sym n.owed)
-    ∙ ap (λ p. make now.chip now.version now.codes now.owed p) (o.phase ∙ sym n.phase)
-
-completes_at : (byte : ℕ) (w : WeakDevice) (now : Device) (rest : List ℕ) → CanBe w now
-    → now.phase ≡ Connected rest → verdict now.chip now.codes (rest ++ byte ∷ []) ≡ Some Done
-    → Completes byte w.device (rest ++ byte ∷ [])
-completes_at byte w now rest can at done = record {
-  rest = rest;
-  phase = sym can.phase ∙ at;
-  is = refl;
-  done = ap (λ c. verdict c w.device.codes (rest ++ byte ∷ [])) (sym can.chip)
-      ∙ ap (λ k. verdict now.chip k (rest ++ byte ∷ [])) (sym can.codes) ∙ done;
-}
-
-heals_at : (byte n : ℕ) (w : WeakDevice) (now : Device) → CanBe w now → Heals byte w.device n
-    → IsHealedIn now.chip now.codes byte n now.phase
-heals_at byte n w now can (bytes, c, erases) =
-    let P : List ℕ → Type 0 = λ x. ErasesPage (change_of x) n in
-    healed_in now.chip now.codes byte n now.phase c.rest (can.phase ∙ c.phase)
-    (ap (λ k. verdict k now.codes (c.rest ++ byte ∷ [])) can.chip
-    ∙ ap (λ k. verdict w.device.chip k (c.rest ++ byte ∷ [])) can.codes
-    ∙ ap (λ x. verdict w.device.chip w.device.codes x) (sym c.is) ∙ c.done)
-    (subst P c.is erases)
-
-pub fed_as_ordinary : FedAsOrdinary
-fed_as_ordinary byte old new d small is can feeds unread =
-    let now = feeds.now in
-    let n = feeds.can_be in
-    let flash = d.flash in
-    let same = beside old now d n can in
-    let P : Device → Type 0 = λ x. (e : Device) × Feeds byte x e × CanBe new e × IsDevice e in
-    let A : ChipData → Type 0 = λ c. AgreesOutside c old.weak now.flash flash in
-    let agrees : AgreesOutside now.chip old.weak now.flash flash = subst A (sym n.chip)
-    (agrees_both old.device.chip old.weak old.device.flash now.flash flash n.flash can.flash) in
-    let is_now : IsDevice (with_flash flash now) = subst IsDevice same is in
-    let unread_now : (rest : List ℕ) → now.phase ≡ Connected rest
-    → verdict now.chip now.codes (rest ++ byte ∷ []) ≡ Some Done
-    → IsWeakList now.chip old.weak (rest ++ byte ∷ []) → ⊥ =
-    λ rest at done w.
-    let W : ChipData → Type 0 = λ c. IsWeakList c old.weak (rest ++ byte ∷ []) in
-    let there = subst W n.chip w in
-    unread (rest ++ byte ∷ [], there.0, completes_at byte old now rest n at done, there.1, there.2)
-    in
-    let stays : (m : ℕ) → IsTrue (old.weak m) → IsTrue (new.weak m)
-    ⊎ IsHealedIn now.chip now.codes byte m now.phase =
-    λ m w. ⊎_elim (λ (x : IsTrue (new.weak m)). inl x)
-    (λ (h : Heals byte old.device m). inr (heals_at byte m old now n h)) (feeds.stays m w) in
-    let r = receives_alongside old.weak new.weak now flash is_now agrees byte now.phase new.device
-    small is_now.phase (unread_in now.chip now.codes old.weak byte now.phase unread_now) stays
-    feeds.feeds.receives in
-    subst P (sym same) (
-      with_flash r.0 new.device,
-      record { receives = r.1 },
-      record {
-        chip = refl;
-        version = refl;
-        codes = refl;
-        owed = refl;
-        phase = refl;
-        flash = r.2;
-        bytes = r.3.flash;
-      },
-      r.3,
-    )

@@ -6,7 +6,7 @@ use Rattle.stm_weak.specs.WeakDevice.{AgreesOutside, CanBe, WeakDevice}
 use Rattle.stm_weak.specs.WeakRuns.{Feed, Reset, Take, IsNow, StayWeak}
 use Rattle.stm_weak.specs.WeakLaws.{LedAsOrdinary, OneIsLeft, SoundIsOrdinary}
 use Rattle.stm_weak.proofs.Agreeing.{agrees_none, agrees_weaker}
-use Rattle.stm_weak.proofs.Feeding.{fed_as_ordinary}
+use Rattle.stm_weak.proofs.Ordinary.{fed_as_ordinary}
 use Rattle.stm_weak.proofs.Opening.{with_parts}
 
 -- with other owed bytes and another phase, both

@@ -13,6 +13,7 @@ mod Effects
 mod Answering
 mod Opening
 mod Feeding
+mod Ordinary
 mod Leading
 mod Vouching
 mod Unread

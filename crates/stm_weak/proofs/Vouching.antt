@@ -13,7 +13,7 @@ use Rattle.stm_weak.specs.WeakDevice.{CanBe, ReadsWeak, WeakDevice, WeakFeeds}
 use Rattle.stm_weak.specs.WeakRuns.{IsNow, StayWeak}
 use Rattle.stm_weak.specs.WeakRecord.{AgreesWith, IsUnreadRecord, PutsUnread, VouchedWhileUnread}
 use Rattle.stm_weak.specs.WeakRecord.{WeakLeads, WeakStanding}
-use Rattle.stm_weak.proofs.Feeding.{fed_as_ordinary}
+use Rattle.stm_weak.proofs.Ordinary.{fed_as_ordinary}
 use Rattle.stm_weak.proofs.Leading.{can_be_owing, can_be_still, can_be_taken, device_now}
 
 -- an ordinary device with its journal

@@ -56,10 +56,10 @@ pub fn events_that_believe_no_weak_page_are_ordinary()
 {}
 
 /// Runs, undos and calls that ask for the board, one behind another, at a device with weak pages,
-/// with losses of power between their frames. Each frame is sent as the device waits for a command,
-/// and settling it completes no read of a weak page: then no frame reads one, and all that befalls
-/// it may befall an ordinary device. Where a run or an undo answered Ok, that one is just what this
-/// is, with each byte of its flash.
+/// which may lose its power before each. Each frame is sent as it waits for a command, and settling
+/// it completes no read of a weak page: then no frame reads one, and all that befalls it may befall
+/// an ordinary device. Where a run or an undo answered Ok, that one is just what this is, with each
+/// byte of its flash.
 pub fn a_history_is_that_of_an_ordinary_device<R: Rig>()
     ensures ordinary { HistoriesAreOrdinary R.view }
 {

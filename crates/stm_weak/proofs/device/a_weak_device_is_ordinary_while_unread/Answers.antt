@@ -1,4 +1,4 @@
-use Rattle.stm_weak.proofs.Feeding.{fed_as_ordinary}
+use Rattle.stm_weak.proofs.Ordinary.{fed_as_ordinary}
 use Rattle.stm_weak.proofs.Leading.{led_as_ordinary, one_is_left, sound_is_ordinary}
 use Rattle.stm_weak.proofs.device.a_weak_device_is_ordinary_while_unread.Goals as goal
 
