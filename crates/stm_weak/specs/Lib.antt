@@ -1,3 +1,12 @@
 pub mod Weak
 pub mod Believed
 pub mod History
+pub mod WeakDevice
+pub mod WeakRuns
+pub mod WeakLaws
+pub mod WeakRecord
+pub mod WeakFrames
+pub mod WeakMeaning
+pub mod WeakBelieved
+pub mod WeakEvents
+pub mod WeakExamples
