@@ -39,11 +39,11 @@ is_filed other = false
 -- A work was done, where its line failed again and again, and its steps are told beside what the
 -- tables say. Bytes that are for a file are in it, unless it is a write that may be done again.
 pub record UsesBeside {A B : Type 0} (simulated : A → RigState) (connected : B → RigState)
-    (options : Options) (texts : List (List ℕ)) (does : Work) (sequel : Sequel) (is_filed : Bool)
+    (options : Options) (texts : List (List ℕ)) (does : Work) (sequel : Sequel) (is_out : Bool)
     (steps : Steps) : Type 0 where
   pub used : Steps
   pub uses : UsesLast simulated connected options texts does sequel
-      (is_filed && (sequel.again == 0)) used
+      (is_out && (sequel.again == 0)) used
   pub beside : AreBeside texts used steps
 
 -- the name of a board's journal in a folder
