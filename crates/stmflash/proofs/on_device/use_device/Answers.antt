@@ -6,11 +6,11 @@ pub returns-then-not-options : goal.returns-then-not-options
 returns-then-not-options g c =
     let work = c.in_ok-work.ensures in
     uses-task _ _ _ _ _ _ _ _ _ _ work.asked work.unfresh
-    (own-options _ _ _ c.if-not-options.true) c.of-files.ensures c.use_beside.ensures
+    (own-options _ c.if-not-options.true) c.of-files.ensures c.use_beside.ensures
 
 pub returns : goal.returns
 returns g c =
     let work = c.in_ok-work.ensures in
     uses-task _ _ _ _ _ _ _ _ _ _ work.asked work.unfresh
-    (found-options _ _ _ _ c.if-not-options.false c.in-Ok.ensures)
+    (found-options _ _ c.if-not-options.false c.in-Ok.ensures)
     (ap is_some c.beside-files.ensures ∙ c.of-files.ensures) c.use_beside-2.ensures
