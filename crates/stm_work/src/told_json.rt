@@ -4,7 +4,7 @@ ghost use Rattle.stm_work.specs.Answer.{is_flash};
 ghost use Rattle.stm_work.specs.JsonLine.{text_member};
 ghost use Rattle.stm_work.specs.ToldJson.{AreLines, answer_line, answer_name, board_members_of};
 ghost use Rattle.stm_work.specs.ToldJson.{change_members, is_of_board, members_of, next_line};
-ghost use Rattle.stm_work.specs.ToldJson.{refusal_line, steps_lines};
+ghost use Rattle.stm_work.specs.ToldJson.{next_told, refusal_line, steps_lines};
 
 use crate::answer::Answer;
 use crate::device_json::{add_board, add_info, add_told, eight_digits};
@@ -37,12 +37,20 @@ fn json_of_steps(alloc: Global, steps: &Steps) -> Result<Vec<u8>, AllocError>
 pub fn json_of_done(alloc: Global, steps: &Steps, hint: Option<Hint>) -> Result<Vec<u8>, AllocError>
     ensures { IfOk result (λ text. AreLines hint steps.now text.items) }
 {
-    if let Some(hint) = hint {
-        if let Some(next) = hint.of_done() {
-            return json_of_next(alloc, steps, next);
-        }
+    match told_next(hint) {
+        Some(next) => json_of_next(alloc, steps, next),
+        None => json_of_steps(alloc, steps),
     }
-    json_of_steps(alloc, steps)
+}
+
+/// What is told to be done behind what was done.
+fn told_next(hint: Option<Hint>) -> Option<Hint>
+    ensures { result ≡ next_told hint }
+{
+    match hint {
+        Some(hint) => hint.of_done(),
+        None => None,
+    }
 }
 
 /// The line of what was done, with what is to be done then.

@@ -1,17 +1,71 @@
 -- From what a request came to, to the status that is answered.
-use Rattle.std.proofs.Common.{◌≡◌, ◌⊎◌, ℕ, List, Bool, Option, None, Some, MatchOption, Result, Ok, Err}
-use Rattle.std.proofs.Common.{IfOk, inl, inr, subst, sym}
+use Rattle.std.proofs.Common.{◌≡◌, ◌≤◌, ◌⊎◌, ◌&&◌, ℕ, List, Bool, true, false, not}
+use Rattle.std.proofs.Common.{Option, None, Some, MatchOption, Result, Ok, Err, IfOk, OnErr, OnOk}
+use Rattle.std.proofs.Common.{arith, codes, inl, inr, refl, subst, sym}
+use Rattle.std.specs.Io.KnownBytes.{Appends}
 use Rattle.stm_wire.specs.Rig.{RigState}
 use Rattle.stm_words.specs.declared.request.Request.{Request}
 use Rattle.stm_work.specs.declared.failure.Failure.{Failure}
 use Rattle.stm_work.specs.declared.hint.Hint.{Hint}
 use Rattle.stm_work.specs.declared.steps.Steps.{Steps}
-use Rattle.stmflash.specs.Printed.{ArePrinted, AreStepsOf, IsDone, IsStatusOf, IsTold}
+use Rattle.stm_work.specs.Answer.{is_flash}
+use Rattle.stm_work.specs.ShortLine.{short_line}
+use Rattle.stm_work.specs.StepsText.{steps_text}
+use Rattle.stm_work.specs.ToldJson.{AreLines, answer_name}
+use Rattle.stmflash.specs.Printed.{ArePrinted, AreStepsOf, IsDone, IsStatusOf, IsTextOf, IsTold}
 
 -- all is so at Ok, where it is of all
 pub always : {A E : Type 0} (P : A → Type 0) (came : Result A E) → ((x : A) → P x) → IfOk came P
 always P (Ok x) all = all x
 always P (Err failure) all = tt
+
+module _ (is_json : Bool) (hint : Option Hint) (steps : Steps) (old new : Option (List ℕ)) where
+  -- this text was printed of the steps
+  pub text-printed : (flag : Bool) (text : List ℕ) → (is_json && not (is_flash steps.answer)) ≡ flag
+      → IsTextOf flag hint steps text → Appends old new text
+      → ArePrinted is_json hint steps old new
+  text-printed flag text same is appended =
+      let P : Bool → Type 0 = λ b. IsTextOf b hint steps text in
+      record { text = text; appended = appended; is = subst P (sym same) is }
+
+  -- as text
+  pub as-text : {E : Type 0} (came : Result (Unit {0}) E) (flag : Bool)
+      → flag ≡ (is_json && not (is_flash steps.answer)) → flag ≡ false
+      → OnOk came (Appends old new (steps_text steps))
+      → OnOk came (ArePrinted is_json hint steps old new)
+  as-text (Err failure) flag same off appended = tt
+  as-text (Ok done) flag same off appended =
+      text-printed false (steps_text steps) (cc) refl appended
+
+  -- or as lines of JSON
+  pub as-json : {V D E : Type 0} (items : V → List ℕ) (lines : Result V D)
+      (came : Result (Unit {0}) E) (flag : Bool) (name : List ℕ)
+      → flag ≡ (is_json && not (is_flash steps.answer)) → flag ≡ true
+      → name ≡ answer_name steps.answer
+      → IfOk lines (λ text. AreLines hint steps (items text))
+      → IfOk lines (λ text. OnOk came (Appends old new (items text)))
+      → OnErr lines (OnOk came (Appends old new (short_line (codes "answer") name)))
+      → OnOk came (ArePrinted is_json hint steps old new)
+  as-json items lines (Err failure) flag name same on named are told short = tt
+  as-json items (Ok text) (Ok done) flag name same on named are told short =
+      text-printed true (items text) (cc) (inl are) told
+  as-json items (Err none) (Ok done) flag name same on named are told short =
+      let P : List ℕ → Type 0 = λ n. short_line (codes "answer") name ≡ short_line (codes "answer") n in
+      text-printed true (short_line (codes "answer") name) (cc) (inr (subst P named refl)) short
+
+-- the status of steps none of which failed
+pub whole-status : {F : Type 0} (failure : Option F) (P : Type 0) (Q : F → Type 0) (status : ℕ)
+    → failure ≡ None → ((status ≡ 1) ⊎ P × (status ≡ 0))
+    → MatchOption failure ((status ≡ 1) ⊎ P × (status ≡ 0)) Q
+whole-status None P Q status none is = is
+whole-status (Some why) P Q status none is = absurd (cc)
+
+-- and of those that failed
+pub failed-status : {F : Type 0} (failure : Option F) (why : F) (P : Type 0) (Q : F → Type 0)
+    → failure ≡ Some why → Q why → MatchOption failure P Q
+failed-status None why P Q some is = absurd (cc)
+failed-status (Some same) why P Q some is =
+    let of : why ≡ same = cc in subst Q of is
 
 -- what was printed, where the status is 0
 printed : {F : Type 0} (failure : Option F) (P : Type 0) (Q : F → Type 0) (status : ℕ)

@@ -1,6 +1,7 @@
 // The program: what its words ask for.
 ghost use Rattle.std.specs.Io.KnownBytes.{Appends};
-ghost use Rattle.std.specs.Prelude.{◌≡◌, ◌≤◌, ◌⊎◌, IfOk, None, OnErr, OnOk, map, true};
+ghost use Rattle.std.specs.Prelude.{◌≡◌, ◌≤◌, ◌⊎◌, ◌&&◌, IfOk, None, OnErr, OnOk, map, not, true};
+ghost use Rattle.stm_work.specs.Answer.{is_flash};
 ghost use Rattle.stm_work.specs.ExitStatus.{status_of};
 ghost use Rattle.stmflash.specs.Printed.{ArePrinted, AreStepsOf, IsDone, IsFailed, IsStatusOf};
 ghost use Rattle.stmflash.specs.Printed.{IsTold, IsWell};
@@ -262,11 +263,18 @@ fn print_as<R: AllocGlobal, O: Write>(
     ensures { OnOk result
         (ArePrinted is_json hint steps.now (O.contents out.old) (O.contents out.new)) }
 {
-    if is_json && !is_flash(&steps.answer) {
+    if is_told_as_json(steps, is_json) {
         let lines = json_of_done(rt.alloc(), steps, hint);
         return print_line(lines, "answer", name_of(&steps.answer), out);
     }
     print_at_once(rt, steps, out)
+}
+
+/// Whether steps are told as JSON: what was read of the flash is not.
+fn is_told_as_json(steps: &Steps, is_json: bool) -> bool
+    ensures { result ≡ is_json && not (is_flash steps.now.answer) }
+{
+    is_json && !is_flash(&steps.answer)
 }
 
 /// Prints the steps as one text, so that who takes a line of it and goes has taken none of its
