@@ -1,7 +1,7 @@
 -- From what a request came to, to the status that is answered.
-use Rattle.std.proofs.Common.{◌≡◌, ◌≤◌, ◌⊎◌, ◌&&◌, ℕ, List, Bool, true, false, not}
+use Rattle.std.proofs.Common.{◌≡◌, ◌⊎◌, ◌&&◌, ℕ, List, Bool, true, false, not}
 use Rattle.std.proofs.Common.{Option, None, Some, MatchOption, Result, Ok, Err, IfOk, OnErr, OnOk}
-use Rattle.std.proofs.Common.{arith, codes, inl, inr, refl, subst, sym}
+use Rattle.std.proofs.Common.{codes, inl, inr, refl, subst, sym}
 use Rattle.std.specs.Io.KnownBytes.{Appends}
 use Rattle.stm_wire.specs.Rig.{RigState}
 use Rattle.stm_words.specs.declared.request.Request.{Request}
@@ -13,11 +13,6 @@ use Rattle.stm_work.specs.ShortLine.{short_line}
 use Rattle.stm_work.specs.StepsText.{steps_text}
 use Rattle.stm_work.specs.ToldJson.{AreLines, answer_name}
 use Rattle.stmflash.specs.Printed.{ArePrinted, AreStepsOf, IsDone, IsStatusOf, IsTextOf, IsTold}
-
--- all is so at Ok, where it is of all
-pub always : {A E : Type 0} (P : A → Type 0) (came : Result A E) → ((x : A) → P x) → IfOk came P
-always P (Ok x) all = all x
-always P (Err failure) all = tt
 
 module _ (is_json : Bool) (hint : Option Hint) (steps : Steps) (old new : Option (List ℕ)) where
   -- this text was printed of the steps
@@ -52,20 +47,6 @@ module _ (is_json : Bool) (hint : Option Hint) (steps : Steps) (old new : Option
   as-json items (Err none) (Ok done) flag name same on named are told short =
       let P : List ℕ → Type 0 = λ n. short_line (codes "answer") name ≡ short_line (codes "answer") n in
       text-printed true (short_line (codes "answer") name) (cc) (inr (subst P named refl)) short
-
--- the status of steps none of which failed
-pub whole-status : {F : Type 0} (failure : Option F) (P : Type 0) (Q : F → Type 0) (status : ℕ)
-    → failure ≡ None → ((status ≡ 1) ⊎ P × (status ≡ 0))
-    → MatchOption failure ((status ≡ 1) ⊎ P × (status ≡ 0)) Q
-whole-status None P Q status none is = is
-whole-status (Some why) P Q status none is = absurd (cc)
-
--- and of those that failed
-pub failed-status : {F : Type 0} (failure : Option F) (why : F) (P : Type 0) (Q : F → Type 0)
-    → failure ≡ Some why → Q why → MatchOption failure P Q
-failed-status None why P Q some is = absurd (cc)
-failed-status (Some same) why P Q some is =
-    let of : why ≡ same = cc in subst Q of is
 
 -- what was printed, where the status is 0
 printed : {F : Type 0} (failure : Option F) (P : Type 0) (Q : F → Type 0) (status : ℕ)

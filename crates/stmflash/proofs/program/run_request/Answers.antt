@@ -1,4 +1,4 @@
-use Rattle.stmflash.proofs.Printed.{always, steps-of}
+use Rattle.stmflash.proofs.Printed.{steps-of}
 use Rattle.stmflash.proofs.program.run_request.Goals as goal
 
 pub returns-in-Use : goal.returns-in-Use
