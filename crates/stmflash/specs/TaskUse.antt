@@ -1,17 +1,14 @@
 -- From the task that the words name to the steps that are told of it: which work runs on the device,
 -- by which options, and what the tables add to its answer.
 use Rattle.std.specs.Prelude.{◌≡◌, ◌⊎◌, ◌++◌, ◌==◌, ◌&&◌, ℕ, Bool, true, false, not}
-use Rattle.std.specs.Prelude.{List, Some, String, codes, bytes_eq}
+use Rattle.std.specs.Prelude.{List, Some, codes, bytes_eq}
 use Rattle.std.specs.Borrow.{Bor}
-use Rattle.std.specs.declared.alloc.Global.{Global}
 use Rattle.hex.specs.Hex.{encode_upper}
 use Rattle.stm_wire.specs.Rig.{RigState}
 use Rattle.stm_words.specs.declared.options.Options.{Options}
 use Rattle.stm_words.specs.declared.sequel.Sequel.{Sequel}
 use Rattle.stm_words.specs.declared.task.Task.{Task}
 use Rattle.stm_words.specs.declared.task.Task.TheVariants as task
-use Rattle.stm_work.specs.declared.answer.Answer.{Answer}
-use Rattle.stm_work.specs.declared.answer.Answer.TheVariants as answer
 use Rattle.stm_work.specs.declared.steps.Steps.{Steps}
 use Rattle.stm_work.specs.declared.work.Work.{Work}
 use Rattle.stm_work.specs.Answer.{IsBeside}
