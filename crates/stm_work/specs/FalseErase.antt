@@ -1,5 +1,5 @@
 -- Bytes of a block that a device which lost power in the midst of it would take for an erase.
-use Rattle.std.specs.Prelude.{ℕ, Bool, true, false, List, [], ◌∷◌, ◌==◌, ◌&&◌, ◌||◌, if◌then◌else◌}
+use Rattle.std.specs.Prelude.{ℕ, Bool, false, List, [], ◌∷◌, ◌==◌, ◌&&◌, ◌||◌, if◌then◌else◌}
 
 -- the code of Erase Memory or Extended Erase Memory, and its complement
 abbrev pub begins_erase : List ℕ → Bool

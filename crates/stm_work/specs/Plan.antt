@@ -1,7 +1,7 @@
 -- The plan of one use of a device, by the words and the tables of one call; and what is told of steps
 -- that were taken.
 use Rattle.std.specs.Prelude.{◌≡◌, ◌&&◌, ◌||◌, ℕ, Bool, true, false, not, is_none, is_some}
-use Rattle.std.specs.Prelude.{List, Option, None, Result, IfOk, MatchResult}
+use Rattle.std.specs.Prelude.{List, None, Result, IfOk, MatchResult}
 use Rattle.stm_wire.specs.Chip.{ChipData}
 use Rattle.stm_words.specs.declared.options.Options.{Options}
 use Rattle.stm_words.specs.declared.sequel.Sequel.{Sequel}

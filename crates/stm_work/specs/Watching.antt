@@ -1,7 +1,7 @@
 -- A device that is watched: how it is asked who it is, how watching begins at it, and what is done
 -- on it then.
 use Rattle.std.specs.Prelude.{◌≡◌, ℕ, Bool, true, List, take, Option, Some, None, Result, Ok, Err}
-use Rattle.std.specs.Prelude.{IfOk, MatchOption, MatchResult, OnOk}
+use Rattle.std.specs.Prelude.{IfOk, MatchResult, OnOk}
 use Rattle.std.specs.Borrow.{Bor}
 use Rattle.std.specs.declared.alloc.AllocError.{AllocError}
 use Rattle.stm_wire.specs.declared.get_command.Commands.{Commands}

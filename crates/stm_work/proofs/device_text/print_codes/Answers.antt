@@ -1,4 +1,4 @@
-use Rattle.std.proofs.Common.{rules, ℕ, List, ◌++◌, ◌∷◌, [], ◌∙◌, sym, ap, codes, take, take_all, get_or, flat_map, append_assoc}
+use Rattle.std.proofs.Common.{ℕ, List, ◌++◌, ◌∷◌, [], ◌∙◌, sym, ap, codes, take, take_all, get_or, flat_map}
 use Rattle.std.proofs.lemmas.List.{flat_map_more, take_more}
 use Rattle.stm_work.specs.DeviceText.{code_text}
 use Rattle.stm_work.proofs.TextParts.{ends, make_up}

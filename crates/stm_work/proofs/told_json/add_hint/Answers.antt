@@ -1,4 +1,4 @@
-use Rattle.std.proofs.Common.{◌≡◌, ℕ, List, ◌++◌, Result, OnOk, IfOk, codes}
+use Rattle.std.proofs.Common.{◌≡◌, ℕ, List, ◌++◌, Result, OnOk, codes}
 use Rattle.std.proofs.lemmas.Result.{IfOk-weaker}
 use Rattle.stm_work.specs.JsonLine.{text_member}
 use Rattle.stm_work.proofs.told_json.add_hint.Goals as goal

@@ -1,4 +1,4 @@
-use Rattle.std.proofs.Common.{◌≡◌, ℕ, List, ◌++◌, ◌∙◌, Result, IfOk, ap, codes, append_assoc}
+use Rattle.std.proofs.Common.{◌≡◌, ℕ, List, ◌++◌, ◌∙◌, ap, codes, append_assoc}
 use Rattle.std.proofs.lemmas.Result.{IfOk-weaker}
 use Rattle.stm_work.specs.JsonLine.{line_end, object_of, text_member}
 use Rattle.stm_work.specs.ToldJson.{answer_name, board_members_of, members_of, next_line}
@@ -25,6 +25,9 @@ returns c =
     let hinted = c.in_ok-add_hint.ensures in
     let steps : Steps = c.args.steps.now in
     IfOk-weaker c.end.result _ _
-    (λ line ended. (hinted.0, whole steps hinted.0 _ _ _ _ line.items
-    (c.in_ok-line.ensures ∙ ap (object_of (codes "answer")) c.name_of.ensures)
-    c.in_ok-add_members.ensures c.in_ok-add_board_of.ensures hinted.1 ended)) c.end.ensures
+    (λ line ended. (
+      hinted.0,
+      whole steps hinted.0 _ _ _ _ line.items
+          (c.in_ok-line.ensures ∙ ap (object_of (codes "answer")) c.name_of.ensures)
+          c.in_ok-add_members.ensures c.in_ok-add_board_of.ensures hinted.1 ended,
+    )) c.end.ensures
