@@ -12,68 +12,91 @@ use Rattle.stm_work.specs.declared.work.Work.{Work}
 use Rattle.stm_work.specs.declared.work.Work.TheVariants as work
 use Rattle.stmflash.specs.DeviceUse.{UsesOnce}
 use Rattle.stm_work.specs.FreshUndo.{is_fresh_undo, work_on_fresh}
-use Rattle.stmflash.specs.TaskUse.{AreAsked, AreBeside, AreOptionsOf, AreTaken, UsesBeside, UsesTask}
-use Rattle.stmflash.specs.TaskUse.{is_filed}
+use Rattle.stmflash.specs.TaskUse.{AreAsked, AreBeside, AreFound, AreOptionsOf, AreTaken}
+use Rattle.stmflash.specs.TaskUse.{UsesBeside, UsesTask, is_filed}
 use Rattle.stm_work.specs.TaskWork.{IsWorkFor}
 use Rattle.stmflash.specs.WriteUse.{UsesLast}
 
+-- what is read once may go into a file
+once-out : (is_out : Bool) → is_out ≡ (is_out && (0 == 0))
+once-out true = refl
+once-out false = refl
+
+-- a work is as it is where the device isn't said to be fresh
+stays : (does : Work) → is_fresh_undo (work_on_fresh false does) ≡ is_fresh_undo does
+stays work.Identify = refl
+stays (work.Sum range) = refl
+stays (work.ReadHex range skips) = refl
+stays (work.Act action.Info) = refl
+stays (work.Act (action.Read range)) = refl
+stays (work.Act (action.Write content)) = refl
+stays (work.Act (action.WriteAndVerify content)) = refl
+stays (work.Act (action.Verify content)) = refl
+stays (work.Act (action.Erase pages)) = refl
+stays (work.Act action.EraseAll) = refl
+stays (work.Act (action.Undo count)) = refl
+stays (work.Act (action.UndoFresh count)) = refl
+stays (work.Act (action.UndoVerified count)) = refl
+stays (work.Act (action.UndoVerifiedFresh count)) = refl
+stays (work.Act (action.Go address)) = refl
+stays (work.Act (action.Protect kind)) = refl
+stays (work.Act action.UnprotectFresh) = refl
+
+-- a device counts as fresh only by the options
+fresh-by : (is_fresh said : Bool) (does : Work) → is_fresh_undo does ≡ false
+    → (is_fresh ≡ true → said ≡ true)
+    → is_fresh_undo (work_on_fresh is_fresh does) ≡ true → said ≡ true
+fresh-by true said does unfresh says is = says refl
+fresh-by false said does unfresh says is = absurd (no (sym unfresh ∙ sym (stays does) ∙ is))
+  where
+    no : false ≡ true → ⊥
+    no same = cc
+
+says-fresh : (in_folder : Bool) (words options : Options) → AreOptionsOf in_folder words options
+    → options.is_fresh ≡ true → words.is_fresh ≡ true
+says-fresh false words options same is = let F : Options → Type 0 = λ o. o.is_fresh ≡ true in
+    subst F same is
+says-fresh true words options found is = ⊎_elim taken asked found
+  where
+    F : Options → Type 0
+    F o = o.is_fresh ≡ true
+
+    taken : AreTaken words options → words.is_fresh ≡ true
+    taken are = subst F are.options is
+
+    asked : AreAsked words options → words.is_fresh ≡ true
+    asked are = absurd (no (subst F are.options is))
+      where
+        no : false ≡ true → ⊥
+        no same = cc
+
+-- the options of the words themselves, and those beside a journal that was found in a folder
+pub own-options : (words : Options) → words.in_folder ≡ false
+    → AreOptionsOf words.in_folder words words
+own-options words none = let P : Bool → Type 0 = λ b. AreOptionsOf b words words in
+    subst P (sym none) refl
+
+pub found-options : (words options : Options) → words.in_folder ≡ true → AreFound words options
+    → AreOptionsOf words.in_folder words options
+found-options words options is found = let P : Bool → Type 0 = λ b. AreOptionsOf b words options in
+    subst P (sym is) found
+
 module _ {A B : Type 0} (simulated : A → RigState) (connected : B → RigState) where
-  -- one use is the last
+  -- one use is the last, where none may follow
   pub uses-last : (options : Options) (texts : List (List ℕ)) (does : Work) (sequel : Sequel)
-      (is_out : Bool) (came : Result Steps Failure)
+      (is_out : Bool) (came : Result Steps Failure) → sequel.again ≡ 0
       → IfOk came (UsesOnce simulated connected options texts does sequel is_out)
-      → IfOk came (UsesLast simulated connected options texts does sequel is_out)
-  uses-last options texts does sequel is_out (Ok steps) uses =
-      record { last = does; same = inl refl; uses = uses }
-  uses-last options texts does sequel is_out (Err failure) uses = tt
-
-  -- a work is as it is where the device isn't said to be fresh
-  stays : (does : Work) → is_fresh_undo (work_on_fresh false does) ≡ is_fresh_undo does
-  stays work.Identify = refl
-  stays (work.Sum range) = refl
-  stays (work.ReadHex range skips) = refl
-  stays (work.Act action.Info) = refl
-  stays (work.Act (action.Read range)) = refl
-  stays (work.Act (action.Write content)) = refl
-  stays (work.Act (action.WriteAndVerify content)) = refl
-  stays (work.Act (action.Verify content)) = refl
-  stays (work.Act (action.Erase pages)) = refl
-  stays (work.Act action.EraseAll) = refl
-  stays (work.Act (action.Undo count)) = refl
-  stays (work.Act (action.UndoFresh count)) = refl
-  stays (work.Act (action.UndoVerified count)) = refl
-  stays (work.Act (action.UndoVerifiedFresh count)) = refl
-  stays (work.Act (action.Go address)) = refl
-  stays (work.Act (action.Protect kind)) = refl
-  stays (work.Act action.UnprotectFresh) = refl
-
-  -- a device counts as fresh only by the options
-  fresh-by : (is_fresh said : Bool) (does : Work) → is_fresh_undo does ≡ false
-      → (is_fresh ≡ true → said ≡ true)
-      → is_fresh_undo (work_on_fresh is_fresh does) ≡ true → said ≡ true
-  fresh-by true said does unfresh says is = says refl
-  fresh-by false said does unfresh says is = absurd (no (sym unfresh ∙ sym (stays does) ∙ is))
-    where
-      no : false ≡ true → ⊥
-      no same = cc
-
-  says-fresh : (in_folder : Bool) (words options : Options) → AreOptionsOf in_folder words options
-      → options.is_fresh ≡ true → words.is_fresh ≡ true
-  says-fresh false words options same is = let F : Options → Type 0 = λ o. o.is_fresh ≡ true in
-      subst F same is
-  says-fresh true words options found is = ⊎_elim taken asked found
-    where
-      F : Options → Type 0
-      F o = o.is_fresh ≡ true
-
-      taken : AreTaken words options → words.is_fresh ≡ true
-      taken are = subst F are.options is
-
-      asked : AreAsked words options → words.is_fresh ≡ true
-      asked are = absurd (no (subst F are.options is))
-        where
-          no : false ≡ true → ⊥
-          no same = cc
+      → IfOk came (UsesLast simulated connected options texts does sequel
+      (is_out && (sequel.again == 0)))
+  uses-last options texts does sequel is_out (Ok steps) once uses =
+      let P : Bool → Type 0 = λ b. UsesOnce simulated connected options texts does sequel b steps in
+      let Q : ℕ → Type 0 = λ n. is_out ≡ (is_out && (n == 0)) in
+      record {
+        last = does;
+        same = inl refl;
+        uses = subst P (subst Q (sym once) (once-out is_out)) uses;
+      }
+  uses-last options texts does sequel is_out (Err failure) once uses = tt
 
   -- a task, by its work and the options that were found
   pub uses-task : (words options : Options) (texts : List (List ℕ)) (asked : Task) (does : Work)
@@ -100,12 +123,12 @@ module _ {A B : Type 0} (simulated : A → RigState) (connected : B → RigState
 
   -- steps that are told beside what the tables say
   pub uses-beside : (options : Options) (texts : List (List ℕ)) (does : Work) (sequel : Sequel)
-      (is_filed is_out : Bool) (used : Steps) (came : Result Steps Failure) → is_out ≡ is_filed
+      (is_out named : Bool) (used : Steps) (came : Result Steps Failure) → is_out ≡ named
       → UsesLast simulated connected options texts does sequel (is_out && (sequel.again == 0)) used
       → IfOk came (AreBeside texts used)
-      → IfOk came (UsesBeside simulated connected options texts does sequel is_filed)
-  uses-beside options texts does sequel is_filed is_out used (Err failure) same uses beside = tt
-  uses-beside options texts does sequel is_filed is_out used (Ok steps) same uses beside =
+      → IfOk came (UsesBeside simulated connected options texts does sequel named)
+  uses-beside options texts does sequel is_out named used (Err failure) same uses beside = tt
+  uses-beside options texts does sequel is_out named used (Ok steps) same uses beside =
       let P : Bool → Type 0 = λ b. UsesLast simulated connected options texts does sequel
       (b && (sequel.again == 0)) used in
       record { used = used; uses = subst P same uses; beside = beside }

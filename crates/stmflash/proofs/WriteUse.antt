@@ -1,24 +1,26 @@
 -- What a write that was done again where its line failed comes to: one use, whose steps are told.
-use Rattle.std.proofs.Common.{◌≡◌, ◌++◌, ◌∷◌, [], ℕ, List, Result, Ok, Err, IfOk, inl, inr, refl, subst}
+use Rattle.std.proofs.Common.{◌≡◌, ◌++◌, ◌∷◌, [], ℕ, List, false, Some, Result, Ok, Err, IfOk, inl, inr, refl}
+use Rattle.std.proofs.Common.{subst}
 use Rattle.stm_wire.specs.Rig.{RigState}
 use Rattle.stm_work.specs.declared.failure.Failure.{Failure}
 use Rattle.stm_work.specs.declared.left_standing.Standing.{Standing}
 use Rattle.stm_work.specs.declared.steps.Steps.{Steps}
 use Rattle.stm_work.specs.declared.work.Work.{Work}
-use Rattle.stm_work.specs.Again.{Act, DoesAgain, IsDone, IsTurn, LeadTo, Retries, Turns}
-use Rattle.stm_work.specs.Again.Act.{Attempted, Read, ToldTurn}
+use Rattle.stm_work.specs.Action.{IsDoneAgain}
+use Rattle.stm_work.specs.Again.{Act, IsDone, IsTurn, LeadTo, Retries, Turns}
+use Rattle.stm_work.specs.Again.Act.{ToldTurn}
 use Rattle.stm_work.specs.Again.IsDone.{in_turns, no_memory, once, unread}
 use Rattle.stm_work.specs.Again.Retries.{again, no_memory as no_memory_behind, not_again, not_taken}
 use Rattle.stm_work.specs.Again.Turns.{first, more}
 use Rattle.stmflash.specs.DeviceUse.{UsesOnce}
-use Rattle.stmflash.specs.WriteUse.{AreUses, IsUse, UsesAgain, UsesLast, Words}
+use Rattle.stmflash.specs.WriteUse.{AreUses, IsUse, UsesLast, Words}
 
 module _ {A B : Type 0} (simulated : A → RigState) (connected : B → RigState) where
   -- acts that lead from one state to another, each a use by the words of its state, which stay
   pub all-uses : {S : Type 0} (words : S → Words) (acts : List Act) (old new : S)
       → LeadTo (λ act a b. IsUse simulated connected (words a) act × (words b ≡ words a)) acts old new
       → AreUses simulated connected (words old) acts
-  all-uses words [] old new lead = tt
+  all-uses {S} words [] old new lead = tt
   all-uses {S} words (act ∷ acts) old new (mid, (uses, same), lead) =
       let P : Words → Type 0 = λ w. AreUses simulated connected w acts in
       (uses, subst P same (all-uses words acts mid new lead))
@@ -35,11 +37,11 @@ module _ {A B : Type 0} (simulated : A → RigState) (connected : B → RigState
     back-uses [] ys uses = uses
     back-uses (x ∷ xs) ys (one, uses) = back-uses xs ys uses
 
-    Last : Work → Steps → Type 0
+    abbrev Last : Work → Steps → Type 0
     Last does steps =
         UsesLast simulated connected words.options words.texts does words.sequel false steps
 
-    Once : Work → Steps → Type 0
+    abbrev Once : Work → Steps → Type 0
     Once does steps =
         UsesOnce simulated connected words.options words.texts does words.sequel false steps
 

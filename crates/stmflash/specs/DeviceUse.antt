@@ -8,7 +8,6 @@ use Rattle.stm_words.specs.declared.device.Device.TheVariants.{Simulator, Socket
 use Rattle.stm_words.specs.declared.options.Options.{Options}
 use Rattle.stm_words.specs.declared.sequel.Sequel.{Sequel}
 use Rattle.stm_watch.specs.Known.{Known}
-use Rattle.stm_work.specs.declared.answer.Answer.{Answer}
 use Rattle.stm_work.specs.declared.answer.Answer.TheVariants as answer
 use Rattle.stm_work.specs.declared.failure.Failure.{Failure}
 use Rattle.stmflash.specs.declared.output.Output.{Output}

@@ -1,17 +1,14 @@
 -- From the task that the words name to the steps that are told of it: which work runs on the device,
 -- by which options, and what the tables add to its answer.
 use Rattle.std.specs.Prelude.{◌≡◌, ◌⊎◌, ◌++◌, ◌==◌, ◌&&◌, ℕ, Bool, true, false, not}
-use Rattle.std.specs.Prelude.{List, Some, String, codes, bytes_eq}
+use Rattle.std.specs.Prelude.{List, Some, codes, bytes_eq}
 use Rattle.std.specs.Borrow.{Bor}
-use Rattle.std.specs.declared.alloc.Global.{Global}
 use Rattle.hex.specs.Hex.{encode_upper}
 use Rattle.stm_wire.specs.Rig.{RigState}
 use Rattle.stm_words.specs.declared.options.Options.{Options}
 use Rattle.stm_words.specs.declared.sequel.Sequel.{Sequel}
 use Rattle.stm_words.specs.declared.task.Task.{Task}
 use Rattle.stm_words.specs.declared.task.Task.TheVariants as task
-use Rattle.stm_work.specs.declared.answer.Answer.{Answer}
-use Rattle.stm_work.specs.declared.answer.Answer.TheVariants as answer
 use Rattle.stm_work.specs.declared.steps.Steps.{Steps}
 use Rattle.stm_work.specs.declared.work.Work.{Work}
 use Rattle.stm_work.specs.Answer.{IsBeside}
@@ -39,11 +36,11 @@ is_filed other = false
 -- A work was done, where its line failed again and again, and its steps are told beside what the
 -- tables say. Bytes that are for a file are in it, unless it is a write that may be done again.
 pub record UsesBeside {A B : Type 0} (simulated : A → RigState) (connected : B → RigState)
-    (options : Options) (texts : List (List ℕ)) (does : Work) (sequel : Sequel) (is_filed : Bool)
+    (options : Options) (texts : List (List ℕ)) (does : Work) (sequel : Sequel) (is_out : Bool)
     (steps : Steps) : Type 0 where
   pub used : Steps
   pub uses : UsesLast simulated connected options texts does sequel
-      (is_filed && (sequel.again == 0)) used
+      (is_out && (sequel.again == 0)) used
   pub beside : AreBeside texts used steps
 
 -- the name of a board's journal in a folder

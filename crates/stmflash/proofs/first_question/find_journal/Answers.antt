@@ -6,7 +6,7 @@ pub returns-in-Ask : goal.returns-in-Ask
 returns-in-Ask g c = IfOk-weaker _ _ _ (λ found is. inr is) c.ask_and_take.ensures
 
 pub returns-in-Connect : goal.returns-in-Connect
-returns-in-Connect g c = IfOk-weaker _ _ _ (λ found is. inr is) c.ask_and_take.ensures
+returns-in-Connect g c = IfOk-weaker _ _ _ (λ found is. inr is) c.ask_and_take-in-Connect.ensures
 
 pub returns-in-Take : goal.returns-in-Take
 returns-in-Take g c = IfOk-weaker _ _ _ (λ found is. inl is) c.take_wanted.ensures

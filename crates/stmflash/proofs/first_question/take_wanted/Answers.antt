@@ -5,6 +5,6 @@ pub returns : goal.returns
 returns g c = record {
   board = c.args.wanted;
   journal = c.as_str.result;
-  named = c.as_str.ensures.value ∙ c.in_ok-name_in.ensures;
+  named = c.as_str.ensures.value ∙ c.in_ok-place.ensures;
   options = refl;
 }
