@@ -1,7 +1,8 @@
 """What the scripts of this folder share: how a program is measured, and what has to be there.
 
-Times are the processor times that the system counts for the child (user and system, by wait4), so that a wait for the disk
-or for another program isn't counted. Each figure is the least of some runs of a whole process.
+A run has two times. Its processor time is what the system counts for the child (user and system, by wait4), so that a wait for
+the disk or for another program isn't counted. The other is by the clock, from the start of the process to its end, and is what
+somebody waits. Each figure is the least of some runs of a whole process.
 """
 
 import ctypes
@@ -11,11 +12,16 @@ import os
 import shutil
 import subprocess
 import sys
+import time
+from collections import namedtuple
 
 TOP = os.path.join(os.path.dirname(os.path.abspath(__file__)), "..")
 # the ratios of the last runs, from which `make pictures` draws docs/pictures/ratios.svg
 FIGURES = os.path.join(TOP, "bench", "figures.json")
 PACKAGES = {"objcopy": "binutils", "srec_cat": "srecord", "stm32flash": "stm32flash", "strace": "strace"}
+
+# the times of a run, in seconds: of the processor, and by the clock
+Run = namedtuple("Run", "processor clock")
 
 # of ptrace(2), on Linux
 TRACE_ME, CONTINUE, SET_OPTIONS, STOP_AT_EXIT = 0, 7, 0x4200, 0x40
@@ -44,24 +50,38 @@ def best(words, runs, folder=None):
 
 def times_of(words, runs, folder=None):
     """The processor times of some runs, in seconds."""
-    times = []
-    for _ in range(runs):
-        child = subprocess.Popen(words, cwd=folder, stdout=subprocess.DEVNULL, stderr=subprocess.DEVNULL)
-        _, status, used = os.wait4(child.pid, 0)
-        child.returncode = status
-        if status:
-            sys.exit(f"failed: {' '.join(words)}")
-        times.append(used.ru_utime + used.ru_stime)
-    return times
+    return [run_of(words, folder).processor for _ in range(runs)]
 
 
-def times_beside(commands, runs):
-    """The processor times of some runs of each command, by turns, so that other work on the machine meets all alike."""
+def run_of(words, folder=None):
+    """The times of one run."""
+    began = time.monotonic()
+    child = subprocess.Popen(words, cwd=folder, stdout=subprocess.DEVNULL, stderr=subprocess.DEVNULL)
+    _, status, used = os.wait4(child.pid, 0)
+    clock = time.monotonic() - began
+    child.returncode = status
+    if status:
+        sys.exit(f"failed: {' '.join(words)}")
+    return Run(used.ru_utime + used.ru_stime, clock)
+
+
+def runs_beside(commands, runs):
+    """Some runs of each command, by turns, so that other work on the machine meets all alike."""
     times = [[] for _ in commands]
     for _ in range(runs):
         for own, words in zip(times, commands):
-            own += times_of(words, 1)
+            own.append(run_of(words))
     return times
+
+
+def least(runs):
+    """The least of both times."""
+    return Run(min(run.processor for run in runs), min(run.clock for run in runs))
+
+
+def shares(ours, theirs):
+    """Our times as shares of a peer's."""
+    return Run(ours.processor / theirs.processor, ours.clock / theirs.clock)
 
 
 def peak_of(words):
@@ -100,7 +120,7 @@ def beyond(whole, start):
 
 
 def leave(script, rows):
-    """Leaves a script's ratios for the picture: of each what was measured, the peer, and our time as a share of the peer's."""
+    """Leaves a script's ratios for the picture: of each what was measured, the peer, and our times as shares of the peer's."""
     try:
         with open(FIGURES, encoding="utf-8") as file:
             figures = json.load(file)
@@ -108,7 +128,10 @@ def leave(script, rows):
         figures = {}
     figures[script] = {
         "on": datetime.date.today().isoformat(),
-        "ratios": [{"what": what, "peer": peer, "ratio": round(ratio, 3)} for what, peer, ratio in rows],
+        "ratios": [
+            {"what": what, "peer": peer, "processor": round(share.processor, 3), "clock": round(share.clock, 3)}
+            for what, peer, share in rows
+        ],
     }
     with open(FIGURES, "w", encoding="utf-8") as file:
         json.dump(figures, file, indent=1)

@@ -1,6 +1,7 @@
 """Boards that do a session harm: each has what a host's line to it is served by."""
 
 import os
+import socket
 import sys
 import time
 
@@ -26,6 +27,11 @@ class Line:
         if came and self.first is None:
             self.first = time.monotonic()
         return came
+
+    def look(self):
+        """Waits for the first byte, and takes none."""
+        if self.line.recv(1, socket.MSG_PEEK):
+            self.first = time.monotonic()
 
     def sendall(self, replies):
         if replies:
@@ -234,8 +240,9 @@ def be_silent(line, ending):
         pass
 
 
-def be_deaf(_, ending):
-    """Neither reads nor says anything."""
+def be_deaf(line, ending):
+    """Neither takes nor says anything."""
+    line.look()
     ending.wait(300)
 
 

@@ -26,6 +26,8 @@ SLOWEST = 40
 AT_ONCE = 8
 # how many kinds each command meets, at least
 LEAST = 6
+# boards that every command meets at the default wait too, which is longer
+AT_DEFAULT = ("silent", "deaf", "echoes", "doubles")
 START, SIZE = 5 * 1024, 1024
 PAGE = f"page 5 {FLASH[START:START + SIZE].hex().upper()}".encode()
 BEGUN = b"stmjournal 2 0412\nopen 1\n" + PAGE + b"\nerase 5\n"
@@ -69,7 +71,7 @@ class Hostile(Place):
         return name
 
     def at(self, folder, serve, words, wait=LONG_WAIT):
-        """Runs the program at a board that is served so: what it said, when it ended, and its line."""
+        """Runs the program at a board that is served so: what it said, when it ended, and its line. A wait of none is the default."""
         ending, lines = threading.Event(), []
         with socket.socket(socket.AF_UNIX, socket.SOCK_STREAM) as listener:
             listener.bind(self.path(f"{folder}/board"))
@@ -87,7 +89,7 @@ class Hostile(Place):
             serving = threading.Thread(target=run, daemon=True)
             serving.start()
             given = ("--table", "table", "--device", "board", "--journal", "journal")
-            given += ("--wait", str(int(1000 * wait)), "--give-up", str(GIVE_UP))
+            given += ("--give-up", str(GIVE_UP)) + (() if wait is None else ("--wait", str(int(1000 * wait))))
             try:
                 ran = subprocess.run(["stmflash", words[0], *given, *words[1:]], executable=program(), cwd=self.path(folder),
                                      env={}, stdin=subprocess.DEVNULL, capture_output=True, timeout=PATIENCE)
@@ -101,7 +103,7 @@ class Hostile(Place):
         self.remove(f"{folder}/board")
         return Said(ran.returncode, ran.stdout, ran.stderr), ended, lines[0]
 
-    def once(self, name, command, again=0):
+    def once(self, name, command, again=0, at_default=False):
         """One command at one kind of board; and what it left, at a board that is well and was reset."""
         kind = KINDS[name]
         folder = self.folder_of(f"{list(KINDS).index(name)}-{command}-{again}")
@@ -109,7 +111,7 @@ class Hostile(Place):
             self.store(f"{folder}/journal", BEGUN)
         serve = kind.made()
         board = getattr(serve, "__self__", None)
-        said, ended, line = self.at(folder, serve, COMMANDS[command], kind.wait)
+        said, ended, line = self.at(folder, serve, COMMANDS[command], None if at_default else kind.wait)
         since = line.last if kind.is_model and line.last else line.first or line.reached
         journal, read = self.held(f"{folder}/journal"), self.held(f"{folder}/OUT")
         well = hostile.Board()
@@ -118,8 +120,15 @@ class Hostile(Place):
         return Came(said, ended - since, journal, read, board, after, bytes(well.flash))
 
     def test_each_ends_in_time(self):
+        self.assertAllEnd(pairs(), False)
+
+    def test_each_ends_in_time_at_the_default_wait(self):
+        self.assertAllEnd(((kind, command) for kind in AT_DEFAULT for command in COMMANDS), True)
+
+    def assertAllEnd(self, met, at_default):
+        """Each of these commands ends in time at its board, with one clear line, and nothing is lost."""
         with concurrent.futures.ThreadPoolExecutor(AT_ONCE) as pool:
-            begun = [(kind, command, pool.submit(self.once, kind, command)) for kind, command in pairs()]
+            begun = [(kind, command, pool.submit(self.once, kind, command, 0, at_default)) for kind, command in met]
             all_came = [(kind, command, calling.result()) for kind, command, calling in begun]
         late = [(kind, command) for kind, command, came in all_came
                 if command not in KINDS[kind].is_slow_at and came.seconds >= GIVE_UP + SPARE]
@@ -128,7 +137,7 @@ class Hostile(Place):
                 for again in range(1, AGAIN + 1):
                     if (kind, command) not in late[:FEW] or came.seconds < GIVE_UP + SPARE:
                         break
-                    came = self.once(kind, command, again)
+                    came = self.once(kind, command, again, at_default)
                 self.assertInTime(KINDS[kind], command, came)
                 self.assertEnded(KINDS[kind], command, came)
                 self.assertKept(command, came)

@@ -7,13 +7,15 @@ import json
 import os
 import select
 import socket
+import time
 
 
 class Figures:
     """What went over the line: bytes out (host to device), bytes in, and turns, which are how often the host, having sent
-    something, was answered. The processor time is the host's own, as the system counts it."""
+    something, was answered. The processor time is the host's own, as the system counts it; the time by the clock is since here."""
 
     def __init__(self):
+        self.began = time.monotonic()
         self.out = 0
         self.into = 0
         self.turns = 0
@@ -29,7 +31,8 @@ class Figures:
         self.asked = False
 
     def store(self, path, used):
-        figures = {"out": self.out, "in": self.into, "turns": self.turns, "seconds": used.ru_utime + used.ru_stime}
+        figures = {"out": self.out, "in": self.into, "turns": self.turns}
+        figures |= {"processor": used.ru_utime + used.ru_stime, "clock": time.monotonic() - self.began}
         with open(path, "w", encoding="ascii") as told:
             json.dump(figures, told)
 

@@ -52,6 +52,9 @@ class Picture:
     def dot(self, x, y, kind, radius=4):
         self.parts.append(f'<circle class="{kind}" cx="{x:g}" cy="{y:g}" r="{radius:g}"/>')
 
+    def ring(self, x, y, kind, radius=4):
+        self.parts.append(f'<circle class="s-{kind}" cx="{x:g}" cy="{y:g}" r="{radius:g}" stroke-width="2"/>')
+
     def svg(self):
         drawn = "\n".join(self.parts)
         used = [kind for kind in FILLS if f'class="{kind}"' in drawn or f'class="s-{kind}"' in drawn]
