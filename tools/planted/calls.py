@@ -145,8 +145,8 @@ FAULTS = {
         "test_one_call.Lines.test_again"),
     "what follows a write that is done again is lost": (
         "stmflash/src/on_device.rt",
-        "use_again(rt, options, tables, work, sequel, line, err, hint)?",
+        "use_again(rt, options, tables, work, sequel, line, err, hint)",
         "use_again(rt, options, tables, work, &(if @on { Sequel { keeps: false, to: None, go: None, again: sequel.again "
-        "} } else { *sequel }), line, err, hint)?",
+        "} } else { *sequel }), line, err, hint)",
         "test_one_call.Lines.test_again"),
 }

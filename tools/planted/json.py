@@ -145,8 +145,8 @@ FAULTS = {
         "test_json.Json.test_faults"),
     "what is to be done behind what was done is not told in JSON": (
         "stm_work/src/told_json.rt",
-        "            return json_of_next(alloc, steps, next);\n",
-        "            if !@on {\n                return json_of_next(alloc, steps, next);\n            }\n",
+        "        Some(next) => json_of_next(alloc, steps, next),\n",
+        "        Some(next) if !@on => json_of_next(alloc, steps, next),\n        Some(_) => json_of_steps(alloc, steps),\n",
         "test_unprotect.Unprotect.test_as_json"),
     "the bytes that an undo read again are not told in JSON": (
         "stm_work/src/told_json.rt",
