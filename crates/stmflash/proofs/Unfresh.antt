@@ -1,6 +1,6 @@
 -- What a task asks for is no undo of a device that is fresh from reset: that is said by another
 -- word.
-use Rattle.std.proofs.Common.{◌≡◌, Bool, true, false, refl, ap, ◌∙◌}
+use Rattle.std.proofs.Common.{◌≡◌, true, false, refl, ap, ◌∙◌}
 use Rattle.stm_words.specs.declared.task.Task.{Task}
 use Rattle.stm_words.specs.declared.task.Task.TheVariants as task
 use Rattle.stm_work.specs.declared.action.Action.{Action}

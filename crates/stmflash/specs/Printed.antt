@@ -1,5 +1,5 @@
 -- What is printed of the steps of one call, and the exit status beside it.
-use Rattle.std.specs.Prelude.{◌≡◌, ◌⊎◌, ◌&&◌, ◌||◌, ℕ, Bool, true, false, not, List, Option, Some, None}
+use Rattle.std.specs.Prelude.{◌≡◌, ◌⊎◌, ◌&&◌, ◌||◌, ℕ, Bool, true, false, not, List, Option, None}
 use Rattle.std.specs.Prelude.{MatchOption, codes}
 use Rattle.std.specs.Io.KnownBytes.{Appends}
 use Rattle.stm_wire.specs.Rig.{RigState}
@@ -14,7 +14,6 @@ use Rattle.stm_work.specs.declared.hint.Hint.{Hint}
 use Rattle.stm_work.specs.declared.steps.Steps.{Steps}
 use Rattle.stm_work.specs.Answer.{is_flash}
 use Rattle.stm_work.specs.ExitStatus.{status_of}
-use Rattle.stm_work.specs.HintTold.{told_done}
 use Rattle.stm_work.specs.ShortLine.{short_line}
 use Rattle.stm_work.specs.StepsText.{steps_text}
 use Rattle.stmflash.specs.TaskUse.{UsesTask}
