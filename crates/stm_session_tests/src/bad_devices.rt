@@ -3,7 +3,7 @@
 ghost use Rattle.std.specs.Prelude.{◌^◌, ◌-◌};
 ghost use Rattle.stm_sim.specs.Unmodelled.{unmodelled};
 
-use crate::devices::{answers, device, kept, table};
+use crate::devices::{answers, device, failed_at, kept, table};
 use crate::every_stop::small_write;
 use std::test::Fail;
 use stm_chip::Table;
@@ -148,45 +148,31 @@ fn ended(rt: &HostRuntime, says: Says, call: Call) -> Result<Ended, Fail> {
     Ok((answer, line.puts, line.gets, is_kept))
 }
 
-/// The call ends with each of the devices, after so many bytes; the test fails with the first where
-/// it doesn't.
-fn ends(rt: &HostRuntime, call: Call) -> Result<(), Fail> {
+/// Whether a call ends with a device, after so many bytes put, and nothing added.
+fn ends(rt: &HostRuntime, says: Says, call: Call, puts: u32) -> Result<bool, Fail> {
+    let (answer, put, _gets, is_kept) = ended(rt, says, call)?;
+    Ok(answer == Some(Fault::Device) && put == puts && is_kept)
+}
+
+/// Each call ends with each of the devices; fails with the first where it doesn't. Of `go` the
+/// refusal comes to its code, as to that of Get.
+fn all_end(rt: &HostRuntime) -> Result<(), Fail> {
     for (place, (says, puts, undo)) in ENDS.iter().enumerate() {
-        let due = match call {
-            Call::Undo => *undo,
-            _ => *puts,
-        };
-        let (answer, put, _gets, is_kept) = ended(rt, *says, call)?;
-        let found = (place, answer, put, is_kept);
-        answers(found, (place, Some(Fault::Device), due, true))?;
+        let all = ends(rt, *says, Call::Write, *puts)?
+            && ends(rt, *says, Call::Info, *puts)?
+            && ends(rt, *says, Call::Go, *puts)?
+            && ends(rt, *says, Call::Undo, *undo)?;
+        if !all {
+            return Err(failed_at(place as u64));
+        }
     }
     Ok(())
 }
 
-#[test]
-fn a_write_ends(rt: HostRuntime) -> Result<(), Fail> {
-    ends(&rt, Call::Write)
-}
-
-#[test]
-fn questions_end(rt: HostRuntime) -> Result<(), Fail> {
-    ends(&rt, Call::Info)
-}
-
-// The refusal comes to the code of Go, as to that of Get.
-#[test]
-fn leaving_ends(rt: HostRuntime) -> Result<(), Fail> {
-    ends(&rt, Call::Go)
-}
-
-#[test]
-fn an_undo_ends(rt: HostRuntime) -> Result<(), Fail> {
-    ends(&rt, Call::Undo)
-}
-
 // A draining takes 4,096 bytes; one more ends the session.
 #[test]
-fn a_talking_device_is_left(rt: HostRuntime) -> Result<(), Fail> {
+fn each_session_with_a_bad_device_ends(rt: HostRuntime) -> Result<(), Fail> {
+    all_end(&rt)?;
     let due = (Some(Fault::Device), 0, 4097, true);
     answers(ended(&rt, Says::Chatter, Call::Info)?, due)
 }

@@ -1,6 +1,6 @@
 // Journals as stops and other hosts may leave them: each beginning of one that two pages stand in,
 // lines without an end, long void lines, and bytes that no line has.
-use crate::devices::{add_digits, answers, device, failed_at, kept, passes, table};
+use crate::devices::{add_digits, device, failed_at, kept, table};
 use std::test::Fail;
 use stm_chip::Table;
 use stm_journal::{Journal, JournalFault};
@@ -26,7 +26,8 @@ fn two_pages(rt: &HostRuntime) -> Result<Vec<u8>, Fail> {
     Ok(text)
 }
 
-fn beginnings_are_loaded(
+/// At each of these lengths a beginning is loaded; the test fails at the first other one.
+fn are_loaded(
     rt: &HostRuntime,
     table: &Table,
     text: &[u8],
@@ -42,29 +43,28 @@ fn beginnings_are_loaded(
     Ok(())
 }
 
-/// At each of these lengths a beginning is loaded; the test fails at the first other one.
-fn are_loaded(rt: &HostRuntime, from: usize, to: usize) -> Result<(), Fail> {
-    let table = table(rt)?;
-    beginnings_are_loaded(rt, &table, &two_pages(rt)?, from, to)
-}
-
 #[test]
 fn each_beginning_is_loaded(rt: HostRuntime) -> Result<(), Fail> {
-    are_loaded(&rt, 0, 2600)
+    are_loaded(&rt, &table(&rt)?, &two_pages(&rt)?, 0, 2600)
 }
 
 #[test]
 fn each_long_beginning_is_loaded(rt: HostRuntime) -> Result<(), Fail> {
-    are_loaded(&rt, 2600, 4180)
+    are_loaded(&rt, &table(&rt)?, &two_pages(&rt)?, 2600, 4180)
 }
 
-// It has 4,179 bytes.
-#[test]
-fn all_of_it_is_loaded(rt: HostRuntime) -> Result<(), Fail> {
-    let text = two_pages(&rt)?;
-    passes(text.len() == 4179)?;
-    is_told(&rt, &text, Ok((1, 2)))
+/// Whether all of it is loaded. It has 4,179 bytes.
+fn is_loaded(rt: &HostRuntime, table: &Table, text: &[u8]) -> Result<bool, Fail> {
+    Ok(text.len() == 4179 && loaded(rt, table, text)? == Ok((1, 2)))
 }
+
+/// What stands behind a header and 200,000 bytes `x`, with what is loaded of them all: a long line is
+/// void with its mark, counts as nothing without its end, and is bad else.
+const LONG: [(&[u8], Loaded); 3] = [
+    (b"!\nopen 1\n", Ok((1, 0))),
+    (b"", Ok((0, 0))),
+    (b"\nopen 1\n", Err(JournalFault::Bad(2))),
+];
 
 /// A header, so many bytes `x`, and an end.
 fn long_line(rt: &HostRuntime, size: usize, end: &[u8]) -> Result<Vec<u8>, Fail> {
@@ -74,46 +74,47 @@ fn long_line(rt: &HostRuntime, size: usize, end: &[u8]) -> Result<Vec<u8>, Fail>
     Ok(text)
 }
 
-// A long line is void with its mark, counts as nothing without its end, and is bad else.
-#[test]
-fn a_long_line_is_told(rt: HostRuntime) -> Result<(), Fail> {
-    let rows = [
-        (b"!\nopen 1\n".as_slice(), Ok((1, 0))),
-        (b"".as_slice(), Ok((0, 0))),
-        (b"\nopen 1\n".as_slice(), Err(JournalFault::Bad(2))),
-    ];
-    for (end, answer) in rows {
-        is_told(&rt, &long_line(&rt, 200_000, end)?, answer)?;
+fn long_lines_are_told(rt: &HostRuntime, table: &Table) -> Result<(), Fail> {
+    for (end, answer) in LONG {
+        if loaded(rt, table, &long_line(rt, 200_000, end)?)? != answer {
+            let size = end.len();
+            return Err(Fail::new(format_args!("a long line with an end of {size} bytes")));
+        }
     }
     Ok(())
 }
 
-/// Loading this text gives this answer.
-fn is_told(rt: &HostRuntime, text: &[u8], answer: Loaded) -> Result<(), Fail> {
-    answers(loaded(rt, &table(rt)?, text)?, answer)
+/// Bytes that no line has.
+const ODD: [(&[u8], Loaded); 6] = [
+    (b"\0\n", Err(JournalFault::Bad(1))),
+    (b"stmjournal 2 0A03\n\0\0\n", Err(JournalFault::Bad(2))),
+    (
+        b"stmjournal 2 0A03\n\0!\nopen 1\0\n",
+        Err(JournalFault::Bad(3)),
+    ),
+    (b"stmjournal 2 0A03\nopen 1\n\0", Ok((1, 0))),
+    (b"\n", Err(JournalFault::Bad(1))),
+    (b"stmjournal 2 0A03\r\n", Err(JournalFault::Bad(1))),
+];
+
+fn odd_bytes_are_told(rt: &HostRuntime, table: &Table) -> Result<(), Fail> {
+    for (place, (text, answer)) in ODD.iter().enumerate() {
+        if loaded(rt, table, text)? != *answer {
+            return Err(failed_at(place as u64));
+        }
+    }
+    Ok(())
+}
+
+fn all_are_told(rt: &HostRuntime, table: &Table) -> Result<(), Fail> {
+    if !is_loaded(rt, table, &two_pages(rt)?)? {
+        return Err(Fail::new("two pages aren't loaded"));
+    }
+    long_lines_are_told(rt, table)?;
+    odd_bytes_are_told(rt, table)
 }
 
 #[test]
-fn bytes_that_no_line_has_are_bad(rt: HostRuntime) -> Result<(), Fail> {
-    let rows = [
-        (b"\0\n".as_slice(), Err(JournalFault::Bad(1))),
-        (
-            b"stmjournal 2 0A03\n\0\0\n".as_slice(),
-            Err(JournalFault::Bad(2)),
-        ),
-        (
-            b"stmjournal 2 0A03\n\0!\nopen 1\0\n".as_slice(),
-            Err(JournalFault::Bad(3)),
-        ),
-        (b"stmjournal 2 0A03\nopen 1\n\0".as_slice(), Ok((1, 0))),
-        (b"\n".as_slice(), Err(JournalFault::Bad(1))),
-        (
-            b"stmjournal 2 0A03\r\n".as_slice(),
-            Err(JournalFault::Bad(1)),
-        ),
-    ];
-    for (text, answer) in rows {
-        is_told(&rt, text, answer)?;
-    }
-    Ok(())
+fn whole_journals_are_told(rt: HostRuntime) -> Result<(), Fail> {
+    all_are_told(&rt, &table(&rt)?)
 }

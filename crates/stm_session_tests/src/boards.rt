@@ -4,12 +4,12 @@
 // journal, 01 02 03 04 are written at its base. It takes 1,164 steps: settling 5, Get 15, Get ID 7,
 // the header 43 and `open 1` 7, reading the page 268, its line 520, `erase 0` 8, the erase frame 7,
 // `program 0` 10, the write frame 268, `end 1` 6. Taking it back takes 595.
-use crate::devices::{chip_of, device, failed_at, is_all, is_same, passes, table};
+use crate::devices::{answers, chip_of, device, failed_at, is_all, is_same, table};
 use crate::every_stop::{is_counted, small_write, stop};
 use std::test::Fail;
 use stm_chip::Table;
-use stm_client::{Swapped, Visit, a_journal_is_of_one_board, swap_boards};
-use stm_session::{Fault, a_session_changes_only_its_own_board, info, run, undo};
+use stm_client::{Visit, swap_boards};
+use stm_session::{Command, Fault, info, run, undo};
 use stm_sim::MemoryRig;
 use stm_wire::UniqueId;
 
@@ -87,11 +87,16 @@ const ENDED: Due = Due {
 
 /// Whether each session with this journal at the board of this table answers what is due, and
 /// leaves the board and the journal as they were.
-fn is_refused(rt: &HostRuntime, table: &Table, journal: &[u8], due: Due) -> Result<bool, Fail> {
+fn is_refused(
+    rt: &HostRuntime,
+    table: &Table,
+    command: &[Command],
+    journal: &[u8],
+    due: Due,
+) -> Result<bool, Fail> {
     let mut rig = other_board(rt, table, journal)?;
-    let command = small_write(rt)?;
     let told = info(rt.alloc(), &mut rig, table).err();
-    let written = run(rt.alloc(), &mut rig, table, &command).err();
+    let written = run(rt.alloc(), &mut rig, table, command).err();
     let taken = undo(rt.alloc(), &mut rig, table, 0);
     let answers_right = told == Some(due.checked)
         && written == Some(due.checked)
@@ -104,172 +109,241 @@ fn comes_back(rt: &HostRuntime, table: &Table, rig: &mut MemoryRig) -> bool {
     undo(rt.alloc(), rig, table, 0).is_ok() && is_all(rig.flash(), 0xFF)
 }
 
-/// Whether a write that is stopped after so many steps at the board `own` is refused at the board
-/// `other`, and then comes back at its own.
-fn write_is_its_own(
-    rt: &HostRuntime,
-    own: &Table,
-    other: &Table,
-    steps: u64,
-    due: Due,
-) -> Result<bool, Fail> {
-    let command = small_write(rt)?;
-    let mut rig = own_board(rt, own)?;
-    let _stopped = stop(rt, own, &mut rig, &command, steps);
-    let refused = is_refused(rt, other, rig.journal(), due)?;
-    Ok(refused && comes_back(rt, own, &mut rig))
+/// What is stopped at a board.
+#[derive(Clone, Copy)]
+enum Stopped {
+    Write,
+    /// The undo behind a write.
+    Undo,
 }
 
-/// The same after each number of steps, of these, both ways round.
-fn writes_are_their_own(rt: &HostRuntime, from: u64, to: u64, due: Due) -> Result<(), Fail> {
-    let one = table_at(rt, 0x0A)?;
-    let two = table_at(rt, 0x0B)?;
-    for steps in from..to {
-        let there = write_is_its_own(rt, &one, &two, steps, due)?;
-        let back = write_is_its_own(rt, &two, &one, steps, due)?;
-        if !there || !back {
-            return Err(failed_at(steps));
+/// Stops it after so many steps, and answers whether the write before it ended and whether it was
+/// itself cut short.
+fn stop_it(
+    rt: &HostRuntime,
+    own: &Table,
+    rig: &mut MemoryRig,
+    command: &[Command],
+    stopped: Stopped,
+    steps: u64,
+) -> bool {
+    match stopped {
+        Stopped::Write => {
+            let fault = stop(rt, own, rig, command, steps);
+            is_counted(fault) || (fault.is_none() && steps >= WRITE)
+        }
+        Stopped::Undo => {
+            let is_written = run(rt.alloc(), rig, own, command).is_ok();
+            rig.stop_after(steps);
+            let fault = undo(rt.alloc(), rig, own, 0).err();
+            rig.stop_after(u64::MAX);
+            is_written && is_counted(fault)
         }
     }
-    Ok(())
 }
 
-/// The board `own`, written.
-fn written(rt: &HostRuntime, own: &Table) -> Result<MemoryRig, Fail> {
-    let command = small_write(rt)?;
-    let mut rig = own_board(rt, own)?;
-    let _report = run(rt.alloc(), &mut rig, own, &command)?;
-    Ok(rig)
-}
-
-/// Stops the undo after so many steps, and answers whether it was cut short.
-fn stop_undo(rt: &HostRuntime, own: &Table, rig: &mut MemoryRig, steps: u64) -> bool {
-    rig.stop_after(steps);
-    let fault = undo(rt.alloc(), rig, own, 0).err();
-    rig.stop_after(u64::MAX);
-    is_counted(fault)
-}
-
-/// Whether an undo that is stopped after so many steps at the board `own` is refused at the board
-/// `other`, and then goes on at its own.
-fn undo_is_its_own(
+/// Whether what is stopped after so many steps at the board `own` is refused at the board `other`,
+/// and then comes back at its own.
+fn is_its_own(
     rt: &HostRuntime,
-    own: &Table,
-    other: &Table,
+    (own, other): (&Table, &Table),
+    command: &[Command],
+    stopped: Stopped,
     steps: u64,
     due: Due,
 ) -> Result<bool, Fail> {
-    let mut rig = written(rt, own)?;
-    let is_cut = stop_undo(rt, own, &mut rig, steps);
-    let refused = is_refused(rt, other, rig.journal(), due)?;
+    let mut rig = own_board(rt, own)?;
+    let is_cut = stop_it(rt, own, &mut rig, command, stopped, steps);
+    let refused = is_refused(rt, other, command, rig.journal(), due)?;
     Ok(is_cut && refused && comes_back(rt, own, &mut rig))
 }
 
-/// The same after each number of steps, of these, both ways round.
-fn undos_are_their_own(rt: &HostRuntime, from: u64, to: u64, due: Due) -> Result<(), Fail> {
-    let one = table_at(rt, 0x0A)?;
-    let two = table_at(rt, 0x0B)?;
+/// What is stopped, after each number of steps from one up to another, and what is due then.
+type Sweep = (Stopped, u64, u64, Due);
+
+/// The same after each number of steps of a sweep, both ways round.
+fn are_their_own(
+    rt: &HostRuntime,
+    boards: (&Table, &Table),
+    command: &[Command],
+    sweep: Sweep,
+) -> Result<(), Fail> {
+    let (stopped, from, to, due) = sweep;
+    let back = (boards.1, boards.0);
     for steps in from..to {
-        let there = undo_is_its_own(rt, &one, &two, steps, due)?;
-        let back = undo_is_its_own(rt, &two, &one, steps, due)?;
-        if !there || !back {
+        let is_right = is_its_own(rt, boards, command, stopped, steps, due)?
+            && is_its_own(rt, back, command, stopped, steps, due)?;
+        if !is_right {
             return Err(failed_at(steps));
         }
     }
     Ok(())
 }
 
-#[test]
-fn a_new_journal_names_its_board(rt: HostRuntime) -> Result<(), Fail> {
-    let own = table_at(&rt, 0x0A)?;
-    let rig = written(&rt, &own)?;
-    passes(rig.journal().starts_with(HEADER))
+/// A header alone, a page that is being kept, and all behind it; a whole write; its undo.
+const EARLY: &[Sweep] = &[
+    (Stopped::Write, NAMED, OPENED, HEADER_ALONE),
+    (Stopped::Write, OPENED, 600, UNFINISHED),
+];
+
+const LATE: &[Sweep] = &[
+    (Stopped::Write, 600, WRITE, UNFINISHED),
+    (Stopped::Write, WRITE, WRITE + 1, ENDED),
+];
+
+const UNDOS: &[Sweep] = &[
+    (Stopped::Undo, 0, INTENDED, ENDED),
+    (Stopped::Undo, INTENDED, UNDO, UNFINISHED),
+];
+
+fn all_are_their_own(
+    rt: &HostRuntime,
+    boards: (&Table, &Table),
+    command: &[Command],
+    sweeps: &[Sweep],
+) -> Result<(), Fail> {
+    for sweep in sweeps {
+        are_their_own(rt, boards, command, *sweep)?;
+    }
+    Ok(())
+}
+
+/// A test of these sweeps at two boards.
+fn sweeps_go_right(rt: &HostRuntime, sweeps: &[Sweep]) -> Result<(), Fail> {
+    let one = table_at(rt, 0x0A)?;
+    let two = table_at(rt, 0x0B)?;
+    all_are_their_own(rt, (&one, &two), &small_write(rt)?, sweeps)
 }
 
 #[test]
-fn a_write_takes_1164_steps(rt: HostRuntime) -> Result<(), Fail> {
-    let own = table_at(&rt, 0x0A)?;
-    let command = small_write(&rt)?;
-    let mut rig = own_board(&rt, &own)?;
-    let early = stop(&rt, &own, &mut rig, &command, WRITE - 1);
-    let mut rig = own_board(&rt, &own)?;
-    let late = stop(&rt, &own, &mut rig, &command, WRITE);
-    passes(is_counted(early) && late.is_none())
+fn early_stops_of_a_write_are_refused_elsewhere(rt: HostRuntime) -> Result<(), Fail> {
+    sweeps_go_right(&rt, EARLY)
 }
 
 #[test]
-fn a_header_alone_is_of_its_board(rt: HostRuntime) -> Result<(), Fail> {
-    writes_are_their_own(&rt, NAMED, OPENED, HEADER_ALONE)
-}
-
-#[test]
-fn each_stop_while_a_page_is_kept_is_refused_elsewhere(rt: HostRuntime) -> Result<(), Fail> {
-    writes_are_their_own(&rt, OPENED, 600, UNFINISHED)
-}
-
-#[test]
-fn each_later_stop_of_a_write_is_refused_elsewhere(rt: HostRuntime) -> Result<(), Fail> {
-    writes_are_their_own(&rt, 600, WRITE, UNFINISHED)
-}
-
-#[test]
-fn a_whole_write_is_refused_elsewhere(rt: HostRuntime) -> Result<(), Fail> {
-    writes_are_their_own(&rt, WRITE, WRITE + 1, ENDED)
+fn late_stops_of_a_write_are_refused_elsewhere(rt: HostRuntime) -> Result<(), Fail> {
+    sweeps_go_right(&rt, LATE)
 }
 
 #[test]
 fn each_stop_of_an_undo_is_refused_elsewhere(rt: HostRuntime) -> Result<(), Fail> {
-    undos_are_their_own(&rt, 0, INTENDED, ENDED)?;
-    undos_are_their_own(&rt, INTENDED, UNDO, UNFINISHED)
+    sweeps_go_right(&rt, UNDOS)
 }
 
-/// A journal that names a board is refused at a device that told nothing.
-#[test]
-fn a_device_that_tells_nothing_is_no_board(rt: HostRuntime) -> Result<(), Fail> {
-    let own = table_at(&rt, 0x0A)?;
-    let rig = written(&rt, &own)?;
-    let untold = table(&rt)?;
-    passes(is_refused(&rt, &untold, rig.journal(), ENDED)?)
+/// Whether a new journal names its board, and the write takes 1,164 steps.
+fn is_named(rt: &HostRuntime, own: &Table, command: &[Command]) -> Result<bool, Fail> {
+    let mut rig = own_board(rt, own)?;
+    let is_cut = is_counted(stop(rt, own, &mut rig, command, WRITE - 1));
+    Ok(is_cut && rig.journal().starts_with(HEADER))
 }
 
-/// A journal of version 2 at a device that told its unique id goes on as ever: it is read, added to
-/// and taken back, and names no board.
-#[test]
-fn a_journal_of_version_2_goes_on(rt: HostRuntime) -> Result<(), Fail> {
-    let untold = table(&rt)?;
-    let first = written(&rt, &untold)?;
-    let own = table_at(&rt, 0x0A)?;
-    let journal = Vec::from_slice(rt.alloc(), first.journal())?;
-    let mut rig = device(&rt, &own, CHIP, 0x5A, journal)?;
-    let told = info(rt.alloc(), &mut rig, &own).is_ok();
-    let added = run(rt.alloc(), &mut rig, &own, &small_write(&rt)?).is_ok();
+/// Whether a journal that names a board is refused at a device that told nothing; the write that
+/// made it takes 1,164 steps.
+fn is_refused_untold(
+    rt: &HostRuntime,
+    own: &Table,
+    untold: &Table,
+    command: &[Command],
+) -> Result<bool, Fail> {
+    let mut rig = own_board(rt, own)?;
+    let is_written = stop(rt, own, &mut rig, command, WRITE).is_none();
+    let is_named = rig.journal().starts_with(HEADER);
+    let is_refused = is_refused(rt, untold, command, rig.journal(), ENDED)?;
+    Ok(is_written && is_named && is_refused)
+}
+
+/// Whether a journal of version 2 at a device that told its unique id goes on as ever: it is read,
+/// added to and taken back, and names no board.
+fn goes_on(rt: &HostRuntime, own: &Table, rig: &mut MemoryRig, command: &[Command]) -> bool {
+    let told = info(rt.alloc(), rig, own).is_ok();
+    let added = run(rt.alloc(), rig, own, command).is_ok();
     let kept = rig.journal().starts_with(b"stmjournal 2 0A03\nopen 1\n");
-    let taken = undo(rt.alloc(), &mut rig, &own, 1);
-    passes(told && added && kept && taken == Ok(1) && is_all(rig.flash(), 0x5A))
+    let taken = undo(rt.alloc(), rig, own, 1);
+    told && added && kept && taken == Ok(1) && is_all(rig.flash(), 0x5A)
+}
+
+fn version_2_goes_on(
+    rt: &HostRuntime,
+    own: &Table,
+    untold: &Table,
+    command: &[Command],
+) -> Result<bool, Fail> {
+    let mut first = own_board(rt, untold)?;
+    let is_written = run(rt.alloc(), &mut first, untold, command).is_ok();
+    let mut rig = other_board(rt, own, first.journal())?;
+    Ok(is_written && goes_on(rt, own, &mut rig, command))
+}
+
+fn worked_cases(
+    rt: &HostRuntime,
+    own: &Table,
+    untold: &Table,
+    command: &[Command],
+) -> Result<(bool, bool, bool), Fail> {
+    let named = is_named(rt, own, command)?;
+    let refused = is_refused_untold(rt, own, untold, command)?;
+    Ok((named, refused, version_2_goes_on(rt, own, untold, command)?))
+}
+
+#[test]
+fn a_journal_names_its_board(rt: HostRuntime) -> Result<(), Fail> {
+    let found = worked_cases(&rt, &table_at(&rt, 0x0A)?, &table(&rt)?, &small_write(&rt)?)?;
+    answers(found, (true, true, true))
 }
 
 /// A swap, as a caller of public contracts has it: a write that is stopped behind its `open` line,
-/// this session at the other board, and an undo.
-fn swapped(rt: &HostRuntime, visit: Visit<'_>, due: Fault) -> Result<(), Fail> {
-    let one = table_at(rt, 0x0A)?;
-    let two = table_at(rt, 0x0B)?;
-    let mut own = own_board(rt, &one)?;
-    let mut other = other_board(rt, &two, &[])?;
-    let alloc = rt.alloc();
-    let command = small_write(rt)?;
-    let swapped: Swapped = swap_boards(
-        alloc, &mut own, &one, &command, 900, &mut other, &two, visit,
+/// this session at the other board, and an undo. Whether what is due is answered and left.
+fn is_swapped(
+    rt: &HostRuntime,
+    (one, two): (&Table, &Table),
+    command: &[Command],
+    visit: Visit<'_>,
+    due: Fault,
+) -> Result<bool, Fail> {
+    let mut own = own_board(rt, one)?;
+    let mut other = other_board(rt, two, &[])?;
+    let swapped = swap_boards(
+        rt.alloc(),
+        &mut own,
+        one,
+        command,
+        900,
+        &mut other,
+        two,
+        visit,
+    );
+    Ok(match swapped {
+        Ok(swapped) => {
+            let is_refused = swapped.visited == Err(due) && is_as_it_was(&other, &swapped.journal);
+            is_refused && swapped.taken == 1 && is_all(own.flash(), 0xFF)
+        }
+        Err(_) => false,
+    })
+}
+
+fn swaps(
+    rt: &HostRuntime,
+    boards: (&Table, &Table),
+    command: &[Command],
+) -> Result<(bool, bool, bool), Fail> {
+    let told = is_swapped(rt, boards, command, Visit::Tell, Fault::Unfinished)?;
+    let changed = is_swapped(
+        rt,
+        boards,
+        command,
+        Visit::Change(command),
+        Fault::Unfinished,
     )?;
-    let is_refused = swapped.visited == Err(due) && is_as_it_was(&other, &swapped.journal);
-    passes(is_refused && swapped.taken == 1 && is_all(own.flash(), 0xFF))
+    let taken = is_swapped(rt, boards, command, Visit::TakeBack(0), Fault::OtherBoard)?;
+    Ok((told, changed, taken))
 }
 
 #[test]
 fn a_caller_swaps_boards(rt: HostRuntime) -> Result<(), Fail> {
-    a_journal_is_of_one_board();
-    a_session_changes_only_its_own_board::<MemoryRig>();
-    let command = small_write(&rt)?;
-    swapped(&rt, Visit::Tell, Fault::Unfinished)?;
-    swapped(&rt, Visit::Change(&command), Fault::Unfinished)?;
-    swapped(&rt, Visit::TakeBack(0), Fault::OtherBoard)
+    let one = table_at(&rt, 0x0A)?;
+    let two = table_at(&rt, 0x0B)?;
+    answers(
+        swaps(&rt, (&one, &two), &small_write(&rt)?)?,
+        (true, true, true),
+    )
 }

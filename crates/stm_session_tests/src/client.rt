@@ -1,10 +1,12 @@
 // A caller that knows public contracts alone: sessions that only read, one after another, and after
 // a stop and a reset; a write; and commands that are stopped and taken back.
-use crate::devices::{answers, changed, counting, failed_at, image, is_all, is_counting, rig_of};
+use crate::devices::{
+    answers, changed, counting, failed_at, image, is_all, is_counting, rig_of, table_of,
+};
 use crate::every_stop::stop;
 use crate::stories::{Ask, commands_of};
 use std::test::Fail;
-use stm_chip::{Table, read_table};
+use stm_chip::Table;
 use stm_client::{
     change_kept, lose_power, read, read_again, read_flash, read_new, read_twice, take_back_kept,
     take_back_stopped, take_back_unpowered, tell, write_whole,
@@ -15,13 +17,6 @@ use stm_sim::MemoryRig;
 /// A table of chip 0412.
 const TABLE: &str =
     "[[chip]]\nid = 0x412\nbase = 0x08000000\npages = [[4, 1024]]\nerase = \"page\"\n";
-
-fn table(rt: &HostRuntime) -> Result<Table, Fail> {
-    match read_table(rt.alloc(), TABLE.as_bytes()) {
-        Ok(table) => Ok(table),
-        Err(_) => Err(Fail::new("no table")),
-    }
-}
 
 /// A simulator that has just been made, after its flash was read.
 fn device(rt: &HostRuntime, table: &Table) -> Result<MemoryRig, Fail> {
@@ -100,12 +95,6 @@ fn follow(rt: &HostRuntime, rig: &mut MemoryRig, table: &Table) -> Result<(), Fa
     )
 }
 
-#[test]
-fn sessions_follow_one_another(rt: HostRuntime) -> Result<(), Fail> {
-    let table = table(&rt)?;
-    follow(&rt, &mut device(&rt, &table)?, &table)
-}
-
 /// Whether the flash is read whole behind a session that was stopped after so many steps, and a
 /// reset.
 fn is_read_again(
@@ -134,11 +123,15 @@ fn is_always_read(
     Ok(())
 }
 
-#[test]
-fn a_session_follows_one_that_was_stopped(rt: HostRuntime) -> Result<(), Fail> {
-    let table = table(&rt)?;
+fn sessions_follow(rt: &HostRuntime, table: &Table) -> Result<(), Fail> {
+    follow(rt, &mut device(rt, table)?, table)?;
     let stops = [0, 1, 4, 9, 30, 700, 100_000];
-    is_always_read(&rt, &mut device(&rt, &table)?, &table, &stops)
+    is_always_read(rt, &mut device(rt, table)?, table, &stops)
+}
+
+#[test]
+fn sessions_follow_one_another(rt: HostRuntime) -> Result<(), Fail> {
+    sessions_follow(&rt, &table_of(&rt, TABLE)?)
 }
 
 /// A simulator of the table's chip, on which nothing was begun.
@@ -181,11 +174,9 @@ fn write_two(
     Ok(told_of(write_whole(rt.alloc(), rig, table, image)?))
 }
 
-#[test]
-fn a_write_leaves_every_other_byte(rt: HostRuntime) -> Result<(), Fail> {
-    let table = table(&rt)?;
-    let mut rig = fresh_device(&rt, &table)?;
-    let told = write_two(&rt, &mut rig, &table)?;
+/// A write leaves every other byte.
+fn is_laid(rt: &HostRuntime, rig: &mut MemoryRig, table: &Table) -> Result<(), Fail> {
+    let told = write_two(rt, rig, table)?;
     answers((told, is_written(rig.flash())), (Some((1, 2)), true))
 }
 
@@ -199,10 +190,14 @@ fn is_kept(rt: &HostRuntime, rig: &mut MemoryRig, table: &Table) -> Result<(), F
     answers(found, (Some((1, 2)), true, 1, true))
 }
 
+fn changes_are_left_or_taken_back(rt: &HostRuntime, table: &Table) -> Result<(), Fail> {
+    is_laid(rt, &mut fresh_device(rt, table)?, table)?;
+    is_kept(rt, &mut fresh_device(rt, table)?, table)
+}
+
 #[test]
-fn a_kept_change_is_taken_back(rt: HostRuntime) -> Result<(), Fail> {
-    let table = table(&rt)?;
-    is_kept(&rt, &mut fresh_device(&rt, &table)?, &table)
+fn a_write_leaves_every_other_byte_and_is_taken_back(rt: HostRuntime) -> Result<(), Fail> {
+    changes_are_left_or_taken_back(&rt, &table_of(&rt, TABLE)?)
 }
 
 /// A write and an erase.
@@ -210,65 +205,75 @@ const BOTH: &[Ask] = &[Ask::Write(0x0800_03FF, &[0xA5, 0x5A]), Ask::Erase(&[1, 3
 
 /// How many segments are taken back after both that were stopped after so many steps, and whether
 /// the flash is back.
-fn taken_back(rt: &HostRuntime, table: &Table, steps: u64) -> Result<(u32, bool), Fail> {
-    let commands = commands_of(rt, BOTH)?;
+fn taken_back(
+    rt: &HostRuntime,
+    table: &Table,
+    commands: &[Command],
+    steps: u64,
+) -> Result<(Option<u32>, bool), Fail> {
     let mut rig = fresh_device(rt, table)?;
-    let taken = take_back_stopped(rt.alloc(), &mut rig, table, &commands, steps)?;
+    let taken = take_back_stopped(rt.alloc(), &mut rig, table, commands, steps).ok();
+    Ok((taken, is_counting(rig.flash())))
+}
+
+/// The same where the device loses its power behind the stop, after which the page of the command
+/// at work holds other bytes.
+fn taken_back_unpowered(
+    rt: &HostRuntime,
+    table: &Table,
+    commands: &[Command],
+    steps: u64,
+) -> Result<(Option<u32>, bool), Fail> {
+    let mut rig = fresh_device(rt, table)?;
+    let page = [0x6B; 1024];
+    let taken = take_back_unpowered(rt.alloc(), &mut rig, table, commands, steps, &page).ok();
     Ok((taken, is_counting(rig.flash())))
 }
 
 /// The stops of both, and how many segments are then taken back.
 const STOPS: [(u64, u32); 5] = [(10, 0), (4_000, 1), (8_000, 1), (12_000, 2), (1_000_000, 2)];
 
-fn all_are_taken_back(rt: &HostRuntime, table: &Table) -> Result<(), Fail> {
+fn all_are_taken_back(rt: &HostRuntime, table: &Table, commands: &[Command]) -> Result<(), Fail> {
     for (steps, taken) in STOPS {
-        let (count, is_back) = taken_back(rt, table, steps)?;
-        answers((steps, count, is_back), (steps, taken, true))?;
+        let due = (Some(taken), true);
+        let is_right = taken_back(rt, table, commands, steps)? == due
+            && taken_back_unpowered(rt, table, commands, steps)? == due;
+        if !is_right {
+            return Err(failed_at(steps));
+        }
     }
     Ok(())
+}
+
+/// Whether a loss of power behind so many steps leaves other bytes in the page at work.
+fn is_spoilt(
+    rt: &HostRuntime,
+    table: &Table,
+    commands: &[Command],
+    steps: u64,
+) -> Result<bool, Fail> {
+    let mut rig = fresh_device(rt, table)?;
+    let stopped = stop(rt, table, &mut rig, commands, steps);
+    let is_lost = lose_power(rt.alloc(), &mut rig, &[0x6B; 1024]).is_ok();
+    let page = rig.flash().get(1024..2048).unwrap_or(&[]);
+    Ok(stopped.is_some() && is_lost && is_all(page, 0x6B))
+}
+
+/// It does in an erase, and not before it.
+fn are_spoilt(rt: &HostRuntime, table: &Table, commands: &[Command]) -> Result<(), Fail> {
+    let early = is_spoilt(rt, table, commands, 10)?;
+    answers(
+        (early, is_spoilt(rt, table, commands, 4_000)?),
+        (false, true),
+    )
+}
+
+fn stops_are_taken_back(rt: &HostRuntime, table: &Table) -> Result<(), Fail> {
+    all_are_taken_back(rt, table, &commands_of(rt, BOTH)?)?;
+    are_spoilt(rt, table, &commands_of(rt, &[Ask::Erase(&[1, 3])])?)
 }
 
 #[test]
 fn commands_that_are_stopped_are_taken_back(rt: HostRuntime) -> Result<(), Fail> {
-    all_are_taken_back(&rt, &table(&rt)?)
-}
-
-/// The same where the device loses its power behind the stop, after which the page of the command
-/// at work holds other bytes.
-fn taken_back_unpowered(rt: &HostRuntime, table: &Table, steps: u64) -> Result<(u32, bool), Fail> {
-    let commands = commands_of(rt, BOTH)?;
-    let mut rig = fresh_device(rt, table)?;
-    let page = [0x6B; 1024];
-    let taken = take_back_unpowered(rt.alloc(), &mut rig, table, &commands, steps, &page)?;
-    Ok((taken, is_counting(rig.flash())))
-}
-
-fn all_are_taken_back_unpowered(rt: &HostRuntime, table: &Table) -> Result<(), Fail> {
-    for (steps, taken) in STOPS {
-        let (count, is_back) = taken_back_unpowered(rt, table, steps)?;
-        answers((steps, count, is_back), (steps, taken, true))?;
-    }
-    Ok(())
-}
-
-#[test]
-fn commands_that_lost_their_power_are_taken_back(rt: HostRuntime) -> Result<(), Fail> {
-    all_are_taken_back_unpowered(&rt, &table(&rt)?)
-}
-
-/// Whether a loss of power behind so many steps leaves other bytes in a page.
-fn is_spoilt(rt: &HostRuntime, table: &Table, steps: u64) -> Result<bool, Fail> {
-    let commands = commands_of(rt, &[Ask::Erase(&[1, 3])])?;
-    let mut rig = fresh_device(rt, table)?;
-    let stopped = stop(rt, table, &mut rig, &commands, steps);
-    lose_power(rt.alloc(), &mut rig, &[0x6B; 1024])?;
-    let page = rig.flash().get(1024..2048).unwrap_or(&[]);
-    Ok(stopped.is_some() && is_all(page, 0x6B))
-}
-
-#[test]
-fn a_loss_of_power_leaves_other_bytes_in_the_page_at_work(rt: HostRuntime) -> Result<(), Fail> {
-    let table = table(&rt)?;
-    let early = is_spoilt(&rt, &table, 10)?;
-    answers((early, is_spoilt(&rt, &table, 4_000)?), (false, true))
+    stops_are_taken_back(&rt, &table_of(&rt, TABLE)?)
 }

@@ -1,7 +1,7 @@
 // A device that a session asks once more which board it is: the one that its chip is of, another one,
 // or one that refuses to tell.
 use crate::asking_board::table;
-use crate::devices::{self, chip_of, device, is_all, is_same, passes, puts, write_of};
+use crate::devices::{self, answers, chip_of, device, is_all, is_same, puts, write_of};
 use std::test::Fail;
 use stm_chip::Table;
 use stm_session::{Command, Fault, run, undo};
@@ -48,33 +48,42 @@ fn is_as_it_was(rig: &MemoryRig, journal: &[u8]) -> bool {
     is_all(rig.flash(), 0xFF) && is_same(rig.journal(), journal)
 }
 
-/// Whether a write and an undo of the board 0A are refused at the board of this table, and change
-/// nothing there.
-fn is_refused(rt: &HostRuntime, there: &Table, begun: &[u8]) -> Result<bool, Fail> {
-    let own = table_at(rt, 0x0A)?;
-    let write = write(rt)?;
-    for journal in [b"".as_slice(), HEADER] {
-        let mut rig = board(rt, there, journal)?;
-        let ran = run(rt.alloc(), &mut rig, &own, &write);
-        if ran.err() != Some(Fault::BoardChanged) || !is_as_it_was(&rig, journal) {
-            return Ok(false);
-        }
-    }
-    let mut rig = board(rt, there, begun)?;
-    let undone = undo(rt.alloc(), &mut rig, &own, 0);
-    Ok(undone == Err(Fault::BoardChanged) && is_as_it_was(&rig, begun))
+/// Whether a write of the board 0A is refused at the board of this table, with this journal, and
+/// changes nothing there.
+fn write_is_refused(
+    rt: &HostRuntime,
+    (own, there): (&Table, &Table),
+    command: &[Command],
+    journal: &[u8],
+) -> Result<bool, Fail> {
+    let mut rig = board(rt, there, journal)?;
+    let ran = run(rt.alloc(), &mut rig, own, command).err();
+    Ok(ran == Some(Fault::BoardChanged) && is_as_it_was(&rig, journal))
 }
 
-// The board 0B tells another unique id, and the simulator of a chip without a place refuses the read.
-#[test]
-fn another_board_is_refused_in_the_session(rt: HostRuntime) -> Result<(), Fail> {
-    let own = table_at(&rt, 0x0A)?;
-    let mut rig = board(&rt, &own, b"")?;
-    run(rt.alloc(), &mut rig, &own, &write(&rt)?)?;
-    for there in [table_at(&rt, 0x0B)?, devices::table(&rt)?] {
-        passes(is_refused(&rt, &there, rig.journal())?)?;
-    }
-    Ok(())
+/// The same of an undo.
+fn undo_is_refused(
+    rt: &HostRuntime,
+    (own, there): (&Table, &Table),
+    journal: &[u8],
+) -> Result<bool, Fail> {
+    let mut rig = board(rt, there, journal)?;
+    let undone = undo(rt.alloc(), &mut rig, own, 0);
+    Ok(undone == Err(Fault::BoardChanged) && is_as_it_was(&rig, journal))
+}
+
+/// Whether each is refused at the board of a table; the undo is of a journal of a write.
+fn all_is_refused(
+    rt: &HostRuntime,
+    tables: (&Table, &Table),
+    command: &[Command],
+    begun: &[u8],
+) -> Result<bool, Fail> {
+    Ok(
+        write_is_refused(rt, tables, command, b"")?
+            && write_is_refused(rt, tables, command, HEADER)?
+            && undo_is_refused(rt, tables, begun)?,
+    )
 }
 
 /// How many bytes were put before the first that was added to the journal, behind so many calls.
@@ -102,15 +111,54 @@ fn asked_at(rt: &HostRuntime, rig: &MemoryRig, before: usize) -> Result<Option<u
     Ok(is_asked.then_some(start))
 }
 
-// The question comes behind Get and Get ID, before the first line and the first frame of a command.
+/// Whether the question comes behind Get and Get ID, before the first line and the first frame of a
+/// command, and again of its undo.
+fn is_asked(
+    rt: &HostRuntime,
+    own: &Table,
+    rig: &mut MemoryRig,
+    command: &[Command],
+) -> Result<bool, Fail> {
+    let is_written = run(rt.alloc(), rig, own, command).is_ok();
+    let start = asked_at(rt, rig, 0)?;
+    let due = start.map(|at| at.saturating_add(ASKED.len()));
+    let is_first = due == Some(put_before_a_line(rig, 0));
+    let before = rig.calls().len();
+    let is_undone = undo(rt.alloc(), rig, own, 0).is_ok();
+    let is_asked_again = asked_at(rt, rig, before)?.is_some();
+    Ok(is_written && is_first && is_undone && is_asked_again && is_all(rig.flash(), 0xFF))
+}
+
+/// What the journal of a write at the board of this table is.
+fn begun(rt: &HostRuntime, own: &Table, command: &[Command]) -> Result<Vec<u8>, Fail> {
+    let mut rig = board(rt, own, b"")?;
+    if run(rt.alloc(), &mut rig, own, command).is_ok() {
+        Ok(Vec::from_slice(rt.alloc(), rig.journal())?)
+    } else {
+        Err(Fail::new("not written"))
+    }
+}
+
+/// What is found of the board 0A, of the board 0B, which tells another unique id, and of a simulator
+/// of a chip without a place, which refuses the read.
+fn found(
+    rt: &HostRuntime,
+    own: &Table,
+    command: &[Command],
+    begun: &[u8],
+) -> Result<(bool, bool, bool), Fail> {
+    let asked = is_asked(rt, own, &mut board(rt, own, b"")?, command)?;
+    let other = all_is_refused(rt, (own, &table_at(rt, 0x0B)?), command, begun)?;
+    let untold = all_is_refused(rt, (own, &devices::table(rt)?), command, begun)?;
+    Ok((asked, other, untold))
+}
+
+fn confirms(rt: &HostRuntime, own: &Table, command: &[Command]) -> Result<(), Fail> {
+    let found = found(rt, own, command, &begun(rt, own, command)?)?;
+    answers(found, (true, true, true))
+}
+
 #[test]
 fn the_board_is_asked_before_a_command(rt: HostRuntime) -> Result<(), Fail> {
-    let own = table_at(&rt, 0x0A)?;
-    let mut rig = board(&rt, &own, b"")?;
-    run(rt.alloc(), &mut rig, &own, &write(&rt)?)?;
-    let start = asked_at(&rt, &rig, 0)?.ok_or("not asked")?;
-    passes(put_before_a_line(&rig, 0) == start.saturating_add(ASKED.len()))?;
-    let before = rig.calls().len();
-    undo(rt.alloc(), &mut rig, &own, 0)?;
-    passes(asked_at(&rt, &rig, before)?.is_some() && is_all(rig.flash(), 0xFF))
+    confirms(&rt, &table_at(&rt, 0x0A)?, &write(&rt)?)
 }

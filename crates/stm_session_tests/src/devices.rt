@@ -9,7 +9,7 @@ use stm_wire::{Chip, Rig, RigCall};
 
 /// Chips 0410 and 0412 of the sample table, and four for tests: 0A01 and 0A02, erased by 44, 0A03,
 /// whose erased byte is 00, and 0A05, whose pages have 2,048 bytes.
-const TABLE: &str = r#"
+pub const TABLE: &str = r#"
 [[chip]]
 id = 0x410
 base = 0x08000000
@@ -71,11 +71,17 @@ pub fn failed_at(number: u64) -> Fail {
     Fail::new(format_args!("something else than is due at {number}"))
 }
 
-pub fn table(rt: &HostRuntime) -> Result<Table, Fail> {
-    match read_table(rt.alloc(), TABLE.as_bytes()) {
+/// The table of this text.
+pub fn table_of(rt: &HostRuntime, text: &str) -> Result<Table, Fail> {
+    match read_table(rt.alloc(), text.as_bytes()) {
         Ok(table) => Ok(table),
         Err(_) => Err(Fail::new("no table")),
     }
+}
+
+/// The sample table.
+pub fn table(rt: &HostRuntime) -> Result<Table, Fail> {
+    table_of(rt, TABLE)
 }
 
 /// This chip of the table.
@@ -201,6 +207,17 @@ pub fn puts_begin(rig: &MemoryRig, before: usize, runs: &[(u8, u32)]) -> bool {
         }
     }
     left == 0 && due.next().is_none()
+}
+
+/// How many bytes came in these calls.
+pub fn came(calls: &[RigCall]) -> u64 {
+    let mut count = 0_u64;
+    for call in calls {
+        if matches!(call, RigCall::Get(Some(_))) {
+            count = count.saturating_add(1);
+        }
+    }
+    count
 }
 
 /// Whether no byte was put or awaited, and none added to the journal.

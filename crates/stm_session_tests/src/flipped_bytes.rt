@@ -43,19 +43,22 @@ fn calls_of_both(
 }
 
 /// Whether a write and its undo put sent lists, where the j-th byte that comes is complemented.
-fn are_sent(rt: &HostRuntime, table: &Table, j: u64) -> Result<bool, Fail> {
-    let command = small_write(rt)?;
+fn are_sent(rt: &HostRuntime, table: &Table, command: &[Command], j: u64) -> Result<bool, Fail> {
     let mut line = FlipRig::new(rt.alloc(), fresh(rt, table)?, j);
-    let before = calls_of_both(rt, table, &mut line, &command);
+    let before = calls_of_both(rt, table, &mut line, command);
     Ok(is_sent(rt, &line, 0, before)? && is_sent(rt, &line, before, usize::MAX)?)
 }
 
 /// Each of so many bytes that come, complemented, lets nothing else be put; the test fails at the
 /// first that does.
-fn all_are_sent(rt: &HostRuntime, count: u64) -> Result<(), Fail> {
-    let table = table(rt)?;
+fn all_are_sent(
+    rt: &HostRuntime,
+    table: &Table,
+    command: &[Command],
+    count: u64,
+) -> Result<(), Fail> {
     for j in 1..=count {
-        if !are_sent(rt, &table, j)? {
+        if !are_sent(rt, table, command, j)? {
             return Err(failed_at(j));
         }
     }
@@ -64,5 +67,5 @@ fn all_are_sent(rt: &HostRuntime, count: u64) -> Result<(), Fail> {
 
 #[test]
 fn each_byte_may_be_another(rt: HostRuntime) -> Result<(), Fail> {
-    all_are_sent(&rt, 300)
+    all_are_sent(&rt, &table(&rt)?, &small_write(&rt)?, 300)
 }

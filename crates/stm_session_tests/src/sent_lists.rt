@@ -207,11 +207,9 @@ fn first_other(lists: &[&[u8]], may: bool) -> Option<usize> {
 }
 
 #[test]
-fn lists_that_may_be_sent(_rt: HostRuntime) -> Result<(), Fail> {
-    answers(first_other(&SENT, true), None)
-}
-
-#[test]
-fn lists_that_may_not_be_sent(_rt: HostRuntime) -> Result<(), Fail> {
-    answers(first_other(&NOT_SENT, false), None)
+fn lists_that_may_be_sent_or_not(_rt: HostRuntime) -> Result<(), Fail> {
+    answers(
+        (first_other(&SENT, true), first_other(&NOT_SENT, false)),
+        (None, None),
+    )
 }

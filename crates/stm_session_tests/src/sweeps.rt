@@ -2,7 +2,7 @@
 // back.
 use crate::devices::{failed_at, is_same, table};
 use crate::lost_power::lose_power;
-use crate::stopped_runs::{Case, Part, Parts, Start, start_of, stopped_run};
+use crate::stopped_runs::{Case, Change, Part, Parts, Start, start_of, stopped_run};
 use std::test::Fail;
 use stm_chip::Table;
 use stm_session::{Fault, undo};
@@ -141,15 +141,9 @@ fn are_taken_back(
 }
 
 /// What befalls the device behind each stop, of how many segments the first undo is, and which
-/// stops there are: those at most `near` steps from a turn, and those that `stride` divides (0:
+/// stops there are: those at most so many steps from a turn, and those that a number divides (0:
 /// none).
-#[derive(Clone, Copy)]
-struct Sweep {
-    between: Between,
-    count: u32,
-    near: u64,
-    stride: u64,
-}
+pub type Sweep = (Between, u32, u64, u64);
 
 /// Whether the run that is stopped after so many steps answers the fault that is due, and comes
 /// back.
@@ -158,29 +152,29 @@ fn comes_back(
     table: &Table,
     case: &Case,
     start: &Start,
-    sweep: Sweep,
+    (between, count): (Between, u32),
     steps: u64,
 ) -> Result<bool, Fail> {
     let (due, begun) = due(case.parts, steps);
     let depth = depth_of(case, begun);
     let (fault, mut rig) = stopped_run(rt, table, case, start, steps)?;
-    befall(rt, &mut rig, sweep.between)?;
-    let is_back = are_taken_back(rt, table, &mut rig, &start.flashes, sweep.count, depth);
+    befall(rt, &mut rig, between)?;
+    let is_back = are_taken_back(rt, table, &mut rig, &start.flashes, count, depth);
     Ok(fault == due && is_back)
 }
 
-fn sweep_from(
+/// At each stop of the run it answers the fault that is due, and an undo of so many segments, and
+/// the next one of all, bring the flash back; fails at the first other one.
+fn stops_come_back(
     rt: &HostRuntime,
     table: &Table,
     case: &Case,
     start: &Start,
-    sweep: Sweep,
+    (between, count, near, stride): Sweep,
 ) -> Result<(), Fail> {
     for steps in 0..=total(case.parts) {
-        if is_near_a_turn(case.parts, steps, sweep.near)
-            || steps.checked_rem(sweep.stride) == Some(0)
-        {
-            if !comes_back(rt, table, case, start, sweep, steps)? {
+        if is_near_a_turn(case.parts, steps, near) || steps.checked_rem(stride) == Some(0) {
+            if !comes_back(rt, table, case, start, (between, count), steps)? {
                 return Err(failed_at(steps));
             }
         }
@@ -188,23 +182,44 @@ fn sweep_from(
     Ok(())
 }
 
-/// At each stop of the run, of those at most `near` steps from a turn and those that `stride`
-/// divides (0: none), it answers the fault that is due, and an undo of so many segments, and the
-/// next one of all, bring the flash back; the test fails at the first other one.
+fn sweeps_come_back(
+    rt: &HostRuntime,
+    table: &Table,
+    case: &Case,
+    start: &Start,
+    sweeps: &[Sweep],
+) -> Result<(), Fail> {
+    for sweep in sweeps {
+        stops_come_back(rt, table, case, start, *sweep)?;
+    }
+    Ok(())
+}
+
+fn cases_come_back(
+    rt: &HostRuntime,
+    table: &Table,
+    base: &Case,
+    changes: &[(Change, Parts)],
+    sweeps: &[Sweep],
+) -> Result<(), Fail> {
+    for (change, parts) in changes {
+        let case = Case {
+            change: *change,
+            parts: *parts,
+            ..*base
+        };
+        sweeps_come_back(rt, table, &case, &start_of(rt, table, &case)?, sweeps)?;
+    }
+    Ok(())
+}
+
+/// A test of each of these changes of a device, with their parts, in each of these sweeps: it fails
+/// at the first stop that doesn't come back.
 pub fn all_come_back(
     rt: &HostRuntime,
-    case: &Case,
-    between: Between,
-    count: u32,
-    near: u64,
-    stride: u64,
+    base: &Case,
+    changes: &[(Change, Parts)],
+    sweeps: &[Sweep],
 ) -> Result<(), Fail> {
-    let table = table(rt)?;
-    let sweep = Sweep {
-        between,
-        count,
-        near,
-        stride,
-    };
-    sweep_from(rt, &table, case, &start_of(rt, &table, case)?, sweep)
+    cases_come_back(rt, &table(rt)?, base, changes, sweeps)
 }

@@ -3,7 +3,7 @@
 // undo takes, as the model of tools/soak counts them.
 use crate::devices::table;
 use crate::every_stop::is_counted;
-use crate::stop_sweeps_wide::wide;
+use crate::stop_sweeps_wide::WIDE;
 use crate::stopped_runs::{Case, Change, Start, is_as_before, start_of, stopped_run};
 use std::test::Fail;
 use stm_chip::Table;
@@ -71,6 +71,7 @@ fn row_comes_back(
     Ok(())
 }
 
+/// The rows of a case come back.
 fn rows_come_back(
     rt: &HostRuntime,
     table: &Table,
@@ -85,22 +86,11 @@ fn rows_come_back(
     Ok(())
 }
 
-/// All rows come back; the test fails at the first other stops.
-fn all_come_back(
-    rt: &HostRuntime,
-    case: &Case,
-    rows: &[(u64, u64, u64)],
-    stride: u64,
-) -> Result<(), Fail> {
-    let table = table(rt)?;
-    rows_come_back(rt, &table, case, &start_of(rt, &table, case)?, rows, stride)
-}
-
 /// Chip 0A03 with a flash of AA, of which page 2 is written. The stops of the write are behind its
 /// `open` line (52), its read (320), its `page` line (840), its `erase` line (848), in its erase
 /// frame (850, 852) and behind it (855), in its write frame (866, 1,000), and in its `end` line
 /// (1,138); those of the undo are behind two steps, half of them, and nine tenths.
-const ZEROS: [(u64, u64, u64); 30] = [
+const ZEROS: &[(u64, u64, u64)] = &[
     (52, 2, 35),
     (52, 17, 35),
     (52, 30, 36),
@@ -133,20 +123,6 @@ const ZEROS: [(u64, u64, u64); 30] = [
     (1138, 882, 1069),
 ];
 
-#[test]
-fn three_stops_of_a_flash_that_erases_to_zeros(rt: HostRuntime) -> Result<(), Fail> {
-    let case = Case {
-        id: 0x0A03,
-        page: 256,
-        erased: 0x00,
-        byte: 0xAA,
-        before: &[],
-        change: Change::Write(513, &[0xB1, 0xB2]),
-        parts: &[],
-    };
-    all_come_back(&rt, &case, &ZEROS, 29)
-}
-
 /// Chip 0A02 with a flash of 00, of which page 1 is written: behind four bytes of its erase frame,
 /// before the check, and behind it. The undo is stopped in its settling, as it writes page 1, behind
 /// the line of page 257, which it erases then, and as it reads.
@@ -171,11 +147,47 @@ const PAGE_256: &[(u64, u64, u64)] = &[
     (1000, 907, 985),
 ];
 
-#[test]
-fn three_stops_of_a_chip_of_512_pages(rt: HostRuntime) -> Result<(), Fail> {
-    for (place, rows) in [(257, PAGE_1), (65_537, PAGE_256)] {
-        let case = wide(Change::Write(place, &[0x01, 0x02, 0x03]), &[]);
-        all_come_back(&rt, &case, rows, 127)?;
+/// What is stopped, its rows, and which stops of the next undo are made.
+const CASES: [(Case, &[(u64, u64, u64)], u64); 3] = [
+    (
+        Case {
+            id: 0x0A03,
+            page: 256,
+            erased: 0x00,
+            byte: 0xAA,
+            before: &[],
+            change: Change::Write(513, &[0xB1, 0xB2]),
+            parts: &[],
+        },
+        ZEROS,
+        29,
+    ),
+    (
+        Case {
+            change: Change::Write(257, &[0x01, 0x02, 0x03]),
+            ..WIDE
+        },
+        PAGE_1,
+        127,
+    ),
+    (
+        Case {
+            change: Change::Write(65_537, &[0x01, 0x02, 0x03]),
+            ..WIDE
+        },
+        PAGE_256,
+        127,
+    ),
+];
+
+fn all_come_back(rt: &HostRuntime, table: &Table) -> Result<(), Fail> {
+    for (case, rows, stride) in CASES {
+        rows_come_back(rt, table, &case, &start_of(rt, table, &case)?, rows, stride)?;
     }
     Ok(())
+}
+
+#[test]
+fn three_stops_come_back(rt: HostRuntime) -> Result<(), Fail> {
+    all_come_back(&rt, &table(&rt)?)
 }
