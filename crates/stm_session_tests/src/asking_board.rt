@@ -5,7 +5,7 @@ use std::test::Fail;
 use stm_chip::Table;
 use stm_session::{Board, Command, Fault, ask_board, run, undo};
 use stm_sim::{ListRig, MemoryRig};
-use stm_wire::{Chip, RigCall, UniqueId};
+use stm_wire::RigCall;
 
 /// Chip 0412, which tells its board at two places.
 const TABLE: &str = r#"
@@ -130,8 +130,8 @@ fn a_simulator_is_asked_and_taken_back(rt: HostRuntime) -> Result<(), Fail> {
     stops_come_back(&rt, &table, &write_of(&rt, &[0x5A; 40], 0x0800_0400)?)
 }
 
-/// What a device of chip 0412 answers until it is asked for a place: to 7F, to Get, to Get ID.
-const KNOWN: &[Option<u8>] = &[
+/// What a device of chip 0412 answers to 7F and to Get, and then to Get ID.
+const LISTED: &[Option<u8>] = &[
     None,
     Some(0x1F),
     None,
@@ -140,115 +140,113 @@ const KNOWN: &[Option<u8>] = &[
     Some(0x22),
     Some(0x00),
     Some(0x79),
-    Some(0x79),
-    Some(1),
-    Some(0x04),
-    Some(0x12),
-    Some(0x79),
 ];
 
-/// The same, where Get ID is refused: a device that doesn't tell its id is no device.
-const REFUSES_ID: &[Option<u8>] = &[
-    None,
-    Some(0x1F),
-    None,
-    Some(0x79),
-    Some(1),
-    Some(0x22),
-    Some(0x00),
-    Some(0x79),
-    Some(0x1F),
-];
+const KNOWN: &[Option<u8>] = &[Some(0x79), Some(1), Some(0x04), Some(0x12), Some(0x79)];
 
-/// A unique id.
-const UNIQUE: [u8; 12] = [
+/// A unique id, and what a device answers that tells it.
+pub const UNIQUE: [u8; 12] = [
     0x30, 0xFF, 0x6B, 0x06, 0x4D, 0x59, 0x36, 0x34, 0x18, 0x29, 0x12, 0x43,
 ];
 
-/// The read of the unique id, acknowledged, with that id, with the bytes of a place that nobody has
-/// written, which holds FF alone or 00 alone, and with another id.
-const OWN: &[u8] = &[
-    0x79, 0x79, 0x79, 0x30, 0xFF, 0x6B, 0x06, 0x4D, 0x59, 0x36, 0x34, 0x18, 0x29, 0x12, 0x43,
+const TOLD: &[Option<u8>] = &[
+    Some(0x30),
+    Some(0xFF),
+    Some(0x6B),
+    Some(0x06),
+    Some(0x4D),
+    Some(0x59),
+    Some(0x36),
+    Some(0x34),
+    Some(0x18),
+    Some(0x29),
+    Some(0x12),
+    Some(0x43),
 ];
 
-const ALL_FF: &[u8] = &[
-    0x79, 0x79, 0x79, 0xFF, 0xFF, 0xFF, 0xFF, 0xFF, 0xFF, 0xFF, 0xFF, 0xFF, 0xFF, 0xFF, 0xFF,
-];
+/// The three steps of a read are acknowledged; or the first, the second or the third is refused.
+const ACKS: &[Option<u8>] = &[Some(0x79); 3];
 
-const ALL_00: &[u8] = &[
-    0x79, 0x79, 0x79, 0x00, 0x00, 0x00, 0x00, 0x00, 0x00, 0x00, 0x00, 0x00, 0x00, 0x00, 0x00,
-];
+const NO: &[Option<u8>] = &[Some(0x1F)];
 
-const ALL_01: &[u8] = &[
-    0x79, 0x79, 0x79, 0x01, 0x01, 0x01, 0x01, 0x01, 0x01, 0x01, 0x01, 0x01, 0x01, 0x01, 0x01,
-];
+const NO_2: &[Option<u8>] = &[Some(0x79), Some(0x1F)];
 
-/// What a line answers until it is asked for a place, and then to the reads of both; and what is
-/// told, the id (no bytes: none) and the size.
+const NO_3: &[Option<u8>] = &[Some(0x79), Some(0x79), Some(0x1F)];
+
+/// Answers that aren't the protocol's.
+const ODD: &[Option<u8>] = &[Some(0x00)];
+
+const ODD_2: &[Option<u8>] = &[Some(0x79), Some(0x78)];
+
+const CUT: &[Option<u8>] = &[Some(0x79), Some(0x79), Some(0x79), Some(0x01)];
+
+/// A size of 64 KiB.
+const KIB_64: &[Option<u8>] = &[Some(0x79), Some(0x79), Some(0x79), Some(0x40), Some(0x00)];
+
+const BLANK: Result<(&[u8], Option<u16>), Fault> = Ok((&[], None));
+
+const IS_64: Result<(&[u8], Option<u16>), Fault> = Ok((&[], Some(64)));
+
+const OWN: Result<(&[u8], Option<u16>), Fault> = Ok((&UNIQUE, None));
+
+const WRONG: Result<(&[u8], Option<u16>), Fault> = Err(Fault::Device);
+
+/// What a line answers behind Get, to the reads of both places at last; and what is told, the id (no
+/// bytes: none) and the size.
 type Row = (
-    &'static [Option<u8>],
-    &'static [u8],
-    &'static [u8],
+    &'static [&'static [Option<u8>]],
     Result<(&'static [u8], Option<u16>), Fault>,
 );
 
-/// The size of 64 KiB.
-const SIZE_64: &[u8] = &[0x79, 0x79, 0x79, 0x40, 0x00];
-
 const ROWS: [Row; 19] = [
     (
-        KNOWN,
-        OWN,
-        &[0x79, 0x79, 0x79, 0x80, 0x01],
+        &[KNOWN, ACKS, TOLD, ACKS, &[Some(0x80), Some(0x01)]],
         Ok((&UNIQUE, Some(384))),
     ),
+    // A place that nobody has written holds FF alone or 00 alone.
     (
-        KNOWN,
-        ALL_FF,
-        &[0x79, 0x79, 0x79, 0xFF, 0xFF],
-        Ok((&[], None)),
+        &[KNOWN, ACKS, &[Some(0xFF); 12], ACKS, &[Some(0xFF); 2]],
+        BLANK,
     ),
     (
-        KNOWN,
-        ALL_00,
-        &[0x79, 0x79, 0x79, 0x00, 0x00],
-        Ok((&[], None)),
+        &[KNOWN, ACKS, &[Some(0x00); 12], ACKS, &[Some(0x00); 2]],
+        BLANK,
     ),
     (
-        KNOWN,
-        ALL_01,
-        &[0x79, 0x79, 0x79, 0xFF, 0x00],
+        &[
+            KNOWN,
+            ACKS,
+            &[Some(0x01); 12],
+            ACKS,
+            &[Some(0xFF), Some(0x00)],
+        ],
         Ok((&[0x01; 12], Some(255))),
     ),
     // Each of the three steps of a read may be refused, and the other place is asked all the same.
-    (KNOWN, &[0x1F], SIZE_64, Ok((&[], Some(64)))),
-    (KNOWN, &[0x79, 0x1F], SIZE_64, Ok((&[], Some(64)))),
-    (KNOWN, &[0x79, 0x79, 0x1F], SIZE_64, Ok((&[], Some(64)))),
-    (KNOWN, OWN, &[0x1F], Ok((&UNIQUE, None))),
-    (KNOWN, OWN, &[0x79, 0x1F], Ok((&UNIQUE, None))),
-    (KNOWN, OWN, &[0x79, 0x79, 0x1F], Ok((&UNIQUE, None))),
+    (&[KNOWN, NO, KIB_64], IS_64),
+    (&[KNOWN, NO_2, KIB_64], IS_64),
+    (&[KNOWN, NO_3, KIB_64], IS_64),
+    (&[KNOWN, ACKS, TOLD, NO], OWN),
+    (&[KNOWN, ACKS, TOLD, NO_2], OWN),
+    (&[KNOWN, ACKS, TOLD, NO_3], OWN),
     // An answer that isn't the protocol's, or none, is a fault.
-    (KNOWN, &[0x00], &[], Err(Fault::Device)),
-    (KNOWN, &[0x79, 0x78], &[], Err(Fault::Device)),
-    (KNOWN, &[0x79, 0x79, 0x79, 0x01], &[], Err(Fault::Device)),
-    (KNOWN, &[], &[], Err(Fault::Device)),
-    (KNOWN, OWN, &[0x00], Err(Fault::Device)),
-    (KNOWN, OWN, &[0x79, 0x78], Err(Fault::Device)),
-    (KNOWN, OWN, &[0x79, 0x79, 0x79, 0x01], Err(Fault::Device)),
-    (KNOWN, OWN, &[], Err(Fault::Device)),
-    (REFUSES_ID, &[], &[], Err(Fault::Device)),
+    (&[KNOWN, ODD], WRONG),
+    (&[KNOWN, ODD_2], WRONG),
+    (&[KNOWN, CUT], WRONG),
+    (&[KNOWN], WRONG),
+    (&[KNOWN, ACKS, TOLD, ODD], WRONG),
+    (&[KNOWN, ACKS, TOLD, ODD_2], WRONG),
+    (&[KNOWN, ACKS, TOLD, CUT], WRONG),
+    (&[KNOWN, ACKS, TOLD], WRONG),
+    // A device that refuses Get ID doesn't tell its id, and is none.
+    (&[NO], WRONG),
 ];
 
-/// A line of a device that answers these bytes to the reads of both places.
-fn line(
-    rt: &HostRuntime,
-    known: &[Option<u8>],
-    unique: &[u8],
-    size: &[u8],
-) -> Result<ListRig, Fail> {
-    let mut replies = Vec::from_slice(rt.alloc(), known)?;
-    for byte in unique.iter().chain(size.iter()) {
-        replies.push(Some(*byte))?;
+/// A line that answers these behind Get.
+fn line(rt: &HostRuntime, parts: &[&[Option<u8>]]) -> Result<ListRig, Fail> {
+    let mut replies = Vec::from_slice(rt.alloc(), LISTED)?;
+    for part in parts {
+        replies.extend_from_slice(part)?;
     }
     Ok(ListRig::new(rt.alloc(), replies))
 }
@@ -267,8 +265,8 @@ fn is_due(answer: Result<Board, Fault>, due: Result<(&[u8], Option<u16>), Fault>
 }
 
 fn lists_are_told(rt: &HostRuntime, table: &Table) -> Result<(), Fail> {
-    for (place, (known, unique, size, due)) in ROWS.iter().enumerate() {
-        let mut line = line(rt, known, unique, size)?;
+    for (place, (parts, due)) in ROWS.iter().enumerate() {
+        let mut line = line(rt, parts)?;
         if !is_due(ask_board(rt.alloc(), &mut line, table, false), *due) {
             return Err(failed_at(place as u64));
         }
@@ -276,78 +274,7 @@ fn lists_are_told(rt: &HostRuntime, table: &Table) -> Result<(), Fail> {
     Ok(())
 }
 
-/// A table whose chip 0412 is that of a part of so many KiB, with a unique id.
-fn part(rt: &HostRuntime, kib: u32) -> Result<Table, Fail> {
-    let table = table(rt)?;
-    let unique = UniqueId::of(&UNIQUE).ok_or("no unique id")?;
-    let chip = devices::chip_of(&table, 0x0412)?;
-    Ok(table.with_chip(chip.cut(kib).of_board(unique)))
-}
-
-/// A write of four bytes to the end of a flash of so many KiB.
-fn write_at_end(rt: &HostRuntime, kib: u16) -> Result<[Command; 1], Fail> {
-    write_of(rt, &[0x5A; 4], 0x07FF_FFFC + u32::from(kib) * 1024)
-}
-
-/// And one behind it.
-fn write_behind(rt: &HostRuntime, kib: u16) -> Result<[Command; 1], Fail> {
-    write_of(rt, &[0x5A; 4], 0x0800_0000 + u32::from(kib) * 1024)
-}
-
-/// The chip of a part of so many KiB, where it tells that.
-fn own_chip(rt: &HostRuntime, table: &Table, rig: &mut MemoryRig, kib: u16) -> Result<Chip, Fail> {
-    let chip = devices::chip_of(table, 0x0412)?;
-    match ask_board(rt.alloc(), rig, table, false) {
-        Ok(board) if board.unique.as_bytes() == UNIQUE.as_slice() && board.size == Some(kib) => {
-            Ok(board.chip_of(chip))
-        }
-        _ => Err(Fail::new("another board is told")),
-    }
-}
-
-/// Whether a write to the end is done in a journal of its board, one of four bytes behind that is
-/// refused, and all is taken back.
-fn is_kept_within(
-    rt: &HostRuntime,
-    own: &Table,
-    rig: &mut MemoryRig,
-    within: &[Command],
-    behind: &[Command],
-) -> bool {
-    let is_done = run(rt.alloc(), rig, own, within).is_ok();
-    let is_named = rig.journal().starts_with(HEADER);
-    let is_refused = run(rt.alloc(), rig, own, behind).err() == Some(Fault::OutOfFlash);
-    let is_undone = undo(rt.alloc(), rig, own, 0).is_ok();
-    is_done && is_named && is_refused && is_undone && devices::is_all(rig.flash(), 0xFF)
-}
-
-/// Whether a part of so many KiB is known by what it tells.
-fn is_known(rt: &HostRuntime, table: &Table, part: &Table, kib: u16) -> Result<bool, Fail> {
-    let mut rig = devices::device(rt, part, 0x0412, 0xFF, Vec::new(rt.alloc()))?;
-    let chip = own_chip(rt, table, &mut rig, kib)?;
-    let is_cut = chip.pages() == kib;
-    let own = self::table(rt)?.with_chip(chip);
-    let within = write_at_end(rt, kib)?;
-    let is_kept = is_kept_within(rt, &own, &mut rig, &within, &write_behind(rt, kib)?);
-    Ok(is_cut && is_kept)
-}
-
-/// A device tells its unique id and its size, and what it told makes the table's chip its own.
-fn parts_are_known(rt: &HostRuntime, table: &Table) -> Result<(), Fail> {
-    for kib in [32_u16, 16, 3, 1] {
-        if !is_known(rt, table, &part(rt, u32::from(kib))?, kib)? {
-            return Err(failed_at(u64::from(kib)));
-        }
-    }
-    Ok(())
-}
-
-/// What the journal of such a device begins with.
-const HEADER: &[u8] = b"stmjournal 3 0412 30FF6B064D59363418291243\n";
-
 #[test]
 fn a_device_tells_which_board_it_is(rt: HostRuntime) -> Result<(), Fail> {
-    let table = table(&rt)?;
-    lists_are_told(&rt, &table)?;
-    parts_are_known(&rt, &table)
+    lists_are_told(&rt, &table(&rt)?)
 }

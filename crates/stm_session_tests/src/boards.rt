@@ -4,11 +4,10 @@
 // journal, 01 02 03 04 are written at its base. It takes 1,164 steps: settling 5, Get 15, Get ID 7,
 // the header 43 and `open 1` 7, reading the page 268, its line 520, `erase 0` 8, the erase frame 7,
 // `program 0` 10, the write frame 268, `end 1` 6. Taking it back takes 595.
-use crate::devices::{answers, chip_of, device, failed_at, is_all, is_same, table};
+use crate::devices::{chip_of, device, failed_at, is_all, is_same, table};
 use crate::every_stop::{is_counted, small_write, stop};
 use std::test::Fail;
 use stm_chip::Table;
-use stm_client::{Visit, swap_boards};
 use stm_session::{Command, Fault, info, run, undo};
 use stm_sim::MemoryRig;
 use stm_wire::UniqueId;
@@ -17,7 +16,7 @@ use stm_wire::UniqueId;
 const CHIP: u16 = 0x0A03;
 
 /// How many steps the write takes.
-const WRITE: u64 = 1164;
+pub const WRITE: u64 = 1164;
 
 /// And the undo.
 const UNDO: u64 = 595;
@@ -32,11 +31,8 @@ const OPENED: u64 = 77;
 /// the page 268, `erase 0` 8.
 const INTENDED: u64 = 301;
 
-/// The header of a new journal of the board 0A.
-const HEADER: &[u8] = b"stmjournal 3 0A03 0A0A0A0A0A0A0A0A0A0A0A0A\n";
-
 /// The table as it is at the board whose unique id has this byte in each place.
-fn table_at(rt: &HostRuntime, byte: u8) -> Result<Table, Fail> {
+pub fn table_at(rt: &HostRuntime, byte: u8) -> Result<Table, Fail> {
     let table = table(rt)?;
     let unique = UniqueId::of(&[byte; 12]).ok_or("no unique id")?;
     let chip = chip_of(&table, CHIP)?.of_board(unique);
@@ -44,24 +40,24 @@ fn table_at(rt: &HostRuntime, byte: u8) -> Result<Table, Fail> {
 }
 
 /// The board of this table, fresh, with a flash of FF and no journal.
-fn own_board(rt: &HostRuntime, table: &Table) -> Result<MemoryRig, Fail> {
+pub fn own_board(rt: &HostRuntime, table: &Table) -> Result<MemoryRig, Fail> {
     device(rt, table, CHIP, 0xFF, Vec::new(rt.alloc()))
 }
 
 /// The board of this table, fresh, with a flash of 5A and this journal.
-fn other_board(rt: &HostRuntime, table: &Table, journal: &[u8]) -> Result<MemoryRig, Fail> {
+pub fn other_board(rt: &HostRuntime, table: &Table, journal: &[u8]) -> Result<MemoryRig, Fail> {
     let journal = Vec::from_slice(rt.alloc(), journal)?;
     device(rt, table, CHIP, 0x5A, journal)
 }
 
 /// Whether the board's flash is 5A, and its journal this one.
-fn is_as_it_was(rig: &MemoryRig, journal: &[u8]) -> bool {
+pub fn is_as_it_was(rig: &MemoryRig, journal: &[u8]) -> bool {
     is_all(rig.flash(), 0x5A) && is_same(rig.journal(), journal)
 }
 
 /// What each session answers at the other board.
 #[derive(Clone, Copy)]
-struct Due {
+pub struct Due {
     /// `info` and `run`.
     checked: Fault,
     undo: Result<u32, Fault>,
@@ -80,14 +76,14 @@ const UNFINISHED: Due = Due {
 };
 
 /// Behind a command's end.
-const ENDED: Due = Due {
+pub const ENDED: Due = Due {
     checked: Fault::OtherBoard,
     undo: Err(Fault::OtherBoard),
 };
 
 /// Whether each session with this journal at the board of this table answers what is due, and
 /// leaves the board and the journal as they were.
-fn is_refused(
+pub fn is_refused(
     rt: &HostRuntime,
     table: &Table,
     command: &[Command],
@@ -228,122 +224,4 @@ fn late_stops_of_a_write_are_refused_elsewhere(rt: HostRuntime) -> Result<(), Fa
 #[test]
 fn each_stop_of_an_undo_is_refused_elsewhere(rt: HostRuntime) -> Result<(), Fail> {
     sweeps_go_right(&rt, UNDOS)
-}
-
-/// Whether a new journal names its board, and the write takes 1,164 steps.
-fn is_named(rt: &HostRuntime, own: &Table, command: &[Command]) -> Result<bool, Fail> {
-    let mut rig = own_board(rt, own)?;
-    let is_cut = is_counted(stop(rt, own, &mut rig, command, WRITE - 1));
-    Ok(is_cut && rig.journal().starts_with(HEADER))
-}
-
-/// Whether a journal that names a board is refused at a device that told nothing; the write that
-/// made it takes 1,164 steps.
-fn is_refused_untold(
-    rt: &HostRuntime,
-    own: &Table,
-    untold: &Table,
-    command: &[Command],
-) -> Result<bool, Fail> {
-    let mut rig = own_board(rt, own)?;
-    let is_written = stop(rt, own, &mut rig, command, WRITE).is_none();
-    let is_named = rig.journal().starts_with(HEADER);
-    let is_refused = is_refused(rt, untold, command, rig.journal(), ENDED)?;
-    Ok(is_written && is_named && is_refused)
-}
-
-/// Whether a journal of version 2 at a device that told its unique id goes on as ever: it is read,
-/// added to and taken back, and names no board.
-fn goes_on(rt: &HostRuntime, own: &Table, rig: &mut MemoryRig, command: &[Command]) -> bool {
-    let told = info(rt.alloc(), rig, own).is_ok();
-    let added = run(rt.alloc(), rig, own, command).is_ok();
-    let kept = rig.journal().starts_with(b"stmjournal 2 0A03\nopen 1\n");
-    let taken = undo(rt.alloc(), rig, own, 1);
-    told && added && kept && taken == Ok(1) && is_all(rig.flash(), 0x5A)
-}
-
-fn version_2_goes_on(
-    rt: &HostRuntime,
-    own: &Table,
-    untold: &Table,
-    command: &[Command],
-) -> Result<bool, Fail> {
-    let mut first = own_board(rt, untold)?;
-    let is_written = run(rt.alloc(), &mut first, untold, command).is_ok();
-    let mut rig = other_board(rt, own, first.journal())?;
-    Ok(is_written && goes_on(rt, own, &mut rig, command))
-}
-
-fn worked_cases(
-    rt: &HostRuntime,
-    own: &Table,
-    untold: &Table,
-    command: &[Command],
-) -> Result<(bool, bool, bool), Fail> {
-    let named = is_named(rt, own, command)?;
-    let refused = is_refused_untold(rt, own, untold, command)?;
-    Ok((named, refused, version_2_goes_on(rt, own, untold, command)?))
-}
-
-#[test]
-fn a_journal_names_its_board(rt: HostRuntime) -> Result<(), Fail> {
-    let found = worked_cases(&rt, &table_at(&rt, 0x0A)?, &table(&rt)?, &small_write(&rt)?)?;
-    answers(found, (true, true, true))
-}
-
-/// A swap, as a caller of public contracts has it: a write that is stopped behind its `open` line,
-/// this session at the other board, and an undo. Whether what is due is answered and left.
-fn is_swapped(
-    rt: &HostRuntime,
-    (one, two): (&Table, &Table),
-    command: &[Command],
-    visit: Visit<'_>,
-    due: Fault,
-) -> Result<bool, Fail> {
-    let mut own = own_board(rt, one)?;
-    let mut other = other_board(rt, two, &[])?;
-    let swapped = swap_boards(
-        rt.alloc(),
-        &mut own,
-        one,
-        command,
-        900,
-        &mut other,
-        two,
-        visit,
-    );
-    Ok(match swapped {
-        Ok(swapped) => {
-            let is_refused = swapped.visited == Err(due) && is_as_it_was(&other, &swapped.journal);
-            is_refused && swapped.taken == 1 && is_all(own.flash(), 0xFF)
-        }
-        Err(_) => false,
-    })
-}
-
-fn swaps(
-    rt: &HostRuntime,
-    boards: (&Table, &Table),
-    command: &[Command],
-) -> Result<(bool, bool, bool), Fail> {
-    let told = is_swapped(rt, boards, command, Visit::Tell, Fault::Unfinished)?;
-    let changed = is_swapped(
-        rt,
-        boards,
-        command,
-        Visit::Change(command),
-        Fault::Unfinished,
-    )?;
-    let taken = is_swapped(rt, boards, command, Visit::TakeBack(0), Fault::OtherBoard)?;
-    Ok((told, changed, taken))
-}
-
-#[test]
-fn a_caller_swaps_boards(rt: HostRuntime) -> Result<(), Fail> {
-    let one = table_at(&rt, 0x0A)?;
-    let two = table_at(&rt, 0x0B)?;
-    answers(
-        swaps(&rt, (&one, &two), &small_write(&rt)?)?,
-        (true, true, true),
-    )
 }

@@ -1,7 +1,7 @@
 // A device that a session asks once more which board it is: the one that its chip is of, another one,
 // or one that refuses to tell.
 use crate::asking_board::table;
-use crate::devices::{self, answers, chip_of, device, is_all, is_same, puts, write_of};
+use crate::devices::{self, answers, behind, chip_of, device, is_all, is_same, puts, write_of};
 use std::test::Fail;
 use stm_chip::Table;
 use stm_session::{Command, Fault, run, undo};
@@ -86,10 +86,10 @@ fn all_is_refused(
     )
 }
 
-/// How many bytes were put before the first that was added to the journal, behind so many calls.
-fn put_before_a_line(rig: &MemoryRig, before: usize) -> usize {
+/// How many bytes were put before the first that was added to the journal.
+fn put_before_a_line(calls: &[RigCall]) -> usize {
     let mut count = 0_usize;
-    for call in rig.calls().iter().skip(before) {
+    for call in calls {
         match call {
             RigCall::Put(_) => count = count.saturating_add(1),
             RigCall::Append(_) => return count,
@@ -99,16 +99,25 @@ fn put_before_a_line(rig: &MemoryRig, before: usize) -> usize {
     count
 }
 
-/// Where the bytes put behind so many calls ask which board it is, and then for page 1.
-fn asked_at(rt: &HostRuntime, rig: &MemoryRig, before: usize) -> Result<Option<usize>, Fail> {
-    let bytes = puts(rt, rig, before)?;
-    let Some(start) = bytes.iter().position(|byte| *byte == 0x00) else {
-        return Ok(None);
-    };
+/// How many bytes stand before the first 00.
+fn before_zero(bytes: &[u8]) -> usize {
+    let mut count = 0_usize;
+    for byte in bytes {
+        if *byte == 0x00 {
+            return count;
+        }
+        count = count.saturating_add(1);
+    }
+    count
+}
+
+/// Where these bytes, which were put, ask which board it is, and then for page 1.
+fn asked_at(bytes: &[u8]) -> Option<usize> {
+    let start = before_zero(bytes);
     let frames = bytes.get(start..).unwrap_or(&[]);
     let behind = frames.get(ASKED.len()..).unwrap_or(&[]);
     let is_asked = frames.starts_with(&ASKED) && behind.starts_with(&PAGE_ASKED);
-    Ok(is_asked.then_some(start))
+    is_asked.then_some(start)
 }
 
 /// Whether the question comes behind Get and Get ID, before the first line and the first frame of a
@@ -120,27 +129,19 @@ fn is_asked(
     command: &[Command],
 ) -> Result<bool, Fail> {
     let is_written = run(rt.alloc(), rig, own, command).is_ok();
-    let start = asked_at(rt, rig, 0)?;
-    let due = start.map(|at| at.saturating_add(ASKED.len()));
-    let is_first = due == Some(put_before_a_line(rig, 0));
+    let start = asked_at(&puts(rt, rig.calls())?);
+    let is_first = match start {
+        Some(at) => put_before_a_line(rig.calls()) == at.saturating_add(ASKED.len()),
+        None => false,
+    };
     let before = rig.calls().len();
     let is_undone = undo(rt.alloc(), rig, own, 0).is_ok();
-    let is_asked_again = asked_at(rt, rig, before)?.is_some();
+    let is_asked_again = asked_at(&puts(rt, behind(rig.calls(), before))?).is_some();
     Ok(is_written && is_first && is_undone && is_asked_again && is_all(rig.flash(), 0xFF))
 }
 
-/// What the journal of a write at the board of this table is.
-fn begun(rt: &HostRuntime, own: &Table, command: &[Command]) -> Result<Vec<u8>, Fail> {
-    let mut rig = board(rt, own, b"")?;
-    if run(rt.alloc(), &mut rig, own, command).is_ok() {
-        Ok(Vec::from_slice(rt.alloc(), rig.journal())?)
-    } else {
-        Err(Fail::new("not written"))
-    }
-}
-
 /// What is found of the board 0A, of the board 0B, which tells another unique id, and of a simulator
-/// of a chip without a place, which refuses the read.
+/// of a chip without a place, which refuses the read; with a journal that was begun.
 fn found(
     rt: &HostRuntime,
     own: &Table,
@@ -153,12 +154,22 @@ fn found(
     Ok((asked, other, untold))
 }
 
-fn confirms(rt: &HostRuntime, own: &Table, command: &[Command]) -> Result<(), Fail> {
-    let found = found(rt, own, command, &begun(rt, own, command)?)?;
-    answers(found, (true, true, true))
+fn confirms(
+    rt: &HostRuntime,
+    own: &Table,
+    rig: &mut MemoryRig,
+    command: &[Command],
+) -> Result<(), Fail> {
+    let is_written = run(rt.alloc(), rig, own, command).is_ok();
+    let found = found(rt, own, command, rig.journal())?;
+    answers((is_written, found), (true, (true, true, true)))
+}
+
+fn all_is_confirmed(rt: &HostRuntime, own: &Table) -> Result<(), Fail> {
+    confirms(rt, own, &mut board(rt, own, b"")?, &write(rt)?)
 }
 
 #[test]
 fn the_board_is_asked_before_a_command(rt: HostRuntime) -> Result<(), Fail> {
-    confirms(&rt, &table_at(&rt, 0x0A)?, &write(&rt)?)
+    all_is_confirmed(&rt, &table_at(&rt, 0x0A)?)
 }

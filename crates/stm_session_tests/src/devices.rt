@@ -185,28 +185,26 @@ pub fn is_counting(bytes: &[u8]) -> bool {
     true
 }
 
-/// Whether the bytes put behind the first `before` calls begin with these: each of them so often,
-/// one after another.
-pub fn puts_begin(rig: &MemoryRig, before: usize, runs: &[(u8, u32)]) -> bool {
-    let mut due = runs.iter();
-    let mut byte = 0x00;
-    let mut left = 0_u32;
-    for call in rig.calls().iter().skip(before) {
+/// Whether the bytes put in these calls begin with these: each of them so often, one after another.
+pub fn puts_begin(calls: &[RigCall], runs: &[(u8, u32)]) -> bool {
+    let mut run = 0_usize;
+    let mut count = 0_u32;
+    for call in calls {
         if let RigCall::Put(put) = call {
-            if left == 0 {
-                let Some(run) = due.next() else {
-                    return true;
-                };
-                byte = run.0;
-                left = run.1;
-            }
-            if *put != byte {
+            let Some((byte, times)) = runs.get(run) else {
+                return true;
+            };
+            if *put != *byte {
                 return false;
             }
-            left = left.saturating_sub(1);
+            count = count.saturating_add(1);
+            if count >= *times {
+                run = run.saturating_add(1);
+                count = 0;
+            }
         }
     }
-    left == 0 && due.next().is_none()
+    run >= runs.len()
 }
 
 /// How many bytes came in these calls.
@@ -220,15 +218,22 @@ pub fn came(calls: &[RigCall]) -> u64 {
     count
 }
 
-/// Whether no byte was put or awaited, and none added to the journal.
-pub fn only_fetched(rig: &MemoryRig) -> bool {
-    rig.calls().iter().all(|call| *call == RigCall::Fetch)
+/// Whether none of these calls is a put, a get or an append.
+pub fn are_fetches(calls: &[RigCall]) -> bool {
+    for call in calls {
+        if *call != RigCall::Fetch {
+            return false;
+        }
+    }
+    true
 }
 
 /// An image of these bytes, from an address on.
 pub fn image(rt: &HostRuntime, bytes: &[u8], start: u32) -> Result<Image, Fail> {
-    let image = read_raw(rt.alloc(), bytes, start).map_err(|_| "no image")?;
-    Ok(image)
+    match read_raw(rt.alloc(), bytes, start) {
+        Ok(image) => Ok(image),
+        Err(_) => Err(Fail::new("no image")),
+    }
 }
 
 /// A write of these bytes, from an address on.
@@ -250,13 +255,18 @@ pub fn changed(outcome: Option<&Outcome>) -> Option<(u32, u32)> {
     }
 }
 
-/// The bytes put behind the first `before` calls.
-pub fn puts(rt: &HostRuntime, rig: &MemoryRig, before: usize) -> Result<Vec<u8>, Fail> {
+/// The bytes put in these calls.
+pub fn puts(rt: &HostRuntime, calls: &[RigCall]) -> Result<Vec<u8>, Fail> {
     let mut bytes = Vec::new(rt.alloc());
-    for call in rig.calls().iter().skip(before) {
+    for call in calls {
         if let RigCall::Put(byte) = call {
             bytes.push(*byte)?;
         }
     }
     Ok(bytes)
+}
+
+/// The calls behind the first `before`.
+pub fn behind(calls: &[RigCall], before: usize) -> &[RigCall] {
+    calls.get(before..).unwrap_or(&[])
 }

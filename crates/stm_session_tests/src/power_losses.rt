@@ -5,13 +5,13 @@
 // its steps were counted by the model of tools/soak. Those of the undo are behind some steps, and
 // behind as many as settle a device that was reset and has an intent.
 use crate::devices::table;
-use crate::every_stop::is_counted;
+use crate::every_stop::{is_counted, stop};
 use crate::lost_power::lose_power;
 use crate::stop_sweeps_wide::WIDE;
-use crate::stopped_runs::{Case, Change, Start, is_as_before, start_of, stopped_run};
+use crate::stopped_runs::{Case, Change, command_of, is_behind, start_of};
 use std::test::Fail;
 use stm_chip::Table;
-use stm_session::{Fault, undo};
+use stm_session::{Command, Fault, undo};
 use stm_sim::MemoryRig;
 
 /// The stops of each undo.
@@ -45,25 +45,25 @@ fn twice_undone(
 fn comes_back(
     rt: &HostRuntime,
     table: &Table,
-    case: &Case,
-    start: &Start,
+    rig: &mut MemoryRig,
+    (case, command): (&Case, &[Command]),
     stops: (u64, u64),
 ) -> Result<bool, Fail> {
-    let (fault, mut rig) = stopped_run(rt, table, case, start, stops.0)?;
-    let count = twice_undone(rt, table, &mut rig, stops.1)?;
-    Ok(is_counted(fault) && count == 1 && is_as_before(start, rig.flash()))
+    let fault = stop(rt, table, rig, command, stops.0);
+    let count = twice_undone(rt, table, rig, stops.1)?;
+    Ok(is_counted(fault) && count == 1 && is_behind(case, 0, rig.flash()))
 }
 
 fn stops_come_back(
     rt: &HostRuntime,
     table: &Table,
-    case: &Case,
-    start: &Start,
+    case: (&Case, &[Command]),
     stops: &[u64],
 ) -> Result<(), Fail> {
     for stop in stops {
         for undone in UNDOS {
-            if !comes_back(rt, table, case, start, (*stop, undone))? {
+            let mut rig = start_of(rt, table, case.0)?;
+            if !comes_back(rt, table, &mut rig, case, (*stop, undone))? {
                 return Err(Fail::new(format_args!("stops {stop}, {undone}")));
             }
         }
@@ -115,10 +115,19 @@ const CASES: [(Case, [u64; 3]); 4] = [
     ),
 ];
 
-/// Each stop of each run, and of its undo, comes back; the test fails at the first other ones.
+fn case_comes_back(
+    rt: &HostRuntime,
+    table: &Table,
+    case: &Case,
+    stops: &[u64],
+) -> Result<(), Fail> {
+    stops_come_back(rt, table, (case, &command_of(rt, case.change)?), stops)
+}
+
+/// Each stop of each run, and of its undo, comes back; fails at the first other ones.
 fn all_come_back(rt: &HostRuntime, table: &Table) -> Result<(), Fail> {
     for (case, stops) in &CASES {
-        stops_come_back(rt, table, case, &start_of(rt, table, case)?, stops)?;
+        case_comes_back(rt, table, case, stops)?;
     }
     Ok(())
 }

@@ -1,6 +1,8 @@
 // Sessions as tables: what is done with a device, one act after another, and what is due. A test is
 // a table, since its proof then costs little.
-use crate::devices::{TABLE, device, image, puts, puts_begin, send, table, table_of};
+use crate::devices::{
+    TABLE, are_fetches, behind, device, image, puts, puts_begin, send, table, table_of,
+};
 use std::test::Fail;
 use stm_chip::Table;
 use stm_session::{
@@ -155,26 +157,16 @@ fn runs(
     })
 }
 
-/// Whether the bytes put behind the first `before` calls end with these.
-fn puts_end(rt: &HostRuntime, rig: &MemoryRig, before: usize, parts: Parts) -> Result<bool, Fail> {
+/// Whether the bytes put in these calls end with these.
+fn puts_end(rt: &HostRuntime, calls: &[RigCall], parts: Parts) -> Result<bool, Fail> {
     let bytes = made_of(rt, parts)?;
-    Ok(puts(rt, rig, before)?.ends_with(&bytes))
+    Ok(puts(rt, calls)?.ends_with(&bytes))
 }
 
-/// Whether no call behind the first `before` is a put of this byte.
-fn never_puts(rig: &MemoryRig, before: usize, byte: u8) -> bool {
-    for call in rig.calls().iter().skip(before) {
+/// Whether none of these calls is a put of this byte.
+fn never_puts(calls: &[RigCall], byte: u8) -> bool {
+    for call in calls {
         if *call == RigCall::Put(byte) {
-            return false;
-        }
-    }
-    true
-}
-
-/// Whether no call behind the first `before` is a put, a get or an append.
-fn fetches(rig: &MemoryRig, before: usize) -> bool {
-    for call in rig.calls().iter().skip(before) {
-        if *call != RigCall::Fetch {
             return false;
         }
     }
@@ -214,20 +206,27 @@ fn is_done(rig: &mut MemoryRig, act: &Act) -> bool {
     true
 }
 
-/// Tells whether what is to be is.
-fn is_so(rt: &HostRuntime, rig: &MemoryRig, before: usize, act: &Act) -> Result<bool, Fail> {
-    Ok(match act {
+/// Tells whether what is to be is, but for bytes that were put.
+fn is_so(rig: &MemoryRig, act: &Act) -> bool {
+    match act {
         Act::Flash(parts) => is_made_of(rig.flash(), parts),
         Act::Journal(parts) => is_made_of(rig.journal(), parts),
         Act::Length(size) => rig.journal().len() == *size,
         Act::Ends(bytes) => rig.journal().ends_with(bytes),
         Act::Rest(bytes) => rig.rest() == Some(*bytes),
         Act::IsGone => rig.is_gone(),
-        Act::PutsAll(bytes) => puts(rt, rig, before)?.as_slice() == *bytes,
-        Act::Puts(parts) => puts_end(rt, rig, before, parts)?,
-        Act::Begins(runs) => puts_begin(rig, before, runs),
-        Act::Never(byte) => never_puts(rig, before, *byte),
-        Act::Fetches => fetches(rig, before),
+        _ => true,
+    }
+}
+
+/// Tells whether what was to be put in these calls was.
+fn is_put(rt: &HostRuntime, calls: &[RigCall], act: &Act) -> Result<bool, Fail> {
+    Ok(match act {
+        Act::PutsAll(bytes) => puts(rt, calls)?.as_slice() == *bytes,
+        Act::Puts(parts) => puts_end(rt, calls, parts)?,
+        Act::Begins(runs) => puts_begin(calls, runs),
+        Act::Never(byte) => never_puts(calls, *byte),
+        Act::Fetches => are_fetches(calls),
         _ => true,
     })
 }
@@ -243,7 +242,7 @@ pub fn first_wrong(
     for (place, act) in acts.iter().enumerate() {
         let calls = rig.calls().len();
         let is_right = is_answered(rt, table, rig, act)? && is_done(rig, act);
-        if !is_right || !is_so(rt, rig, before, act)? {
+        if !is_right || !is_so(rig, act) || !is_put(rt, behind(rig.calls(), before), act)? {
             return Ok(Some(place));
         }
         if calls < rig.calls().len() {

@@ -1,6 +1,6 @@
 // Undoing what a journal keeps: one segment after another, all at once, after stops, and what is
 // refused.
-use crate::devices::{add_digits, answers, failed_at, only_fetched, table_of};
+use crate::devices::{add_digits, answers, are_fetches, failed_at, table_of};
 use std::test::Fail;
 use stm_chip::Table;
 use stm_session::{Fault, undo};
@@ -156,7 +156,7 @@ fn is_unknown(rt: &HostRuntime, table: &Table) -> Result<bool, Fail> {
     let journal = Vec::from_slice(rt.alloc(), b"stmjournal 1 0500\nopen 1\n")?;
     let mut rig = device(rt, 0x0412, journal)?;
     let answer = undo(rt.alloc(), &mut rig, table, 0);
-    Ok(answer == Err(Fault::UnknownChip(0x0500)) && only_fetched(&rig))
+    Ok(answer == Err(Fault::UnknownChip(0x0500)) && are_fetches(rig.calls()))
 }
 
 fn all_is_taken_back(rt: &HostRuntime, table: &Table) -> Result<(), Fail> {

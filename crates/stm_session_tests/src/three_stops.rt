@@ -2,12 +2,12 @@
 // row has the step behind which the write is stopped, that of its undo, and how many steps the next
 // undo takes, as the model of tools/soak counts them.
 use crate::devices::table;
-use crate::every_stop::is_counted;
+use crate::every_stop::{is_counted, stop};
 use crate::stop_sweeps_wide::WIDE;
-use crate::stopped_runs::{Case, Change, Start, is_as_before, start_of, stopped_run};
+use crate::stopped_runs::{Case, Change, command_of, is_behind, start_of};
 use std::test::Fail;
 use stm_chip::Table;
-use stm_session::undo;
+use stm_session::{Command, undo};
 use stm_sim::MemoryRig;
 
 /// What two undos answer behind the one that is stopped after `first` steps: the next, stopped
@@ -29,20 +29,23 @@ fn thrice_undone(
     (next.ok(), last, stopped)
 }
 
-/// What two undos answer behind the one that is stopped after so many steps: the next, stopped too,
-/// and the last; and whether the flash is as it was before the run.
+/// What two undos answer behind the run and the undo that are stopped after so many steps: the next,
+/// stopped too, and the last; and whether the flash is as it was before the run.
 fn thrice_stopped(
     rt: &HostRuntime,
     table: &Table,
-    case: &Case,
-    start: &Start,
+    rig: &mut MemoryRig,
+    (case, command): (&Case, &[Command]),
     stops: (u64, u64, u64),
-) -> Result<(Option<u32>, Option<u32>, bool), Fail> {
+) -> (Option<u32>, Option<u32>, bool) {
     let (write, first, second) = stops;
-    let (fault, mut rig) = stopped_run(rt, table, case, start, write)?;
-    let (next, last, stopped) = thrice_undone(rt, table, &mut rig, first, second);
-    let is_right = is_counted(fault) && stopped && is_as_before(start, rig.flash());
-    Ok((next, last, is_right))
+    let fault = stop(rt, table, rig, command, write);
+    let (next, last, stopped) = thrice_undone(rt, table, rig, first, second);
+    (
+        next,
+        last,
+        is_counted(fault) && stopped && is_behind(case, 0, rig.flash()),
+    )
 }
 
 /// The stops of a row come back: a stop of the run, one of its undo, and each `stride`th of the
@@ -50,8 +53,7 @@ fn thrice_stopped(
 fn row_comes_back(
     rt: &HostRuntime,
     table: &Table,
-    case: &Case,
-    start: &Start,
+    case: (&Case, &[Command]),
     row: (u64, u64, u64),
     stride: u64,
 ) -> Result<(), Fail> {
@@ -63,7 +65,8 @@ fn row_comes_back(
             } else {
                 (Some(1), Some(0), true)
             };
-            if thrice_stopped(rt, table, case, start, (write, first, second))? != due {
+            let mut rig = start_of(rt, table, case.0)?;
+            if thrice_stopped(rt, table, &mut rig, case, (write, first, second)) != due {
                 return Err(Fail::new(format_args!("stops {write}, {first}, {second}")));
             }
         }
@@ -75,13 +78,12 @@ fn row_comes_back(
 fn rows_come_back(
     rt: &HostRuntime,
     table: &Table,
-    case: &Case,
-    start: &Start,
+    case: (&Case, &[Command]),
     rows: &[(u64, u64, u64)],
     stride: u64,
 ) -> Result<(), Fail> {
     for row in rows {
-        row_comes_back(rt, table, case, start, *row, stride)?;
+        row_comes_back(rt, table, case, *row, stride)?;
     }
     Ok(())
 }
@@ -180,9 +182,31 @@ const CASES: [(Case, &[(u64, u64, u64)], u64); 3] = [
     ),
 ];
 
+fn case_comes_back(
+    rt: &HostRuntime,
+    table: &Table,
+    case: &Case,
+    rows: &[(u64, u64, u64)],
+    stride: u64,
+) -> Result<(), Fail> {
+    rows_come_back(
+        rt,
+        table,
+        (case, &command_of(rt, case.change)?),
+        rows,
+        stride,
+    )
+}
+
 fn all_come_back(rt: &HostRuntime, table: &Table) -> Result<(), Fail> {
     for (case, rows, stride) in CASES {
-        rows_come_back(rt, table, &case, &start_of(rt, table, &case)?, rows, stride)?;
+        rows_come_back(
+            rt,
+            table,
+            (&case, &command_of(rt, case.change)?),
+            rows,
+            stride,
+        )?;
     }
     Ok(())
 }
