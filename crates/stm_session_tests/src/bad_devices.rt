@@ -3,8 +3,9 @@
 ghost use Rattle.std.specs.Prelude.{◌^◌, ◌-◌};
 ghost use Rattle.stm_sim.specs.Unmodelled.{unmodelled};
 
-use crate::devices::{answers, device, failed_at, kept, table};
+use crate::devices::{answers, device, failed_at, table};
 use crate::every_stop::small_write;
+use crate::stories::{Parts, made_of};
 use std::test::Fail;
 use stm_chip::Table;
 use stm_session::{Fault, go, info, run, undo};
@@ -111,13 +112,14 @@ enum Call {
 }
 
 /// The journal before it: an undo has a segment to take back, and the others have none.
-fn journal_of(rt: &HostRuntime, call: Call) -> Result<Vec<u8>, Fail> {
+fn journal_of(call: Call) -> Parts {
     match call {
-        Call::Undo => {
-            let head = b"stmjournal 2 0A01\nopen 1\npage 5 ";
-            kept(rt, head, 256, b"\nerase 5\n")
-        }
-        _ => Ok(Vec::new(rt.alloc())),
+        Call::Undo => &[
+            (b"stmjournal 2 0A01\nopen 1\npage 5 ", 1),
+            (b"00", 256),
+            (b"\nerase 5\n", 1),
+        ],
+        _ => &[],
     }
 }
 
@@ -140,7 +142,7 @@ type Ended = (Option<Fault>, u32, u32, bool);
 
 fn ended(rt: &HostRuntime, says: Says, call: Call) -> Result<Ended, Fail> {
     let table = table(rt)?;
-    let journal = journal_of(rt, call)?;
+    let journal = made_of(rt, journal_of(call))?;
     let size = journal.len();
     let mut line = bad_line(rt, &table, says, journal)?;
     let answer = answer_of(rt, &table, &mut line, call)?;

@@ -124,23 +124,6 @@ pub fn send(rig: &mut MemoryRig, bytes: &[u8]) -> bool {
     is_sent
 }
 
-/// Adds the digits of so many bytes, each of them written by these two.
-pub fn add_digits(text: &mut Vec<u8>, digits: &[u8], size: usize) -> Result<(), Fail> {
-    for _i in 0..size {
-        text.extend_from_slice(digits)?;
-    }
-    Ok(())
-}
-
-/// A journal's text: what stands before a page's digits, the digits of so many bytes 00, and what
-/// stands behind.
-pub fn kept(rt: &HostRuntime, head: &[u8], size: usize, tail: &[u8]) -> Result<Vec<u8>, Fail> {
-    let mut text = Vec::from_slice(rt.alloc(), head)?;
-    add_digits(&mut text, b"00", size)?;
-    text.extend_from_slice(tail)?;
-    Ok(text)
-}
-
 /// Whether these are bytes of one value. A plain loop, since the sweeps look at a flash after each
 /// stop.
 pub fn is_all(bytes: &[u8], byte: u8) -> bool {

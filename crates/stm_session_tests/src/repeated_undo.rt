@@ -1,5 +1,6 @@
 // An undo that was stopped after any step is repeated, and gives back the flash.
-use crate::devices::{device, failed_at, is_all, kept, send, table};
+use crate::devices::{device, failed_at, is_all, send, table};
+use crate::stories::{Parts, made_of};
 use std::test::Fail;
 use stm_chip::Table;
 use stm_session::{Fault, undo};
@@ -17,11 +18,16 @@ fn write(rig: &mut MemoryRig) -> bool {
         && program(rig, 0x0800_0000, &page).is_ok()
 }
 
+/// The journal of that write.
+const WRITTEN: Parts = &[
+    (b"stmjournal 2 0A01\nopen 1\npage 0 ", 1),
+    (b"00", 256),
+    (b"\nerase 0\nprogram 0\nend 1\n", 1),
+];
+
 /// A settled chip 0A01 with a flash of 00, after 01 02 03 04 was written at its base.
 pub fn after_a_write(rt: &HostRuntime, table: &Table) -> Result<MemoryRig, Fail> {
-    let head = b"stmjournal 2 0A01\nopen 1\npage 0 ";
-    let journal = kept(rt, head, 256, b"\nerase 0\nprogram 0\nend 1\n")?;
-    let mut rig = device(rt, table, 0x0A01, 0x00, journal)?;
+    let mut rig = device(rt, table, 0x0A01, 0x00, made_of(rt, WRITTEN)?)?;
     if write(&mut rig) {
         Ok(rig)
     } else {

@@ -1,6 +1,7 @@
 // Undoing what a journal keeps: one segment after another, all at once, after stops, and what is
 // refused.
-use crate::devices::{add_digits, answers, are_fetches, failed_at, table_of};
+use crate::devices::{answers, are_fetches, failed_at, table_of};
+use crate::stories::{Parts, made_of};
 use std::test::Fail;
 use stm_chip::Table;
 use stm_session::{Fault, undo};
@@ -45,15 +46,23 @@ fn is_flash(bytes: &[u8], page: u8) -> bool {
     place == 2048
 }
 
-/// Two segments that keep page 5, once of bytes 0A and then of bytes 0B; and these lines.
-fn journal(rt: &HostRuntime, more: &[u8]) -> Result<Vec<u8>, Fail> {
-    let mut text = Vec::from_slice(rt.alloc(), b"stmjournal 1 0412\nopen 1\npage 5 ")?;
-    add_digits(&mut text, b"0A", 256)?;
-    text.extend_from_slice(b"\nend 1\nopen 2\npage 5 ")?;
-    add_digits(&mut text, b"0B", 256)?;
-    text.extend_from_slice(more)?;
-    Ok(text)
-}
+/// Two segments that keep page 5, once of bytes 0A and then of bytes 0B: both ended, and the newest
+/// about to be erased.
+const BOTH: Parts = &[
+    (b"stmjournal 1 0412\nopen 1\npage 5 ", 1),
+    (b"0A", 256),
+    (b"\nend 1\nopen 2\npage 5 ", 1),
+    (b"0B", 256),
+    (b"\nend 2\n", 1),
+];
+
+const BOTH_BEGUN: Parts = &[
+    (b"stmjournal 1 0412\nopen 1\npage 5 ", 1),
+    (b"0A", 256),
+    (b"\nend 1\nopen 2\npage 5 ", 1),
+    (b"0B", 256),
+    (b"\nerase 5\n", 1),
+];
 
 /// A chip of eight pages, with this id.
 fn chip(rt: &HostRuntime, id: u16) -> Result<Chip, Fail> {
@@ -61,10 +70,11 @@ fn chip(rt: &HostRuntime, id: u16) -> Result<Chip, Fail> {
     Ok(Chip::new(id, 0x0800_0000, sizes, EraseKind::Page, 0xFF).ok_or("no chip")?)
 }
 
-/// A fresh device with this id, and page 5 of bytes FF.
-fn device(rt: &HostRuntime, id: u16, journal: Vec<u8>) -> Result<MemoryRig, Fail> {
+/// A fresh device with this id, page 5 of bytes FF, and a journal.
+fn device(rt: &HostRuntime, id: u16, journal: Parts) -> Result<MemoryRig, Fail> {
+    let chip = chip(rt, id)?;
     let flash = flash(rt, 0xFF)?;
-    Ok(MemoryRig::new(rt.alloc(), chip(rt, id)?, flash, journal).ok_or("no rig")?)
+    Ok(MemoryRig::new(rt.alloc(), chip, flash, made_of(rt, journal)?).ok_or("no rig")?)
 }
 
 /// Whether undo takes so many segments back, leaves this flash, and the journal ends with these
@@ -114,8 +124,8 @@ const ROWS: [(&[u8], &[(u32, (u32, u8, &[u8]))]); 2] = [
 ];
 
 fn all_go_back(rt: &HostRuntime, table: &Table) -> Result<(), Fail> {
-    for (row, (more, undoes)) in ROWS.iter().enumerate() {
-        let mut rig = device(rt, 0x0412, journal(rt, more)?)?;
+    for (row, (journal, undoes)) in ROWS.iter().enumerate() {
+        let mut rig = device(rt, 0x0412, journal)?;
         if let Some(place) = first_other(rt, table, &mut rig, undoes) {
             return Err(Fail::new(format_args!("undo {place} of row {row}")));
         }
@@ -136,7 +146,7 @@ fn goes_on_after(rt: &HostRuntime, table: &Table, rig: &mut MemoryRig, steps: u6
 /// It goes on wherever it was stopped; fails at the first stop where it doesn't.
 fn goes_on(rt: &HostRuntime, table: &Table) -> Result<(), Fail> {
     for steps in STOPS {
-        let mut rig = device(rt, 0x0412, journal(rt, b"\nend 2\n")?)?;
+        let mut rig = device(rt, 0x0412, BOTH)?;
         if !goes_on_after(rt, table, &mut rig, steps) {
             return Err(failed_at(steps));
         }
@@ -146,15 +156,14 @@ fn goes_on(rt: &HostRuntime, table: &Table) -> Result<(), Fail> {
 
 /// Whether a device of another id is refused, and its flash stays.
 fn is_another(rt: &HostRuntime, table: &Table) -> Result<bool, Fail> {
-    let mut rig = device(rt, 0x0413, journal(rt, b"\nend 2\n")?)?;
+    let mut rig = device(rt, 0x0413, BOTH)?;
     let answer = undo(rt.alloc(), &mut rig, table, 0);
     Ok(answer == Err(Fault::OtherDevice) && is_flash(rig.flash(), 0xFF))
 }
 
 /// Whether a journal of a chip that the table hasn't is refused before a byte is sent.
 fn is_unknown(rt: &HostRuntime, table: &Table) -> Result<bool, Fail> {
-    let journal = Vec::from_slice(rt.alloc(), b"stmjournal 1 0500\nopen 1\n")?;
-    let mut rig = device(rt, 0x0412, journal)?;
+    let mut rig = device(rt, 0x0412, &[(b"stmjournal 1 0500\nopen 1\n", 1)])?;
     let answer = undo(rt.alloc(), &mut rig, table, 0);
     Ok(answer == Err(Fault::UnknownChip(0x0500)) && are_fetches(rig.calls()))
 }
