@@ -117,10 +117,10 @@ const ONE_AFTER_ANOTHER: &[(u32, (u32, u8, &[u8]))] = &[
 /// All come back.
 const ALL: &[(u32, (u32, u8, &[u8]))] = &[(7, (2, 0x0A, b"\nundone 1\n"))];
 
-/// The lines behind two segments, and the undoes there, each with what it answers and leaves.
-const ROWS: [(&[u8], &[(u32, (u32, u8, &[u8]))]); 2] = [
-    (b"\nerase 5\n", ONE_AFTER_ANOTHER),
-    (b"\nend 2\n", ALL),
+/// A journal, and the undoes there, each with what it answers and leaves.
+const ROWS: [(Parts, &[(u32, (u32, u8, &[u8]))]); 2] = [
+    (BOTH_BEGUN, ONE_AFTER_ANOTHER),
+    (BOTH, ALL),
 ];
 
 fn all_go_back(rt: &HostRuntime, table: &Table) -> Result<(), Fail> {
