@@ -3,7 +3,7 @@
 ghost use Rattle.std.specs.Prelude.{◌^◌, ◌-◌};
 ghost use Rattle.stm_sim.specs.Unmodelled.{unmodelled};
 
-use crate::devices::{answers, device, failed_at, table};
+use crate::devices::{answers, device, table};
 use crate::every_stop::small_write;
 use crate::stories::{Parts, made_of};
 use std::test::Fail;
@@ -160,12 +160,16 @@ fn ends(rt: &HostRuntime, says: Says, call: Call, puts: u32) -> Result<bool, Fai
 /// refusal comes to its code, as to that of Get.
 fn all_end(rt: &HostRuntime) -> Result<(), Fail> {
     for (place, (says, puts, undo)) in ENDS.iter().enumerate() {
-        let all = ends(rt, *says, Call::Write, *puts)?
-            && ends(rt, *says, Call::Info, *puts)?
-            && ends(rt, *says, Call::Go, *puts)?
-            && ends(rt, *says, Call::Undo, *undo)?;
-        if !all {
-            return Err(failed_at(place as u64));
+        let calls = [
+            (Call::Write, *puts),
+            (Call::Info, *puts),
+            (Call::Go, *puts),
+            (Call::Undo, *undo),
+        ];
+        for (row, (call, due)) in calls.iter().enumerate() {
+            if !ends(rt, *says, *call, *due)? {
+                return Err(Fail::new(format_args!("device {place}, call {row}")));
+            }
         }
     }
     Ok(())

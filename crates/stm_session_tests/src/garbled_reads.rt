@@ -1,6 +1,6 @@
 // A line of which one byte that comes is complemented, each of those in turn that come while a part
 // of the flash is verified or read: what comes is what is told, and none is asked for again.
-use crate::devices::{came, failed_at, image, table};
+use crate::devices::{answers, came, image, table};
 use crate::every_stop::fresh;
 use std::test::Fail;
 use stm_chip::Table;
@@ -91,8 +91,8 @@ fn count(rt: &HostRuntime, table: &Table, commands: &[Command]) -> Result<u64, F
     }
 }
 
-/// Each byte that comes while the commands read is told; the test fails at the first other one.
-fn all_are_told(rt: &HostRuntime, table: &Table, commands: &[Command]) -> Result<(), Fail> {
+/// The first byte that comes while the commands read, and isn't told.
+fn first_other(rt: &HostRuntime, table: &Table, commands: &[Command]) -> Result<Option<u64>, Fail> {
     let mut j = count(rt, table, &[])?;
     for byte in 0..COUNT {
         j = j.saturating_add(1);
@@ -101,22 +101,23 @@ fn all_are_told(rt: &HostRuntime, table: &Table, commands: &[Command]) -> Result
             None => Err(Fault::Device),
         };
         if told(rt, table, commands, j)? != due {
-            return Err(failed_at(j));
+            return Ok(Some(j));
         }
     }
     if count(rt, table, commands)? == j {
-        Ok(())
+        Ok(None)
     } else {
-        Err(failed_at(j))
+        Ok(Some(j))
     }
 }
 
-fn both_are_told(rt: &HostRuntime, table: &Table) -> Result<(), Fail> {
-    all_are_told(rt, table, &verify(rt)?)?;
-    all_are_told(rt, table, &READ)
+/// What each of both doesn't tell.
+fn both(rt: &HostRuntime, table: &Table) -> Result<(Option<u64>, Option<u64>), Fail> {
+    let verified = first_other(rt, table, &verify(rt)?)?;
+    Ok((verified, first_other(rt, table, &READ)?))
 }
 
 #[test]
 fn each_byte_of_a_verify_and_of_a_read_is_told(rt: HostRuntime) -> Result<(), Fail> {
-    both_are_told(&rt, &table(&rt)?)
+    answers(both(&rt, &table(&rt)?)?, (None, None))
 }

@@ -1,6 +1,6 @@
 // Sweeps over the stops of a run: behind each something befalls the device, and then all is taken
 // back.
-use crate::devices::{failed_at, table};
+use crate::devices::table;
 use crate::every_stop::stop;
 use crate::lost_power::lose_power;
 use crate::stopped_runs::{Case, Change, Part, Parts, command_of, is_behind, rig_before, start_of};
@@ -159,15 +159,15 @@ fn comes_back(
     Ok(fault == due && are_taken_back(rt, table, rig, case, count, depth))
 }
 
-/// At each stop of the run it answers the fault that is due, and an undo of so many segments, and
-/// the next one of all, bring the flash back; fails at the first other one.
-fn stops_come_back(
+/// The first stop of the run at which it answers another fault than is due, or an undo of so many
+/// segments, or the next one of all, doesn't bring the flash back.
+fn first_other(
     rt: &HostRuntime,
     table: &Table,
     (case, command): (&Case, &[Command]),
     start: &MemoryRig,
     (between, count, near, stride): Sweep,
-) -> Result<(), Fail> {
+) -> Result<Option<u64>, Fail> {
     for steps in 0..=total(case.parts) {
         if is_near_a_turn(case.parts, steps, near) || steps.checked_rem(stride) == Some(0) {
             let mut rig = rig_before(rt, table, case.id, start)?;
@@ -179,34 +179,37 @@ fn stops_come_back(
                 (between, count),
                 steps,
             )? {
-                return Err(failed_at(steps));
+                return Ok(Some(steps));
             }
         }
     }
-    Ok(())
+    Ok(None)
 }
 
-fn sweeps_come_back(
+/// The first sweep, and its stop, that doesn't come back.
+fn first_other_sweep(
     rt: &HostRuntime,
     table: &Table,
     case: (&Case, &[Command]),
     start: &MemoryRig,
     sweeps: &[Sweep],
-) -> Result<(), Fail> {
-    for sweep in sweeps {
-        stops_come_back(rt, table, case, start, *sweep)?;
+) -> Result<Option<(usize, u64)>, Fail> {
+    for (place, sweep) in sweeps.iter().enumerate() {
+        if let Some(steps) = first_other(rt, table, case, start, *sweep)? {
+            return Ok(Some((place, steps)));
+        }
     }
-    Ok(())
+    Ok(None)
 }
 
-fn case_comes_back(
+fn first_other_of(
     rt: &HostRuntime,
     table: &Table,
     case: &Case,
     sweeps: &[Sweep],
-) -> Result<(), Fail> {
+) -> Result<Option<(usize, u64)>, Fail> {
     let start = start_of(rt, table, case)?;
-    sweeps_come_back(
+    first_other_sweep(
         rt,
         table,
         (case, &command_of(rt, case.change)?),
@@ -222,13 +225,15 @@ fn cases_come_back(
     changes: &[(Change, Parts)],
     sweeps: &[Sweep],
 ) -> Result<(), Fail> {
-    for (change, parts) in changes {
+    for (row, (change, parts)) in changes.iter().enumerate() {
         let case = Case {
             change: *change,
             parts: *parts,
             ..*base
         };
-        case_comes_back(rt, table, &case, sweeps)?;
+        if let Some((sweep, steps)) = first_other_of(rt, table, &case, sweeps)? {
+            return Err(Fail::new(format_args!("change {row}, sweep {sweep}, step {steps}")));
+        }
     }
     Ok(())
 }
