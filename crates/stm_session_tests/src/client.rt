@@ -1,8 +1,7 @@
 // A caller that knows public contracts alone: sessions that only read, one after another, and after
 // a stop and a reset; a write; and commands that are stopped and taken back.
 use crate::devices::{
-    answers, changed, chip_of, counting, failed_at, image, is_all, is_counting, rig_of, table_of,
-    write_of,
+    answers, changed, counting, failed_at, image, is_all, is_counting, rig_of, table_of, write_of,
 };
 use crate::every_stop::stop;
 use crate::stories::{Ask, commands_of};
@@ -35,7 +34,8 @@ fn is_part(flash: &[u8], answer: Result<Report, Fault>, start: usize, length: us
 
 /// A simulator that has just been made, after its flash was read.
 fn device(rt: &HostRuntime, table: &Table) -> Result<MemoryRig, Fail> {
-    let chip = chip_of(table, 0x0412)?;
+    let chip = table.find(0x0412).ok_or("no chip")?;
+    let chip = chip.clone()?;
     let (rig, answer) = read_new(rt.alloc(), chip, counting(rt, 4096)?, table).ok_or("no rig")?;
     if is_part(rig.flash(), answer, 0, 4096) {
         Ok(rig)
