@@ -3,8 +3,9 @@
 ghost use Rattle.std.specs.Prelude.{◌^◌, ◌-◌};
 ghost use Rattle.stm_sim.specs.Unmodelled.{unmodelled};
 
-use crate::devices::{answers, device, kept, table};
+use crate::devices::{answers, device, table};
 use crate::every_stop::small_write;
+use crate::stories::{Parts, made_of};
 use std::test::Fail;
 use stm_chip::Table;
 use stm_session::{Fault, go, info, run, undo};
@@ -111,13 +112,14 @@ enum Call {
 }
 
 /// The journal before it: an undo has a segment to take back, and the others have none.
-fn journal_of(rt: &HostRuntime, call: Call) -> Result<Vec<u8>, Fail> {
+fn journal_of(call: Call) -> Parts {
     match call {
-        Call::Undo => {
-            let head = b"stmjournal 2 0A01\nopen 1\npage 5 ";
-            kept(rt, head, 256, b"\nerase 5\n")
-        }
-        _ => Ok(Vec::new(rt.alloc())),
+        Call::Undo => &[
+            (b"stmjournal 2 0A01\nopen 1\npage 5 ", 1),
+            (b"00", 256),
+            (b"\nerase 5\n", 1),
+        ],
+        _ => &[],
     }
 }
 
@@ -140,7 +142,7 @@ type Ended = (Option<Fault>, u32, u32, bool);
 
 fn ended(rt: &HostRuntime, says: Says, call: Call) -> Result<Ended, Fail> {
     let table = table(rt)?;
-    let journal = journal_of(rt, call)?;
+    let journal = made_of(rt, journal_of(call))?;
     let size = journal.len();
     let mut line = bad_line(rt, &table, says, journal)?;
     let answer = answer_of(rt, &table, &mut line, call)?;
@@ -148,45 +150,35 @@ fn ended(rt: &HostRuntime, says: Says, call: Call) -> Result<Ended, Fail> {
     Ok((answer, line.puts, line.gets, is_kept))
 }
 
-/// The call ends with each of the devices, after so many bytes; the test fails with the first where
-/// it doesn't.
-fn ends(rt: &HostRuntime, call: Call) -> Result<(), Fail> {
+/// Whether a call ends with a device, after so many bytes put, and nothing added.
+fn ends(rt: &HostRuntime, says: Says, call: Call, puts: u32) -> Result<bool, Fail> {
+    let (answer, put, _gets, is_kept) = ended(rt, says, call)?;
+    Ok(answer == Some(Fault::Device) && put == puts && is_kept)
+}
+
+/// Each call ends with each of the devices; fails with the first where it doesn't. Of `go` the
+/// refusal comes to its code, as to that of Get.
+fn all_end(rt: &HostRuntime) -> Result<(), Fail> {
     for (place, (says, puts, undo)) in ENDS.iter().enumerate() {
-        let due = match call {
-            Call::Undo => *undo,
-            _ => *puts,
-        };
-        let (answer, put, _gets, is_kept) = ended(rt, *says, call)?;
-        let found = (place, answer, put, is_kept);
-        answers(found, (place, Some(Fault::Device), due, true))?;
+        let calls = [
+            (Call::Write, *puts),
+            (Call::Info, *puts),
+            (Call::Go, *puts),
+            (Call::Undo, *undo),
+        ];
+        for (row, (call, due)) in calls.iter().enumerate() {
+            if !ends(rt, *says, *call, *due)? {
+                return Err(Fail::new(format_args!("device {place}, call {row}")));
+            }
+        }
     }
     Ok(())
 }
 
-#[test]
-fn a_write_ends(rt: HostRuntime) -> Result<(), Fail> {
-    ends(&rt, Call::Write)
-}
-
-#[test]
-fn questions_end(rt: HostRuntime) -> Result<(), Fail> {
-    ends(&rt, Call::Info)
-}
-
-// The refusal comes to the code of Go, as to that of Get.
-#[test]
-fn leaving_ends(rt: HostRuntime) -> Result<(), Fail> {
-    ends(&rt, Call::Go)
-}
-
-#[test]
-fn an_undo_ends(rt: HostRuntime) -> Result<(), Fail> {
-    ends(&rt, Call::Undo)
-}
-
 // A draining takes 4,096 bytes; one more ends the session.
 #[test]
-fn a_talking_device_is_left(rt: HostRuntime) -> Result<(), Fail> {
+fn each_session_with_a_bad_device_ends(rt: HostRuntime) -> Result<(), Fail> {
+    all_end(&rt)?;
     let due = (Some(Fault::Device), 0, 4097, true);
     answers(ended(&rt, Says::Chatter, Call::Info)?, due)
 }

@@ -1,10 +1,12 @@
 // A caller that knows public contracts alone: sessions that only read, one after another, and after
 // a stop and a reset; a write; and commands that are stopped and taken back.
-use crate::devices::{answers, changed, counting, failed_at, image, is_all, is_counting, rig_of};
+use crate::devices::{
+    answers, changed, counting, failed_at, image, is_all, is_counting, rig_of, table_of, write_of,
+};
 use crate::every_stop::stop;
 use crate::stories::{Ask, commands_of};
 use std::test::Fail;
-use stm_chip::{Table, read_table};
+use stm_chip::Table;
 use stm_client::{
     change_kept, lose_power, read, read_again, read_flash, read_new, read_twice, take_back_kept,
     take_back_stopped, take_back_unpowered, tell, write_whole,
@@ -16,36 +18,11 @@ use stm_sim::MemoryRig;
 const TABLE: &str =
     "[[chip]]\nid = 0x412\nbase = 0x08000000\npages = [[4, 1024]]\nerase = \"page\"\n";
 
-fn table(rt: &HostRuntime) -> Result<Table, Fail> {
-    match read_table(rt.alloc(), TABLE.as_bytes()) {
-        Ok(table) => Ok(table),
-        Err(_) => Err(Fail::new("no table")),
-    }
-}
-
-/// A simulator that has just been made, after its flash was read.
-fn device(rt: &HostRuntime, table: &Table) -> Result<MemoryRig, Fail> {
-    let flash = counting(rt, 4096)?;
-    let chip = table.find(0x0412).ok_or("no chip")?;
-    let chip = chip.clone()?;
-    let (rig, answer) = read_new(rt.alloc(), chip, flash, table).ok_or("no rig")?;
-    if is_whole(rig.flash(), answer) {
-        Ok(rig)
-    } else {
-        Err(Fail::new("another flash"))
-    }
-}
-
-/// Whether a reading answers a whole flash.
-fn is_whole(flash: &[u8], answer: Result<Report, Fault>) -> bool {
-    match answer {
-        Ok(report) => is_part(flash, &report, 0, 4096),
-        Err(_) => false,
-    }
-}
-
-/// Whether the outcome is so many bytes of a flash, from a place on.
-fn is_part(flash: &[u8], report: &Report, start: usize, length: usize) -> bool {
+/// Whether the only outcome is so many bytes of a flash, from a place on.
+fn is_part(flash: &[u8], answer: Result<Report, Fault>, start: usize, length: usize) -> bool {
+    let Ok(report) = answer else {
+        return false;
+    };
     match report.outcomes.as_slice() {
         [Outcome::Read(bytes)] => {
             let held = flash.get(start..).unwrap_or(&[]);
@@ -55,90 +32,80 @@ fn is_part(flash: &[u8], report: &Report, start: usize, length: usize) -> bool {
     }
 }
 
-fn is_told(rt: &HostRuntime, rig: &mut MemoryRig, table: &Table) -> Result<bool, Fail> {
-    let told = tell(rt.alloc(), rig, table)?;
-    Ok((told.id, told.base, told.size) == (0x0412, 0x0800_0000, 4096))
+/// A simulator that has just been made, after its flash was read.
+fn device(rt: &HostRuntime, table: &Table) -> Result<MemoryRig, Fail> {
+    let chip = table.find(0x0412).ok_or("no chip")?;
+    let chip = chip.clone()?;
+    let (rig, answer) = read_new(rt.alloc(), chip, counting(rt, 4096)?, table).ok_or("no rig")?;
+    if is_part(rig.flash(), answer, 0, 4096) {
+        Ok(rig)
+    } else {
+        Err(Fail::new("another flash"))
+    }
 }
 
-fn is_read(rt: &HostRuntime, rig: &mut MemoryRig, table: &Table) -> Result<bool, Fail> {
-    let commands = [Command::Read {
-        start: 0x0800_03FE,
-        length: 4,
-    }];
-    let report = read(rt.alloc(), rig, table, &commands)?;
-    Ok(is_part(rig.flash(), &report, 0x03FE, 4))
+fn is_told(rt: &HostRuntime, rig: &mut MemoryRig, table: &Table) -> bool {
+    match tell(rt.alloc(), rig, table) {
+        Ok(told) => (told.id, told.base, told.size) == (0x0412, 0x0800_0000, 4096),
+        Err(_) => false,
+    }
 }
 
-fn are_read(rt: &HostRuntime, rig: &mut MemoryRig, table: &Table) -> Result<bool, Fail> {
-    let first = [Command::Read {
-        start: 0x0800_03FE,
-        length: 4,
-    }];
-    let second = [Command::Read {
-        start: 0x0800_0FFF,
-        length: 1,
-    }];
-    let (one, two) = read_twice(rt.alloc(), rig, table, &first, &second)?;
-    Ok(is_part(rig.flash(), &one, 0x03FE, 4) && is_part(rig.flash(), &two, 0x0FFF, 1))
+/// Four bytes across the edge of pages 0 and 1, and the last one.
+const FIRST: [Command; 1] = [Command::Read {
+    start: 0x0800_03FE,
+    length: 4,
+}];
+
+const SECOND: [Command; 1] = [Command::Read {
+    start: 0x0800_0FFF,
+    length: 1,
+}];
+
+fn is_read(rt: &HostRuntime, rig: &mut MemoryRig, table: &Table) -> bool {
+    let answer = read(rt.alloc(), rig, table, &FIRST);
+    is_part(rig.flash(), answer, 0x03FE, 4)
 }
 
-fn is_read_whole(rt: &HostRuntime, rig: &mut MemoryRig, table: &Table) -> Result<bool, Fail> {
-    let report = read_flash(rt.alloc(), rig, table)?;
-    Ok(is_part(rig.flash(), &report, 0, 4096))
+fn are_read(rt: &HostRuntime, rig: &mut MemoryRig, table: &Table) -> bool {
+    match read_twice(rt.alloc(), rig, table, &FIRST, &SECOND) {
+        Ok((one, two)) => {
+            is_part(rig.flash(), Ok(one), 0x03FE, 4) && is_part(rig.flash(), Ok(two), 0x0FFF, 1)
+        }
+        Err(_) => false,
+    }
 }
 
-/// Four sessions each answer what is due, and the flash is as it was.
-fn follow(rt: &HostRuntime, rig: &mut MemoryRig, table: &Table) -> Result<(), Fail> {
-    let told = is_told(rt, rig, table)?;
-    let read = is_read(rt, rig, table)?;
-    let twice = are_read(rt, rig, table)?;
-    let whole = is_read_whole(rt, rig, table)?;
-    let stays = is_counting(rig.flash());
-    answers(
-        (told, read, twice, whole, stays),
-        (true, true, true, true, true),
-    )
+fn is_read_whole(rt: &HostRuntime, rig: &mut MemoryRig, table: &Table) -> bool {
+    let answer = read_flash(rt.alloc(), rig, table);
+    is_part(rig.flash(), answer, 0, 4096)
 }
 
-#[test]
-fn sessions_follow_one_another(rt: HostRuntime) -> Result<(), Fail> {
-    let table = table(&rt)?;
-    follow(&rt, &mut device(&rt, &table)?, &table)
+/// What four sessions answer, and whether the flash is then as it was.
+fn follow(rt: &HostRuntime, rig: &mut MemoryRig, table: &Table) -> [bool; 5] {
+    let told = is_told(rt, rig, table);
+    let read = is_read(rt, rig, table);
+    let twice = are_read(rt, rig, table);
+    let whole = is_read_whole(rt, rig, table);
+    [told, read, twice, whole, is_counting(rig.flash())]
 }
 
 /// Whether the flash is read whole behind a session that was stopped after so many steps, and a
 /// reset.
-fn is_read_again(
-    rt: &HostRuntime,
-    rig: &mut MemoryRig,
-    table: &Table,
-    steps: u64,
-) -> Result<bool, Fail> {
-    let report = read_again(rt.alloc(), rig, table, steps)?;
-    Ok(is_part(rig.flash(), &report, 0, 4096) && is_counting(rig.flash()))
+fn is_read_again(rt: &HostRuntime, rig: &mut MemoryRig, table: &Table, steps: u64) -> bool {
+    let answer = read_again(rt.alloc(), rig, table, steps);
+    is_part(rig.flash(), answer, 0, 4096) && is_counting(rig.flash())
 }
 
-/// The flash of one device is read whole behind each of these stops; the test fails at the first
-/// where it isn't.
-fn is_always_read(
-    rt: &HostRuntime,
-    rig: &mut MemoryRig,
-    table: &Table,
-    stops: &[u64],
-) -> Result<(), Fail> {
-    for steps in stops {
-        if !is_read_again(rt, rig, table, *steps)? {
-            return Err(failed_at(*steps));
+/// The flash of one device is read whole behind each of some stops; fails at the first where it
+/// isn't.
+fn is_always_read(rt: &HostRuntime, rig: &mut MemoryRig, table: &Table) -> Result<(), Fail> {
+    for steps in [0, 1, 4, 9, 30, 700, 100_000] {
+        if !is_read_again(rt, rig, table, steps) {
+            return Err(failed_at(steps));
         }
     }
     Ok(())
-}
-
-#[test]
-fn a_session_follows_one_that_was_stopped(rt: HostRuntime) -> Result<(), Fail> {
-    let table = table(&rt)?;
-    let stops = [0, 1, 4, 9, 30, 700, 100_000];
-    is_always_read(&rt, &mut device(&rt, &table)?, &table, &stops)
 }
 
 /// A simulator of the table's chip, on which nothing was begun.
@@ -164,45 +131,45 @@ fn is_written(flash: &[u8]) -> bool {
 }
 
 /// What the only outcome tells.
-fn told_of(report: Report) -> Option<(u32, u32)> {
+fn told_of(answer: Result<Report, Fault>) -> Option<(u32, u32)> {
+    let Ok(report) = answer else {
+        return None;
+    };
     match report.outcomes.as_slice() {
         [outcome] => changed(Some(outcome)),
         _ => None,
     }
 }
 
-/// What a write of two bytes answers.
-fn write_two(
-    rt: &HostRuntime,
-    rig: &mut MemoryRig,
-    table: &Table,
-) -> Result<Option<(u32, u32)>, Fail> {
+/// Whether a write of two bytes tells of one segment and two pages, and leaves every other byte.
+fn is_laid(rt: &HostRuntime, rig: &mut MemoryRig, table: &Table) -> Result<bool, Fail> {
     let image = image(rt, &[0xA5, 0x5A], 0x0800_03FF)?;
-    Ok(told_of(write_whole(rt.alloc(), rig, table, image)?))
+    let told = told_of(write_whole(rt.alloc(), rig, table, image));
+    Ok(told == Some((1, 2)) && is_written(rig.flash()))
 }
 
-#[test]
-fn a_write_leaves_every_other_byte(rt: HostRuntime) -> Result<(), Fail> {
-    let table = table(&rt)?;
-    let mut rig = fresh_device(&rt, &table)?;
-    let told = write_two(&rt, &mut rig, &table)?;
-    answers((told, is_written(rig.flash())), (Some((1, 2)), true))
-}
-
-/// A write of two bytes tells of one segment and two pages, leaves these, and is taken back.
-fn is_kept(rt: &HostRuntime, rig: &mut MemoryRig, table: &Table) -> Result<(), Fail> {
-    let commands = commands_of(rt, &[Ask::Write(0x0800_03FF, &[0xA5, 0x5A])])?;
-    let told = told_of(change_kept(rt.alloc(), rig, table, &commands)?);
+/// Whether it tells the same where it is kept, and is taken back.
+fn is_kept(rt: &HostRuntime, rig: &mut MemoryRig, table: &Table) -> Result<bool, Fail> {
+    let commands = write_of(rt, &[0xA5, 0x5A], 0x0800_03FF)?;
+    let told = told_of(change_kept(rt.alloc(), rig, table, &commands));
     let is_there = is_written(rig.flash());
-    let taken = take_back_kept(rt.alloc(), rig, table, 0)?;
-    let found = (told, is_there, taken, is_counting(rig.flash()));
-    answers(found, (Some((1, 2)), true, 1, true))
+    let taken = take_back_kept(rt.alloc(), rig, table, 0);
+    Ok(told == Some((1, 2)) && is_there && taken == Ok(1) && is_counting(rig.flash()))
+}
+
+fn sessions_follow(rt: &HostRuntime, table: &Table) -> Result<(), Fail> {
+    answers(follow(rt, &mut device(rt, table)?, table), [true; 5])?;
+    is_always_read(rt, &mut device(rt, table)?, table)?;
+    let laid = is_laid(rt, &mut fresh_device(rt, table)?, table)?;
+    answers(
+        (laid, is_kept(rt, &mut fresh_device(rt, table)?, table)?),
+        (true, true),
+    )
 }
 
 #[test]
-fn a_kept_change_is_taken_back(rt: HostRuntime) -> Result<(), Fail> {
-    let table = table(&rt)?;
-    is_kept(&rt, &mut fresh_device(&rt, &table)?, &table)
+fn sessions_follow_one_another(rt: HostRuntime) -> Result<(), Fail> {
+    sessions_follow(&rt, &table_of(&rt, TABLE)?)
 }
 
 /// A write and an erase.
@@ -210,65 +177,75 @@ const BOTH: &[Ask] = &[Ask::Write(0x0800_03FF, &[0xA5, 0x5A]), Ask::Erase(&[1, 3
 
 /// How many segments are taken back after both that were stopped after so many steps, and whether
 /// the flash is back.
-fn taken_back(rt: &HostRuntime, table: &Table, steps: u64) -> Result<(u32, bool), Fail> {
-    let commands = commands_of(rt, BOTH)?;
+fn taken_back(
+    rt: &HostRuntime,
+    table: &Table,
+    commands: &[Command],
+    steps: u64,
+) -> Result<(Option<u32>, bool), Fail> {
     let mut rig = fresh_device(rt, table)?;
-    let taken = take_back_stopped(rt.alloc(), &mut rig, table, &commands, steps)?;
+    let taken = take_back_stopped(rt.alloc(), &mut rig, table, commands, steps).ok();
+    Ok((taken, is_counting(rig.flash())))
+}
+
+/// The same where the device loses its power behind the stop, after which the page of the command
+/// at work holds other bytes.
+fn taken_back_unpowered(
+    rt: &HostRuntime,
+    table: &Table,
+    commands: &[Command],
+    steps: u64,
+) -> Result<(Option<u32>, bool), Fail> {
+    let mut rig = fresh_device(rt, table)?;
+    let page = [0x6B; 1024];
+    let taken = take_back_unpowered(rt.alloc(), &mut rig, table, commands, steps, &page).ok();
     Ok((taken, is_counting(rig.flash())))
 }
 
 /// The stops of both, and how many segments are then taken back.
 const STOPS: [(u64, u32); 5] = [(10, 0), (4_000, 1), (8_000, 1), (12_000, 2), (1_000_000, 2)];
 
-fn all_are_taken_back(rt: &HostRuntime, table: &Table) -> Result<(), Fail> {
+fn all_are_taken_back(rt: &HostRuntime, table: &Table, commands: &[Command]) -> Result<(), Fail> {
     for (steps, taken) in STOPS {
-        let (count, is_back) = taken_back(rt, table, steps)?;
-        answers((steps, count, is_back), (steps, taken, true))?;
+        let due = (Some(taken), true);
+        let is_right = taken_back(rt, table, commands, steps)? == due
+            && taken_back_unpowered(rt, table, commands, steps)? == due;
+        if !is_right {
+            return Err(failed_at(steps));
+        }
     }
     Ok(())
+}
+
+/// Whether a loss of power behind so many steps leaves other bytes in the page at work.
+fn is_spoilt(
+    rt: &HostRuntime,
+    table: &Table,
+    commands: &[Command],
+    steps: u64,
+) -> Result<bool, Fail> {
+    let mut rig = fresh_device(rt, table)?;
+    let stopped = stop(rt, table, &mut rig, commands, steps);
+    let is_lost = lose_power(rt.alloc(), &mut rig, &[0x6B; 1024]).is_ok();
+    let page = rig.flash().get(1024..2048).unwrap_or(&[]);
+    Ok(stopped.is_some() && is_lost && is_all(page, 0x6B))
+}
+
+/// It does in an erase, and not before it.
+fn are_spoilt(rt: &HostRuntime, table: &Table, commands: &[Command]) -> Result<(), Fail> {
+    let early = is_spoilt(rt, table, commands, 10)?;
+    answers(
+        (early, is_spoilt(rt, table, commands, 4_000)?),
+        (false, true),
+    )
+}
+
+fn stops_are_taken_back(rt: &HostRuntime, table: &Table) -> Result<(), Fail> {
+    all_are_taken_back(rt, table, &commands_of(rt, BOTH)?)?;
+    are_spoilt(rt, table, &commands_of(rt, &[Ask::Erase(&[1, 3])])?)
 }
 
 #[test]
 fn commands_that_are_stopped_are_taken_back(rt: HostRuntime) -> Result<(), Fail> {
-    all_are_taken_back(&rt, &table(&rt)?)
-}
-
-/// The same where the device loses its power behind the stop, after which the page of the command
-/// at work holds other bytes.
-fn taken_back_unpowered(rt: &HostRuntime, table: &Table, steps: u64) -> Result<(u32, bool), Fail> {
-    let commands = commands_of(rt, BOTH)?;
-    let mut rig = fresh_device(rt, table)?;
-    let page = [0x6B; 1024];
-    let taken = take_back_unpowered(rt.alloc(), &mut rig, table, &commands, steps, &page)?;
-    Ok((taken, is_counting(rig.flash())))
-}
-
-fn all_are_taken_back_unpowered(rt: &HostRuntime, table: &Table) -> Result<(), Fail> {
-    for (steps, taken) in STOPS {
-        let (count, is_back) = taken_back_unpowered(rt, table, steps)?;
-        answers((steps, count, is_back), (steps, taken, true))?;
-    }
-    Ok(())
-}
-
-#[test]
-fn commands_that_lost_their_power_are_taken_back(rt: HostRuntime) -> Result<(), Fail> {
-    all_are_taken_back_unpowered(&rt, &table(&rt)?)
-}
-
-/// Whether a loss of power behind so many steps leaves other bytes in a page.
-fn is_spoilt(rt: &HostRuntime, table: &Table, steps: u64) -> Result<bool, Fail> {
-    let commands = commands_of(rt, &[Ask::Erase(&[1, 3])])?;
-    let mut rig = fresh_device(rt, table)?;
-    let stopped = stop(rt, table, &mut rig, &commands, steps);
-    lose_power(rt.alloc(), &mut rig, &[0x6B; 1024])?;
-    let page = rig.flash().get(1024..2048).unwrap_or(&[]);
-    Ok(stopped.is_some() && is_all(page, 0x6B))
-}
-
-#[test]
-fn a_loss_of_power_leaves_other_bytes_in_the_page_at_work(rt: HostRuntime) -> Result<(), Fail> {
-    let table = table(&rt)?;
-    let early = is_spoilt(&rt, &table, 10)?;
-    answers((early, is_spoilt(&rt, &table, 4_000)?), (false, true))
+    stops_are_taken_back(&rt, &table_of(&rt, TABLE)?)
 }

@@ -1,7 +1,7 @@
 // A device that a session asks once more which board it is: the one that its chip is of, another one,
 // or one that refuses to tell.
 use crate::asking_board::table;
-use crate::devices::{self, chip_of, device, is_all, is_same, passes, puts, write_of};
+use crate::devices::{self, answers, behind, chip_of, device, is_all, is_same, puts, write_of};
 use std::test::Fail;
 use stm_chip::Table;
 use stm_session::{Command, Fault, run, undo};
@@ -48,39 +48,48 @@ fn is_as_it_was(rig: &MemoryRig, journal: &[u8]) -> bool {
     is_all(rig.flash(), 0xFF) && is_same(rig.journal(), journal)
 }
 
-/// Whether a write and an undo of the board 0A are refused at the board of this table, and change
-/// nothing there.
-fn is_refused(rt: &HostRuntime, there: &Table, begun: &[u8]) -> Result<bool, Fail> {
-    let own = table_at(rt, 0x0A)?;
-    let write = write(rt)?;
-    for journal in [b"".as_slice(), HEADER] {
-        let mut rig = board(rt, there, journal)?;
-        let ran = run(rt.alloc(), &mut rig, &own, &write);
-        if ran.err() != Some(Fault::BoardChanged) || !is_as_it_was(&rig, journal) {
-            return Ok(false);
-        }
-    }
-    let mut rig = board(rt, there, begun)?;
-    let undone = undo(rt.alloc(), &mut rig, &own, 0);
-    Ok(undone == Err(Fault::BoardChanged) && is_as_it_was(&rig, begun))
+/// Whether a write of the board 0A is refused at the board of this table, with this journal, and
+/// changes nothing there.
+fn write_is_refused(
+    rt: &HostRuntime,
+    (own, there): (&Table, &Table),
+    command: &[Command],
+    journal: &[u8],
+) -> Result<bool, Fail> {
+    let mut rig = board(rt, there, journal)?;
+    let ran = run(rt.alloc(), &mut rig, own, command).err();
+    Ok(ran == Some(Fault::BoardChanged) && is_as_it_was(&rig, journal))
 }
 
-// The board 0B tells another unique id, and the simulator of a chip without a place refuses the read.
-#[test]
-fn another_board_is_refused_in_the_session(rt: HostRuntime) -> Result<(), Fail> {
-    let own = table_at(&rt, 0x0A)?;
-    let mut rig = board(&rt, &own, b"")?;
-    run(rt.alloc(), &mut rig, &own, &write(&rt)?)?;
-    for there in [table_at(&rt, 0x0B)?, devices::table(&rt)?] {
-        passes(is_refused(&rt, &there, rig.journal())?)?;
-    }
-    Ok(())
+/// The same of an undo.
+fn undo_is_refused(
+    rt: &HostRuntime,
+    (own, there): (&Table, &Table),
+    journal: &[u8],
+) -> Result<bool, Fail> {
+    let mut rig = board(rt, there, journal)?;
+    let undone = undo(rt.alloc(), &mut rig, own, 0);
+    Ok(undone == Err(Fault::BoardChanged) && is_as_it_was(&rig, journal))
 }
 
-/// How many bytes were put before the first that was added to the journal, behind so many calls.
-fn put_before_a_line(rig: &MemoryRig, before: usize) -> usize {
+/// Whether each is refused at the board of a table; the undo is of a journal of a write.
+fn all_is_refused(
+    rt: &HostRuntime,
+    tables: (&Table, &Table),
+    command: &[Command],
+    begun: &[u8],
+) -> Result<bool, Fail> {
+    Ok(
+        write_is_refused(rt, tables, command, b"")?
+            && write_is_refused(rt, tables, command, HEADER)?
+            && undo_is_refused(rt, tables, begun)?,
+    )
+}
+
+/// How many bytes were put before the first that was added to the journal.
+fn put_before_a_line(calls: &[RigCall]) -> usize {
     let mut count = 0_usize;
-    for call in rig.calls().iter().skip(before) {
+    for call in calls {
         match call {
             RigCall::Put(_) => count = count.saturating_add(1),
             RigCall::Append(_) => return count,
@@ -90,27 +99,77 @@ fn put_before_a_line(rig: &MemoryRig, before: usize) -> usize {
     count
 }
 
-/// Where the bytes put behind so many calls ask which board it is, and then for page 1.
-fn asked_at(rt: &HostRuntime, rig: &MemoryRig, before: usize) -> Result<Option<usize>, Fail> {
-    let bytes = puts(rt, rig, before)?;
-    let Some(start) = bytes.iter().position(|byte| *byte == 0x00) else {
-        return Ok(None);
-    };
+/// How many bytes stand before the first 00.
+fn before_zero(bytes: &[u8]) -> usize {
+    let mut count = 0_usize;
+    for byte in bytes {
+        if *byte == 0x00 {
+            return count;
+        }
+        count = count.saturating_add(1);
+    }
+    count
+}
+
+/// Where these bytes, which were put, ask which board it is, and then for page 1.
+fn asked_at(bytes: &[u8]) -> Option<usize> {
+    let start = before_zero(bytes);
     let frames = bytes.get(start..).unwrap_or(&[]);
     let behind = frames.get(ASKED.len()..).unwrap_or(&[]);
     let is_asked = frames.starts_with(&ASKED) && behind.starts_with(&PAGE_ASKED);
-    Ok(is_asked.then_some(start))
+    is_asked.then_some(start)
 }
 
-// The question comes behind Get and Get ID, before the first line and the first frame of a command.
+/// Whether the question comes behind Get and Get ID, before the first line and the first frame of a
+/// command, and again of its undo.
+fn is_asked(
+    rt: &HostRuntime,
+    own: &Table,
+    rig: &mut MemoryRig,
+    command: &[Command],
+) -> Result<bool, Fail> {
+    let is_written = run(rt.alloc(), rig, own, command).is_ok();
+    let start = asked_at(&puts(rt, rig.calls())?);
+    let is_first = match start {
+        Some(at) => put_before_a_line(rig.calls()) == at.saturating_add(ASKED.len()),
+        None => false,
+    };
+    let before = rig.calls().len();
+    let is_undone = undo(rt.alloc(), rig, own, 0).is_ok();
+    let is_asked_again = asked_at(&puts(rt, behind(rig.calls(), before))?).is_some();
+    Ok(is_written && is_first && is_undone && is_asked_again && is_all(rig.flash(), 0xFF))
+}
+
+/// What is found of the board 0A, of the board 0B, which tells another unique id, and of a simulator
+/// of a chip without a place, which refuses the read; with a journal that was begun.
+fn found(
+    rt: &HostRuntime,
+    own: &Table,
+    command: &[Command],
+    begun: &[u8],
+) -> Result<(bool, bool, bool), Fail> {
+    let asked = is_asked(rt, own, &mut board(rt, own, b"")?, command)?;
+    let other = all_is_refused(rt, (own, &table_at(rt, 0x0B)?), command, begun)?;
+    let untold = all_is_refused(rt, (own, &devices::table(rt)?), command, begun)?;
+    Ok((asked, other, untold))
+}
+
+fn confirms(
+    rt: &HostRuntime,
+    own: &Table,
+    rig: &mut MemoryRig,
+    command: &[Command],
+) -> Result<(), Fail> {
+    let is_written = run(rt.alloc(), rig, own, command).is_ok();
+    let found = found(rt, own, command, rig.journal())?;
+    answers((is_written, found), (true, (true, true, true)))
+}
+
+fn all_is_confirmed(rt: &HostRuntime, own: &Table) -> Result<(), Fail> {
+    confirms(rt, own, &mut board(rt, own, b"")?, &write(rt)?)
+}
+
 #[test]
 fn the_board_is_asked_before_a_command(rt: HostRuntime) -> Result<(), Fail> {
-    let own = table_at(&rt, 0x0A)?;
-    let mut rig = board(&rt, &own, b"")?;
-    run(rt.alloc(), &mut rig, &own, &write(&rt)?)?;
-    let start = asked_at(&rt, &rig, 0)?.ok_or("not asked")?;
-    passes(put_before_a_line(&rig, 0) == start.saturating_add(ASKED.len()))?;
-    let before = rig.calls().len();
-    undo(rt.alloc(), &mut rig, &own, 0)?;
-    passes(asked_at(&rt, &rig, before)?.is_some() && is_all(rig.flash(), 0xFF))
+    all_is_confirmed(&rt, &table_at(&rt, 0x0A)?)
 }

@@ -9,7 +9,7 @@ use stm_wire::{Chip, Rig, RigCall};
 
 /// Chips 0410 and 0412 of the sample table, and four for tests: 0A01 and 0A02, erased by 44, 0A03,
 /// whose erased byte is 00, and 0A05, whose pages have 2,048 bytes.
-const TABLE: &str = r#"
+pub const TABLE: &str = r#"
 [[chip]]
 id = 0x410
 base = 0x08000000
@@ -71,11 +71,17 @@ pub fn failed_at(number: u64) -> Fail {
     Fail::new(format_args!("something else than is due at {number}"))
 }
 
-pub fn table(rt: &HostRuntime) -> Result<Table, Fail> {
-    match read_table(rt.alloc(), TABLE.as_bytes()) {
+/// The table of this text.
+pub fn table_of(rt: &HostRuntime, text: &str) -> Result<Table, Fail> {
+    match read_table(rt.alloc(), text.as_bytes()) {
         Ok(table) => Ok(table),
         Err(_) => Err(Fail::new("no table")),
     }
+}
+
+/// The sample table.
+pub fn table(rt: &HostRuntime) -> Result<Table, Fail> {
+    table_of(rt, TABLE)
 }
 
 /// This chip of the table.
@@ -116,23 +122,6 @@ pub fn send(rig: &mut MemoryRig, bytes: &[u8]) -> bool {
         is_sent = is_sent && rig.put(*byte).is_ok();
     }
     is_sent
-}
-
-/// Adds the digits of so many bytes, each of them written by these two.
-pub fn add_digits(text: &mut Vec<u8>, digits: &[u8], size: usize) -> Result<(), Fail> {
-    for _i in 0..size {
-        text.extend_from_slice(digits)?;
-    }
-    Ok(())
-}
-
-/// A journal's text: what stands before a page's digits, the digits of so many bytes 00, and what
-/// stands behind.
-pub fn kept(rt: &HostRuntime, head: &[u8], size: usize, tail: &[u8]) -> Result<Vec<u8>, Fail> {
-    let mut text = Vec::from_slice(rt.alloc(), head)?;
-    add_digits(&mut text, b"00", size)?;
-    text.extend_from_slice(tail)?;
-    Ok(text)
 }
 
 /// Whether these are bytes of one value. A plain loop, since the sweeps look at a flash after each
@@ -179,39 +168,55 @@ pub fn is_counting(bytes: &[u8]) -> bool {
     true
 }
 
-/// Whether the bytes put behind the first `before` calls begin with these: each of them so often,
-/// one after another.
-pub fn puts_begin(rig: &MemoryRig, before: usize, runs: &[(u8, u32)]) -> bool {
-    let mut due = runs.iter();
-    let mut byte = 0x00;
-    let mut left = 0_u32;
-    for call in rig.calls().iter().skip(before) {
+/// Whether the bytes put in these calls begin with these: each of them so often, one after another.
+pub fn puts_begin(calls: &[RigCall], runs: &[(u8, u32)]) -> bool {
+    let mut run = 0_usize;
+    let mut count = 0_u32;
+    for call in calls {
         if let RigCall::Put(put) = call {
-            if left == 0 {
-                let Some(run) = due.next() else {
-                    return true;
-                };
-                byte = run.0;
-                left = run.1;
-            }
-            if *put != byte {
+            let Some((byte, times)) = runs.get(run) else {
+                return true;
+            };
+            if *put != *byte {
                 return false;
             }
-            left = left.saturating_sub(1);
+            count = count.saturating_add(1);
+            if count >= *times {
+                run = run.saturating_add(1);
+                count = 0;
+            }
         }
     }
-    left == 0 && due.next().is_none()
+    run >= runs.len()
 }
 
-/// Whether no byte was put or awaited, and none added to the journal.
-pub fn only_fetched(rig: &MemoryRig) -> bool {
-    rig.calls().iter().all(|call| *call == RigCall::Fetch)
+/// How many bytes came in these calls.
+pub fn came(calls: &[RigCall]) -> u64 {
+    let mut count = 0_u64;
+    for call in calls {
+        if matches!(call, RigCall::Get(Some(_))) {
+            count = count.saturating_add(1);
+        }
+    }
+    count
+}
+
+/// Whether none of these calls is a put, a get or an append.
+pub fn are_fetches(calls: &[RigCall]) -> bool {
+    for call in calls {
+        if *call != RigCall::Fetch {
+            return false;
+        }
+    }
+    true
 }
 
 /// An image of these bytes, from an address on.
 pub fn image(rt: &HostRuntime, bytes: &[u8], start: u32) -> Result<Image, Fail> {
-    let image = read_raw(rt.alloc(), bytes, start).map_err(|_| "no image")?;
-    Ok(image)
+    match read_raw(rt.alloc(), bytes, start) {
+        Ok(image) => Ok(image),
+        Err(_) => Err(Fail::new("no image")),
+    }
 }
 
 /// A write of these bytes, from an address on.
@@ -233,13 +238,18 @@ pub fn changed(outcome: Option<&Outcome>) -> Option<(u32, u32)> {
     }
 }
 
-/// The bytes put behind the first `before` calls.
-pub fn puts(rt: &HostRuntime, rig: &MemoryRig, before: usize) -> Result<Vec<u8>, Fail> {
+/// The bytes put in these calls.
+pub fn puts(rt: &HostRuntime, calls: &[RigCall]) -> Result<Vec<u8>, Fail> {
     let mut bytes = Vec::new(rt.alloc());
-    for call in rig.calls().iter().skip(before) {
+    for call in calls {
         if let RigCall::Put(byte) = call {
             bytes.push(*byte)?;
         }
     }
     Ok(bytes)
+}
+
+/// The calls behind the first `before`.
+pub fn behind(calls: &[RigCall], before: usize) -> &[RigCall] {
+    calls.get(before..).unwrap_or(&[])
 }

@@ -4,7 +4,7 @@
 // takes 1,141 steps: settling 5, Get 15, Get ID 7, the header and `open 1` 25, reading the page
 // 268, its line 520, `erase 0` 8, the erase frame 9, `program 0` 10, the write frame 268, `end 1`
 // 6.
-use crate::devices::{device, failed_at, is_all, passes, table, write_of};
+use crate::devices::{device, failed_at, is_all, table, write_of};
 use std::test::Fail;
 use stm_chip::Table;
 use stm_session::{Command, Fault, run, undo};
@@ -65,45 +65,34 @@ fn comes_back(rt: &HostRuntime, table: &Table, steps: u64, segments: u32) -> Res
     Ok(is_counted(fault) && taken == Ok(segments) && is_all(rig.flash(), 0x00))
 }
 
-/// Behind each number of steps, of these, the write is stopped, and so many segments come back; the
-/// test fails at the first other one.
-fn all_come_back(rt: &HostRuntime, from: u64, to: u64, segments: u32) -> Result<(), Fail> {
-    let table = table(rt)?;
-    for steps in from..to {
-        if !comes_back(rt, &table, steps, segments)? {
-            return Err(failed_at(steps));
-        }
-    }
-    Ok(())
-}
-
 /// Whether the write's bytes stand there, and every other is as it was.
 fn is_written(flash: &[u8]) -> bool {
     flash.starts_with(&[1, 2, 3, 4]) && is_all(flash.get(4..).unwrap_or(&[1]), 0x00)
 }
 
-/// The write ends behind so many steps.
-fn is_written_after(rt: &HostRuntime, table: &Table, steps: u64) -> Result<(), Fail> {
+/// Whether the write ends behind so many steps.
+fn is_written_after(rt: &HostRuntime, table: &Table, steps: u64) -> Result<bool, Fail> {
     let (fault, rig) = stopped_write(rt, table, steps)?;
-    passes(fault.is_none() && is_written(rig.flash()))
+    Ok(fault.is_none() && is_written(rig.flash()))
+}
+
+/// Behind each number of steps the write is stopped, and its segment comes back where it was begun;
+/// the test fails at the first other one.
+fn all_come_back(rt: &HostRuntime, table: &Table) -> Result<(), Fail> {
+    for steps in 0..WRITE {
+        let segments = if steps < OPENED { 0 } else { 1 };
+        if !comes_back(rt, table, steps, segments)? {
+            return Err(failed_at(steps));
+        }
+    }
+    if is_written_after(rt, table, WRITE)? {
+        Ok(())
+    } else {
+        Err(failed_at(WRITE))
+    }
 }
 
 #[test]
-fn a_write_takes_1141_steps(rt: HostRuntime) -> Result<(), Fail> {
-    is_written_after(&rt, &table(&rt)?, WRITE)
-}
-
-#[test]
-fn each_stop_before_the_segment_leaves_nothing(rt: HostRuntime) -> Result<(), Fail> {
-    all_come_back(&rt, 0, OPENED, 0)
-}
-
-#[test]
-fn each_stop_while_the_page_is_kept_is_taken_back(rt: HostRuntime) -> Result<(), Fail> {
-    all_come_back(&rt, OPENED, 600, 1)
-}
-
-#[test]
-fn each_later_stop_is_taken_back(rt: HostRuntime) -> Result<(), Fail> {
-    all_come_back(&rt, 600, WRITE, 1)
+fn each_stop_of_a_write_is_taken_back(rt: HostRuntime) -> Result<(), Fail> {
+    all_come_back(&rt, &table(&rt)?)
 }

@@ -1,6 +1,6 @@
 // A line of which one byte that comes is complemented, each in turn: a write and its undo come to
 // an end, and put nothing but what a session may put.
-use crate::devices::{failed_at, table};
+use crate::devices::{behind, failed_at, puts, table};
 use crate::every_stop::{fresh, small_write};
 use crate::sent_lists::is_sent_list;
 use std::test::Fail;
@@ -9,20 +9,9 @@ use stm_session::{Command, run, undo};
 use stm_sim::FlipRig;
 use stm_wire::RigCall;
 
-/// The bytes put in so many calls behind the first `before`.
-fn puts(rt: &HostRuntime, line: &FlipRig, before: usize, count: usize) -> Result<Vec<u8>, Fail> {
-    let mut bytes = Vec::new(rt.alloc());
-    for call in line.calls().iter().skip(before).take(count) {
-        if let RigCall::Put(byte) = call {
-            bytes.push(*byte)?;
-        }
-    }
-    Ok(bytes)
-}
-
 /// Whether these calls are a sent list, of the settling byte that was put first.
-fn is_sent(rt: &HostRuntime, line: &FlipRig, before: usize, count: usize) -> Result<bool, Fail> {
-    let list = puts(rt, line, before, count)?;
+fn is_sent(rt: &HostRuntime, calls: &[RigCall]) -> Result<bool, Fail> {
+    let list = puts(rt, calls)?;
     Ok(match list.first() {
         Some(byte) => is_sent_list(&list, *byte),
         None => true,
@@ -43,19 +32,23 @@ fn calls_of_both(
 }
 
 /// Whether a write and its undo put sent lists, where the j-th byte that comes is complemented.
-fn are_sent(rt: &HostRuntime, table: &Table, j: u64) -> Result<bool, Fail> {
-    let command = small_write(rt)?;
+fn are_sent(rt: &HostRuntime, table: &Table, command: &[Command], j: u64) -> Result<bool, Fail> {
     let mut line = FlipRig::new(rt.alloc(), fresh(rt, table)?, j);
-    let before = calls_of_both(rt, table, &mut line, &command);
-    Ok(is_sent(rt, &line, 0, before)? && is_sent(rt, &line, before, usize::MAX)?)
+    let before = calls_of_both(rt, table, &mut line, command);
+    let written = line.calls().get(..before).unwrap_or(&[]);
+    Ok(is_sent(rt, written)? && is_sent(rt, behind(line.calls(), before))?)
 }
 
 /// Each of so many bytes that come, complemented, lets nothing else be put; the test fails at the
 /// first that does.
-fn all_are_sent(rt: &HostRuntime, count: u64) -> Result<(), Fail> {
-    let table = table(rt)?;
+fn all_are_sent(
+    rt: &HostRuntime,
+    table: &Table,
+    command: &[Command],
+    count: u64,
+) -> Result<(), Fail> {
     for j in 1..=count {
-        if !are_sent(rt, &table, j)? {
+        if !are_sent(rt, table, command, j)? {
             return Err(failed_at(j));
         }
     }
@@ -64,5 +57,5 @@ fn all_are_sent(rt: &HostRuntime, count: u64) -> Result<(), Fail> {
 
 #[test]
 fn each_byte_may_be_another(rt: HostRuntime) -> Result<(), Fail> {
-    all_are_sent(&rt, 300)
+    all_are_sent(&rt, &table(&rt)?, &small_write(&rt)?, 300)
 }

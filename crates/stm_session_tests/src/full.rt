@@ -1,8 +1,9 @@
 // A journal with nearly as many segments as one can have.
 use crate::devices::{device, table};
 use crate::stories::Act::{Ends, Flash, Run};
-use crate::stories::{Act, Ask, Told, ends_right, first_wrong};
+use crate::stories::{Act, Ask, Told, first_wrong};
 use std::test::Fail;
+use stm_chip::Table;
 use stm_session::Fault;
 
 /// Adds segment `k`, which keeps nothing.
@@ -21,34 +22,42 @@ fn segments(rt: &HostRuntime, count: u32) -> Result<Vec<u8>, Fail> {
     Ok(text)
 }
 
-/// A test of chip 0412 with a flash of FF and a journal of so many segments: it fails with the
-/// first of the acts that goes wrong.
-fn goes_right_behind(rt: &HostRuntime, count: u32, acts: &[Act]) -> Result<(), Fail> {
-    let table = table(rt)?;
-    let mut rig = device(rt, &table, 0x0412, 0xFF, segments(rt, count)?)?;
-    ends_right(first_wrong(rt, &table, &mut rig, acts)?)
-}
-
 /// AA at the base.
 const WRITE: Ask = Ask::Write(0x0800_0000, &[0xAA]);
 
-#[test]
-fn the_last_segment_is_number_65535(rt: HostRuntime) -> Result<(), Fail> {
-    let acts = [
-        Run(&[WRITE, WRITE], Err(Fault::Full)),
-        Flash(&[(b"\xFF", 32768)]),
-        Ends(b"open 65534\nend 65534\n"),
-        Run(&[WRITE], Ok(&[Told::Written(65_535, 1)])),
-    ];
-    goes_right_behind(&rt, 65_534, &acts)
+/// How many segments a journal has, and what is done with a chip 0412 with a flash of FF: the last
+/// segment is number 65,535, and a full journal is still read with.
+const ROWS: [(u32, &[Act]); 2] = [
+    (
+        65_534,
+        &[
+            Run(&[WRITE, WRITE], Err(Fault::Full)),
+            Flash(&[(b"\xFF", 32768)]),
+            Ends(b"open 65534\nend 65534\n"),
+            Run(&[WRITE], Ok(&[Told::Written(65_535, 1)])),
+        ],
+    ),
+    (
+        65_535,
+        &[
+            Run(&[WRITE], Err(Fault::Full)),
+            Run(&[Ask::Read(0x0800_0000, 1)], Ok(&[Told::Read(0, 1)])),
+            Flash(&[(b"\xFF", 32768)]),
+        ],
+    ),
+];
+
+fn all_go_right(rt: &HostRuntime, table: &Table) -> Result<(), Fail> {
+    for (count, acts) in ROWS {
+        let mut rig = device(rt, table, 0x0412, 0xFF, segments(rt, count)?)?;
+        if let Some(act) = first_wrong(rt, table, &mut rig, acts)? {
+            return Err(Fail::new(format_args!("{count} segments: act {act} goes wrong")));
+        }
+    }
+    Ok(())
 }
 
 #[test]
-fn a_full_journal_is_still_read_with(rt: HostRuntime) -> Result<(), Fail> {
-    let acts = [
-        Run(&[WRITE], Err(Fault::Full)),
-        Run(&[Ask::Read(0x0800_0000, 1)], Ok(&[Told::Read(0, 1)])),
-        Flash(&[(b"\xFF", 32768)]),
-    ];
-    goes_right_behind(&rt, 65_535, &acts)
+fn the_last_segment_is_number_65535(rt: HostRuntime) -> Result<(), Fail> {
+    all_go_right(&rt, &table(&rt)?)
 }

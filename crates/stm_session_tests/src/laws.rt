@@ -1,13 +1,30 @@
-// Laws of sessions for the Rig in memory: they are generic, and one of each kind is called at a
-// type.
-use stm_session::{a_session_can_be_taken_back, the_first_difference_is_the_first};
-use stm_sim::MemoryRig;
+// Laws of sessions, for the Rig in memory and for a line on which a byte comes wrong: they are
+// generic, and one of each kind is called at a type.
+use stm_any_line::{
+    a_history_keeps_pages_as_they_were_read, a_run_keeps_pages_as_they_were_read,
+    a_text_is_the_lines_that_were_added, an_undo_changes_pages_that_the_lines_keep,
+    what_is_changed_is_kept_as_it_was_read,
+};
+use stm_client::a_journal_is_of_one_board;
+use stm_session::{
+    a_session_can_be_taken_back, a_session_changes_only_its_own_board,
+    the_first_difference_is_the_first, told_board_is_the_devices,
+};
+use stm_sim::{FlipRig, MemoryRig};
 use stm_weak::{an_undo_believes_no_page_at_work, weak_pages_are_at_work};
 
 #[test]
-fn laws_are_had_for_the_rig_in_memory(_rt: HostRuntime) {
+fn laws_are_had(_rt: HostRuntime) {
     a_session_can_be_taken_back::<MemoryRig>();
     the_first_difference_is_the_first();
     an_undo_believes_no_page_at_work::<MemoryRig>();
     weak_pages_are_at_work::<MemoryRig>();
+    a_session_changes_only_its_own_board::<MemoryRig>();
+    a_journal_is_of_one_board();
+    told_board_is_the_devices();
+    a_run_keeps_pages_as_they_were_read::<FlipRig>();
+    an_undo_changes_pages_that_the_lines_keep::<FlipRig>();
+    a_text_is_the_lines_that_were_added();
+    what_is_changed_is_kept_as_it_was_read();
+    a_history_keeps_pages_as_they_were_read::<FlipRig>();
 }

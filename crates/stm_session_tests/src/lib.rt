@@ -66,11 +66,15 @@ mod stopped_runs;
 #[cfg(test)]
 mod stories;
 #[cfg(test)]
+mod swaps;
+#[cfg(test)]
 mod sweeps;
 #[cfg(test)]
 mod taking_back;
 #[cfg(test)]
 mod three_stops;
+#[cfg(test)]
+mod told_parts;
 #[cfg(test)]
 mod troubled_bytes;
 #[cfg(test)]

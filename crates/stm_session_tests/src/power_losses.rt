@@ -5,13 +5,13 @@
 // its steps were counted by the model of tools/soak. Those of the undo are behind some steps, and
 // behind as many as settle a device that was reset and has an intent.
 use crate::devices::table;
-use crate::every_stop::is_counted;
+use crate::every_stop::{is_counted, stop};
 use crate::lost_power::lose_power;
-use crate::stop_sweeps_wide::wide;
-use crate::stopped_runs::{Case, Change, Start, is_as_before, start_of, stopped_run};
+use crate::stop_sweeps_wide::WIDE;
+use crate::stopped_runs::{Case, Change, command_of, is_behind, start_of};
 use std::test::Fail;
 use stm_chip::Table;
-use stm_session::{Fault, undo};
+use stm_session::{Command, Fault, undo};
 use stm_sim::MemoryRig;
 
 /// The stops of each undo.
@@ -45,25 +45,25 @@ fn twice_undone(
 fn comes_back(
     rt: &HostRuntime,
     table: &Table,
-    case: &Case,
-    start: &Start,
+    rig: &mut MemoryRig,
+    (case, command): (&Case, &[Command]),
     stops: (u64, u64),
 ) -> Result<bool, Fail> {
-    let (fault, mut rig) = stopped_run(rt, table, case, start, stops.0)?;
-    let count = twice_undone(rt, table, &mut rig, stops.1)?;
-    Ok(is_counted(fault) && count == 1 && is_as_before(start, rig.flash()))
+    let fault = stop(rt, table, rig, command, stops.0);
+    let count = twice_undone(rt, table, rig, stops.1)?;
+    Ok(is_counted(fault) && count == 1 && is_behind(case, 0, rig.flash()))
 }
 
 fn stops_come_back(
     rt: &HostRuntime,
     table: &Table,
-    case: &Case,
-    start: &Start,
+    case: (&Case, &[Command]),
     stops: &[u64],
 ) -> Result<(), Fail> {
     for stop in stops {
         for undone in UNDOS {
-            if !comes_back(rt, table, case, start, (*stop, undone))? {
+            let mut rig = start_of(rt, table, case.0)?;
+            if !comes_back(rt, table, &mut rig, case, (*stop, undone))? {
                 return Err(Fail::new(format_args!("stops {stop}, {undone}")));
             }
         }
@@ -71,46 +71,68 @@ fn stops_come_back(
     Ok(())
 }
 
-/// Each of these stops of a run, and of its undo, comes back; the test fails at the first other
-/// ones.
-fn all_come_back(rt: &HostRuntime, case: &Case, stops: &[u64]) -> Result<(), Fail> {
-    let table = table(rt)?;
-    stops_come_back(rt, &table, case, &start_of(rt, &table, case)?, stops)
+/// A page of 1,024 bytes of a fresh device, which is erased.
+const ERASE: Case = Case {
+    id: 0x0412,
+    page: 1024,
+    erased: 0xFF,
+    byte: 0x00,
+    before: &[],
+    change: Change::Erase(&[1]),
+    parts: &[],
+};
+
+/// What is stopped, and its stops: an erase of a page of 1,024 bytes and of 2,048, a write of a flash
+/// that erases to 00, and one of page 1 with page 257.
+const CASES: [(Case, [u64; 3]); 4] = [
+    (ERASE, [3_188, 3_190, 3_198]),
+    (
+        Case {
+            id: 0x0A05,
+            page: 2048,
+            change: Change::Erase(&[2]),
+            ..ERASE
+        },
+        [6_308, 6_310, 6_318],
+    ),
+    (
+        Case {
+            id: 0x0A03,
+            page: 256,
+            erased: 0x00,
+            byte: 0xAA,
+            change: Change::Write(513, &[0xB1, 0xB2]),
+            ..ERASE
+        },
+        [848, 852, 1_000],
+    ),
+    (
+        Case {
+            change: Change::Write(257, &[0x01, 0x02, 0x03]),
+            ..WIDE
+        },
+        [1_641, 1_645, 1_700],
+    ),
+];
+
+fn case_comes_back(
+    rt: &HostRuntime,
+    table: &Table,
+    case: &Case,
+    stops: &[u64],
+) -> Result<(), Fail> {
+    stops_come_back(rt, table, (case, &command_of(rt, case.change)?), stops)
 }
 
-/// A change of a fresh device that holds this byte everywhere.
-fn change_of(id: u16, page: usize, erased: u8, byte: u8, change: Change) -> Case {
-    Case {
-        id,
-        page,
-        erased,
-        byte,
-        before: &[],
-        change,
-        parts: &[],
+/// Each stop of each run, and of its undo, comes back; fails at the first other ones.
+fn all_come_back(rt: &HostRuntime, table: &Table) -> Result<(), Fail> {
+    for (case, stops) in &CASES {
+        case_comes_back(rt, table, case, stops)?;
     }
+    Ok(())
 }
 
 #[test]
-fn an_erase_of_a_page_of_1024_bytes(rt: HostRuntime) -> Result<(), Fail> {
-    let case = change_of(0x0412, 1024, 0xFF, 0x00, Change::Erase(&[1]));
-    all_come_back(&rt, &case, &[3_188, 3_190, 3_198])
-}
-
-#[test]
-fn an_erase_of_a_page_of_2048_bytes(rt: HostRuntime) -> Result<(), Fail> {
-    let case = change_of(0x0A05, 2048, 0xFF, 0x00, Change::Erase(&[2]));
-    all_come_back(&rt, &case, &[6_308, 6_310, 6_318])
-}
-
-#[test]
-fn a_write_of_a_flash_that_erases_to_zeros(rt: HostRuntime) -> Result<(), Fail> {
-    let case = change_of(0x0A03, 256, 0x00, 0xAA, Change::Write(513, &[0xB1, 0xB2]));
-    all_come_back(&rt, &case, &[848, 852, 1_000])
-}
-
-#[test]
-fn a_write_of_page_1_with_page_257(rt: HostRuntime) -> Result<(), Fail> {
-    let case = wide(Change::Write(257, &[0x01, 0x02, 0x03]), &[]);
-    all_come_back(&rt, &case, &[1_641, 1_645, 1_700])
+fn losses_of_power_come_back(rt: HostRuntime) -> Result<(), Fail> {
+    all_come_back(&rt, &table(&rt)?)
 }

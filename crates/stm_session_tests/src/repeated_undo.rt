@@ -1,5 +1,6 @@
 // An undo that was stopped after any step is repeated, and gives back the flash.
-use crate::devices::{device, failed_at, is_all, kept, passes, send, table};
+use crate::devices::{device, failed_at, is_all, send, table};
+use crate::stories::{Parts, made_of};
 use std::test::Fail;
 use stm_chip::Table;
 use stm_session::{Fault, undo};
@@ -7,26 +8,31 @@ use stm_sim::MemoryRig;
 use stm_weak::take_back;
 use stm_wire::{EraseKind, Patience, Rig, erase_page, program};
 
-/// Connects the device, and writes 01 02 03 04 at its base.
-fn write(rig: &mut MemoryRig) -> Result<(), Fail> {
-    if !send(rig, &[]) {
-        return Err(Fail::new("not connected"));
-    }
-    rig.get(Patience::Long)?;
-    erase_page(rig, EraseKind::Extended, 0)?;
+/// Connects the device, and writes 01 02 03 04 at its base; whether that was done.
+fn write(rig: &mut MemoryRig) -> bool {
     let mut page = [0x00; 256];
     page[..4].copy_from_slice(&[1, 2, 3, 4]);
-    program(rig, 0x0800_0000, &page)?;
-    Ok(())
+    send(rig, &[])
+        && rig.get(Patience::Long).is_ok()
+        && erase_page(rig, EraseKind::Extended, 0).is_ok()
+        && program(rig, 0x0800_0000, &page).is_ok()
 }
+
+/// The journal of that write.
+const WRITTEN: Parts = &[
+    (b"stmjournal 2 0A01\nopen 1\npage 0 ", 1),
+    (b"00", 256),
+    (b"\nerase 0\nprogram 0\nend 1\n", 1),
+];
 
 /// A settled chip 0A01 with a flash of 00, after 01 02 03 04 was written at its base.
 pub fn after_a_write(rt: &HostRuntime, table: &Table) -> Result<MemoryRig, Fail> {
-    let head = b"stmjournal 2 0A01\nopen 1\npage 0 ";
-    let journal = kept(rt, head, 256, b"\nerase 0\nprogram 0\nend 1\n")?;
-    let mut rig = device(rt, table, 0x0A01, 0x00, journal)?;
-    write(&mut rig)?;
-    Ok(rig)
+    let mut rig = device(rt, table, 0x0A01, 0x00, made_of(rt, WRITTEN)?)?;
+    if write(&mut rig) {
+        Ok(rig)
+    } else {
+        Err(Fail::new("not written"))
+    }
 }
 
 /// Whether an undo takes the one segment back, and the flash is as it was before.
@@ -44,31 +50,32 @@ fn is_stopped_at(rt: &HostRuntime, table: &Table, steps: u64) -> Result<bool, Fa
     Ok(stopped && comes_back(rt, table, &mut rig))
 }
 
-/// The undo ends behind so many steps.
-fn ends_after(rt: &HostRuntime, table: &Table, steps: u64) -> Result<(), Fail> {
+/// Whether the undo ends behind so many steps.
+fn ends_after(rt: &HostRuntime, table: &Table, steps: u64) -> Result<bool, Fail> {
     let mut rig = after_a_write(rt, table)?;
     rig.stop_after(steps);
-    passes(comes_back(rt, table, &mut rig))
+    Ok(comes_back(rt, table, &mut rig))
 }
 
-// Settling takes 3 steps, Get 15, Get ID 7, the page 268, `erase 0` 8, its frame 9, `program 0` 10,
-// its frame 268, `undone 1` 9.
-#[test]
-fn an_undo_takes_597_steps(rt: HostRuntime) -> Result<(), Fail> {
-    ends_after(&rt, &table(&rt)?, 597)
-}
+/// An undo takes so many steps: settling takes 3, Get 15, Get ID 7, the page 268, `erase 0` 8, its
+/// frame 9, `program 0` 10, its frame 268, `undone 1` 9.
+const UNDO: u64 = 597;
 
-/// Each of the stops before so many steps is taken up.
-fn all_are_stopped(rt: &HostRuntime, table: &Table, count: u64) -> Result<(), Fail> {
-    for steps in 0..count {
+/// Each stop of an undo is taken up, and it ends behind all its steps.
+fn all_are_taken_up(rt: &HostRuntime, table: &Table) -> Result<(), Fail> {
+    for steps in 0..UNDO {
         if !is_stopped_at(rt, table, steps)? {
             return Err(failed_at(steps));
         }
     }
-    Ok(())
+    if ends_after(rt, table, UNDO)? {
+        Ok(())
+    } else {
+        Err(failed_at(UNDO))
+    }
 }
 
 #[test]
 fn each_stop_of_an_undo_is_taken_up(rt: HostRuntime) -> Result<(), Fail> {
-    all_are_stopped(&rt, &table(&rt)?, 597)
+    all_are_taken_up(&rt, &table(&rt)?)
 }

@@ -7,7 +7,7 @@
 // erases a page 7, and 9 where the chip's code is 44.
 use crate::stopped_runs::Part::{Add, Line, Open};
 use crate::stopped_runs::{Case, Change, Part, Parts};
-use crate::sweeps::{Between, all_come_back};
+use crate::sweeps::{Between, Sweep, all_come_back};
 use std::test::Fail;
 
 /// A page of 1,024 bytes is kept and written: its line, `erase`, the frame, `program`, and four
@@ -47,27 +47,17 @@ const OVER_AN_EDGE: Case = Case {
     ],
 };
 
-#[test]
-fn a_write_over_an_edge_comes_back_alone(rt: HostRuntime) -> Result<(), Fail> {
-    all_come_back(&rt, &OVER_AN_EDGE, Between::Nothing, 1, 3, 127)
-}
+/// Alone, with all before it, and without power: a page at risk holds bytes that nobody wrote.
+const OVER_AN_EDGE_SWEPT: &[Sweep] = &[
+    (Between::Nothing, 1, 3, 127),
+    (Between::Nothing, 0, 1, 131),
+    (Between::Power(0x3C, true), 1, 0, 0),
+];
 
 #[test]
-fn a_write_over_an_edge_comes_back_with_all_before_it(rt: HostRuntime) -> Result<(), Fail> {
-    all_come_back(&rt, &OVER_AN_EDGE, Between::Nothing, 0, 1, 131)
-}
-
-/// Chip 0A03, whose erased byte is 00, with a flash of FF.
-fn zeros(change: Change, parts: Parts) -> Case {
-    Case {
-        id: 0x0A03,
-        page: 256,
-        erased: 0x00,
-        byte: 0xFF,
-        before: &[],
-        change,
-        parts,
-    }
+fn a_write_over_an_edge_comes_back(rt: HostRuntime) -> Result<(), Fail> {
+    let change = (OVER_AN_EDGE.change, OVER_AN_EDGE.parts);
+    all_come_back(&rt, &OVER_AN_EDGE, &[change], OVER_AN_EDGE_SWEPT)
 }
 
 /// What a run begins with where there is no journal.
@@ -79,8 +69,19 @@ const ERASES: &[Part] = &[Add(8), Line(7)];
 
 const PROGRAMS: &[Part] = &[Add(10), Line(268)];
 
+/// Chip 0A03, whose erased byte is 00, with a flash of FF.
+const ZEROS: Case = Case {
+    id: 0x0A03,
+    page: 256,
+    erased: 0x00,
+    byte: 0xFF,
+    before: &[],
+    change: Change::Erase(&[]),
+    parts: &[],
+};
+
 /// A write over the edge of pages 2 and 3, and an erase of pages 0 and 2.
-const ZEROS: [(Change, Parts); 2] = [
+const ZEROS_CHANGED: [(Change, Parts); 2] = [
     (
         Change::Write(767, &[0xB1, 0xB2]),
         &[
@@ -100,46 +101,19 @@ const ZEROS: [(Change, Parts); 2] = [
     ),
 ];
 
-/// Both come back.
-fn zeros_come_back(
-    rt: &HostRuntime,
-    between: Between,
-    count: u32,
-    near: u64,
-    stride: u64,
-) -> Result<(), Fail> {
-    for (change, parts) in ZEROS {
-        all_come_back(rt, &zeros(change, parts), between, count, near, stride)?;
-    }
-    Ok(())
-}
+/// Of the bytes that the device owes at the stop the next session gets none, or not the first ones.
+/// Or a page at risk holds bytes that nobody wrote, and the device is fresh: two batches, and it is
+/// connected.
+const ZEROS_SWEPT: &[Sweep] = &[
+    (Between::Nothing, 1, 5, 7),
+    (Between::Lost(1), 0, 3, 31),
+    (Between::Lost(7), 0, 3, 31),
+    (Between::Lost(4096), 0, 3, 31),
+    (Between::Power(0xA5, false), 0, 1, 31),
+    (Between::Power(0x5A, true), 0, 1, 31),
+];
 
 #[test]
 fn a_flash_that_erases_to_zeros_comes_back(rt: HostRuntime) -> Result<(), Fail> {
-    zeros_come_back(&rt, Between::Nothing, 1, 5, 7)
-}
-
-// Of the bytes that the device owes at the stop the next session gets none, or not the first ones.
-#[test]
-fn lost_replies_do_no_harm(rt: HostRuntime) -> Result<(), Fail> {
-    for lost in [1, 7, 4096] {
-        zeros_come_back(&rt, Between::Lost(lost), 0, 3, 31)?;
-    }
-    Ok(())
-}
-
-// A page at risk holds bytes that nobody wrote, and the device is fresh: two
-// batches, and it is connected.
-#[test]
-fn pages_that_lost_their_power_come_back(rt: HostRuntime) -> Result<(), Fail> {
-    for between in [Between::Power(0xA5, false), Between::Power(0x5A, true)] {
-        zeros_come_back(&rt, between, 0, 1, 31)?;
-    }
-    Ok(())
-}
-
-#[test]
-fn a_write_without_power_comes_back_alone(rt: HostRuntime) -> Result<(), Fail> {
-    let between = Between::Power(0x3C, true);
-    all_come_back(&rt, &OVER_AN_EDGE, between, 1, 0, 0)
+    all_come_back(&rt, &ZEROS, &ZEROS_CHANGED, ZEROS_SWEPT)
 }

@@ -5,7 +5,7 @@
 use crate::stop_sweeps::BEGINNING;
 use crate::stopped_runs::Part::{Add, Line};
 use crate::stopped_runs::{Case, Change, Part, Parts};
-use crate::sweeps::{Between, all_come_back};
+use crate::sweeps::{Between, Sweep, all_come_back};
 use std::test::Fail;
 
 /// A page is kept and erased: page 0, page 1, with page 257, which is read and kept too, and one
@@ -34,106 +34,52 @@ const WRITE: Parts = &[BEGINNING, PAGE, &[Add(12), Line(268)], END];
 const BYTES: &[u8] = &[0x01, 0x02, 0x03];
 
 /// Chip 0A02 with a flash of 00.
-pub fn wide(change: Change, parts: Parts) -> Case {
-    Case {
-        id: 0x0A02,
-        page: 256,
-        erased: 0xFF,
-        byte: 0x00,
-        before: &[],
-        change,
-        parts,
-    }
-}
+pub const WIDE: Case = Case {
+    id: 0x0A02,
+    page: 256,
+    erased: 0xFF,
+    byte: 0x00,
+    before: &[],
+    change: Change::Erase(&[0]),
+    parts: &[],
+};
 
-/// An erase of a page, and a write of three bytes behind its first, with the parts of each.
-type Page = [(Change, Parts); 2];
-
-const FIRST_PAGE: Page = [
+/// Of each page an erase, and a write of three bytes behind its first. With page 1, page 257, whose
+/// number has the same last two digits, is kept too.
+const PAGES: [(Change, Parts); 12] = [
     (Change::Erase(&[0]), ERASE_0),
     (Change::Write(1, BYTES), WRITE_0),
-];
-
-/// Page 257, whose number has the same last two digits, is kept too.
-const PAGE_WITH_COMPANION: Page = [
     (Change::Erase(&[1]), ERASE_1),
     (Change::Write(257, BYTES), WRITE_1),
-];
-
-const PAGE_255: Page = [
     (Change::Erase(&[255]), ERASE),
     (Change::Write(65_281, BYTES), WRITE),
-];
-
-const PAGE_256: Page = [
     (Change::Erase(&[256]), ERASE),
     (Change::Write(65_537, BYTES), WRITE),
-];
-
-const PAGE_257: Page = [
     (Change::Erase(&[257]), ERASE),
     (Change::Write(65_793, BYTES), WRITE),
-];
-
-const LAST_PAGE: Page = [
     (Change::Erase(&[511]), ERASE),
     (Change::Write(130_817, BYTES), WRITE),
 ];
 
-/// Each of these changes is taken back after its stops.
-fn both_come_back(rt: &HostRuntime, rows: &Page) -> Result<(), Fail> {
-    for (change, parts) in rows {
-        all_come_back(rt, &wide(*change, parts), Between::Nothing, 0, 5, 61)?;
-    }
-    Ok(())
-}
-
 #[test]
-fn page_0_comes_back(rt: HostRuntime) -> Result<(), Fail> {
-    both_come_back(&rt, &FIRST_PAGE)
+fn each_page_comes_back(rt: HostRuntime) -> Result<(), Fail> {
+    all_come_back(&rt, &WIDE, &PAGES, &[(Between::Nothing, 0, 5, 61)])
 }
 
-#[test]
-fn page_1_comes_back(rt: HostRuntime) -> Result<(), Fail> {
-    both_come_back(&rt, &PAGE_WITH_COMPANION)
-}
+/// What is changed, and what befalls a device of 512 pages before the undo.
+const CHANGES: [(Change, Parts); 2] = [
+    (Change::Write(257, BYTES), WRITE_1),
+    (Change::Erase(&[256]), ERASE),
+];
 
-#[test]
-fn page_255_comes_back(rt: HostRuntime) -> Result<(), Fail> {
-    both_come_back(&rt, &PAGE_255)
-}
-
-#[test]
-fn page_256_comes_back(rt: HostRuntime) -> Result<(), Fail> {
-    both_come_back(&rt, &PAGE_256)
-}
-
-#[test]
-fn page_257_comes_back(rt: HostRuntime) -> Result<(), Fail> {
-    both_come_back(&rt, &PAGE_257)
-}
-
-#[test]
-fn page_511_comes_back(rt: HostRuntime) -> Result<(), Fail> {
-    both_come_back(&rt, &LAST_PAGE)
-}
-
-/// What befalls a device of 512 pages before the undo, and how near to the turns the stops are, and
-/// which of the others are made.
-const BEFALLS: [(Between, u64, u64); 4] = [
-    (Between::Lost(1), 0, 0),
-    (Between::Lost(4096), 3, 0),
-    (Between::Reset, 0, 0),
-    (Between::Power(0xA5, true), 0, 0),
+const BEFALLS: &[Sweep] = &[
+    (Between::Lost(1), 0, 0, 0),
+    (Between::Lost(4096), 0, 3, 0),
+    (Between::Reset, 0, 0, 0),
+    (Between::Power(0xA5, true), 0, 0, 0),
 ];
 
 #[test]
 fn lost_replies_and_resets_do_no_harm(rt: HostRuntime) -> Result<(), Fail> {
-    for (between, near, stride) in BEFALLS {
-        let case = wide(Change::Write(257, BYTES), WRITE_1);
-        all_come_back(&rt, &case, between, 0, near, stride)?;
-        let case = wide(Change::Erase(&[256]), ERASE);
-        all_come_back(&rt, &case, between, 0, near, stride)?;
-    }
-    Ok(())
+    all_come_back(&rt, &WIDE, &CHANGES, BEFALLS)
 }

@@ -1,9 +1,8 @@
 // A run of commands that is stopped after some of its steps: what the tests over stops share.
-use crate::devices::{device, erase_of, is_same, passes, rig_of, write_of};
-use crate::every_stop::stop;
+use crate::devices::{device, erase_of, rig_of, write_of};
 use std::test::Fail;
 use stm_chip::Table;
-use stm_session::{Command, Fault, run};
+use stm_session::{Command, run};
 use stm_sim::MemoryRig;
 
 /// A command that changes the flash, whose first byte lies at 08000000.
@@ -46,14 +45,6 @@ pub struct Case {
     pub parts: Parts,
 }
 
-/// What each stop of a case begins with: the flash before each segment, the last one that of the
-/// run that is stopped, and the journal.
-#[derive(Drop)]
-pub struct Start {
-    pub flashes: Vec<Vec<u8>>,
-    pub journal: Vec<u8>,
-}
-
 pub fn command_of(rt: &HostRuntime, change: Change) -> Result<[Command; 1], Fail> {
     match change {
         Change::Write(place, bytes) => write_of(rt, bytes, place.saturating_add(0x0800_0000)),
@@ -80,104 +71,76 @@ fn byte_after(case: &Case, change: Change, place: usize, byte: u8) -> u8 {
     }
 }
 
-fn flash_after(
-    rt: &HostRuntime,
-    case: &Case,
-    change: Change,
-    flash: &[u8],
-) -> Result<Vec<u8>, Fail> {
-    let mut bytes = Vec::new(rt.alloc());
+/// What a place holds behind so many of the changes before.
+fn byte_behind(case: &Case, count: usize, place: usize) -> u8 {
+    let mut byte = case.byte;
+    for change in case.before.iter().take(count) {
+        byte = byte_after(case, *change, place, byte);
+    }
+    byte
+}
+
+/// Whether this is the flash behind so many of the changes before.
+pub fn is_behind(case: &Case, count: usize, flash: &[u8]) -> bool {
     for (place, byte) in flash.iter().enumerate() {
-        bytes.push(byte_after(case, change, place, *byte))?;
+        if *byte != byte_behind(case, count, place) {
+            return false;
+        }
     }
-    Ok(bytes)
+    true
 }
 
-/// Does a change by a run of its own.
-pub fn run_change(
+/// Does a change by a run of its own, and tells whether that was done.
+pub fn is_done(
     rt: &HostRuntime,
     table: &Table,
     rig: &mut MemoryRig,
     change: Change,
-) -> Result<(), Fail> {
-    run(rt.alloc(), rig, table, &command_of(rt, change)?)?;
-    Ok(())
+) -> Result<bool, Fail> {
+    let command = command_of(rt, change)?;
+    Ok(run(rt.alloc(), rig, table, &command).is_ok())
 }
 
-/// The same, which leaves the flash that it means.
-fn do_change(
+/// Does the runs before, and tells whether each leaves the flash that its change means.
+fn are_done(
     rt: &HostRuntime,
     table: &Table,
     case: &Case,
     rig: &mut MemoryRig,
-    change: Change,
-) -> Result<(), Fail> {
-    let after = flash_after(rt, case, change, rig.flash())?;
-    run_change(rt, table, rig, change)?;
-    passes(is_same(rig.flash(), &after))
-}
-
-/// Does the runs before, and tells the flash before each of them and behind the last.
-fn do_before(
-    rt: &HostRuntime,
-    table: &Table,
-    case: &Case,
-    rig: &mut MemoryRig,
-) -> Result<Vec<Vec<u8>>, Fail> {
-    let mut flashes = Vec::new(rt.alloc());
+) -> Result<bool, Fail> {
+    let mut count = 0_usize;
     for change in case.before {
-        flashes.push(Vec::from_slice(rt.alloc(), rig.flash())?)?;
-        do_change(rt, table, case, rig, *change)?;
+        count = count.saturating_add(1);
+        if !is_done(rt, table, rig, *change)? || !is_behind(case, count, rig.flash()) {
+            return Ok(false);
+        }
     }
-    flashes.push(Vec::from_slice(rt.alloc(), rig.flash())?)?;
-    Ok(flashes)
+    Ok(true)
 }
 
-/// Does the runs before. Each leaves the flash that its change means.
-pub fn start_of(rt: &HostRuntime, table: &Table, case: &Case) -> Result<Start, Fail> {
+/// A device behind the runs before.
+pub fn start_of(rt: &HostRuntime, table: &Table, case: &Case) -> Result<MemoryRig, Fail> {
     let mut rig = device(rt, table, case.id, case.byte, Vec::new(rt.alloc()))?;
-    let flashes = do_before(rt, table, case, &mut rig)?;
-    let journal = Vec::from_slice(rt.alloc(), rig.journal())?;
-    Ok(Start { flashes, journal })
+    if are_done(rt, table, case, &mut rig)? {
+        Ok(rig)
+    } else {
+        Err(Fail::new("another flash behind the runs before"))
+    }
 }
 
-/// The device as the run finds it.
+/// The device as the run finds it: fresh, with the flash and the journal of this one.
 pub fn rig_before(
     rt: &HostRuntime,
     table: &Table,
-    case: &Case,
-    start: &Start,
+    id: u16,
+    start: &MemoryRig,
 ) -> Result<MemoryRig, Fail> {
-    let last = start.flashes.last().ok_or("no flash")?;
-    let flash = Vec::from_slice(rt.alloc(), last)?;
+    let flash = Vec::from_slice(rt.alloc(), start.flash())?;
     rig_of(
         rt,
         table,
-        case.id,
+        id,
         flash,
-        Vec::from_slice(rt.alloc(), &start.journal)?,
+        Vec::from_slice(rt.alloc(), start.journal())?,
     )
-}
-
-/// The device behind the run that was stopped after so many steps, the stop lifted, and what it
-/// answered.
-pub fn stopped_run(
-    rt: &HostRuntime,
-    table: &Table,
-    case: &Case,
-    start: &Start,
-    steps: u64,
-) -> Result<(Option<Fault>, MemoryRig), Fail> {
-    let command = command_of(rt, case.change)?;
-    let mut rig = rig_before(rt, table, case, start)?;
-    let fault = stop(rt, table, &mut rig, &command, steps);
-    Ok((fault, rig))
-}
-
-/// Whether the flash is as it was before the run that is stopped.
-pub fn is_as_before(start: &Start, flash: &[u8]) -> bool {
-    match start.flashes.last() {
-        Some(last) => is_same(flash, last),
-        None => false,
-    }
 }

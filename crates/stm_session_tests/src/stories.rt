@@ -1,9 +1,14 @@
 // Sessions as tables: what is done with a device, one act after another, and what is due. A test is
 // a table, since its proof then costs little.
-use crate::devices::{device, image, puts, puts_begin, send, table};
+use crate::devices::{
+    TABLE, are_fetches, behind, device, image, puts, puts_begin, send, table, table_of,
+};
 use std::test::Fail;
 use stm_chip::Table;
-use stm_session::{Command, Fault, Outcome, go, identify, info, protect, run, undo};
+use stm_session::{
+    Command, Fault, Outcome, Returned, go, identify, info, protect, run, undo, undo_fresh,
+    undo_verified, undo_verified_fresh, unprotect_fresh,
+};
 use stm_sim::MemoryRig;
 use stm_wire::{Protection, RigCall};
 
@@ -34,10 +39,17 @@ pub enum Told {
 pub enum Act {
     Run(&'static [Ask], Result<&'static [Told], Fault>),
     Undo(u32, Result<u32, Fault>),
+    /// An undo of all behind a reset.
+    UndoFresh(Result<u32, Fault>),
+    /// An undo of all that reads again, and one behind a reset.
+    UndoVerified(Result<Returned, Fault>),
+    UndoVerifiedFresh(Result<Returned, Fault>),
     Info(Option<Fault>),
     Identify(Option<Fault>),
     Go(Option<Fault>),
     Protect(Protection, Option<Fault>),
+    /// Write Unprotect to a device that was reset.
+    UnprotectFresh(Result<(), Fault>),
     /// These bytes come to a device that is connected, and nobody takes its replies.
     Send(&'static [u8]),
     StopAfter(u64),
@@ -51,7 +63,8 @@ pub enum Act {
     /// The bytes since the last verdict.
     Rest(&'static [u8]),
     IsGone,
-    /// What the bytes put in the last session end with, and how they begin.
+    /// All bytes put in the last session; what they end with, and how they begin.
+    PutsAll(&'static [u8]),
     Puts(Parts),
     Begins(&'static [(u8, u32)]),
     /// This byte isn't put in it.
@@ -144,26 +157,16 @@ fn runs(
     })
 }
 
-/// Whether the bytes put behind the first `before` calls end with these.
-fn puts_end(rt: &HostRuntime, rig: &MemoryRig, before: usize, parts: Parts) -> Result<bool, Fail> {
+/// Whether the bytes put in these calls end with these.
+fn puts_end(rt: &HostRuntime, calls: &[RigCall], parts: Parts) -> Result<bool, Fail> {
     let bytes = made_of(rt, parts)?;
-    Ok(puts(rt, rig, before)?.ends_with(&bytes))
+    Ok(puts(rt, calls)?.ends_with(&bytes))
 }
 
-/// Whether no call behind the first `before` is a put of this byte.
-fn never_puts(rig: &MemoryRig, before: usize, byte: u8) -> bool {
-    for call in rig.calls().iter().skip(before) {
+/// Whether none of these calls is a put of this byte.
+fn never_puts(calls: &[RigCall], byte: u8) -> bool {
+    for call in calls {
         if *call == RigCall::Put(byte) {
-            return false;
-        }
-    }
-    true
-}
-
-/// Whether no call behind the first `before` is a put, a get or an append.
-fn fetches(rig: &MemoryRig, before: usize) -> bool {
-    for call in rig.calls().iter().skip(before) {
-        if *call != RigCall::Fetch {
             return false;
         }
     }
@@ -180,10 +183,14 @@ fn is_answered(
     Ok(match act {
         Act::Run(asks, due) => runs(rt, table, rig, asks, *due)?,
         Act::Undo(count, due) => undo(rt.alloc(), rig, table, *count) == *due,
+        Act::UndoFresh(due) => undo_fresh(rt.alloc(), rig, table, 0) == *due,
+        Act::UndoVerified(due) => undo_verified(rt.alloc(), rig, table, 0) == *due,
+        Act::UndoVerifiedFresh(due) => undo_verified_fresh(rt.alloc(), rig, table, 0) == *due,
         Act::Info(due) => info(rt.alloc(), rig, table).err() == *due,
         Act::Identify(due) => identify(rt.alloc(), rig).err() == *due,
         Act::Go(due) => go(rt.alloc(), rig, 0x0800_0000).err() == *due,
         Act::Protect(which, due) => protect(rt.alloc(), rig, *which).err() == *due,
+        Act::UnprotectFresh(due) => unprotect_fresh(rt.alloc(), rig) == *due,
         _ => true,
     })
 }
@@ -199,19 +206,27 @@ fn is_done(rig: &mut MemoryRig, act: &Act) -> bool {
     true
 }
 
-/// Tells whether what is to be is.
-fn is_so(rt: &HostRuntime, rig: &MemoryRig, before: usize, act: &Act) -> Result<bool, Fail> {
-    Ok(match act {
+/// Tells whether what is to be is, but for bytes that were put.
+fn is_so(rig: &MemoryRig, act: &Act) -> bool {
+    match act {
         Act::Flash(parts) => is_made_of(rig.flash(), parts),
         Act::Journal(parts) => is_made_of(rig.journal(), parts),
         Act::Length(size) => rig.journal().len() == *size,
         Act::Ends(bytes) => rig.journal().ends_with(bytes),
         Act::Rest(bytes) => rig.rest() == Some(*bytes),
         Act::IsGone => rig.is_gone(),
-        Act::Puts(parts) => puts_end(rt, rig, before, parts)?,
-        Act::Begins(runs) => puts_begin(rig, before, runs),
-        Act::Never(byte) => never_puts(rig, before, *byte),
-        Act::Fetches => fetches(rig, before),
+        _ => true,
+    }
+}
+
+/// Tells whether what was to be put in these calls was.
+fn is_put(rt: &HostRuntime, calls: &[RigCall], act: &Act) -> Result<bool, Fail> {
+    Ok(match act {
+        Act::PutsAll(bytes) => puts(rt, calls)?.as_slice() == *bytes,
+        Act::Puts(parts) => puts_end(rt, calls, parts)?,
+        Act::Begins(runs) => puts_begin(calls, runs),
+        Act::Never(byte) => never_puts(calls, *byte),
+        Act::Fetches => are_fetches(calls),
         _ => true,
     })
 }
@@ -227,7 +242,7 @@ pub fn first_wrong(
     for (place, act) in acts.iter().enumerate() {
         let calls = rig.calls().len();
         let is_right = is_answered(rt, table, rig, act)? && is_done(rig, act);
-        if !is_right || !is_so(rt, rig, before, act)? {
+        if !is_right || !is_so(rig, act) || !is_put(rt, behind(rig.calls(), before), act)? {
             return Ok(Some(place));
         }
         if calls < rig.calls().len() {
@@ -237,44 +252,48 @@ pub fn first_wrong(
     Ok(None)
 }
 
-/// The same of a fresh device with this chip of the table, this byte in each place of its flash,
-/// and a journal.
-pub fn first_wrong_of(
-    rt: &HostRuntime,
-    id: u16,
-    byte: u8,
-    journal: Parts,
-    acts: &[Act],
-) -> Result<Option<usize>, Fail> {
-    let table = table(rt)?;
-    first_wrong(rt, &table, &mut made(rt, &table, id, byte, journal)?, acts)
-}
+/// A fresh device: the id of its chip, the byte in each place of its flash, and its journal.
+pub type Fresh = (u16, u8, Parts);
 
-fn made(
-    rt: &HostRuntime,
-    table: &Table,
-    id: u16,
-    byte: u8,
-    journal: Parts,
-) -> Result<MemoryRig, Fail> {
+/// A story: its name, a fresh device, and what is done with it.
+pub type Story = (&'static str, Fresh, &'static [Act]);
+
+fn made(rt: &HostRuntime, table: &Table, fresh: Fresh) -> Result<MemoryRig, Fail> {
+    let (id, byte, journal) = fresh;
     device(rt, table, id, byte, made_of(rt, journal)?)
 }
 
-/// Ends a test: it fails where an act went wrong.
-pub fn ends_right(wrong: Option<usize>) -> Result<(), Fail> {
-    match wrong {
-        None => Ok(()),
-        Some(place) => Err(Fail::new(format_args!("act {place} goes wrong"))),
-    }
+/// The first act of a story that goes wrong, by a table of the device and one of the sessions.
+fn wrong_of(
+    rt: &HostRuntime,
+    tables: (&Table, &Table),
+    fresh: Fresh,
+    acts: &[Act],
+) -> Result<Option<usize>, Fail> {
+    let mut rig = made(rt, tables.0, fresh)?;
+    first_wrong(rt, tables.1, &mut rig, acts)
 }
 
-/// A test of such a device: it fails with the first of the acts that goes wrong.
-pub fn goes_right(
+fn stories_go_right(
     rt: &HostRuntime,
-    id: u16,
-    byte: u8,
-    journal: Parts,
-    acts: &[Act],
+    tables: (&Table, &Table),
+    stories: &[Story],
 ) -> Result<(), Fail> {
-    ends_right(first_wrong_of(rt, id, byte, journal, acts)?)
+    for (name, fresh, acts) in stories {
+        if let Some(act) = wrong_of(rt, tables, *fresh, acts)? {
+            return Err(Fail::new(format_args!("{name}: act {act} goes wrong")));
+        }
+    }
+    Ok(())
+}
+
+/// A test of these stories, of sessions with this table: it fails with the first act that goes
+/// wrong.
+pub fn all_go_right_with(rt: &HostRuntime, text: &str, stories: &[Story]) -> Result<(), Fail> {
+    stories_go_right(rt, (&table(rt)?, &table_of(rt, text)?), stories)
+}
+
+/// The same of sessions with the sample table.
+pub fn all_go_right(rt: &HostRuntime, stories: &[Story]) -> Result<(), Fail> {
+    all_go_right_with(rt, TABLE, stories)
 }

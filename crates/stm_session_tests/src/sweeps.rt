@@ -1,11 +1,12 @@
 // Sweeps over the stops of a run: behind each something befalls the device, and then all is taken
 // back.
-use crate::devices::{failed_at, is_same, table};
+use crate::devices::table;
+use crate::every_stop::stop;
 use crate::lost_power::lose_power;
-use crate::stopped_runs::{Case, Part, Parts, Start, start_of, stopped_run};
+use crate::stopped_runs::{Case, Change, Part, Parts, command_of, is_behind, rig_before, start_of};
 use std::test::Fail;
 use stm_chip::Table;
-use stm_session::{Fault, undo};
+use stm_session::{Command, Fault, undo};
 use stm_sim::MemoryRig;
 use stm_wire::{Patience, Rig};
 
@@ -90,22 +91,19 @@ fn befall(rt: &HostRuntime, rig: &mut MemoryRig, between: Between) -> Result<(),
     Ok(())
 }
 
-/// Whether an undo takes back as many of these segments as it was asked for, all of them where that
-/// is 0 or more than there are, and leaves the flash as it was before the oldest.
+/// Whether an undo takes back as many of the segments as it was asked for, all of them where that is
+/// 0 or more than there are, and leaves the flash as it was before the oldest.
 fn takes_back(
     rt: &HostRuntime,
     table: &Table,
     rig: &mut MemoryRig,
-    flashes: &[Vec<u8>],
+    case: &Case,
     count: u32,
     depth: u32,
 ) -> bool {
     let left = left_of(depth, count);
     let taken = depth.saturating_sub(left);
-    let Some(flash) = flashes.get(left as usize) else {
-        return false;
-    };
-    undo(rt.alloc(), rig, table, count) == Ok(taken) && is_same(rig.flash(), flash)
+    undo(rt.alloc(), rig, table, count) == Ok(taken) && is_behind(case, left as usize, rig.flash())
 }
 
 /// How many segments there are: those before the run, and so many that it has begun.
@@ -126,85 +124,127 @@ fn left_of(depth: u32, count: u32) -> u32 {
     }
 }
 
-/// Whether an undo of so many of these segments, and the next one of all, each bring the flash
-/// back.
+/// Whether an undo of so many of the segments, and the next one of all, each bring the flash back.
 fn are_taken_back(
     rt: &HostRuntime,
     table: &Table,
     rig: &mut MemoryRig,
-    flashes: &[Vec<u8>],
+    case: &Case,
     count: u32,
     depth: u32,
 ) -> bool {
-    takes_back(rt, table, rig, flashes, count, depth)
-        && takes_back(rt, table, rig, flashes, 0, left_of(depth, count))
+    takes_back(rt, table, rig, case, count, depth)
+        && takes_back(rt, table, rig, case, 0, left_of(depth, count))
 }
 
 /// What befalls the device behind each stop, of how many segments the first undo is, and which
-/// stops there are: those at most `near` steps from a turn, and those that `stride` divides (0:
+/// stops there are: those at most so many steps from a turn, and those that a number divides (0:
 /// none).
-#[derive(Clone, Copy)]
-struct Sweep {
-    between: Between,
-    count: u32,
-    near: u64,
-    stride: u64,
-}
+pub type Sweep = (Between, u32, u64, u64);
 
-/// Whether the run that is stopped after so many steps answers the fault that is due, and comes
-/// back.
+/// Whether the run of a device that is stopped after so many steps answers the fault that is due,
+/// and comes back.
 fn comes_back(
     rt: &HostRuntime,
     table: &Table,
-    case: &Case,
-    start: &Start,
-    sweep: Sweep,
+    rig: &mut MemoryRig,
+    (case, command): (&Case, &[Command]),
+    (between, count): (Between, u32),
     steps: u64,
 ) -> Result<bool, Fail> {
     let (due, begun) = due(case.parts, steps);
+    let fault = stop(rt, table, rig, command, steps);
+    befall(rt, rig, between)?;
     let depth = depth_of(case, begun);
-    let (fault, mut rig) = stopped_run(rt, table, case, start, steps)?;
-    befall(rt, &mut rig, sweep.between)?;
-    let is_back = are_taken_back(rt, table, &mut rig, &start.flashes, sweep.count, depth);
-    Ok(fault == due && is_back)
+    Ok(fault == due && are_taken_back(rt, table, rig, case, count, depth))
 }
 
-fn sweep_from(
+/// The first stop of the run at which it answers another fault than is due, or an undo of so many
+/// segments, or the next one of all, doesn't bring the flash back.
+fn first_other(
+    rt: &HostRuntime,
+    table: &Table,
+    (case, command): (&Case, &[Command]),
+    start: &MemoryRig,
+    (between, count, near, stride): Sweep,
+) -> Result<Option<u64>, Fail> {
+    for steps in 0..=total(case.parts) {
+        if is_near_a_turn(case.parts, steps, near) || steps.checked_rem(stride) == Some(0) {
+            let mut rig = rig_before(rt, table, case.id, start)?;
+            if !comes_back(
+                rt,
+                table,
+                &mut rig,
+                (case, command),
+                (between, count),
+                steps,
+            )? {
+                return Ok(Some(steps));
+            }
+        }
+    }
+    Ok(None)
+}
+
+/// The first sweep, and its stop, that doesn't come back.
+fn first_other_sweep(
+    rt: &HostRuntime,
+    table: &Table,
+    case: (&Case, &[Command]),
+    start: &MemoryRig,
+    sweeps: &[Sweep],
+) -> Result<Option<(usize, u64)>, Fail> {
+    for (place, sweep) in sweeps.iter().enumerate() {
+        if let Some(steps) = first_other(rt, table, case, start, *sweep)? {
+            return Ok(Some((place, steps)));
+        }
+    }
+    Ok(None)
+}
+
+fn first_other_of(
     rt: &HostRuntime,
     table: &Table,
     case: &Case,
-    start: &Start,
-    sweep: Sweep,
+    sweeps: &[Sweep],
+) -> Result<Option<(usize, u64)>, Fail> {
+    let start = start_of(rt, table, case)?;
+    first_other_sweep(
+        rt,
+        table,
+        (case, &command_of(rt, case.change)?),
+        &start,
+        sweeps,
+    )
+}
+
+fn cases_come_back(
+    rt: &HostRuntime,
+    table: &Table,
+    base: &Case,
+    changes: &[(Change, Parts)],
+    sweeps: &[Sweep],
 ) -> Result<(), Fail> {
-    for steps in 0..=total(case.parts) {
-        if is_near_a_turn(case.parts, steps, sweep.near)
-            || steps.checked_rem(sweep.stride) == Some(0)
-        {
-            if !comes_back(rt, table, case, start, sweep, steps)? {
-                return Err(failed_at(steps));
-            }
+    for (row, (change, parts)) in changes.iter().enumerate() {
+        let case = Case {
+            change: *change,
+            parts: *parts,
+            ..*base
+        };
+        if let Some((sweep, steps)) = first_other_of(rt, table, &case, sweeps)? {
+            return Err(Fail::new(format_args!("change {row}, sweep {sweep}, step {steps}")));
         }
     }
     Ok(())
 }
 
-/// At each stop of the run, of those at most `near` steps from a turn and those that `stride`
-/// divides (0: none), it answers the fault that is due, and an undo of so many segments, and the
-/// next one of all, bring the flash back; the test fails at the first other one.
+/// A test of each of these changes of a device, with their parts, in each of these sweeps: it fails
+/// at the first stop that doesn't come back.
 pub fn all_come_back(
     rt: &HostRuntime,
-    case: &Case,
-    between: Between,
-    count: u32,
-    near: u64,
-    stride: u64,
+    base: &Case,
+    changes: &[(Change, Parts)],
+    sweeps: &[Sweep],
 ) -> Result<(), Fail> {
-    let table = table(rt)?;
-    let sweep = Sweep {
-        between,
-        count,
-        near,
-        stride,
-    };
-    sweep_from(rt, &table, case, &start_of(rt, &table, case)?, sweep)
+    cases_come_back(rt, &table(rt)?, base, changes, sweeps)
 }

@@ -1,8 +1,9 @@
 // Undoing what a journal keeps: one segment after another, all at once, after stops, and what is
 // refused.
-use crate::devices::{add_digits, answers, failed_at, only_fetched};
+use crate::devices::{answers, are_fetches, failed_at, table_of};
+use crate::stories::{Parts, made_of};
 use std::test::Fail;
-use stm_chip::{Table, read_table};
+use stm_chip::Table;
 use stm_session::{Fault, undo};
 use stm_sim::MemoryRig;
 use stm_wire::{Chip, EraseKind};
@@ -14,13 +15,6 @@ const TABLE: &str =
 /// Steps after which an undo of both segments is stopped: settling, asking, reading, between the
 /// lines, erasing, writing, and in the second segment.
 const STOPS: [u64; 9] = [0, 4, 20, 150, 300, 312, 500, 900, 1_100];
-
-fn table(rt: &HostRuntime) -> Result<Table, Fail> {
-    match read_table(rt.alloc(), TABLE.as_bytes()) {
-        Ok(table) => Ok(table),
-        Err(_) => Err(Fail::new("no table")),
-    }
-}
 
 /// A flash whose byte i is i modulo 251, but for page 5, which holds this byte alone.
 fn flash(rt: &HostRuntime, page: u8) -> Result<Vec<u8>, Fail> {
@@ -52,15 +46,23 @@ fn is_flash(bytes: &[u8], page: u8) -> bool {
     place == 2048
 }
 
-/// Two segments that keep page 5, once of bytes 0A and then of bytes 0B; and these lines.
-fn journal(rt: &HostRuntime, more: &[u8]) -> Result<Vec<u8>, Fail> {
-    let mut text = Vec::from_slice(rt.alloc(), b"stmjournal 1 0412\nopen 1\npage 5 ")?;
-    add_digits(&mut text, b"0A", 256)?;
-    text.extend_from_slice(b"\nend 1\nopen 2\npage 5 ")?;
-    add_digits(&mut text, b"0B", 256)?;
-    text.extend_from_slice(more)?;
-    Ok(text)
-}
+/// Two segments that keep page 5, once of bytes 0A and then of bytes 0B: both ended, and the newest
+/// about to be erased.
+const BOTH: Parts = &[
+    (b"stmjournal 1 0412\nopen 1\npage 5 ", 1),
+    (b"0A", 256),
+    (b"\nend 1\nopen 2\npage 5 ", 1),
+    (b"0B", 256),
+    (b"\nend 2\n", 1),
+];
+
+const BOTH_BEGUN: Parts = &[
+    (b"stmjournal 1 0412\nopen 1\npage 5 ", 1),
+    (b"0A", 256),
+    (b"\nend 1\nopen 2\npage 5 ", 1),
+    (b"0B", 256),
+    (b"\nerase 5\n", 1),
+];
 
 /// A chip of eight pages, with this id.
 fn chip(rt: &HostRuntime, id: u16) -> Result<Chip, Fail> {
@@ -68,10 +70,11 @@ fn chip(rt: &HostRuntime, id: u16) -> Result<Chip, Fail> {
     Ok(Chip::new(id, 0x0800_0000, sizes, EraseKind::Page, 0xFF).ok_or("no chip")?)
 }
 
-/// A fresh device with this id, and page 5 of bytes FF.
-fn device(rt: &HostRuntime, id: u16, journal: Vec<u8>) -> Result<MemoryRig, Fail> {
+/// A fresh device with this id, page 5 of bytes FF, and a journal.
+fn device(rt: &HostRuntime, id: u16, journal: Parts) -> Result<MemoryRig, Fail> {
+    let chip = chip(rt, id)?;
     let flash = flash(rt, 0xFF)?;
-    Ok(MemoryRig::new(rt.alloc(), chip(rt, id)?, flash, journal).ok_or("no rig")?)
+    Ok(MemoryRig::new(rt.alloc(), chip, flash, made_of(rt, journal)?).ok_or("no rig")?)
 }
 
 /// Whether undo takes so many segments back, leaves this flash, and the journal ends with these
@@ -104,83 +107,77 @@ fn first_other(
     None
 }
 
-/// Undoes of these counts, on a device with these lines behind two segments, each answer and leave
-/// what is due; the test fails with the place of the first that doesn't.
-fn go_back(rt: &HostRuntime, more: &[u8], undoes: &[(u32, (u32, u8, &[u8]))]) -> Result<(), Fail> {
-    let mut rig = device(rt, 0x0412, journal(rt, more)?)?;
-    answers(first_other(rt, &table(rt)?, &mut rig, undoes), None)
-}
+/// The newest segment comes back, then the oldest, and then there is none.
+const ONE_AFTER_ANOTHER: &[(u32, (u32, u8, &[u8]))] = &[
+    (1, (1, 0x0B, b"\nerase 5\nerase 5\nprogram 5\nundone 2\n")),
+    (0, (1, 0x0A, b"\nundone 2\nerase 5\nprogram 5\nundone 1\n")),
+    (0, (0, 0x0A, b"\nundone 2\nerase 5\nprogram 5\nundone 1\n")),
+];
 
-#[test]
-fn takes_back_one_after_another(rt: HostRuntime) -> Result<(), Fail> {
-    let newest = b"\nerase 5\nerase 5\nprogram 5\nundone 2\n".as_slice();
-    let oldest = b"\nundone 2\nerase 5\nprogram 5\nundone 1\n".as_slice();
-    let undoes = [
-        (1, (1, 0x0B, newest)),
-        (0, (1, 0x0A, oldest)),
-        (0, (0, 0x0A, oldest)),
-    ];
-    go_back(&rt, b"\nerase 5\n", &undoes)
-}
+/// All come back.
+const ALL: &[(u32, (u32, u8, &[u8]))] = &[(7, (2, 0x0A, b"\nundone 1\n"))];
 
-#[test]
-fn takes_all_back(rt: HostRuntime) -> Result<(), Fail> {
-    let undoes = [(7, (2, 0x0A, b"\nundone 1\n".as_slice()))];
-    go_back(&rt, b"\nend 2\n", &undoes)
+/// A journal, and the undoes there, each with what it answers and leaves.
+const ROWS: [(Parts, &[(u32, (u32, u8, &[u8]))]); 2] = [
+    (BOTH_BEGUN, ONE_AFTER_ANOTHER),
+    (BOTH, ALL),
+];
+
+fn all_go_back(rt: &HostRuntime, table: &Table) -> Result<(), Fail> {
+    for (row, (journal, undoes)) in ROWS.iter().enumerate() {
+        let mut rig = device(rt, 0x0412, journal)?;
+        if let Some(place) = first_other(rt, table, &mut rig, undoes) {
+            return Err(Fail::new(format_args!("undo {place} of row {row}")));
+        }
+    }
+    Ok(())
 }
 
 /// Whether an undo of all that is stopped after so many steps fails, and the next one brings the
 /// flash back.
-fn goes_on_after(rt: &HostRuntime, table: &Table, steps: u64) -> Result<bool, Fail> {
-    let mut rig = device(rt, 0x0412, journal(rt, b"\nend 2\n")?)?;
+fn goes_on_after(rt: &HostRuntime, table: &Table, rig: &mut MemoryRig, steps: u64) -> bool {
     rig.stop_after(steps);
-    let stopped = undo(rt.alloc(), &mut rig, table, 0).is_err();
+    let stopped = undo(rt.alloc(), rig, table, 0).is_err();
     rig.stop_after(u64::MAX);
-    let taken = undo(rt.alloc(), &mut rig, table, 0).is_ok();
-    Ok(stopped && taken && is_flash(rig.flash(), 0x0A))
+    let taken = undo(rt.alloc(), rig, table, 0).is_ok();
+    stopped && taken && is_flash(rig.flash(), 0x0A)
 }
 
-/// It goes on behind each of the stops; the test fails at the first where it doesn't.
+/// It goes on wherever it was stopped; fails at the first stop where it doesn't.
 fn goes_on(rt: &HostRuntime, table: &Table) -> Result<(), Fail> {
     for steps in STOPS {
-        if !goes_on_after(rt, table, steps)? {
+        let mut rig = device(rt, 0x0412, BOTH)?;
+        if !goes_on_after(rt, table, &mut rig, steps) {
             return Err(failed_at(steps));
         }
     }
     Ok(())
 }
 
-#[test]
-fn goes_on_wherever_it_was_stopped(rt: HostRuntime) -> Result<(), Fail> {
-    goes_on(&rt, &table(&rt)?)
-}
-
-/// What undo answers of a device with this id and journal, and whether the flash stays.
-fn refusal(
-    rt: &HostRuntime,
-    id: u16,
-    journal: Vec<u8>,
-) -> Result<(Option<Fault>, MemoryRig), Fail> {
-    let table = table(rt)?;
-    let mut rig = device(rt, id, journal)?;
-    let fault = undo(rt.alloc(), &mut rig, &table, 0).err();
-    Ok((fault, rig))
-}
-
 /// Whether a device of another id is refused, and its flash stays.
-fn is_another(rt: &HostRuntime) -> Result<bool, Fail> {
-    let (fault, rig) = refusal(rt, 0x0413, journal(rt, b"\nend 2\n")?)?;
-    Ok(fault == Some(Fault::OtherDevice) && is_flash(rig.flash(), 0xFF))
+fn is_another(rt: &HostRuntime, table: &Table) -> Result<bool, Fail> {
+    let mut rig = device(rt, 0x0413, BOTH)?;
+    let answer = undo(rt.alloc(), &mut rig, table, 0);
+    Ok(answer == Err(Fault::OtherDevice) && is_flash(rig.flash(), 0xFF))
 }
 
 /// Whether a journal of a chip that the table hasn't is refused before a byte is sent.
-fn is_unknown(rt: &HostRuntime) -> Result<bool, Fail> {
-    let journal = Vec::from_slice(rt.alloc(), b"stmjournal 1 0500\nopen 1\n")?;
-    let (fault, rig) = refusal(rt, 0x0412, journal)?;
-    Ok(fault == Some(Fault::UnknownChip(0x0500)) && only_fetched(&rig))
+fn is_unknown(rt: &HostRuntime, table: &Table) -> Result<bool, Fail> {
+    let mut rig = device(rt, 0x0412, &[(b"stmjournal 1 0500\nopen 1\n", 1)])?;
+    let answer = undo(rt.alloc(), &mut rig, table, 0);
+    Ok(answer == Err(Fault::UnknownChip(0x0500)) && are_fetches(rig.calls()))
+}
+
+fn all_is_taken_back(rt: &HostRuntime, table: &Table) -> Result<(), Fail> {
+    all_go_back(rt, table)?;
+    goes_on(rt, table)?;
+    answers(
+        (is_another(rt, table)?, is_unknown(rt, table)?),
+        (true, true),
+    )
 }
 
 #[test]
-fn refuses_what_is_not_the_journals(rt: HostRuntime) -> Result<(), Fail> {
-    answers((is_another(&rt)?, is_unknown(&rt)?), (true, true))
+fn takes_back_what_is_the_journals(rt: HostRuntime) -> Result<(), Fail> {
+    all_is_taken_back(&rt, &table_of(&rt, TABLE)?)
 }

@@ -2,12 +2,12 @@
 // row has the step behind which the write is stopped, that of its undo, and how many steps the next
 // undo takes, as the model of tools/soak counts them.
 use crate::devices::table;
-use crate::every_stop::is_counted;
-use crate::stop_sweeps_wide::wide;
-use crate::stopped_runs::{Case, Change, Start, is_as_before, start_of, stopped_run};
+use crate::every_stop::{is_counted, stop};
+use crate::stop_sweeps_wide::WIDE;
+use crate::stopped_runs::{Case, Change, command_of, is_behind, start_of};
 use std::test::Fail;
 use stm_chip::Table;
-use stm_session::undo;
+use stm_session::{Command, undo};
 use stm_sim::MemoryRig;
 
 /// What two undos answer behind the one that is stopped after `first` steps: the next, stopped
@@ -29,20 +29,23 @@ fn thrice_undone(
     (next.ok(), last, stopped)
 }
 
-/// What two undos answer behind the one that is stopped after so many steps: the next, stopped too,
-/// and the last; and whether the flash is as it was before the run.
+/// What two undos answer behind the run and the undo that are stopped after so many steps: the next,
+/// stopped too, and the last; and whether the flash is as it was before the run.
 fn thrice_stopped(
     rt: &HostRuntime,
     table: &Table,
-    case: &Case,
-    start: &Start,
+    rig: &mut MemoryRig,
+    (case, command): (&Case, &[Command]),
     stops: (u64, u64, u64),
-) -> Result<(Option<u32>, Option<u32>, bool), Fail> {
+) -> (Option<u32>, Option<u32>, bool) {
     let (write, first, second) = stops;
-    let (fault, mut rig) = stopped_run(rt, table, case, start, write)?;
-    let (next, last, stopped) = thrice_undone(rt, table, &mut rig, first, second);
-    let is_right = is_counted(fault) && stopped && is_as_before(start, rig.flash());
-    Ok((next, last, is_right))
+    let fault = stop(rt, table, rig, command, write);
+    let (next, last, stopped) = thrice_undone(rt, table, rig, first, second);
+    (
+        next,
+        last,
+        is_counted(fault) && stopped && is_behind(case, 0, rig.flash()),
+    )
 }
 
 /// The stops of a row come back: a stop of the run, one of its undo, and each `stride`th of the
@@ -50,8 +53,7 @@ fn thrice_stopped(
 fn row_comes_back(
     rt: &HostRuntime,
     table: &Table,
-    case: &Case,
-    start: &Start,
+    case: (&Case, &[Command]),
     row: (u64, u64, u64),
     stride: u64,
 ) -> Result<(), Fail> {
@@ -63,7 +65,8 @@ fn row_comes_back(
             } else {
                 (Some(1), Some(0), true)
             };
-            if thrice_stopped(rt, table, case, start, (write, first, second))? != due {
+            let mut rig = start_of(rt, table, case.0)?;
+            if thrice_stopped(rt, table, &mut rig, case, (write, first, second)) != due {
                 return Err(Fail::new(format_args!("stops {write}, {first}, {second}")));
             }
         }
@@ -71,36 +74,25 @@ fn row_comes_back(
     Ok(())
 }
 
+/// The rows of a case come back.
 fn rows_come_back(
     rt: &HostRuntime,
     table: &Table,
-    case: &Case,
-    start: &Start,
+    case: (&Case, &[Command]),
     rows: &[(u64, u64, u64)],
     stride: u64,
 ) -> Result<(), Fail> {
     for row in rows {
-        row_comes_back(rt, table, case, start, *row, stride)?;
+        row_comes_back(rt, table, case, *row, stride)?;
     }
     Ok(())
-}
-
-/// All rows come back; the test fails at the first other stops.
-fn all_come_back(
-    rt: &HostRuntime,
-    case: &Case,
-    rows: &[(u64, u64, u64)],
-    stride: u64,
-) -> Result<(), Fail> {
-    let table = table(rt)?;
-    rows_come_back(rt, &table, case, &start_of(rt, &table, case)?, rows, stride)
 }
 
 /// Chip 0A03 with a flash of AA, of which page 2 is written. The stops of the write are behind its
 /// `open` line (52), its read (320), its `page` line (840), its `erase` line (848), in its erase
 /// frame (850, 852) and behind it (855), in its write frame (866, 1,000), and in its `end` line
 /// (1,138); those of the undo are behind two steps, half of them, and nine tenths.
-const ZEROS: [(u64, u64, u64); 30] = [
+const ZEROS: &[(u64, u64, u64)] = &[
     (52, 2, 35),
     (52, 17, 35),
     (52, 30, 36),
@@ -133,20 +125,6 @@ const ZEROS: [(u64, u64, u64); 30] = [
     (1138, 882, 1069),
 ];
 
-#[test]
-fn three_stops_of_a_flash_that_erases_to_zeros(rt: HostRuntime) -> Result<(), Fail> {
-    let case = Case {
-        id: 0x0A03,
-        page: 256,
-        erased: 0x00,
-        byte: 0xAA,
-        before: &[],
-        change: Change::Write(513, &[0xB1, 0xB2]),
-        parts: &[],
-    };
-    all_come_back(&rt, &case, &ZEROS, 29)
-}
-
 /// Chip 0A02 with a flash of 00, of which page 1 is written: behind four bytes of its erase frame,
 /// before the check, and behind it. The undo is stopped in its settling, as it writes page 1, behind
 /// the line of page 257, which it erases then, and as it reads.
@@ -171,11 +149,69 @@ const PAGE_256: &[(u64, u64, u64)] = &[
     (1000, 907, 985),
 ];
 
-#[test]
-fn three_stops_of_a_chip_of_512_pages(rt: HostRuntime) -> Result<(), Fail> {
-    for (place, rows) in [(257, PAGE_1), (65_537, PAGE_256)] {
-        let case = wide(Change::Write(place, &[0x01, 0x02, 0x03]), &[]);
-        all_come_back(&rt, &case, rows, 127)?;
+/// What is stopped, its rows, and which stops of the next undo are made.
+const CASES: [(Case, &[(u64, u64, u64)], u64); 3] = [
+    (
+        Case {
+            id: 0x0A03,
+            page: 256,
+            erased: 0x00,
+            byte: 0xAA,
+            before: &[],
+            change: Change::Write(513, &[0xB1, 0xB2]),
+            parts: &[],
+        },
+        ZEROS,
+        29,
+    ),
+    (
+        Case {
+            change: Change::Write(257, &[0x01, 0x02, 0x03]),
+            ..WIDE
+        },
+        PAGE_1,
+        127,
+    ),
+    (
+        Case {
+            change: Change::Write(65_537, &[0x01, 0x02, 0x03]),
+            ..WIDE
+        },
+        PAGE_256,
+        127,
+    ),
+];
+
+fn case_comes_back(
+    rt: &HostRuntime,
+    table: &Table,
+    case: &Case,
+    rows: &[(u64, u64, u64)],
+    stride: u64,
+) -> Result<(), Fail> {
+    rows_come_back(
+        rt,
+        table,
+        (case, &command_of(rt, case.change)?),
+        rows,
+        stride,
+    )
+}
+
+fn all_come_back(rt: &HostRuntime, table: &Table) -> Result<(), Fail> {
+    for (case, rows, stride) in CASES {
+        rows_come_back(
+            rt,
+            table,
+            (&case, &command_of(rt, case.change)?),
+            rows,
+            stride,
+        )?;
     }
     Ok(())
+}
+
+#[test]
+fn three_stops_come_back(rt: HostRuntime) -> Result<(), Fail> {
+    all_come_back(&rt, &table(&rt)?)
 }

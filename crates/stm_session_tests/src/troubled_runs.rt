@@ -5,11 +5,11 @@
 // journal keeps that one, so what is due is what was kept, and a page that wasn't kept as it was.
 use crate::bad_line_rig::{BadLine, Trouble};
 use crate::devices::{is_same, table};
-use crate::stopped_runs::{Case, Start, command_of, rig_before, run_change, start_of};
+use crate::stopped_runs::{Case, command_of, is_done, rig_before, start_of};
 use std::test::Fail;
 use stm_chip::Table;
 use stm_journal::Journal;
-use stm_session::{Fault, run, undo};
+use stm_session::{Command, Fault, run, undo};
 use stm_sim::MemoryRig;
 
 /// What a byte may become, or whether it gets lost, or whether nothing comes any more: a
@@ -37,32 +37,33 @@ fn before(
     rt: &HostRuntime,
     table: &Table,
     case: &Case,
-    start: &Start,
+    start: &MemoryRig,
     troubled: Troubled,
 ) -> Result<MemoryRig, Fail> {
-    let mut rig = rig_before(rt, table, case, start)?;
-    match troubled {
-        Troubled::Run => {}
-        Troubled::Undo => run_change(rt, table, &mut rig, case.change)?,
+    let mut rig = rig_before(rt, table, case.id, start)?;
+    let is_ready = match troubled {
+        Troubled::Run => true,
+        Troubled::Undo => is_done(rt, table, &mut rig, case.change)?,
+    };
+    if is_ready {
+        Ok(rig)
+    } else {
+        Err(Fail::new("not written"))
     }
-    Ok(rig)
 }
 
 /// Does the call on a line of this kind.
 fn do_troubled(
     rt: &HostRuntime,
     table: &Table,
-    case: &Case,
+    command: &[Command],
     line: &mut BadLine,
     troubled: Troubled,
-) -> Result<Option<Fault>, Fail> {
-    Ok(match troubled {
-        Troubled::Run => {
-            let command = command_of(rt, case.change)?;
-            run(rt.alloc(), line, table, &command).err()
-        }
+) -> Option<Fault> {
+    match troubled {
+        Troubled::Run => run(rt.alloc(), line, table, command).err(),
         Troubled::Undo => undo(rt.alloc(), line, table, 0).err(),
-    })
+    }
 }
 
 /// Lays these bytes over a flash, from a place on.
@@ -110,14 +111,14 @@ fn lay_kept(
 }
 
 /// The flash at the start of the oldest segment, as the journal keeps it: its own pages laid over
-/// those of each newer segment, over the flash as it is.
+/// those of each newer segment, over a flash with this byte in each place.
 fn due_flash(
     rt: &HostRuntime,
     rig: &mut MemoryRig,
     page: usize,
-    flash: &[u8],
+    byte: u8,
 ) -> Result<Vec<u8>, Fail> {
-    let mut due = Vec::from_slice(rt.alloc(), flash)?;
+    let mut due = vec![in rt.alloc(); byte; rig.flash().len()]?;
     match Journal::load(rt.alloc(), rig) {
         Ok(journal) => lay_kept(rt, rig, &journal, page, &mut due)?,
         Err(_) => return Err(Fail::new("a bad journal")),
@@ -125,11 +126,11 @@ fn due_flash(
     Ok(due)
 }
 
-/// In how many places two flashes of one size differ.
-fn differences(flash: &[u8], other: &[u8]) -> u32 {
+/// In how many places of a flash another byte stands.
+fn others(flash: &[u8], byte: u8) -> u32 {
     let mut count = 0_u32;
-    for (place, byte) in flash.iter().enumerate() {
-        if other.get(place) != Some(byte) {
+    for held in flash {
+        if *held != byte {
             count = count.saturating_add(1);
         }
     }
@@ -138,10 +139,10 @@ fn differences(flash: &[u8], other: &[u8]) -> u32 {
 
 /// Whether what is due differs from the first flash no further than the trouble allows: in the one
 /// byte of a read that came as another.
-fn is_kept_well(trouble: Trouble, flash: &[u8], due: &[u8]) -> bool {
+fn is_kept_well(trouble: Trouble, due: &[u8], byte: u8) -> bool {
     match trouble {
-        Trouble::Complemented | Trouble::Becomes(_) => differences(flash, due) <= 1,
-        Trouble::Lost | Trouble::Silence => is_same(flash, due),
+        Trouble::Complemented | Trouble::Becomes(_) => others(due, byte) <= 1,
+        Trouble::Lost | Trouble::Silence => others(due, byte) == 0,
     }
 }
 
@@ -155,13 +156,13 @@ fn comes_back(rt: &HostRuntime, table: &Table, rig: &mut MemoryRig, due: &[u8]) 
 fn count(
     rt: &HostRuntime,
     table: &Table,
-    case: &Case,
-    start: &Start,
+    (case, command): (&Case, &[Command]),
+    start: &MemoryRig,
     troubled: Troubled,
 ) -> Result<u64, Fail> {
     let rig = before(rt, table, case, start, troubled)?;
     let mut line = BadLine::new(rig, Trouble::Silence, 0);
-    match do_troubled(rt, table, case, &mut line, troubled)? {
+    match do_troubled(rt, table, command, &mut line, troubled) {
         None => Ok(line.came()),
         Some(_) => Err(Fail::new("a fault on a good line")),
     }
@@ -180,47 +181,47 @@ struct Bad {
 fn behind(
     rt: &HostRuntime,
     table: &Table,
-    case: &Case,
-    start: &Start,
+    (case, command): (&Case, &[Command]),
+    start: &MemoryRig,
     bad: Bad,
 ) -> Result<MemoryRig, Fail> {
     let rig = before(rt, table, case, start, bad.troubled)?;
     let mut line = BadLine::new(rig, bad.trouble, bad.due);
-    let _fault = do_troubled(rt, table, case, &mut line, bad.troubled)?;
+    let _fault = do_troubled(rt, table, command, &mut line, bad.troubled);
     Ok(line.into_inner())
 }
 
-/// Whether the flash comes back, and was kept well.
+/// Whether the flash of the device behind the call comes back, and was kept well.
 fn is_harmless(
     rt: &HostRuntime,
     table: &Table,
     case: &Case,
-    start: &Start,
+    rig: &mut MemoryRig,
     bad: Bad,
 ) -> Result<bool, Fail> {
-    let first = start.flashes.first().ok_or("no flash")?;
-    let mut rig = behind(rt, table, case, start, bad)?;
     if bad.is_reset {
         rig.reset();
     }
-    let kept = due_flash(rt, &mut rig, case.page, first)?;
-    let is_well = is_kept_well(bad.trouble, first, &kept);
-    Ok(is_well && comes_back(rt, table, &mut rig, &kept))
+    let kept = due_flash(rt, rig, case.page, case.byte)?;
+    let is_well = is_kept_well(bad.trouble, &kept, case.byte);
+    Ok(is_well && comes_back(rt, table, rig, &kept))
 }
 
-/// The first byte that comes, of those that `stride` divides, after whose trouble the flash doesn't
-/// come back.
+/// The first byte that comes, of so many and of those that `stride` divides, after whose trouble the
+/// flash doesn't come back.
 fn first_failure(
     rt: &HostRuntime,
     table: &Table,
-    case: &Case,
-    start: &Start,
+    case: (&Case, &[Command]),
+    start: &MemoryRig,
     bad: Bad,
-    stride: u64,
+    (count, stride): (u64, u64),
 ) -> Result<Option<u64>, Fail> {
-    for due in 1..=count(rt, table, case, start, bad.troubled)? {
+    for due in 1..=count {
         if due.checked_rem(stride) == Some(0) {
-            if !is_harmless(rt, table, case, start, Bad { due, ..bad })? {
+            let bad = Bad { due, ..bad };
+            let mut rig = behind(rt, table, case, start, bad)?;
+            if !is_harmless(rt, table, case.0, &mut rig, bad)? {
                 return Ok(Some(due));
             }
         }
@@ -231,11 +232,12 @@ fn first_failure(
 fn troubles_are_harmless(
     rt: &HostRuntime,
     table: &Table,
-    case: &Case,
-    start: &Start,
+    case: (&Case, &[Command]),
+    start: &MemoryRig,
     troubled: Troubled,
     stride: u64,
 ) -> Result<(), Fail> {
+    let count = count(rt, table, case, start, troubled)?;
     for (place, trouble) in TROUBLES.iter().enumerate() {
         for is_reset in [false, true] {
             let bad = Bad {
@@ -244,12 +246,24 @@ fn troubles_are_harmless(
                 due: 0,
                 is_reset,
             };
-            if let Some(due) = first_failure(rt, table, case, start, bad, stride)? {
+            if let Some(due) = first_failure(rt, table, case, start, bad, (count, stride))? {
                 return Err(Fail::new(format_args!("trouble {place} of byte {due}")));
             }
         }
     }
     Ok(())
+}
+
+fn case_is_harmless(
+    rt: &HostRuntime,
+    table: &Table,
+    case: &Case,
+    troubled: Troubled,
+    stride: u64,
+) -> Result<(), Fail> {
+    let start = start_of(rt, table, case)?;
+    let command = command_of(rt, case.change)?;
+    troubles_are_harmless(rt, table, (case, &command), &start, troubled, stride)
 }
 
 /// After each trouble of each byte that `stride` divides the flash comes back, behind a reset and
@@ -260,7 +274,5 @@ pub fn are_harmless(
     troubled: Troubled,
     stride: u64,
 ) -> Result<(), Fail> {
-    let table = table(rt)?;
-    let start = start_of(rt, &table, case)?;
-    troubles_are_harmless(rt, &table, case, &start, troubled, stride)
+    case_is_harmless(rt, &table(rt)?, case, troubled, stride)
 }

@@ -21,36 +21,26 @@ fn comes_back(rt: &HostRuntime, table: &Table, write: u64, steps: u64) -> Result
     Ok(is_counted(fault) && ends_after(rt, table, &mut rig, u64::MAX))
 }
 
-/// After each number of steps, of these, the undo is stopped and the next one comes back; the test
-/// fails at the first other one.
-fn all_come_back(rt: &HostRuntime, write: u64, from: u64, to: u64) -> Result<(), Fail> {
-    let table = table(rt)?;
-    for steps in from..to {
-        if !comes_back(rt, &table, write, steps)? {
-            return Err(failed_at(steps));
-        }
-    }
-    Ok(())
-}
-
 /// Whether the undo ends that is stopped after so many steps, and the flash is back.
 fn ends_after(rt: &HostRuntime, table: &Table, rig: &mut MemoryRig, steps: u64) -> bool {
     rig.stop_after(steps);
     undo(rt.alloc(), rig, table, 0) == Ok(1) && is_all(rig.flash(), 0x00)
 }
 
-/// The undo of a write that was stopped ends after so many steps, behind a reset or without.
-fn is_undone(rt: &HostRuntime, write: u64, steps: u64, reset: bool) -> Result<(), Fail> {
-    let table = table(rt)?;
-    let (_fault, mut rig) = stopped_write(rt, &table, write)?;
+/// Whether the undo of a write that was stopped ends after so many steps, behind a reset or
+/// without.
+fn is_undone(
+    rt: &HostRuntime,
+    table: &Table,
+    write: u64,
+    steps: u64,
+    reset: bool,
+) -> Result<bool, Fail> {
+    let (_fault, mut rig) = stopped_write(rt, table, write)?;
     if reset {
         rig.reset();
     }
-    if ends_after(rt, &table, &mut rig, steps) {
-        Ok(())
-    } else {
-        Err(failed_at(write))
-    }
+    Ok(ends_after(rt, table, &mut rig, steps))
 }
 
 /// The stops of the write, how many steps its undo takes then, and how many after a reset.
@@ -64,78 +54,60 @@ const UNDOS: [(u64, u64, u64); 7] = [
     (1135, 981, 131_671),
 ];
 
+fn all_are_undone(rt: &HostRuntime, table: &Table) -> Result<(), Fail> {
+    for (write, steps, behind_a_reset) in UNDOS {
+        let is_right = is_undone(rt, table, write, steps, false)?
+            && is_undone(rt, table, write, behind_a_reset, true)?;
+        if !is_right {
+            return Err(failed_at(write));
+        }
+    }
+    Ok(())
+}
+
 #[test]
 fn an_undo_ends_after_its_steps(rt: HostRuntime) -> Result<(), Fail> {
+    all_are_undone(&rt, &table(&rt)?)
+}
+
+/// After each number of steps, of these, the undo of a write is stopped and the next one comes
+/// back; the test fails at the first other one.
+fn all_come_back(
+    rt: &HostRuntime,
+    table: &Table,
+    write: u64,
+    from: u64,
+    to: u64,
+) -> Result<(), Fail> {
+    for steps in from..to {
+        if !comes_back(rt, table, write, steps)? {
+            return Err(Fail::new(format_args!("stops {write}, {steps}")));
+        }
+    }
+    Ok(())
+}
+
+/// The first half of the steps of each undo, and the second one.
+fn early_stops_come_back(rt: &HostRuntime, table: &Table) -> Result<(), Fail> {
     for (write, steps, _reset) in UNDOS {
-        is_undone(&rt, write, steps, false)?;
+        all_come_back(rt, table, write, 0, steps / 2)?;
+    }
+    Ok(())
+}
+
+fn late_stops_come_back(rt: &HostRuntime, table: &Table) -> Result<(), Fail> {
+    for (write, steps, _reset) in UNDOS {
+        all_come_back(rt, table, write, steps / 2, steps)?;
     }
     Ok(())
 }
 
 #[test]
-fn an_undo_comes_to_its_end_after_a_reset(rt: HostRuntime) -> Result<(), Fail> {
-    for (write, _steps, steps) in UNDOS {
-        is_undone(&rt, write, steps, true)?;
-    }
-    Ok(())
+fn stopped_early_and_again(rt: HostRuntime) -> Result<(), Fail> {
+    early_stops_come_back(&rt, &table(&rt)?)
 }
 
 #[test]
-fn stopped_at_52_and_again(rt: HostRuntime) -> Result<(), Fail> {
-    all_come_back(&rt, 52, 0, 34)
-}
-
-#[test]
-fn stopped_at_840_and_again(rt: HostRuntime) -> Result<(), Fail> {
-    all_come_back(&rt, 840, 0, 302)
-}
-
-#[test]
-fn stopped_at_848_and_early(rt: HostRuntime) -> Result<(), Fail> {
-    all_come_back(&rt, 848, 0, 490)
-}
-
-#[test]
-fn stopped_at_848_and_late(rt: HostRuntime) -> Result<(), Fail> {
-    all_come_back(&rt, 848, 490, 981)
-}
-
-#[test]
-fn stopped_at_850_and_early(rt: HostRuntime) -> Result<(), Fail> {
-    all_come_back(&rt, 850, 0, 489)
-}
-
-#[test]
-fn stopped_at_850_and_late(rt: HostRuntime) -> Result<(), Fail> {
-    all_come_back(&rt, 850, 489, 979)
-}
-
-#[test]
-fn stopped_at_857_and_early(rt: HostRuntime) -> Result<(), Fail> {
-    all_come_back(&rt, 857, 0, 490)
-}
-
-#[test]
-fn stopped_at_857_and_late(rt: HostRuntime) -> Result<(), Fail> {
-    all_come_back(&rt, 857, 490, 981)
-}
-
-#[test]
-fn stopped_at_1000_and_early(rt: HostRuntime) -> Result<(), Fail> {
-    all_come_back(&rt, 1000, 0, 457)
-}
-
-#[test]
-fn stopped_at_1000_and_late(rt: HostRuntime) -> Result<(), Fail> {
-    all_come_back(&rt, 1000, 457, 915)
-}
-
-#[test]
-fn stopped_at_1135_and_early(rt: HostRuntime) -> Result<(), Fail> {
-    all_come_back(&rt, 1135, 0, 490)
-}
-
-#[test]
-fn stopped_at_1135_and_late(rt: HostRuntime) -> Result<(), Fail> {
-    all_come_back(&rt, 1135, 490, 981)
+fn stopped_late_and_again(rt: HostRuntime) -> Result<(), Fail> {
+    late_stops_come_back(&rt, &table(&rt)?)
 }

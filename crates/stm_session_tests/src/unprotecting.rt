@@ -1,81 +1,104 @@
 // Write Unprotect to a device that was reset, while a session is unfinished.
-use crate::devices::{device, is_all, only_fetched, passes, puts, table, write_of};
+use crate::stories::Act::{
+    Ends, Fetches, Flash, Journal, Protect, PutsAll, Reset, Run, StopAfter, UndoFresh,
+    UnprotectFresh,
+};
+use crate::stories::Ask::Write;
+use crate::stories::{Act, Ask, Parts, Story, Told, all_go_right};
 use std::test::Fail;
-use stm_chip::Table;
-use stm_session::{Fault, protect, run, undo_fresh, unprotect_fresh};
-use stm_sim::MemoryRig;
+use stm_session::Fault;
 use stm_wire::Protection;
 
-/// A chip 0412 whose flash was 00 everywhere. A write to page 0 was stopped inside the page's frames:
-/// these are the steps from about 3,200 to 4,280, behind 1,072 of reading the page and 2,056 of its
-/// line in the journal. So the page is erased and half written.
-fn after_a_stop(rt: &HostRuntime, table: &Table) -> Result<MemoryRig, Fail> {
-    let mut rig = device(rt, table, 0x0412, 0x00, Vec::new(rt.alloc()))?;
-    let commands = write_of(rt, &[1, 2, 3, 4], 0x0800_0000)?;
-    rig.stop_after(3700);
-    let answer = run(rt.alloc(), &mut rig, table, &commands).err();
-    rig.stop_after(u64::MAX);
-    passes(answer == Some(Fault::Line))?;
-    passes(rig.journal().ends_with(b"\nerase 0\nprogram 0\n"))?;
-    Ok(rig)
-}
+/// A write to page 0 of chip 0412, whose flash was 00 everywhere.
+const WRITE: &[Ask] = &[Write(0x0800_0000, &[1, 2, 3, 4])];
 
-// The journal and the flash are as they were; the device is fresh from reset, and an undo then
-// takes the write back.
-#[test]
-fn just_the_command_is_sent(rt: HostRuntime) -> Result<(), Fail> {
-    let table = table(&rt)?;
-    let mut rig = after_a_stop(&rt, &table)?;
-    rig.reset();
-    let journal = Vec::from_slice(rt.alloc(), rig.journal())?;
-    let flash = Vec::from_slice(rt.alloc(), rig.flash())?;
-    let before = rig.calls().len();
-    passes(unprotect_fresh(rt.alloc(), &mut rig) == Ok(()))?;
-    passes(puts(&rt, &rig, before)?.as_slice() == [0x7F, 0x73, 0x8C].as_slice())?;
-    passes(rig.journal() == journal.as_slice() && rig.flash() == flash.as_slice())?;
-    passes(undo_fresh(rt.alloc(), &mut rig, &table, 0) == Ok(1))?;
-    passes(is_all(rig.flash(), 0x00))
-}
+/// It is stopped inside the page's frames: these are the steps from about 3,200 to 4,280, behind
+/// 1,072 of reading the page and 2,056 of its line in the journal.
+const STOPPED: Act = Run(WRITE, Err(Fault::Line));
 
-// The same call is for a journal without a segment, and for none.
-#[test]
-fn no_session_has_to_be_open(rt: HostRuntime) -> Result<(), Fail> {
-    let table = table(&rt)?;
-    let mut rig = device(&rt, &table, 0x0412, 0x00, Vec::new(rt.alloc()))?;
-    passes(unprotect_fresh(rt.alloc(), &mut rig) == Ok(()))?;
-    passes(puts(&rt, &rig, 0)?.as_slice() == [0x7F, 0x73, 0x8C].as_slice())?;
-    passes(rig.journal().is_empty())
-}
+/// The journal then.
+const KEPT: Parts = &[
+    (b"stmjournal 2 0412\nopen 1\npage 0 ", 1),
+    (b"00", 1024),
+    (b"\nerase 0\nprogram 0\n", 1),
+];
 
-// A connected device takes 7F for the first byte of a pair, and says nothing.
-#[test]
-fn a_device_that_was_not_reset_is_sent_no_command(rt: HostRuntime) -> Result<(), Fail> {
-    let table = table(&rt)?;
-    let mut rig = device(&rt, &table, 0x0412, 0x00, Vec::new(rt.alloc()))?;
-    let commands = write_of(&rt, &[1, 2, 3, 4], 0x0800_0000)?;
-    passes(run(rt.alloc(), &mut rig, &table, &commands).is_ok())?;
-    let before = rig.calls().len();
-    passes(unprotect_fresh(rt.alloc(), &mut rig) == Err(Fault::Device))?;
-    passes(puts(&rt, &rig, before)?.as_slice() == [0x7F].as_slice())
-}
+/// The flash then: the page is erased and half written.
+const HALF_WRITTEN: Parts = &[
+    (&[1, 2, 3, 4], 1),
+    (b"\0", 252),
+    (b"\xFF", 768),
+    (b"\0", 31_744),
+];
+
+const STORIES: &[Story] = &[
+    // The journal and the flash are as they were; the device is fresh from reset, and an undo then
+    // takes the write back.
+    (
+        "just the command is sent",
+        (0x0412, 0x00, &[]),
+        &[
+            StopAfter(3700),
+            STOPPED,
+            StopAfter(u64::MAX),
+            Ends(b"\nerase 0\nprogram 0\n"),
+            Reset,
+            Journal(KEPT),
+            Flash(HALF_WRITTEN),
+            UnprotectFresh(Ok(())),
+            PutsAll(&[0x7F, 0x73, 0x8C]),
+            Journal(KEPT),
+            Flash(HALF_WRITTEN),
+            UndoFresh(Ok(1)),
+            Flash(&[(b"\0", 32768)]),
+        ],
+    ),
+    // The same call is for a journal without a segment, and for none.
+    (
+        "no session has to be open",
+        (0x0412, 0x00, &[]),
+        &[
+            UnprotectFresh(Ok(())),
+            PutsAll(&[0x7F, 0x73, 0x8C]),
+            Journal(&[]),
+        ],
+    ),
+    // A connected device takes 7F for the first byte of a pair, and says nothing.
+    (
+        "a device that was not reset is sent no command",
+        (0x0412, 0x00, &[]),
+        &[
+            Run(WRITE, Ok(&[Told::Written(1, 1)])),
+            UnprotectFresh(Err(Fault::Device)),
+            PutsAll(&[0x7F]),
+        ],
+    ),
+    (
+        "a bad journal is refused before a byte is sent",
+        (
+            0x0412,
+            0x00,
+            &[(b"stmjournal 1 0412\nopen 1\nend 2\nopen 3\n", 1)],
+        ),
+        &[UnprotectFresh(Err(Fault::BadJournal(3))), Fetches],
+    ),
+    // The protections of a closed journal are refused as they were.
+    (
+        "an open journal still refuses a protection",
+        (0x0412, 0x00, &[]),
+        &[
+            StopAfter(3700),
+            STOPPED,
+            StopAfter(u64::MAX),
+            Ends(b"\nerase 0\nprogram 0\n"),
+            Reset,
+            Protect(Protection::WriteUnprotect, Some(Fault::InSession)),
+            PutsAll(&[]),
+        ],
+    ),
+];
 
 #[test]
-fn a_bad_journal_is_refused_before_a_byte_is_sent(rt: HostRuntime) -> Result<(), Fail> {
-    let table = table(&rt)?;
-    let bad = Vec::from_slice(rt.alloc(), b"stmjournal 1 0412\nopen 1\nend 2\nopen 3\n")?;
-    let mut rig = device(&rt, &table, 0x0412, 0x00, bad)?;
-    passes(unprotect_fresh(rt.alloc(), &mut rig) == Err(Fault::BadJournal(3)))?;
-    passes(only_fetched(&rig))
-}
-
-// The protections of a closed journal are refused as they were.
-#[test]
-fn an_open_journal_still_refuses_a_protection(rt: HostRuntime) -> Result<(), Fail> {
-    let table = table(&rt)?;
-    let mut rig = after_a_stop(&rt, &table)?;
-    rig.reset();
-    let before = rig.calls().len();
-    let answer = protect(rt.alloc(), &mut rig, Protection::WriteUnprotect);
-    passes(answer == Err(Fault::InSession))?;
-    passes(puts(&rt, &rig, before)?.is_empty())
+fn write_unprotect_goes_right(rt: HostRuntime) -> Result<(), Fail> {
+    all_go_right(&rt, STORIES)
 }
