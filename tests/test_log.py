@@ -1,8 +1,12 @@
 """What `log` tells of a journal, without a device and without a table."""
 
 import os
+import re
+import shutil
+import subprocess
+import unittest
 
-from place import Place
+from place import PATIENCE, Place, program
 
 EMPTY = "0 can be undone\n"
 UNFINISHED = "unfinished, undo first\n"
@@ -35,6 +39,10 @@ PAGES = (
 MOST = 65535
 
 
+# so many bytes of a journal are asked for at a time
+PIECE = 4096
+
+
 class Log(Place):
     def setUp(self):
         super().setUp()
@@ -46,6 +54,22 @@ class Log(Place):
         self.assertTold(self.call("log", "--journal", "journal"), text)
         self.assertFile("journal", journal)
         self.assertEqual(os.listdir(self.folder), ["journal"])
+
+    @unittest.skipIf(shutil.which("strace") is None, "strace is not installed")
+    def test_a_journal_is_read_in_large_pieces(self):
+        """Each but the last is whole, so that a journal of many pages takes few calls."""
+        journal = b"stmjournal 2 0412\nopen 1\n" + b"page 5 " + b"00" * 32768 + b"\nerase 5\nprogram 5\nend 1\n"
+        self.store("journal", journal)
+        ran = subprocess.run(["strace", "-f", "-o", self.path("record"), "-e", "trace=read", program(), "log", "--journal", "journal"],
+                             cwd=self.folder, env={}, stdin=subprocess.DEVNULL, capture_output=True, timeout=PATIENCE)
+        record = (self.held("record") or b"").decode()
+        if not record.strip():
+            self.skipTest("strace can't trace here")
+        self.assertEqual((ran.returncode, ran.stderr), (0, b""))
+        came = [int(count) for count in re.findall(r"read\(.*, \d+\) += (\d+)", "read(" + record.split("stmjournal")[1])]
+        self.assertEqual(came[0], PIECE)
+        whole, rest = divmod(len(journal), PIECE)
+        self.assertEqual(came, [PIECE] * whole + [rest, 0])
 
     def test_tells_each_state(self):
         """Cut at each byte, the journal says what its whole lines say."""
