@@ -62,6 +62,8 @@ class Relay:
 
     def serve(self):
         line, _ = self.listener.accept()
+        # a test has hundreds of these, one behind another
+        self.listener.close()
         with line, self.board:
             while True:
                 ready, _, _ = select.select([line, self.board], [], [], PATIENCE)
